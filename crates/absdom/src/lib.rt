@@ -1,0 +1,14 @@
+//! Abstract values of a register: sets of numbers below 2^64, and what an instruction's arithmetic or a jump's test
+//! makes of them.
+#![tactic(auto)]
+
+pub mod arithmetic;
+mod domain;
+mod pair;
+mod test;
+mod unary;
+
+pub use domain::Domain;
+pub use pair::Pair;
+pub use test::opposite;
+pub use unary::UnaryOperation;

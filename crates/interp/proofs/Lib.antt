@@ -1,0 +1,4 @@
+pub mod Classes
+pub mod Clean
+pub mod Lists
+pub mod Runs

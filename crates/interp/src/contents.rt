@@ -1,0 +1,118 @@
+//! What instructions make of numbers and pointers.
+ghost use Rattle.std.specs.Prelude.{◌≡◌, ◌<◌, ◌^◌};
+ghost use Rattle.machine.specs.Memory.{at_distance};
+ghost use Rattle.machine.specs.Steps.{displaced, combined, copied, result_of, tested};
+ghost use Rattle.machine.specs.Faults.{has, is_nothing, operation_reads, is_same_pointer};
+
+use crate::numbers;
+use isa::{Map, Operation, Test, Width};
+use machine::{Content, Pointer};
+
+/// The pointer further on in its region. Its offset wraps.
+pub(crate) fn at_distance(pointer: Pointer, distance: u64) -> Pointer
+    ensures { result ≡ at_distance pointer distance }
+{
+    match pointer {
+        Pointer::Context(offset) => Pointer::Context(offset.wrapping_add(distance)),
+        Pointer::Stack(offset) => Pointer::Stack(offset.wrapping_add(distance)),
+        Pointer::Map(map, offset) => Pointer::Map(map, offset.wrapping_add(distance)),
+    }
+}
+
+fn is_same_map(a: Map, b: Map) -> bool
+    ensures { result ≡ Rattle.machine.specs.Faults.is_same_map a b }
+{
+    match (a, b) {
+        (Map::Counters, Map::Counters) | (Map::Cells, Map::Cells) => true,
+        _ => false,
+    }
+}
+
+pub(crate) fn is_same_pointer(a: Pointer, b: Pointer) -> bool
+    ensures { result ≡ is_same_pointer a b }
+{
+    match (a, b) {
+        (Pointer::Context(i), Pointer::Context(j)) => i == j,
+        (Pointer::Stack(i), Pointer::Stack(j)) => i == j,
+        (Pointer::Map(m, i), Pointer::Map(n, j)) => is_same_map(m, n) && i == j,
+        _ => false,
+    }
+}
+
+/// A pointer with a number added or subtracted, if it may be.
+fn displaced(operation: Operation, pointer: Pointer, number: u64) -> Option<Content>
+    ensures { result ≡ displaced operation pointer number }
+{
+    match operation {
+        Operation::Add => Some(Content::Address(at_distance(pointer, number))),
+        Operation::Subtract => {
+            Some(Content::Address(at_distance(pointer, 0u64.wrapping_sub(number))))
+        }
+        _ => None,
+    }
+}
+
+/// What an operation but a move makes of two contents, if it may.
+fn combined(width: Width, operation: Operation, left: Content, right: Content) -> Option<Content>
+    ensures { result ≡ combined width operation left right }
+{
+    match (left, right) {
+        (Content::Number(a), Content::Number(b)) => {
+            Some(Content::Number(numbers::operate(width, operation, a, b)))
+        }
+        (Content::Address(pointer), Content::Number(b)) => match width {
+            Width::Bits32 => None,
+            Width::Bits64 => displaced(operation, pointer, b),
+        },
+        _ => None,
+    }
+}
+
+/// What a move copies, if it may.
+fn copied(width: Width, content: Content) -> Option<Content>
+    ensures { result ≡ copied width content }
+{
+    match content {
+        Content::Nothing => None,
+        Content::Number(number) => Some(Content::Number(numbers::low(width, number))),
+        Content::Address(_) => match width {
+            Width::Bits32 => None,
+            Width::Bits64 => Some(content),
+        },
+    }
+}
+
+/// What an operation makes of two contents, if it may.
+pub(crate) fn result_of(
+    width: Width,
+    operation: Operation,
+    left: Content,
+    right: Content,
+) -> Option<Content>
+    ensures { result ≡ result_of width operation left right }
+{
+    match operation {
+        Operation::Move => copied(width, right),
+        _ => combined(width, operation, left, right),
+    }
+}
+
+/// Whether an operation reads an empty register.
+pub(crate) fn reads_nothing(operation: Operation, left: Content, right: Content) -> bool
+    ensures { result ≡ has is_nothing (operation_reads operation left right) }
+{
+    match operation {
+        Operation::Move => matches!(right, Content::Nothing),
+        _ => matches!(left, Content::Nothing) || matches!(right, Content::Nothing),
+    }
+}
+
+/// Whether a test of two contents holds, if it may be made.
+pub(crate) fn tested(width: Width, test: Test, left: Content, right: Content) -> Option<bool>
+    ensures { result ≡ tested width test left right }
+{
+    match (left, right) {
+        (Content::Number(a), Content::Number(b)) => Some(numbers::test(width, test, a, b)),
+        _ => None,
+    }
+}

@@ -1,0 +1,19 @@
+//! Runs programs on the machine with every test that it asks for.
+//!
+//! A run takes no memory and waits for nobody. What it did to the shared words is the list of its labels: by exactly
+//! these the list of its seat has grown.
+#![tactic(auto)]
+
+mod assignments;
+mod contents;
+mod control;
+mod loads;
+mod numbers;
+mod pieces;
+mod registers;
+mod run;
+mod stores;
+mod trap;
+
+pub use run::{Run, run_checked};
+pub use trap::Trap;

@@ -1,0 +1,72 @@
+//! What registers hold, and how the machine goes on.
+ghost use Rattle.std.specs.Prelude.{◌≡◌, ◌<◌, ◌+◌};
+ghost use Rattle.machine.specs.State.{held, operand, filled, moved_on, jumped};
+ghost use Rattle.machine.specs.Helpers.{called};
+
+use isa::{Register, Source};
+use machine::{Content, State};
+
+/// What a register holds.
+pub(crate) fn held(state: &State, register: Register) -> Content
+    ensures { result ≡ held state.now register }
+{
+    state.registers[register.index()]
+}
+
+/// What a second operand is: a number that is widened by its sign, or what a register holds.
+pub(crate) fn operand(state: &State, source: Source) -> Content
+    ensures { result ≡ operand state.now source }
+{
+    match source {
+        Source::Immediate(number) => Content::Number(i64::from(number).cast_unsigned()),
+        Source::Register(register) => held(state, register),
+    }
+}
+
+/// Fills a register, and goes on to the next slot.
+pub(crate) fn fill(state: &mut State, target: Register, content: Content)
+    requires { state.old.slot < 4096 }
+    ensures { state.new ≡ filled state.old target content }
+{
+    state.registers[target.index()] = content;
+    state.slot += 1;
+}
+
+/// Fills a register, and goes on past a wide instruction.
+pub(crate) fn fill_wide(state: &mut State, target: Register, content: Content)
+    requires { state.old.slot < 4096 }
+    ensures { state.new ≡ record (filled state.old target content) { slot = state.old.slot + 2 } }
+{
+    state.registers[target.index()] = content;
+    state.slot += 2;
+}
+
+/// Goes on to the next slot.
+pub(crate) fn move_on(state: &mut State)
+    requires { state.old.slot < 4096 }
+    ensures { state.new ≡ moved_on state.old }
+{
+    state.slot += 1;
+}
+
+/// Goes to the slot at a distance from the next one. The slot is a word and wraps.
+pub(crate) fn jump(state: &mut State, distance: i32)
+    requires { state.old.slot < 4096 }
+    ensures { state.new ≡ jumped state.old distance }
+{
+    state.slot = (state.slot + 1).wrapping_add(i64::from(distance).cast_unsigned());
+}
+
+/// Puts a helper's answer into r0, empties r1 to r5, and goes on to the next slot.
+pub(crate) fn take_answer(state: &mut State, answer: u64)
+    requires { state.old.slot < 4096 }
+    ensures { state.new ≡ called state.old answer }
+{
+    state.registers[0] = Content::Number(answer);
+    state.registers[1] = Content::Nothing;
+    state.registers[2] = Content::Nothing;
+    state.registers[3] = Content::Nothing;
+    state.registers[4] = Content::Nothing;
+    state.registers[5] = Content::Nothing;
+    state.slot += 1;
+}

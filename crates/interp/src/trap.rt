@@ -1,0 +1,26 @@
+//! Why a run gave no answer.
+ghost use Rattle.std.specs.Prelude.{◌≡◌};
+ghost use Rattle.interp.specs.Outcome.{trap_number};
+
+use machine::Fault;
+
+/// Why a run gave no answer.
+#[derive(Clone, Copy, PartialEq, Eq, Debug)]
+pub enum Trap {
+    /// The machine is stuck, for this reason.
+    Stuck(Fault),
+    /// The stated number of instructions passed without EXIT.
+    Limit,
+}
+
+impl Trap {
+    /// Its number: that of the fault, from 1 to 10, or 11 for `Limit`.
+    pub fn number(self) -> u8
+        ensures { result ≡ trap_number self }
+    {
+        match self {
+            Trap::Stuck(fault) => fault.number(),
+            Trap::Limit => 11,
+        }
+    }
+}

@@ -1,0 +1,13 @@
+//! Intervals of unsigned numbers as abstract values.
+#![tactic(auto)]
+
+mod bounds;
+mod domain;
+mod order;
+mod results;
+mod value;
+
+pub use value::Interval;
+
+#[cfg(test)]
+mod tests;

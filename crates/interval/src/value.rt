@@ -1,0 +1,10 @@
+//! An interval of unsigned numbers.
+ghost use Rattle.std.specs.Prelude.{◌≤◌};
+
+/// The numbers from low to high.
+#[derive(Clone, Copy, Debug, PartialEq, Eq)]
+pub struct Interval {
+    pub low: u64,
+    pub high: u64,
+    ghost ordered: { low ≤ high },
+}

@@ -1,0 +1,10 @@
+pub mod Fronts
+pub mod Sources
+pub mod Jumps
+pub mod Ranges
+pub mod Only
+pub mod Faults
+pub mod SlotBytes
+pub mod Parts
+pub mod Recovered
+pub mod Unique

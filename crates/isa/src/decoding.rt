@@ -1,0 +1,196 @@
+ghost use Rattle.std.specs.Prelude.{List, [], MatchResult, ◌≡◌, ◌+◌, ◌*◌, ◌≤◌, ◌<◌, ◌/◌, ◌%◌, ◌⊎◌, ◌↔◌, ◌++◌, ℕ, take, length, IfSome, Some, Ok, IfErr, IfOk, OnOk, OnErr, IsTrue};
+ghost use Rattle.isa.specs.declared.instruction.Instruction.{Instruction};
+ghost use Rattle.std.specs.List.{flat_map, AllByRecursion};
+ghost use Rattle.isa.specs.declared.code.Slot.{Slot};
+ghost use Rattle.isa.specs.Code.{is_wide, slots_of};
+ghost use Rattle.isa.specs.Spelling.{second_half, bytes_of, bytes_of_fields, IsInstruction, Spells, SpellsSlots};
+ghost use Rattle.isa.specs.Slots.{IsHeldBy};
+ghost use Rattle.isa.specs.Refusals.{Fails, Refuses, AreSlots};
+ghost use Rattle.isa.specs.Shapes.{MayBe};
+
+use crate::builder::push_slots;
+use crate::code::{Code, MOST_SLOTS, Slot};
+use crate::fields::Fields;
+use crate::instruction::Instruction;
+use crate::register::Register;
+use crate::shape::{self, Shape};
+use crate::slot;
+use std::alloc::Global;
+
+/// Why bytes aren't code.
+#[derive(Clone, Copy, PartialEq, Eq, Debug)]
+pub enum DecodeFault {
+    /// There are no bytes, or not whole slots of them.
+    Length,
+    /// The opcode isn't listed.
+    Opcode,
+    /// A register's number is above 10.
+    Register,
+    /// A field that isn't used isn't zero, or one holds what isn't listed.
+    Reserved,
+    /// The code ends inside a wide instruction.
+    HalfWide,
+    /// There are more than 4096 slots.
+    TooLong,
+    /// Memory ran out.
+    Memory,
+}
+
+impl DecodeFault {
+    ghost use Rattle.std.specs.Prelude.{◌≡◌};
+    ghost use Rattle.isa.specs.Refusals.{fault_number};
+
+    /// The number that users see: 1 to 7, in the order of the variants.
+    pub fn number(self) -> u8
+        ensures { result ≡ fault_number self }
+    {
+        match self {
+            DecodeFault::Length => 1,
+            DecodeFault::Opcode => 2,
+            DecodeFault::Register => 3,
+            DecodeFault::Reserved => 4,
+            DecodeFault::HalfWide => 5,
+            DecodeFault::TooLong => 6,
+            DecodeFault::Memory => 7,
+        }
+    }
+}
+
+/// The first fault, and the slot that it is in. A fault of a wide instruction's second slot is in its first one; `Length`, `TooLong` and `Memory` are in slot 0.
+#[derive(Clone, Copy, PartialEq, Eq, Debug)]
+pub struct DecodeError {
+    pub slot: usize,
+    pub kind: DecodeFault,
+}
+
+/// Whether a first slot with the opcode of a wide instruction is right by itself.
+fn begins_wide(fields: Fields) -> bool
+    ensures { IsTrue result ↔ ((fields.offset ≡ 0) × ((fields.source ≡ 0) ⊎ (fields.source ≡ 6))) }
+{
+    fields.offset == 0 && (fields.source == 0 || fields.source == 6)
+}
+
+/// The wide instruction of two slots with these fields.
+fn wide_instruction(fields: Fields, second: Fields) -> Option<Instruction>
+    requires opcode { fields.opcode ≡ 24 }
+    requires target { fields.target ≤ 10 }
+    requires source { fields.source ≤ 10 }
+    ensures only { (i : Instruction) → MayBe Shape.Wide fields i → second_half i ≡ bytes_of_fields second → result ≡ Some i }
+    ensures found { IfSome result (λ i. IsHeldBy fields i × (second_half i ≡ bytes_of_fields second) × IsTrue (is_wide i)) }
+{
+    if fields.offset != 0
+        || second.opcode != 0
+        || second.target != 0
+        || second.source != 0
+        || second.offset != 0
+    {
+        return None;
+    }
+    let target = Register::new(fields.target)?;
+    match fields.source {
+        0 => Some(Instruction::LoadNumber {
+            target,
+            number: u64::from(second.immediate) * 4294967296 + u64::from(fields.immediate),
+        }),
+        6 => Some(Instruction::LoadMap {
+            target,
+            map: fields.immediate.cast_signed(),
+            offset: second.immediate.cast_signed(),
+        }),
+        _ => None,
+    }
+}
+
+/// The instruction at the front of the bytes.
+fn first_instruction(bytes: &[u8]) -> Result<Instruction, DecodeFault>
+    requires { 8 ≤ length bytes.now }
+    ensures found { IfOk result (λ i. IsInstruction i × (bytes_of i ≡ take (length (bytes_of i)) bytes.now)) }
+    ensures only { (i : Instruction) → IsInstruction i → bytes_of i ≡ take (length (bytes_of i)) bytes.now → result ≡ Ok i }
+    ensures fault { IfErr result (λ fault. Fails bytes.now fault) }
+{
+    let fields = Fields::read(&bytes[..8]);
+    let Some(shape) = shape::shape_of(fields.opcode) else {
+        return Err(DecodeFault::Opcode);
+    };
+    if fields.target > 10 || fields.source > 10 {
+        return Err(DecodeFault::Register);
+    }
+    if !matches!(shape, Shape::Wide) {
+        return match slot::short_instruction(shape, fields) {
+            Some(instruction) => Ok(instruction),
+            None => Err(DecodeFault::Reserved),
+        };
+    }
+    if !begins_wide(fields) {
+        return Err(DecodeFault::Reserved);
+    }
+    if bytes.len() < 16 {
+        return Err(DecodeFault::HalfWide);
+    }
+    match wide_instruction(fields, Fields::read(&bytes[8..16])) {
+        Some(instruction) => Ok(instruction),
+        None => Err(DecodeFault::Reserved),
+    }
+}
+
+/// The code that the bytes spell.
+pub fn decode(alloc: Global, bytes: &[u8]) -> Result<Code, DecodeError>
+    // What is read is spelled so.
+    ensures found { IfOk result (λ code. Spells bytes.now code) }
+    // What is spelled so is read, unless memory runs out.
+    ensures only { (code : List Slot) → Spells bytes.now code → MatchResult result (λ found. found ≡ code) (λ e. e.kind ≡ DecodeFault.Memory) }
+    // Which fault it is, and where.
+    ensures why { IfErr result (λ e. Refuses bytes.now e.slot e.kind) }
+{
+    if bytes.is_empty() || bytes.len() % 8 != 0 {
+        return Err(DecodeError {
+            slot: 0,
+            kind: DecodeFault::Length,
+        });
+    }
+    if bytes.len() / 8 > MOST_SLOTS {
+        return Err(DecodeError {
+            slot: 0,
+            kind: DecodeFault::TooLong,
+        });
+    }
+    Ok(Code::new(slots_of(alloc, bytes)?))
+}
+
+/// The slots of the instructions that the bytes spell.
+fn slots_of(alloc: Global, bytes: &[u8]) -> Result<Vec<Slot>, DecodeError>
+    requires { AreSlots bytes.now }
+    ensures found { IfOk result (λ slots. SpellsSlots bytes.now slots.items) }
+    ensures only { (is : List Instruction) → AllByRecursion IsInstruction is → bytes.now ≡ flat_map bytes_of is → MatchResult result (λ slots. slots.items ≡ flat_map slots_of is) (λ e. e.kind ≡ DecodeFault.Memory) }
+    ensures why { IfErr result (λ e. Refuses bytes.now e.slot e.kind) }
+{
+    let mut slots = room_for(alloc, bytes.len() / 8)?;
+    let mut rest = bytes;
+    while !rest.is_empty() {
+        let slot = slots.len();
+        let instruction = match first_instruction(rest) {
+            Ok(instruction) => instruction,
+            Err(kind) => return Err(DecodeError { slot, kind }),
+        };
+        let Ok(()) = push_slots(&mut slots, instruction) else {
+            return Err(DecodeError {
+                slot: 0,
+                kind: DecodeFault::Memory,
+            });
+        };
+        let (_, after) = rest.split_at(8 * (slots.len() - slot));
+        rest = after;
+    }
+    Ok(slots)
+}
+
+/// No slots yet, with room for this many.
+fn room_for(alloc: Global, slots: usize) -> Result<Vec<Slot>, DecodeError>
+    ensures empty { IfOk result (λ room. room.items ≡ []) }
+    ensures memory { IfErr result (λ e. (e.slot ≡ 0) × (e.kind ≡ DecodeFault.Memory)) }
+{
+    Vec::with_capacity(alloc, slots).map_err(|_| DecodeError {
+        slot: 0,
+        kind: DecodeFault::Memory,
+    })
+}

@@ -1,0 +1,44 @@
+ghost use Rattle.std.specs.Prelude.{◌≡◌, IfSome, Some};
+ghost use Rattle.isa.specs.declared.hook.Hook.{Hook};
+ghost use Rattle.isa.specs.Hooks.{hook_number};
+
+/// Where in the router a program is asked.
+#[derive(Clone, Copy, PartialEq, Eq, Debug)]
+pub enum Hook {
+    /// For each datagram, before it is read.
+    Count,
+    /// For the tag of an external route.
+    Tag,
+    /// For the metric of an external route.
+    Price,
+    /// For each route, before it enters the table.
+    Veto,
+}
+
+impl Hook {
+    /// Its number in object files and contexts: 1 to 4, in the order of the variants.
+    pub fn number(self) -> u8
+        ensures { result ≡ hook_number self }
+    {
+        match self {
+            Hook::Count => 1,
+            Hook::Tag => 2,
+            Hook::Price => 3,
+            Hook::Veto => 4,
+        }
+    }
+
+    /// The hook with this number, if there is one.
+    pub fn from_number(number: u8) -> Option<Hook>
+        ensures found { IfSome result (λ hook. hook_number hook ≡ number) }
+        ensures only { (hook : Hook) → hook_number hook ≡ number → result ≡ Some hook }
+    {
+        match number {
+            1 => Some(Hook::Count),
+            2 => Some(Hook::Tag),
+            3 => Some(Hook::Price),
+            4 => Some(Hook::Veto),
+            _ => None,
+        }
+    }
+}

@@ -1,0 +1,36 @@
+ghost use Rattle.std.specs.Prelude.{◌≡◌, IfSome, Some};
+ghost use Rattle.isa.specs.declared.map.Map.{Map};
+ghost use Rattle.isa.specs.Maps.{map_number};
+
+/// One of the two maps that programs share with the router.
+#[derive(Clone, Copy, PartialEq, Eq, Debug)]
+pub enum Map {
+    /// 256 counters of 64 bits, summed over all seats. Programs only read them here.
+    Counters,
+    /// 64 cells of 64 bits that belong to the seat alone.
+    Cells,
+}
+
+impl Map {
+    /// Its number in instructions, object files and assembly text: 0 or 1.
+    pub fn number(self) -> u8
+        ensures { result ≡ map_number self }
+    {
+        match self {
+            Map::Counters => 0,
+            Map::Cells => 1,
+        }
+    }
+
+    /// The map with this number, if there is one.
+    pub fn from_number(number: u8) -> Option<Map>
+        ensures found { IfSome result (λ map. map_number map ≡ number) }
+        ensures only { (map : Map) → map_number map ≡ number → result ≡ Some map }
+    {
+        match number {
+            0 => Some(Map::Counters),
+            1 => Some(Map::Cells),
+            _ => None,
+        }
+    }
+}

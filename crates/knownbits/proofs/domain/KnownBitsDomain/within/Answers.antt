@@ -1,0 +1,15 @@
+use Rattle.std.proofs.Common.{◌≡◌, ◌<◌, ◌^◌, arith, lit<}
+use Rattle.std.specs.Prelude.{bit_and}
+use Rattle.std.proofs.lemmas.Bool.Decides.{nat_tests}
+use Rattle.knownbits.proofs.BitLemmas.{within_known, nothing_known}
+use Rattle.knownbits.proofs.domain.KnownBitsDomain.within.Goals as goal
+
+pub returns-then-self-other-clause-included : goal.returns-then-self-other-clause-included
+returns-then-self-other-clause-included c = λ same n known.
+    let part : bit_and c.args.self.value c.args.other.mask ≡ c.args.other.value = grind (arith, nat_tests) in
+    record { bits = within_known n c.args.self.mask c.args.other.mask c.args.self.value c.args.other.value known.bits c.if-self-other.true part; small = known.small }
+
+pub returns-else-self-other-clause-everything : goal.returns-else-self-other-clause-everything
+returns-else-self-other-clause-everything c = λ all.
+    let small : c.args.other.mask < 2 ^ 64 = omega arith in
+    absurd (c.if-self-other.false (nothing_known c.args.self.mask c.args.other.mask c.args.other.value small (all 0 (lit< tt)).bits (all 18446744073709551615 (lit< tt)).bits))

@@ -1,0 +1,17 @@
+-- Numbers below 2^64 of which some bits are known.
+use Rattle.std.specs.Prelude.{◌≡◌, ℕ, ◌<◌, ◌^◌, bit_and}
+use Rattle.std.specs.Int.{bit_at}
+use Rattle.knownbits.specs.declared.value.KnownBits.{KnownBits}
+
+-- the bits under the mask are those of the value
+pub record HasBits (known : KnownBits) (n : ℕ) : Type 0 where
+  pub bits : bit_and n known.mask ≡ known.value
+  pub small : n < 2 ^ 64
+
+-- bit i of each number is known
+abbrev pub Knows : KnownBits → ℕ → Type 0
+Knows known i = bit_at known.mask i ≡ 1
+
+-- the low bits are known, so many of them
+abbrev pub KnowsBelow : KnownBits → ℕ → Type 0
+KnowsBelow known count = (i : ℕ) → i < count → Knows known i

@@ -1,0 +1,13 @@
+//! Numbers of which some bits are known, as abstract values.
+#![tactic(auto)]
+
+mod bits;
+mod domain;
+mod shift;
+mod sum;
+mod value;
+
+pub use value::KnownBits;
+
+#[cfg(test)]
+mod tests;

@@ -1,0 +1,9 @@
+pub mod Label
+pub mod State
+pub mod Memory
+pub mod Input
+pub mod Helpers
+pub mod Steps
+pub mod Faults
+pub mod Runs
+pub mod Laws

@@ -1,0 +1,54 @@
+//! The reasons for which the machine is stuck.
+
+/// Why the machine is stuck: it is at no instruction that it may execute.
+///
+/// Where several hold at one state, the one with the least number counts, but at a call `Helper`
+/// comes before the others.
+#[derive(Clone, Copy, PartialEq, Eq, Debug)]
+pub enum Fault {
+    /// 1: the slot isn't in the code.
+    Outside,
+    /// 2: the slot is the second half of a wide instruction.
+    HalfWide,
+    /// 3: an empty register or stack byte is read.
+    Empty,
+    /// 4: a pointer is used where only a number may be, or the other way round; a region is written
+    /// that is read only; pieces of a pointer are read in another way than all eight as a whole; or
+    /// a map isn't one of the two.
+    Kind,
+    /// 5: the bytes of a load or store don't all lie in its region.
+    Bounds,
+    /// 6: a load or store in a map isn't of eight bytes at a multiple of eight.
+    Align,
+    /// 7: there is no helper with the number at the hook.
+    Helper,
+    /// 8: a helper's argument is too large.
+    Argument,
+    /// 9: r10 is written.
+    Frame,
+    /// 10: a pointer is answered.
+    ExitKind,
+}
+
+impl Fault {
+    ghost use Rattle.std.specs.Prelude.{◌≡◌};
+    ghost use Rattle.machine.specs.Faults.{fault_number};
+
+    /// Its number, from 1 to 10.
+    pub fn number(self) -> u8
+        ensures { result ≡ fault_number self }
+    {
+        match self {
+            Fault::Outside => 1,
+            Fault::HalfWide => 2,
+            Fault::Empty => 3,
+            Fault::Kind => 4,
+            Fault::Bounds => 5,
+            Fault::Align => 6,
+            Fault::Helper => 7,
+            Fault::Argument => 8,
+            Fault::Frame => 9,
+            Fault::ExitKind => 10,
+        }
+    }
+}

@@ -1,0 +1,6 @@
+use Rattle.std.proofs.Common.{◌≡◌}
+use Rattle.maps.proofs.tests.thousand.Given as goal
+
+-- the seat stays one of its table
+abbrev pub invariant-loop-turn : goal.invariant-loop-turn
+invariant-loop-turn l = l.seat.table ≡ l.fn.seat.table

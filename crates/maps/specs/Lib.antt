@@ -1,0 +1,3 @@
+pub mod Access
+pub mod Refusals
+pub mod Words

@@ -1,0 +1,98 @@
+use clap::error::ErrorKind;
+use isa::DecodeError;
+use maps::MapsError;
+use std::alloc::{AllocError, AllocFailed};
+use std::io;
+use thiserror::Error;
+
+/// The statuses that the program ends with.
+pub const DONE: u8 = 0;
+/// A program, an object or a text was refused, or a run was stuck.
+pub const REFUSED: u8 = 1;
+/// The words of the command line are wrong.
+pub const USAGE: u8 = 2;
+/// A file or a socket can't be used.
+pub const OUTSIDE: u8 = 3;
+/// Memory was refused.
+pub const MEMORY: u8 = 4;
+
+/// Why a command didn't do what it was asked. The text is the line that is printed.
+#[derive(Debug, Drop, Error)]
+pub enum Fault<'a> {
+    /// A file can't be opened or read.
+    #[error("cannot read {path}")]
+    Read { path: &'a str },
+    /// Bytes that are no code: the number of the refusal, and the slot of the first bad instruction.
+    #[error("code refusal {number} slot {slot}")]
+    Code { number: u8, slot: u64 },
+    /// The words of the command line are wrong: the text says how.
+    #[error("{0}")]
+    Usage(clap::Error),
+    /// The output can't be written.
+    #[error("cannot write the output")]
+    Output,
+    /// An allocation was refused.
+    #[error("out of memory")]
+    Memory,
+}
+
+impl<'a> From<AllocError> for Fault<'a> {
+    fn from(_error: AllocError) -> Fault<'a> {
+        Fault::Memory
+    }
+}
+
+impl<'a, T: Drop> From<AllocFailed<T>> for Fault<'a> {
+    fn from(_error: AllocFailed<T>) -> Fault<'a> {
+        Fault::Memory
+    }
+}
+
+impl<'a> From<DecodeError> for Fault<'a> {
+    fn from(error: DecodeError) -> Fault<'a> {
+        match error.kind {
+            isa::DecodeFault::Memory => Fault::Memory,
+            kind => Fault::Code {
+                number: kind.number(),
+                slot: error.slot as u64,
+            },
+        }
+    }
+}
+
+impl<'a> From<MapsError> for Fault<'a> {
+    // The number of seats was judged with the words.
+    fn from(_error: MapsError) -> Fault<'a> {
+        Fault::Memory
+    }
+}
+
+impl<'a> From<clap::Error> for Fault<'a> {
+    fn from(error: clap::Error) -> Fault<'a> {
+        match error.kind() {
+            ErrorKind::OutOfMemory => Fault::Memory,
+            _ => Fault::Usage(error),
+        }
+    }
+}
+
+impl<'a> Fault<'a> {
+    /// The status that the program ends with.
+    pub fn status(&self) -> u8 {
+        match self {
+            Fault::Read { .. } | Fault::Output => OUTSIDE,
+            Fault::Code { .. } => REFUSED,
+            Fault::Usage(error) if error.use_stderr() => USAGE,
+            Fault::Usage(_) => DONE,
+            Fault::Memory => MEMORY,
+        }
+    }
+}
+
+/// The status for arguments that the system didn't give.
+pub fn status_of(error: &io::Error) -> u8 {
+    match error.kind() {
+        io::ErrorKind::OutOfMemory => MEMORY,
+        _ => USAGE,
+    }
+}

@@ -1,0 +1,263 @@
+//! Command lines with what they print, where, and their statuses. Files stand in a folder of the test's own.
+
+use crate::program::program;
+use std::process::Abort;
+use std::rt::{Env, Files};
+use std::test::Fail;
+use std::thread::Threads;
+use std::{env, fs, process};
+
+// What the program printed to its two writers, and its status.
+#[derive(Drop)]
+struct Outcome {
+    status: u8,
+    lines: String,
+    usage: String,
+}
+
+fn run<R: Files + AllocGlobal + Threads + Sync>(rt: &R, words: &[&str]) -> Result<Outcome, Fail> {
+    let mut input: &[u8] = &[];
+    let mut output = Vec::new(rt.alloc());
+    let mut errors = Vec::new(rt.alloc());
+    let status = program(rt, words, &mut input, &mut output, &mut errors);
+    let lines = String::from_utf8(output).map_err(|_| "the lines are no text")?;
+    let usage = String::from_utf8(errors).map_err(|_| "the usage is no text")?;
+    Ok(Outcome {
+        status,
+        lines,
+        usage,
+    })
+}
+
+// A path for a file of one test: tests may run at the same time.
+fn path_for<R: Env + AllocGlobal>(rt: &R, id: u32, name: &str) -> Result<String, Fail> {
+    let folder = env::temp_dir(rt)?;
+    let folder = folder
+        .as_path()
+        .to_str()
+        .ok_or("the folder's name is no text")?;
+    Ok(format!(in rt.alloc(); "{folder}/routerd-{id}-{name}")?)
+}
+
+const ADDS: [u8; 32] = [
+    0xb7, 1, 0, 0, 5, 0, 0, 0, 0xb7, 2, 0, 0, 3, 0, 0, 0, 0x85, 0, 0, 0, 1, 0, 0, 0, 0x95, 0, 0, 0,
+    0, 0, 0, 0,
+];
+
+fn adds_with(at: usize, byte: u8) -> [u8; 32] {
+    let mut bytes = ADDS;
+    if at < 32 {
+        bytes[at] = byte;
+    }
+    bytes
+}
+
+// Code that answers at once, of so many slots in all.
+fn long_code<R: AllocGlobal>(rt: &R, slots: usize) -> Result<Vec<u8>, Fail> {
+    let mut bytes = Vec::new(rt.alloc());
+    for slot in 0..slots {
+        let opcode = if slot % 2 == 0 { 0xb7 } else { 0x95 };
+        for byte in [opcode, 0, 0, 0, 0, 0, 0, 0] {
+            bytes.push(byte)?;
+        }
+    }
+    Ok(bytes)
+}
+
+fn expect_raw<R: Files + AllocGlobal + Threads + Sync + Env + Abort>(
+    rt: &R,
+    id: u32,
+    code: &[u8],
+    hook: &str,
+    seats: &str,
+    status: u8,
+    lines: &str,
+) -> Result<(), Fail> {
+    let path = path_for(rt, id, "code")?;
+    fs::write(rt, path.as_str(), code)?;
+    let outcome = run(rt, &["routerd", "raw", hook, path.as_str(), seats])?;
+    fs::remove_file(rt, path.as_str())?;
+    let got = outcome.lines.as_str();
+    assert!(rt; got == lines, "{got}");
+    assert_eq!(rt; outcome.status, status, "{lines}");
+    assert!(rt; outcome.usage.as_str() == "");
+    Ok(())
+}
+
+#[test]
+fn bare_code_prints_its_answers_and_the_exact_sums(rt: HostRuntime) -> Result<(), Fail> {
+    let id = process::id(rt.process());
+    let both = "seat 1 answer 0 used 4\nseat 2 answer 0 used 4\ncounter 5 6\n";
+    expect_raw(&rt, id, ADDS.as_slice(), "count", "2", 0, both)?;
+    expect_raw(
+        &rt,
+        id,
+        adds_with(20, 5).as_slice(),
+        "count",
+        "1",
+        1,
+        "seat 1 trap 7\n",
+    )?;
+    let index_256 = {
+        let mut bytes = adds_with(5, 1);
+        bytes[4] = 0;
+        bytes
+    };
+    expect_raw(
+        &rt,
+        id,
+        index_256.as_slice(),
+        "count",
+        "1",
+        1,
+        "seat 1 trap 8\n",
+    )?;
+    let exit = [0x95, 0, 0, 0, 0, 0, 0, 0];
+    expect_raw(&rt, id, exit.as_slice(), "count", "1", 1, "seat 1 trap 3\n")?;
+    let seven = [0xb7, 0, 0, 0, 7, 0, 0, 0];
+    expect_raw(
+        &rt,
+        id,
+        seven.as_slice(),
+        "count",
+        "1",
+        1,
+        "seat 1 trap 1\n",
+    )?;
+    expect_raw(&rt, id, &[], "count", "1", 1, "code refusal 1 slot 0\n")
+}
+
+#[test]
+fn bare_code_at_the_limits(rt: HostRuntime) -> Result<(), Fail> {
+    let id = process::id(rt.process());
+    let whole = long_code(&rt, 4096)?;
+    expect_raw(
+        &rt,
+        id,
+        whole.as_slice(),
+        "veto",
+        "1",
+        0,
+        "seat 1 answer 0 used 2\n",
+    )?;
+    let above = long_code(&rt, 4097)?;
+    expect_raw(
+        &rt,
+        id,
+        above.as_slice(),
+        "veto",
+        "1",
+        1,
+        "code refusal 6 slot 0\n",
+    )?;
+    expect_raw(
+        &rt,
+        id,
+        &ADDS[..31],
+        "tag",
+        "1",
+        1,
+        "code refusal 1 slot 0\n",
+    )?;
+    let unlisted = adds_with(8, 0xff);
+    expect_raw(
+        &rt,
+        id,
+        unlisted.as_slice(),
+        "tag",
+        "1",
+        1,
+        "code refusal 2 slot 1\n",
+    )?;
+    let frame = [0xb7, 10, 0, 0, 7, 0, 0, 0];
+    expect_raw(
+        &rt,
+        id,
+        frame.as_slice(),
+        "price",
+        "1",
+        1,
+        "seat 1 trap 9\n",
+    )?;
+    let address = [0xbf, 0xa0, 0, 0, 0, 0, 0, 0, 0x95, 0, 0, 0, 0, 0, 0, 0];
+    expect_raw(
+        &rt,
+        id,
+        address.as_slice(),
+        "price",
+        "1",
+        1,
+        "seat 1 trap 10\n",
+    )?;
+    let forever = [0x05, 0, 0xff, 0xff, 0, 0, 0, 0];
+    expect_raw(
+        &rt,
+        id,
+        forever.as_slice(),
+        "price",
+        "1",
+        1,
+        "seat 1 trap 11\n",
+    )
+}
+
+#[test]
+fn sixty_four_seats_print_in_seat_order(rt: HostRuntime) -> Result<(), Fail> {
+    let id = process::id(rt.process());
+    let mut lines = String::new(rt.alloc());
+    for seat in 1..=64u32 {
+        writeln!(lines, "seat {seat} answer 0 used 4")?;
+    }
+    lines.push_str("counter 5 192\n")?;
+    expect_raw(&rt, id, ADDS.as_slice(), "count", "64", 0, lines.as_str())
+}
+
+#[test]
+fn wrong_words_are_a_matter_of_usage(rt: HostRuntime) -> Result<(), Fail> {
+    let wrong: [&[&str]; 9] = [
+        &["routerd"],
+        &["routerd", "fly"],
+        &["routerd", "raw"],
+        &["routerd", "raw", "count", "adds.bin"],
+        &["routerd", "raw", "count", "adds.bin", "0"],
+        &["routerd", "raw", "count", "adds.bin", "65"],
+        &["routerd", "raw", "count", "adds.bin", "two"],
+        &["routerd", "raw", "counts", "adds.bin", "2"],
+        &["routerd", "raw", "count", "adds.bin", "2", "3"],
+    ];
+    for words in wrong {
+        let outcome = run(&rt, words)?;
+        assert_eq!(rt; outcome.status, 2);
+        assert!(rt; outcome.lines.as_str() == "");
+        assert!(rt; !outcome.usage.as_str().is_empty());
+    }
+    Ok(())
+}
+
+#[test]
+fn help_names_each_command(rt: HostRuntime) -> Result<(), Fail> {
+    let outcome = run(&rt, &["routerd", "--help"])?;
+    assert_eq!(rt; outcome.status, 0);
+    assert!(rt; outcome.lines.as_str() == "");
+    assert!(rt; outcome.usage.as_str().contains("raw"));
+    let outcome = run(&rt, &["routerd", "raw", "--help"])?;
+    assert_eq!(rt; outcome.status, 0);
+    assert!(rt;
+        outcome
+            .usage
+            .as_str()
+            .contains("Example: routerd raw count adds.bin 2")
+    );
+    Ok(())
+}
+
+#[test]
+fn a_file_that_is_not_there_cant_be_read(rt: HostRuntime) -> Result<(), Fail> {
+    let path = path_for(&rt, process::id(rt.process()), "missing")?;
+    let path = path.as_str();
+    let outcome = run(&rt, &["routerd", "raw", "count", path, "2"])?;
+    assert_eq!(rt; outcome.status, 3);
+    let line = format!(in rt.alloc(); "cannot read {path}\n")?;
+    assert!(rt; outcome.lines.as_str() == line.as_str());
+    Ok(())
+}
