@@ -49,7 +49,8 @@ fn call_counter_add(
     seat: &mut Seat,
 ) -> Result<u64, Fault>
     requires table { IsOf shared.now seat.old }
-    ensures ok { IfOk result (λ answer. (label : Label) × Makes seat.old (label ∷ []) seat.new × ((input : Input) → Answers CounterAdd input (first ∷ second ∷ []) label answer)) }
+    ensures ok { IfOk result (λ answer. (label : Label) × Makes seat.old (label ∷ []) seat.new
+        × ((input : Input) → Answers CounterAdd input (first ∷ second ∷ []) label answer)) }
     ensures err { IfErr result (λ fault. fault_of_call (Some CounterAdd) first second ≡ Some fault) }
     ensures unchanged { OnErr result (seat.new ≡ seat.old) }
 {
@@ -67,7 +68,8 @@ fn call_counter_read(
     seat: &mut Seat,
 ) -> Result<u64, Fault>
     requires table { IsOf shared.now seat.old }
-    ensures ok { IfOk result (λ answer. (label : Label) × Makes seat.old (label ∷ []) seat.new × ((input : Input) → Answers CounterRead input (first ∷ []) label answer)) }
+    ensures ok { IfOk result (λ answer. (label : Label) × Makes seat.old (label ∷ []) seat.new
+        × ((input : Input) → Answers CounterRead input (first ∷ []) label answer)) }
     ensures err { IfErr result (λ fault. fault_of_call (Some CounterRead) first second ≡ Some fault) }
     ensures unchanged { OnErr result (seat.new ≡ seat.old) }
 {
@@ -111,7 +113,8 @@ pub fn call(
     seat: &mut Seat,
 ) -> Result<u64, Fault>
     requires table { IsOf shared.now seat.old }
-    ensures ok { IfOk result (λ answer. (label : Label) × Makes seat.old (label ∷ []) seat.new × Answered hook number first second input.now label answer) }
+    ensures ok { IfOk result (λ answer. (label : Label) × Makes seat.old (label ∷ []) seat.new
+        × Answered hook number first second input.now label answer) }
     ensures err { IfErr result (λ fault. fault_of_call (helper_of hook number) first second ≡ Some fault) }
     ensures unchanged { OnErr result (seat.new ≡ seat.old) }
 {

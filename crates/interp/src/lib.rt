@@ -17,3 +17,6 @@ mod trap;
 
 pub use run::{Run, run_checked};
 pub use trap::Trap;
+
+#[cfg(test)]
+mod tests;

@@ -88,8 +88,8 @@ arithmetic_from width f =
     if f.opcode / 16 == 8 then Negate width f.target else
     if f.opcode / 16 == 13 then Reorder (order_from f.opcode) (swap_from f.immediate) f.target else
     if f.opcode / 16 == 11 then
-        (if f.offset == 0 then Arithmetic width operations.Move f.target (source_from (f.opcode / 8 % 2) f.source f.immediate)
-        else SignExtend (extension_from width f.offset) f.target f.source) else
+    (if f.offset == 0 then Arithmetic width operations.Move f.target (source_from (f.opcode / 8 % 2) f.source f.immediate)
+    else SignExtend (extension_from width f.offset) f.target f.source) else
     Arithmetic width (operation_from (f.opcode / 16) f.offset) f.target (source_from (f.opcode / 8 % 2) f.source f.immediate)
 
 abbrev jump_from : Width → Fields → Instruction

@@ -6,11 +6,9 @@ ghost use Rattle.isa.specs.Spelling.{Spells};
 /// Bytes spell at most one code.
 pub fn bytes_spell_one_code()
     ensures { (bytes : List ℕ) (a b : List Slot) → Spells bytes a → Spells bytes b → a ≡ b }
-{
-}
+{}
 
 /// A code has one spelling.
 pub fn code_has_one_spelling()
     ensures { (a b : List ℕ) (code : List Slot) → Spells a code → Spells b code → a ≡ b }
-{
-}
+{}

@@ -8,7 +8,6 @@ use Rattle.machine.specs.declared.fault.Fault.TheVariants.{Empty, Kind, Bounds, 
 use Rattle.machine.specs.declared.state.State.{State}
 use Rattle.machine.specs.Label.{Label}
 use Rattle.machine.specs.State.{Setting, held, operand}
-use Rattle.machine.specs.declared.state.Content.TheVariants.{Number}
 use Rattle.machine.specs.Steps.{Does, Step, Exits}
 use Rattle.machine.specs.Faults.{commits, first_of, order_of, fault_at, Stuck}
 use Rattle.machine.proofs.Readings.{result_reads, number_reads, tested_reads}

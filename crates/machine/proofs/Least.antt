@@ -1,7 +1,5 @@
 -- The first fault in the machine's order is the least one whose condition holds.
-use Rattle.std.proofs.Common.{◌≡◌, ◌↔◌, ◌⊎◌, inl, inr, ℕ, ◌<◌, List, [], ◌∷◌, refl, sym, ap, ◌∙◌, arith, lit<, Bool, true, false, cond, Option, Some, None}
-use Rattle.std.specs.List.{AllByRecursion}
-use Rattle.std.specs.Prelude.{slice_get}
+use Rattle.std.proofs.Common.{◌≡◌, ◌↔◌, ◌⊎◌, inl, inr, ℕ, ◌<◌, List, [], ◌∷◌, refl, sym, ap, ◌∙◌, arith, lit<, Bool, true, false, cond, Some}
 use Rattle.isa.specs.declared.instruction.Instruction.{Instruction}
 use Rattle.isa.specs.declared.instruction.Instruction.TheVariants as instructions
 use Rattle.machine.specs.declared.fault.Fault.{Fault}
@@ -82,18 +80,23 @@ six_sorted = (after3, (after4, (after5, (after6, (after9, (after10, tt))))))
   where
     after10 : (g : Fault) → Has g [] → 10 < fault_number g
     after10 g h = elim h [ ]
+
     after9 : (g : Fault) → Has g (ExitKind ∷ []) → 9 < fault_number g
     after9 g (inl e) = rw (← e) (lit< tt)
     after9 g (inr h) = elim h [ ]
+
     after6 : (g : Fault) → Has g (Frame ∷ ExitKind ∷ []) → 6 < fault_number g
     after6 g (inl e) = rw (← e) (lit< tt)
     after6 g (inr h) = let more = after9 g h in omega (arith, more)
+
     after5 : (g : Fault) → Has g (Align ∷ Frame ∷ ExitKind ∷ []) → 5 < fault_number g
     after5 g (inl e) = rw (← e) (lit< tt)
     after5 g (inr h) = let more = after6 g h in omega (arith, more)
+
     after4 : (g : Fault) → Has g (Bounds ∷ Align ∷ Frame ∷ ExitKind ∷ []) → 4 < fault_number g
     after4 g (inl e) = rw (← e) (lit< tt)
     after4 g (inr h) = let more = after5 g h in omega (arith, more)
+
     after3 : (g : Fault) → Has g (Kind ∷ Bounds ∷ Align ∷ Frame ∷ ExitKind ∷ []) → 3 < fault_number g
     after3 g (inl e) = rw (← e) (lit< tt)
     after3 g (inr h) = let more = after4 g h in omega (arith, more)
@@ -103,12 +106,15 @@ four_sorted = (after0, (after3, (after4, (after8, tt))))
   where
     after8 : (g : Fault) → Has g [] → 8 < call_rank g
     after8 g h = elim h [ ]
+
     after4 : (g : Fault) → Has g (Argument ∷ []) → 4 < call_rank g
     after4 g (inl e) = rw (← e) (lit< tt)
     after4 g (inr h) = elim h [ ]
+
     after3 : (g : Fault) → Has g (Kind ∷ Argument ∷ []) → 3 < call_rank g
     after3 g (inl e) = rw (← e) (lit< tt)
     after3 g (inr h) = let more = after4 g h in omega (arith, more)
+
     after0 : (g : Fault) → Has g (Empty ∷ Kind ∷ Argument ∷ []) → 0 < call_rank g
     after0 g (inl e) = rw (← e) (lit< tt)
     after0 g (inr h) = let more = after3 g h in omega (arith, more)

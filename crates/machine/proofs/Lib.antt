@@ -6,3 +6,4 @@ pub mod Determined
 pub mod Ranges
 pub mod Total
 pub mod Least
+pub mod Stacks

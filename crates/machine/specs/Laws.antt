@@ -1,5 +1,5 @@
 -- What holds of the step relation and of the stuck states.
-use Rattle.std.specs.Prelude.{◌≡◌, ◌⊎◌, ◌↔◌, ◌<◌, ℕ, Bool, true, false, pos, length, [], ◌∷◌}
+use Rattle.std.specs.Prelude.{◌≡◌, ◌⊎◌, ◌↔◌, ◌<◌, ℕ, Bool, true, false, pos, length, List, [], ◌∷◌}
 use Rattle.isa.specs.declared.code.Slot.TheVariants.{Start}
 use Rattle.isa.specs.declared.instruction.Instruction.{Instruction}
 use Rattle.isa.specs.declared.instruction.Instruction.TheVariants.{Arithmetic, Call, Exit}
@@ -8,7 +8,7 @@ use Rattle.isa.specs.declared.instruction.Operation.TheVariants.{Move}
 use Rattle.isa.specs.declared.instruction.Source.TheVariants.{Immediate}
 use Rattle.isa.specs.declared.hook.Hook.TheVariants.{Count}
 use Rattle.machine.specs.declared.input.Input.{Input}
-use Rattle.machine.specs.Runs.{Ends}
+use Rattle.machine.specs.Runs.{Run, Ends}
 use Rattle.machine.specs.declared.fault.Fault.{Fault}
 use Rattle.machine.specs.declared.fault.Fault.TheVariants.{Helper}
 use Rattle.machine.specs.declared.state.State.{State}
@@ -54,10 +54,18 @@ AnswerIsUnique = (setting : Setting) (s : State) (a b : ℕ) → Exits setting s
 abbrev pub LabelDeterminesNext : Type 0
 LabelDeterminesNext = (setting : Setting) (s : State) (label : Label) (a b : State) → Step setting s label a → Step setting s label b → a ≡ b
 
--- A machine that isn't stuck steps, or is at EXIT with an answer.
-abbrev pub IsStuckOrGoesOn : Type 0
-IsStuckOrGoesOn = (setting : Setting) (s : State) → IsInput setting.input → length s.stack ≡ 512
-    → ((fault : Fault) × Stuck setting s fault) ⊎ (((label : Label) × (next : State) × Step setting s label next) ⊎ ((word : ℕ) × Exits setting s word))
+-- a state at which the machine is stuck, or steps, or is at EXIT with an answer
+abbrev pub IsStuckOrGoesOn : Setting → State → Type 0
+IsStuckOrGoesOn setting s =
+    ((fault : Fault) × Stuck setting s fault) ⊎ (((label : Label) × (next : State) × Step setting s label next) ⊎ ((word : ℕ) × Exits setting s word))
+
+-- Each state with a whole stack is one.
+abbrev pub StatesGoOn : Type 0
+StatesGoOn = (setting : Setting) (s : State) → IsInput setting.input → length s.stack ≡ 512 → IsStuckOrGoesOn setting s
+
+-- Each state that a run reaches is one.
+abbrev pub RunsGoOn : Type 0
+RunsGoOn = (setting : Setting) (n : ℕ) (labels : List Label) (s : State) → IsInput setting.input → Run setting n labels s → IsStuckOrGoesOn setting s
 
 -- r1 = 5; r2 = 3; call 1; exit: four instructions, which add 3 to counter 5 and answer 0
 abbrev pub adding : Input → Setting

@@ -1,5 +1,5 @@
 //! Laws of the machine, each the contract of a function that does nothing.
-ghost use Rattle.machine.specs.Laws.{GoesOneWay, LeastFaultCounts, FaultIsUnique, AnswerIsUnique, LabelDeterminesNext, IsStuckOrGoesOn, AddingEnds};
+ghost use Rattle.machine.specs.Laws.{GoesOneWay, LeastFaultCounts, FaultIsUnique, AnswerIsUnique, LabelDeterminesNext, StatesGoOn, RunsGoOn, AddingEnds};
 
 /// No state is two of these: able to step, at EXIT with an answer, stuck.
 pub fn a_state_goes_one_way()
@@ -8,7 +8,12 @@ pub fn a_state_goes_one_way()
 
 /// A state is stuck, or steps, or is at EXIT with an answer.
 pub fn a_state_is_stuck_or_goes_on()
-    ensures { IsStuckOrGoesOn }
+    ensures { StatesGoOn }
+{}
+
+/// Each state that a run reaches is stuck, or steps, or is at EXIT with an answer.
+pub fn a_run_goes_on_until_it_ends()
+    ensures { RunsGoOn }
 {}
 
 /// Where the conditions of several faults hold, the fault with the least number counts, but at a call

@@ -97,10 +97,10 @@ returns-in-None-clause-fault c =
     let bytes = c.args.bytes.now in
     let read = c.read-fields.ensures.bytes in
     let none : (i : Instruction) → Begins i bytes → ⊥ = λ i begins.
-        let held = begins_held fields i bytes small read begins in
-        let shape = front_shape fields i c.shape_of.result held c.shape_of.ensures.only in
-        let same : shape_of i ≡ c.in-Some.shape = cc (shape, c.in-Some.is) in
-        let found = c.in-None.ensures.only i (record { shape_is = same; held = held }) in cc found in
+    let held = begins_held fields i bytes small read begins in
+    let shape = front_shape fields i c.shape_of.result held c.shape_of.ensures.only in
+    let same : shape_of i ≡ c.in-Some.shape = cc (shape, c.in-Some.is) in
+    let found = c.in-None.ensures.only i (record { shape_is = same; held = held }) in cc found in
     (listed_at fields bytes c.in-Some.shape read c.in-Some.ensures.some, has_registers fields bytes small read c.if-fields-gt10.false c.if-fields-gt10-2.false, inl none)
 
 pub returns-then-not-begins_wide-clause-fault : goal.returns-then-not-begins_wide-clause-fault
@@ -111,10 +111,10 @@ returns-then-not-begins_wide-clause-fault c =
     let read = c.read-fields.ensures.bytes in
     let is_wide : c.in-Some.shape ≡ shapes.Wide = elim c.match-matches.branch [ in-Wide w ↦ w.in-Wide.is | in_default-matches w ↦ absurd (cc (w.matches-is, c.if-not-matches.false)) ] in
     let none : (i : Instruction) → Begins i bytes → ⊥ = λ i begins.
-        let held = begins_held fields i bytes small read begins in
-        let shape = front_shape fields i c.shape_of.result held c.shape_of.ensures.only in
-        let same : shape_of i ≡ c.in-Some.shape = cc (shape, c.in-Some.is) in
-        let right = c.begins_wide.ensures.1 (wide_first fields i held (same ∙ is_wide)) in cc (right, c.if-not-begins_wide.true) in
+    let held = begins_held fields i bytes small read begins in
+    let shape = front_shape fields i c.shape_of.result held c.shape_of.ensures.only in
+    let same : shape_of i ≡ c.in-Some.shape = cc (shape, c.in-Some.is) in
+    let right = c.begins_wide.ensures.1 (wide_first fields i held (same ∙ is_wide)) in cc (right, c.if-not-begins_wide.true) in
     (listed_at fields bytes c.in-Some.shape read c.in-Some.ensures.some, has_registers fields bytes small read c.if-fields-gt10.false c.if-fields-gt10-2.false, inl none)
 
 pub returns-then-not-begins_wide-clause-only : goal.returns-then-not-begins_wide-clause-only

@@ -1,0 +1,18 @@
+//! Laws of the neighbor's table, each carried by a function with an empty body.
+ghost use Rattle.adjacency.specs.Laws.{FullHasNothingToRequest, OnlyTheSameInstanceIsAcknowledged};
+ghost use Rattle.adjacency.specs.Worked.{AWorkedConversation};
+
+/// Where the end of an exchange or of Loading leaves a neighbor Full, nothing is left to request (RFC 2328, section 10.3).
+pub fn full_has_nothing_to_request()
+    ensures { FullHasNothingToRequest }
+{}
+
+/// An acknowledgment of another instance than the one on the retransmission list takes nothing off (RFC 2328, section 13.7).
+pub fn only_the_same_instance_is_acknowledged()
+    ensures { OnlyTheSameInstanceIsAcknowledged }
+{}
+
+/// A conversation of 1.1.1.1 with 2.2.2.2: its attempts, who leads, and what is made of a Description that comes again.
+pub fn a_worked_conversation()
+    ensures { AWorkedConversation }
+{}

@@ -1,0 +1,6 @@
+pub mod Numbers
+pub mod Tokens
+pub mod Fitting
+pub mod Complete
+pub mod Seen
+pub mod Items

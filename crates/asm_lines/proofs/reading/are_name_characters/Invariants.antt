@@ -1,0 +1,7 @@
+use Rattle.std.proofs.Common.{◌≡◌, drop}
+use Rattle.asm_lines.specs.Forms.{are_name_characters}
+use Rattle.asm_lines.proofs.reading.are_name_characters.Given as goal
+
+-- what stands before the byte may stand in a name
+abbrev pub invariant-loop-byte : goal.invariant-loop-byte
+invariant-loop-byte l = are_name_characters l.bytes ≡ are_name_characters (drop l.byte-index l.bytes)

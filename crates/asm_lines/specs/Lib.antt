@@ -1,0 +1,6 @@
+pub mod Numbers
+pub mod Words
+pub mod Forms
+pub mod Reading
+pub mod Views
+pub mod Text

@@ -1,0 +1,35 @@
+-- What contracts see of values that point into the text.
+use Rattle.std.specs.Prelude.{ℕ, List, [], ◌∷◌, map, Option, None, Some}
+use Rattle.asm_lines.specs.Forms.{Word, Spells}
+use Rattle.asm_lines.specs.declared.line.Line.{Line}
+use Rattle.asm_lines.specs.declared.line.Item.{Item}
+use Rattle.asm_lines.specs.declared.line.Target.{Target}
+use denote.Ref.{Bor}
+
+-- the line, and the name beside it
+abbrev pub item_view : Item → Line × Word
+item_view item = (item.line, item.name.now)
+
+abbrev pub target_view : Target × Bor Word → Target × Word
+target_view found = (found.0, found.1.now)
+
+abbrev pub views : List (Bor Word) → List Word
+views words = map (λ (word : Bor Word). word.now) words
+
+-- what the lines of a text say, with the names beside them
+abbrev pub item : Option Line → Word → Option (Line × Word)
+item None name = None
+item (Some line) name = Some (line, name)
+
+abbrev pub items : List (Option Line) → List (Bor Word) → List (Option (Line × Word))
+items [] names = []
+items (line ∷ lines) [] = []
+items (line ∷ lines) (name ∷ names) = item line name.now ∷ items lines names
+
+-- the words spell the item
+abbrev pub SpellsItem : List Word → Item → Type 0
+SpellsItem words item = Spells words item.line item.name.now
+
+-- the words spell the line, which has to do with no label
+abbrev pub SpellsPlain : List Word → Line → Type 0
+SpellsPlain words line = Spells words line []

@@ -1,0 +1,13 @@
+//! One line of assembly text: what it may say, and how it is spelled.
+#![tactic(auto)]
+
+mod line;
+mod numeral;
+mod reading;
+mod word;
+mod writing;
+
+pub use line::{Content, Line, Operand, Range, Target, Term, Terms};
+pub use numeral::Numeral;
+pub use reading::{one_reading, read_lines};
+pub use writing::write_line;

@@ -1,0 +1,146 @@
+use crate::numeral::Numeral;
+use isa::{
+    ByteOrder, Extension, Hook, LoadSize, Operation, Register, StoreSize, SwapWidth, Test, Width,
+};
+
+/// The second operand of an instruction, as a line writes it.
+#[derive(Clone, Copy, PartialEq, Eq, Debug)]
+pub enum Operand {
+    Register(Register),
+    Number(Numeral),
+}
+
+/// Where a jump goes, or a statement stands: a number, or the label that the line names.
+#[derive(Clone, Copy, PartialEq, Eq, Debug)]
+pub enum Target {
+    Number(Numeral),
+    Label,
+}
+
+/// A register of a rank, with its coefficient.
+#[derive(Clone, Copy, PartialEq, Eq, Debug)]
+pub struct Term {
+    pub register: Register,
+    pub coefficient: Numeral,
+}
+
+/// The registers of a rank.
+#[derive(Clone, Copy, PartialEq, Eq, Debug)]
+pub enum Terms {
+    None,
+    One(Term),
+    Two(Term, Term),
+}
+
+/// Some numbers: those from `low` to `high` whose bits under `mask` are `value`.
+#[derive(Clone, Copy, PartialEq, Eq, Debug)]
+pub struct Range {
+    pub low: Numeral,
+    pub high: Numeral,
+    pub mask: Numeral,
+    pub value: Numeral,
+}
+
+/// What a statement says of a register.
+#[derive(Clone, Copy, PartialEq, Eq, Debug)]
+pub enum Content {
+    Number(Range),
+    Context(Numeral),
+    Stack(Numeral),
+    Map { map: Numeral, offset: Range },
+}
+
+/// What a line says. Its numbers are those that it writes, whatever their fields can hold; the name of a label stands beside it.
+#[derive(Clone, Copy, PartialEq, Eq, Debug)]
+pub enum Line {
+    Empty,
+    Hook(Hook),
+    Rank(Numeral),
+    /// The line gives the next slot the name that stands beside it.
+    Label,
+    Arithmetic {
+        width: Width,
+        operation: Operation,
+        target: Register,
+        source: Operand,
+    },
+    Negate {
+        width: Width,
+        target: Register,
+    },
+    SignExtend {
+        extension: Extension,
+        target: Register,
+        source: Register,
+    },
+    Reorder {
+        order: ByteOrder,
+        width: SwapWidth,
+        target: Register,
+    },
+    Jump(Target),
+    LongJump(Target),
+    Branch {
+        width: Width,
+        test: Test,
+        left: Register,
+        right: Operand,
+        target: Target,
+    },
+    Call(Numeral),
+    Exit,
+    Load {
+        size: LoadSize,
+        target: Register,
+        base: Register,
+        offset: Numeral,
+    },
+    Store {
+        size: StoreSize,
+        base: Register,
+        offset: Numeral,
+        source: Operand,
+    },
+    LoadNumber {
+        target: Register,
+        number: Numeral,
+    },
+    LoadMap {
+        target: Register,
+        map: Numeral,
+        offset: Numeral,
+    },
+    State {
+        slot: Target,
+        constant: Numeral,
+        terms: Terms,
+    },
+    With {
+        register: Register,
+        content: Content,
+    },
+    Bytes {
+        start: Numeral,
+        end: Numeral,
+    },
+}
+
+/// A line of a text: what it says, and the name of the label that it gives or uses, empty where it does neither.
+#[derive(Clone, Copy, Debug)]
+pub(crate) struct Item<'a> {
+    pub line: Line,
+    pub name: &'a str,
+}
+
+impl Item<'_> {
+    ghost use Rattle.std.specs.Prelude.{◌≡◌};
+    ghost use Rattle.asm_lines.specs.Views.{item_view};
+    ghost use Rattle.asm_lines.specs.Reading.{plain};
+
+    /// A line that neither gives nor uses a label.
+    pub(crate) fn plain(line: Line) -> Item<'static>
+        ensures { item_view result ≡ plain line }
+    {
+        Item { line, name: "" }
+    }
+}

@@ -1,0 +1,619 @@
+//! What the words of a line spell.
+ghost use Rattle.std.specs.Prelude.{◌≡◌, ◌≤◌, false, List, [], ◌∷◌, codes, ◌++◌, length, option_map, None, IfSome, IfOk, OnOk};
+ghost use Rattle.asm_lines.specs.Forms.{Word, Spells, Matches, Fits, Name, the_operand, IsOperand, the_target, the_slot, is_label, the_terms, AreTerms, the_range, the_term, is_name, are_name_characters, is_name_character};
+ghost use Rattle.asm_lines.specs.Words.{register_word};
+ghost use Rattle.asm_lines.specs.Views.{item_view, target_view, views, items, SpellsItem, SpellsPlain};
+ghost use Rattle.asm_lines.specs.Reading.{register_at, operand_at, name_at, target_at, slot_at, label_at, one, two, computed, moved, assignment, stack_range, three, widened, state_of, offset_of, four, loaded, stored, five, six, range_of, term_of, numbers_of, seven, map_value_of, eight, terms_of, ten, line_of};
+ghost use Rattle.asm_lines.specs.Text.{words_in, lines_in, AddsReading, Readings};
+ghost use Rattle.asm_lines.specs.declared.line.Line.{Line};
+
+use crate::line::{Content, Item, Line, Operand, Range, Target, Term, Terms};
+use crate::numeral::{read_distance, read_number};
+use crate::word::{
+    extension_of, hook_of, load_of, operation_of, register_of, reorder_of, store_of, test_of,
+};
+use isa::{Operation, Register, Width};
+use std::alloc::{AllocError, Global};
+
+/// Whether the byte may stand in a label's name.
+fn is_name_character(byte: u8) -> bool
+    ensures { result ≡ is_name_character byte }
+{
+    byte.is_ascii_alphanumeric() || byte == b'_'
+}
+
+/// Whether each byte may stand in a label's name.
+fn are_name_characters(bytes: &[u8]) -> bool
+    ensures { result ≡ are_name_characters bytes.now }
+{
+    for byte in bytes {
+        if !is_name_character(*byte) {
+            return false;
+        }
+    }
+    true
+}
+
+/// Whether the word can be a label's name: letters, digits and `_`, first a letter.
+fn is_name(word: &str) -> bool
+    ensures { result ≡ is_name word.now }
+{
+    match word.as_bytes() {
+        [first, rest @ ..] => first.is_ascii_alphabetic() && are_name_characters(rest),
+        [] => false,
+    }
+}
+
+/// The register of this width that the word names.
+fn register_at(width: Width, word: &str) -> Option<Register>
+    ensures value { result ≡ register_at width word.now }
+    ensures found { IfSome result (λ r. (word.now ≡ register_word (width, r)) × (r ≤ 10)) }
+{
+    let (found, register) = register_of(word)?;
+    match (width, found) {
+        (Width::Bits64, Width::Bits64) => Some(register),
+        (Width::Bits32, Width::Bits32) => Some(register),
+        _ => None,
+    }
+}
+
+/// A register of this width, or a number.
+fn operand_at(width: Width, word: &str) -> Option<Operand>
+    ensures value { result ≡ operand_at width word.now }
+    ensures found { IfSome result (λ o. Matches (the_operand width o) word.now × IsOperand o) }
+{
+    match register_at(width, word) {
+        Some(register) => Some(Operand::Register(register)),
+        None => {
+            let number = read_number(word)?;
+            Some(Operand::Number(number))
+        }
+    }
+}
+
+/// The name of a label.
+fn name_at(word: &str) -> Option<(Target, &str)>
+    ensures value { option_map target_view result ≡ name_at word.now }
+    ensures found { IfSome result (λ t. Matches (Name t.1.now) word.now × (t.0 ≡ Target.Label)) }
+{
+    if is_name(word) {
+        Some((Target::Label, word))
+    } else {
+        None
+    }
+}
+
+/// A distance, or the name of a label.
+fn target_at(word: &str) -> Option<(Target, &str)>
+    ensures value { option_map target_view result ≡ target_at word.now }
+    ensures found { IfSome result (λ t. Matches (the_target t.0 t.1.now) word.now × (is_label t.0 ≡ false → t.1.now ≡ [])) }
+{
+    match read_distance(word) {
+        Some(number) => Some((Target::Number(number), "")),
+        None => name_at(word),
+    }
+}
+
+/// The number of a slot, or the name of a label.
+fn slot_at(word: &str) -> Option<(Target, &str)>
+    ensures value { option_map target_view result ≡ slot_at word.now }
+    ensures found { IfSome result (λ t. Matches (the_slot t.0 t.1.now) word.now × (is_label t.0 ≡ false → t.1.now ≡ [])) }
+{
+    match read_number(word) {
+        Some(number) => Some((Target::Number(number), "")),
+        None => name_at(word),
+    }
+}
+
+/// A label: a name with a colon at its end.
+fn label_at(word: &str) -> Option<Item<'_>>
+    ensures value { option_map item_view result ≡ label_at word.now }
+    ensures found { IfSome result (SpellsItem (word.now ∷ [])) }
+{
+    let name = word.strip_suffix(':')?;
+    if !is_name(name) {
+        return None;
+    }
+    Some(Item {
+        line: Line::Label,
+        name,
+    })
+}
+
+fn one(a: &str) -> Option<Item<'_>>
+    ensures value { option_map item_view result ≡ one a.now }
+    ensures found { IfSome result (SpellsItem (a.now ∷ [])) }
+{
+    if a == "exit" {
+        return Some(Item::plain(Line::Exit));
+    }
+    label_at(a)
+}
+
+fn two<'a>(a: &str, b: &'a str) -> Option<Item<'a>>
+    ensures value { option_map item_view result ≡ two a.now b.now }
+    ensures found { IfSome result (SpellsItem (a.now ∷ b.now ∷ [])) }
+{
+    match a {
+        "hook" => {
+            let hook = hook_of(b)?;
+            Some(Item::plain(Line::Hook(hook)))
+        }
+        "rank" => {
+            let rank = read_number(b)?;
+            Some(Item::plain(Line::Rank(rank)))
+        }
+        "call" => {
+            let helper = read_number(b)?;
+            Some(Item::plain(Line::Call(helper)))
+        }
+        "goto" => {
+            let (target, name) = target_at(b)?;
+            Some(Item {
+                line: Line::Jump(target),
+                name,
+            })
+        }
+        "gotol" => {
+            let (target, name) = target_at(b)?;
+            Some(Item {
+                line: Line::LongJump(target),
+                name,
+            })
+        }
+        _ => None,
+    }
+}
+
+/// What `=` assigns beside registers and numbers.
+fn computed(width: Width, target: Register, c: &str) -> Option<Line>
+    requires { target ≤ 10 }
+    ensures value { result ≡ computed width target c.now }
+    ensures found { IfSome result (SpellsPlain (register_word (width, target) ∷ codes "=" ∷ c.now ∷ [])) }
+{
+    if c == "neg" {
+        return Some(Line::Negate { width, target });
+    }
+    match width {
+        Width::Bits64 => {
+            let (order, width) = reorder_of(c)?;
+            Some(Line::Reorder {
+                order,
+                width,
+                target,
+            })
+        }
+        Width::Bits32 => None,
+    }
+}
+
+fn assignment(width: Width, target: Register, b: &str, c: &str) -> Option<Line>
+    requires { target ≤ 10 }
+    ensures value { result ≡ assignment (width, target) b.now c.now }
+    ensures found { IfSome result (SpellsPlain (register_word (width, target) ∷ b.now ∷ c.now ∷ [])) }
+{
+    let operation = operation_of(b)?;
+    if let Some(source) = operand_at(width, c) {
+        return Some(Line::Arithmetic {
+            width,
+            operation,
+            target,
+            source,
+        });
+    }
+    match operation {
+        Operation::Move => computed(width, target, c),
+        _ => None,
+    }
+}
+
+fn stack_range(a: &str, b: &str, c: &str) -> Option<Line>
+    ensures value { result ≡ stack_range a.now b.now c.now }
+    ensures found { IfSome result (SpellsPlain (a.now ∷ b.now ∷ c.now ∷ [])) }
+{
+    if a != "bytes" {
+        return None;
+    }
+    let start = read_number(b)?;
+    let end = read_number(c)?;
+    Some(Line::Bytes { start, end })
+}
+
+fn three<'a>(a: &str, b: &str, c: &'a str) -> Option<Item<'a>>
+    ensures value { option_map item_view result ≡ three a.now b.now c.now }
+    ensures found { IfSome result (SpellsItem (a.now ∷ b.now ∷ c.now ∷ [])) }
+{
+    if let Some((width, target)) = register_of(a) {
+        if let Some(line) = assignment(width, target, b, c) {
+            return Some(Item::plain(line));
+        }
+    }
+    let line = stack_range(a, b, c)?;
+    Some(Item::plain(line))
+}
+
+/// An assignment whose right side is two words: a wide number, or a register whose sign is extended.
+fn widened(width: Width, target: Register, c: &str, d: &str) -> Option<Line>
+    requires { target ≤ 10 }
+    ensures value { result ≡ widened (width, target) c.now d.now }
+    ensures found { IfSome result (SpellsPlain (register_word (width, target) ∷ codes "=" ∷ c.now ∷ d.now ∷ [])) }
+{
+    if c == "wide" {
+        return match width {
+            Width::Bits64 => {
+                let number = read_number(d)?;
+                Some(Line::LoadNumber { target, number })
+            }
+            Width::Bits32 => None,
+        };
+    }
+    let extension = extension_of(width, c)?;
+    let source = register_at(width, d)?;
+    Some(Line::SignExtend {
+        extension,
+        target,
+        source,
+    })
+}
+
+/// A statement with these terms.
+fn state_of<'a>(a: &str, b: &'a str, c: &str, d: &str, terms: Terms) -> Option<Item<'a>>
+    ensures value { option_map item_view result ≡ state_of a.now b.now c.now d.now terms }
+    ensures found { IfSome result (λ item. (rest : List Word) → Fits rest (the_terms terms) → AreTerms terms → SpellsItem (a.now ∷ b.now ∷ c.now ∷ d.now ∷ rest) item) }
+{
+    if a != "state" {
+        return None;
+    }
+    if c != "rank" {
+        return None;
+    }
+    let (slot, name) = slot_at(b)?;
+    let constant = read_number(d)?;
+    Some(Item {
+        line: Line::State {
+            slot,
+            constant,
+            terms,
+        },
+        name,
+    })
+}
+
+/// A register that is a pointer with one offset.
+fn offset_of(a: &str, b: &str, c: &str, d: &str) -> Option<Line>
+    ensures value { result ≡ offset_of a.now b.now c.now d.now }
+    ensures found { IfSome result (SpellsPlain (a.now ∷ b.now ∷ c.now ∷ d.now ∷ [])) }
+{
+    if a != "with" {
+        return None;
+    }
+    let register = register_at(Width::Bits64, b)?;
+    let offset = read_number(d)?;
+    match c {
+        "context" => Some(Line::With {
+            register,
+            content: Content::Context(offset),
+        }),
+        "stack" => Some(Line::With {
+            register,
+            content: Content::Stack(offset),
+        }),
+        _ => None,
+    }
+}
+
+fn four<'a>(a: &str, b: &'a str, c: &str, d: &str) -> Option<Item<'a>>
+    ensures value { option_map item_view result ≡ four a.now b.now c.now d.now }
+    ensures found { IfSome result (SpellsItem (a.now ∷ b.now ∷ c.now ∷ d.now ∷ [])) }
+{
+    if b == "=" {
+        let (width, target) = register_of(a)?;
+        let line = widened(width, target, c, d)?;
+        return Some(Item::plain(line));
+    }
+    if a == "state" {
+        return state_of(a, b, c, d, Terms::None);
+    }
+    let line = offset_of(a, b, c, d)?;
+    Some(Item::plain(line))
+}
+
+fn loaded(target: Register, c: &str, d: &str, e: &str) -> Option<Line>
+    requires { target ≤ 10 }
+    ensures value { result ≡ loaded target c.now d.now e.now }
+    ensures found { IfSome result (SpellsPlain (register_word (Width.Bits64, target) ∷ codes "=" ∷ c.now ∷ d.now ∷ e.now ∷ [])) }
+{
+    if c == "map" {
+        let map = read_number(d)?;
+        let offset = read_number(e)?;
+        return Some(Line::LoadMap {
+            target,
+            map,
+            offset,
+        });
+    }
+    let size = load_of(c)?;
+    let base = register_at(Width::Bits64, d)?;
+    let offset = read_number(e)?;
+    Some(Line::Load {
+        size,
+        target,
+        base,
+        offset,
+    })
+}
+
+fn stored(a: &str, b: &str, c: &str, e: &str) -> Option<Line>
+    ensures value { result ≡ stored a.now b.now c.now e.now }
+    ensures found { IfSome result (SpellsPlain (a.now ∷ b.now ∷ c.now ∷ codes "=" ∷ e.now ∷ [])) }
+{
+    let size = store_of(a)?;
+    let base = register_at(Width::Bits64, b)?;
+    let offset = read_number(c)?;
+    let source = operand_at(Width::Bits64, e)?;
+    Some(Line::Store {
+        size,
+        base,
+        offset,
+        source,
+    })
+}
+
+fn five<'a>(a: &str, b: &str, c: &str, d: &str, e: &'a str) -> Option<Item<'a>>
+    ensures value { option_map item_view result ≡ five a.now b.now c.now d.now e.now }
+    ensures found { IfSome result (SpellsItem (a.now ∷ b.now ∷ c.now ∷ d.now ∷ e.now ∷ [])) }
+{
+    if b == "=" {
+        let target = register_at(Width::Bits64, a)?;
+        let line = loaded(target, c, d, e)?;
+        return Some(Item::plain(line));
+    }
+    if d != "=" {
+        return None;
+    }
+    let line = stored(a, b, c, e)?;
+    Some(Item::plain(line))
+}
+
+fn six<'a>(a: &str, b: &str, c: &str, d: &str, e: &str, f: &'a str) -> Option<Item<'a>>
+    ensures value { option_map item_view result ≡ six a.now b.now c.now d.now e.now f.now }
+    ensures found { IfSome result (SpellsItem (a.now ∷ b.now ∷ c.now ∷ d.now ∷ e.now ∷ f.now ∷ [])) }
+{
+    if a != "if" {
+        return None;
+    }
+    if e != "goto" {
+        return None;
+    }
+    let (width, left) = register_of(b)?;
+    let test = test_of(c)?;
+    let right = operand_at(width, d)?;
+    let (target, name) = target_at(f)?;
+    Some(Item {
+        line: Line::Branch {
+            width,
+            test,
+            left,
+            right,
+            target,
+        },
+        name,
+    })
+}
+
+fn range_of(a: &str, b: &str, c: &str, d: &str) -> Option<Range>
+    ensures value { result ≡ range_of a.now b.now c.now d.now }
+    ensures found { IfSome result (λ range. Fits (a.now ∷ b.now ∷ c.now ∷ d.now ∷ []) (the_range range)) }
+{
+    let low = read_number(a)?;
+    let high = read_number(b)?;
+    let mask = read_number(c)?;
+    let value = read_number(d)?;
+    Some(Range {
+        low,
+        high,
+        mask,
+        value,
+    })
+}
+
+fn term_of(a: &str, b: &str, c: &str) -> Option<Term>
+    ensures value { result ≡ term_of a.now b.now c.now }
+    ensures found { IfSome result (λ term. Fits (a.now ∷ b.now ∷ c.now ∷ []) (the_term term []) × (term.register ≤ 10)) }
+{
+    if b != "*" {
+        return None;
+    }
+    let register = register_at(Width::Bits64, a)?;
+    let coefficient = read_number(c)?;
+    Some(Term {
+        register,
+        coefficient,
+    })
+}
+
+/// A register that is one of some numbers.
+fn numbers_of(b: &str, c: &str, d: &str, e: &str, f: &str, g: &str) -> Option<Line>
+    ensures value { result ≡ numbers_of b.now c.now d.now e.now f.now g.now }
+    ensures found { IfSome result (SpellsPlain (codes "with" ∷ b.now ∷ c.now ∷ d.now ∷ e.now ∷ f.now ∷ g.now ∷ [])) }
+{
+    if c != "number" {
+        return None;
+    }
+    let register = register_at(Width::Bits64, b)?;
+    let range = range_of(d, e, f, g)?;
+    Some(Line::With {
+        register,
+        content: Content::Number(range),
+    })
+}
+
+fn seven<'a>(a: &str, b: &'a str, c: &str, d: &str, e: &str, f: &str, g: &str) -> Option<Item<'a>>
+    ensures value { option_map item_view result ≡ seven a.now b.now c.now d.now e.now f.now g.now }
+    ensures found { IfSome result (SpellsItem (a.now ∷ b.now ∷ c.now ∷ d.now ∷ e.now ∷ f.now ∷ g.now ∷ [])) }
+{
+    if a == "with" {
+        let line = numbers_of(b, c, d, e, f, g)?;
+        return Some(Item::plain(line));
+    }
+    let term = term_of(e, f, g)?;
+    state_of(a, b, c, d, Terms::One(term))
+}
+
+/// A register that is a pointer into a map.
+fn map_value_of(b: &str, c: &str, d: &str, e: &str, f: &str, g: &str, h: &str) -> Option<Line>
+    ensures value { result ≡ map_value_of b.now c.now d.now e.now f.now g.now h.now }
+    ensures found { IfSome result (SpellsPlain (codes "with" ∷ b.now ∷ c.now ∷ d.now ∷ e.now ∷ f.now ∷ g.now ∷ h.now ∷ [])) }
+{
+    if c != "map" {
+        return None;
+    }
+    let register = register_at(Width::Bits64, b)?;
+    let map = read_number(d)?;
+    let offset = range_of(e, f, g, h)?;
+    Some(Line::With {
+        register,
+        content: Content::Map { map, offset },
+    })
+}
+
+fn terms_of(e: &str, f: &str, g: &str, h: &str, i: &str, j: &str) -> Option<Terms>
+    ensures value { result ≡ terms_of e.now f.now g.now h.now i.now j.now }
+    ensures found { IfSome result (λ found. Fits (e.now ∷ f.now ∷ g.now ∷ h.now ∷ i.now ∷ j.now ∷ []) (the_terms found) × AreTerms found) }
+{
+    let first = term_of(e, f, g)?;
+    let second = term_of(h, i, j)?;
+    Some(Terms::Two(first, second))
+}
+
+#[allow(clippy::too_many_arguments)]
+fn eight<'a>(
+    a: &str,
+    b: &'a str,
+    c: &str,
+    d: &str,
+    e: &str,
+    f: &str,
+    g: &str,
+    h: &str,
+) -> Option<Item<'a>>
+    ensures value { option_map item_view result ≡ eight a.now b.now c.now d.now e.now f.now g.now h.now }
+    ensures found { IfSome result (SpellsItem (a.now ∷ b.now ∷ c.now ∷ d.now ∷ e.now ∷ f.now ∷ g.now ∷ h.now ∷ [])) }
+{
+    if a != "with" {
+        return None;
+    }
+    let line = map_value_of(b, c, d, e, f, g, h)?;
+    Some(Item::plain(line))
+}
+
+#[allow(clippy::too_many_arguments)]
+fn ten<'a>(
+    a: &str,
+    b: &'a str,
+    c: &str,
+    d: &str,
+    e: &str,
+    f: &str,
+    g: &str,
+    h: &str,
+    i: &str,
+    j: &str,
+) -> Option<Item<'a>>
+    ensures value { option_map item_view result ≡ ten a.now b.now c.now d.now e.now f.now g.now h.now i.now j.now }
+    ensures found { IfSome result (SpellsItem (a.now ∷ b.now ∷ c.now ∷ d.now ∷ e.now ∷ f.now ∷ g.now ∷ h.now ∷ i.now ∷ j.now ∷ [])) }
+{
+    let terms = terms_of(e, f, g, h, i, j)?;
+    state_of(a, b, c, d, terms)
+}
+
+/// No line has nine words.
+fn nine(_a: &str) -> Option<Item<'_>>
+    ensures { result ≡ None }
+{
+    None
+}
+
+/// What the words of a line spell, if they spell anything.
+fn line_of<'a>(words: &[&'a str]) -> Option<Item<'a>>
+    ensures value { option_map item_view result ≡ line_of (views words.now) }
+    ensures found { IfSome result (SpellsItem (views words.now)) }
+{
+    match *words {
+        [] => Some(Item::plain(Line::Empty)),
+        [a] => one(a),
+        [a, b] => two(a, b),
+        [a, b, c] => three(a, b, c),
+        [a, b, c, d] => four(a, b, c, d),
+        [a, b, c, d, e] => five(a, b, c, d, e),
+        [a, b, c, d, e, f] => six(a, b, c, d, e, f),
+        [a, b, c, d, e, f, g] => seven(a, b, c, d, e, f, g),
+        [a, b, c, d, e, f, g, h] => eight(a, b, c, d, e, f, g, h),
+        [a, _, _, _, _, _, _, _, _] => nine(a),
+        [a, b, c, d, e, f, g, h, i, j] => ten(a, b, c, d, e, f, g, h, i, j),
+        _ => None,
+    }
+}
+
+/// The words of a line, which stand between spaces.
+fn words_of<'a>(alloc: Global, line: &'a str) -> Result<Vec<&'a str>, AllocError>
+    ensures { IfOk result (λ words. views words.items ≡ words_in line.now) }
+{
+    let mut words = Vec::new(alloc);
+    for word in line.split(' ') {
+        if !word.is_empty() {
+            words.push(word)?;
+        }
+    }
+    Ok(words)
+}
+
+/// Adds what a line spells: None where it spells nothing, and the name of the label that it gives or uses.
+fn read_line<'a>(
+    alloc: Global,
+    line: &'a str,
+    lines: &mut Vec<Option<Line>>,
+    names: &mut Vec<&'a str>,
+) -> Result<(), AllocError>
+    requires { length lines.old.items ≡ length names.old.items }
+    ensures same { OnOk result (length lines.new.items ≡ length names.new.items) }
+    ensures added { OnOk result (AddsReading (words_in line.now) (items lines.old.items names.old.items) (items lines.new.items names.new.items)) }
+{
+    let words = words_of(alloc, line)?;
+    match line_of(&words) {
+        Some(item) => {
+            lines.push(Some(item.line))?;
+            names.push(item.name)?;
+        }
+        None => {
+            lines.push(None)?;
+            names.push("")?;
+        }
+    }
+    Ok(())
+}
+
+/// Adds what each line of a text spells, in their order: None where it spells nothing, and beside it the name of the label that it gives or uses, empty where it does neither.
+///
+/// The lines stand between line feeds, so the last one is what follows the last of these, mostly an empty line. After an error the two vectors are to be given up.
+pub fn read_lines<'a>(
+    alloc: Global,
+    text: &'a str,
+    lines: &mut Vec<Option<Line>>,
+    names: &mut Vec<&'a str>,
+) -> Result<(), AllocError>
+    requires lines { lines.old.items ≡ [] }
+    requires names { names.old.items ≡ [] }
+    ensures same { OnOk result (length lines.new.items ≡ length names.new.items) }
+    ensures read { OnOk result (Readings (lines_in text.now) (items lines.new.items names.new.items)) }
+{
+    for line in text.split('\n') {
+        read_line(alloc, line, lines, names)?;
+    }
+    Ok(())
+}
+
+/// The words of a line spell at most one line, with one name.
+pub fn one_reading()
+    ensures { (words : List Word) (line other : Line) (name another : Word) → Spells words line name → Spells words other another → (line ≡ other) × (name ≡ another) }
+{}

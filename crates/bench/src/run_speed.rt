@@ -1,0 +1,110 @@
+//! How long instructions take.
+ghost use Rattle.std.specs.Prelude.{◌≡◌};
+ghost use Rattle.maps.specs.Words.{IsOf};
+
+use crate::{nanoseconds_since, programs};
+use anyhow::{Result, anyhow};
+use interp::run_checked;
+use isa::{Code, Hook, decode};
+use machine::Input;
+use maps::{Seat, Shared};
+use std::alloc::Global;
+use std::rt::Clock;
+use std::time::Instant;
+use words::Sequence;
+
+/// More than any program here takes.
+const LIMIT: u64 = 10_000_000;
+
+/// Runs the code once, and answers how many instructions it took.
+fn once(code: &Code, input: &Input, shared: &Shared, seat: &mut Seat) -> u64
+    requires { IsOf shared.now seat.old }
+    ensures { seat.new.table ≡ seat.old.table }
+{
+    match run_checked(code, Hook::Count, LIMIT, input, shared, seat) {
+        Ok(run) => run.used,
+        Err(_) => 0,
+    }
+}
+
+/// Runs the code so many times, and answers how many instructions that took in all.
+fn repeat(code: &Code, input: &Input, shared: &Shared, seat: &mut Seat, rounds: u64) -> u64
+    requires { IsOf shared.now seat.old }
+    ensures { seat.new.table ≡ seat.old.table }
+{
+    let mut used = 0u64;
+    for _round in 0..rounds {
+        used = used.wrapping_add(once(code, input, shared, seat));
+    }
+    used
+}
+
+/// An input of zeros with no packet and no table rows.
+fn empty_input(alloc: Global) -> Input {
+    Input {
+        context: [0; 64],
+        packet: Sequence::from_vec(Vec::new(alloc)),
+        rows: Sequence::from_vec(Vec::new(alloc)),
+    }
+}
+
+/// Decodes the bytes, runs the code so many times and prints how long an instruction took.
+pub fn measure<R: Clock + Print + AllocGlobal>(
+    rt: &R,
+    what: &str,
+    bytes: &[u8],
+    rounds: u64,
+) -> Result<()> {
+    let alloc = rt.alloc();
+    let code = decode(alloc, bytes).map_err(|_| anyhow!("the code of {what} isn't decoded"))?;
+    let input = empty_input(alloc);
+    let (shared, mut seats) = Shared::new(alloc, 1)?;
+    let Some(mut seat) = seats.pop() else {
+        return Ok(());
+    };
+    let start = Instant::now(rt)?;
+    let used = repeat(&code, &input, &shared, &mut seat, rounds);
+    let nanos = nanoseconds_since(rt, start)?;
+    let each = (nanos as u128) * 100 / (used.max(1) as u128);
+    let whole = each / 100;
+    let part = each % 100;
+    println!(rt; "{what}: {used} instructions, {whole}.{part:02} ns each")?;
+    Ok(())
+}
+
+/// Prints how long straight-line code, a loop, and programs with accesses of the maps take.
+pub fn print<R: Clock + Print + AllocGlobal>(rt: &R) -> Result<()> {
+    let alloc = rt.alloc();
+    let short = programs::straight_line(alloc, 10)?;
+    measure(rt, "straight-line arithmetic, 10 slots", &short, 400_000)?;
+    let long = programs::straight_line(alloc, 4_000)?;
+    measure(rt, "straight-line arithmetic, 4,000 slots", &long, 1_000)?;
+    let counting = programs::counting_loop(alloc)?;
+    measure(rt, "counting loop", &counting, 4)?;
+    let plain = programs::adding_loop(alloc, false)?;
+    measure(rt, "loop of 255 turns without counter adds", &plain, 2_000)?;
+    let adding = programs::adding_loop(alloc, true)?;
+    measure(rt, "the same with counter adds", &adding, 2_000)?;
+    let plain = programs::loading_loop(alloc, false)?;
+    measure(rt, "loop of 255 turns without cell loads", &plain, 2_000)?;
+    let loading = programs::loading_loop(alloc, true)?;
+    measure(rt, "the same with cell loads", &loading, 2_000)
+}
+
+/// Prints how long decoding takes.
+pub fn print_decode<R: Clock + Print + AllocGlobal>(rt: &R) -> Result<()> {
+    let alloc = rt.alloc();
+    for slots in [1_024usize, 4_096] {
+        let bytes = programs::straight_line(alloc, slots)?;
+        let start = Instant::now(rt)?;
+        let mut decoded = 0u64;
+        for _round in 0..100u64 {
+            if decode(alloc, &bytes).is_ok() {
+                decoded = decoded.wrapping_add(1);
+            }
+        }
+        let micros = nanoseconds_since(rt, start)? / 100_000;
+        println!(rt; "decode of {slots} slots: {micros} microseconds ({decoded} times)")?;
+    }
+    Ok(())
+}

@@ -1,0 +1,119 @@
+ghost use Rattle.std.specs.Prelude.{◌≡◌, length, map, IfOk};
+ghost use Rattle.std.specs.List.{range_with_len};
+ghost use Rattle.maps.specs.Words.{IsOf, fresh};
+
+mod accesses;
+mod arithmetic;
+mod calls;
+mod jumps;
+mod runs;
+
+use super::*;
+use isa::{Code, DecodeError, DecodeFault, decode};
+use machine::{Hook, Input, TableRow};
+use maps::{MapsError, Seat, Shared};
+use std::alloc::{AllocError, Global};
+use std::test::Fail;
+use words::{Address, Prefix, Sequence};
+
+// A slot is written as a number whose lowest byte is its first: the immediate, the offset, the registers (source and
+// target) and the opcode.
+const EXIT: u64 = 0x95;
+
+// r0 = r1
+const ANSWER: u64 = 0x10bf;
+
+// The two slots of a wide number into a register.
+fn wide(register: u64, number: u64) -> [u64; 2] {
+    [
+        number << 32 | (register & 15) << 8 | 0x18,
+        number & 0xffff_ffff_0000_0000,
+    ]
+}
+
+fn bytes_of(slots: &[u64]) -> [u8; 128] {
+    let mut bytes = [0; 128];
+    for (index, slot) in slots.iter().take(16).enumerate() {
+        for (place, byte) in slot.to_le_bytes().iter().enumerate() {
+            bytes[index % 16 * 8 + place % 8] = *byte;
+        }
+    }
+    bytes
+}
+
+// The code of at most 16 slots. One allocation may be refused, as a run of the tests with a refusal makes it.
+fn code(alloc: Global, slots: &[u64]) -> Result<Code, DecodeError> {
+    let bytes = bytes_of(slots);
+    let count = slots.len().min(16) * 8;
+    match decode(alloc, &bytes[..count]) {
+        Err(error) if error.kind == DecodeFault::Memory => decode(alloc, &bytes[..count]),
+        decoded => decoded,
+    }
+}
+
+fn table(alloc: Global, count: usize) -> Result<(Shared, Vec<Seat>), MapsError>
+    ensures { IfOk result (λ r. r.1.items ≡ map (fresh r.0.table) (range_with_len 0 count)) }
+{
+    match Shared::new(alloc, count) {
+        Err(MapsError::Memory) => Shared::new(alloc, count),
+        made => made,
+    }
+}
+
+// A Hello of 44 bytes, and the route 192.0.2.0/24 of cost 20. Byte k of the context is 128 + k.
+fn input_once(alloc: Global) -> Result<Input, AllocError> {
+    let mut context = [0u8; 64];
+    for (index, byte) in context.iter_mut().enumerate() {
+        *byte = 128 + (index % 64) as u8;
+    }
+    let hello = [
+        2, 1, 0, 0x2c, 2, 2, 2, 2, 0, 0, 0, 0, 0xf8, 0x9a, 0, 0, 0, 0, 0, 0, 0, 0, 0, 0, 0xff,
+        0xff, 0xff, 0, 0, 0x0a, 2, 1, 0, 0, 0, 0x28, 0, 0, 0, 0, 0, 0, 0, 0,
+    ];
+    let mut rows = Vec::new(alloc);
+    if let Some(prefix) = Prefix::new(Address::new(0xc000_0200), 24) {
+        rows.push(TableRow { prefix, cost: 20 })?;
+    }
+    Ok(Input {
+        context,
+        packet: Sequence::from_vec(Vec::from_slice(alloc, &hello)?),
+        rows: Sequence::from_vec(rows),
+    })
+}
+
+fn input(alloc: Global) -> Result<Input, AllocError> {
+    match input_once(alloc) {
+        Err(_) => input_once(alloc),
+        made => made,
+    }
+}
+
+// Answer and used of a run, or a trap's number and 0.
+fn shown(outcome: Result<Run, Trap>) -> (u64, u64) {
+    match outcome {
+        Ok(run) => (run.answer, run.used),
+        Err(trap) => (u64::from(trap.number()), 0),
+    }
+}
+
+// What a run of at most so many instructions comes to, at a hook, on a new table.
+fn outcome_within(
+    alloc: Global,
+    hook: Hook,
+    limit: u64,
+    slots: &[u64],
+) -> Result<(u64, u64), Fail> {
+    let code = code(alloc, slots)?;
+    let input = input(alloc)?;
+    let (words, mut seats) = table(alloc, 1)?;
+    let mut seat = seats.pop().ok_or("no seat")?;
+    Ok(shown(run_checked(&code, hook, limit, &input, &words, &mut seat)))
+}
+
+fn outcome_at(alloc: Global, hook: Hook, slots: &[u64]) -> Result<(u64, u64), Fail> {
+    outcome_within(alloc, hook, 1000, slots)
+}
+
+fn outcome(alloc: Global, slots: &[u64]) -> Result<(u64, u64), Fail> {
+    outcome_at(alloc, Hook::Count, slots)
+}

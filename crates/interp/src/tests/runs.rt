@@ -1,0 +1,114 @@
+//! Whole runs.
+ghost use Rattle.maps.specs.Words.{IsOf};
+
+use super::*;
+
+// r1 = 5; r2 = 3; call 1; exit
+const ADDING: [u64; 4] = [
+    0x0000_0005_0000_01b7,
+    0x0000_0003_0000_02b7,
+    0x0000_0001_0000_0085,
+    EXIT,
+];
+
+// r6 = map 1 8; r0 = *u64 r6 0; r0 += 1; *u64 r6 0 = r0; exit
+const COUNTING: [u64; 6] = [
+    0x0000_0001_0000_6618,
+    0x0000_0008_0000_0000,
+    0x6079,
+    0x0000_0001_0000_0007,
+    0x067b,
+    EXIT,
+];
+
+#[test]
+fn two_seats_add_to_one_counter(rt: HostRuntime) -> Result<(), Fail> {
+    let code = code(rt.alloc(), &ADDING)?;
+    let input = input(rt.alloc())?;
+    let (words, mut seats) = table(rt.alloc(), 2)?;
+    let mut second = seats.pop().ok_or("no second seat")?;
+    let mut first = seats.pop().ok_or("no first seat")?;
+    let one = run_checked(&code, Hook::Count, 1000, &input, &words, &mut first);
+    assert!(rt; one == Ok(Run { answer: 0, used: 4 }));
+    let two = run_checked(&code, Hook::Count, 1000, &input, &words, &mut second);
+    assert!(rt; two == Ok(Run { answer: 0, used: 4 }));
+    assert_eq!(rt; words.read(&mut first, 5), 6);
+    assert_eq!(rt; words.read(&mut second, 4), 0);
+    Ok(())
+}
+
+fn count(code: &Code, input: &Input, words: &Shared, seat: &mut Seat) -> (u64, u64)
+    requires { IsOf words.now seat.old }
+    ensures { IsOf words.now seat.new }
+{
+    shown(run_checked(code, Hook::Price, 1000, input, words, seat))
+}
+
+#[test]
+fn a_cell_is_the_seats_own(rt: HostRuntime) -> Result<(), Fail> {
+    let code = code(rt.alloc(), &COUNTING)?;
+    let input = input(rt.alloc())?;
+    let (words, mut seats) = table(rt.alloc(), 2)?;
+    let mut second = seats.pop().ok_or("no second seat")?;
+    let mut first = seats.pop().ok_or("no first seat")?;
+    assert_eq!(rt; count(&code, &input, &words, &mut first), (1, 5));
+    assert_eq!(rt; count(&code, &input, &words, &mut first), (2, 5));
+    assert_eq!(rt; count(&code, &input, &words, &mut first), (3, 5));
+    assert_eq!(rt; count(&code, &input, &words, &mut second), (1, 5));
+    Ok(())
+}
+
+#[test]
+fn a_counter_named_by_the_context(rt: HostRuntime) -> Result<(), Fail> {
+    // r1 = *u64 r1 OFFSET; r1 &= MASK; r1 <<= SHIFT; r2 = map 0 0; r2 += r1; r0 = *u64 r2 0; exit
+    for (offset, mask, shift, want) in [
+        (8, 0xff, 3, (0, 7)),
+        (8, 0x3ff, 3, (5, 0)),
+        (9, 0xff, 2, (6, 0)),
+    ] {
+        let slots = [
+            0x1179 | offset << 16,
+            0x157 | mask << 32,
+            0x167 | shift << 32,
+            0x6218,
+            0,
+            0x120f,
+            0x2079,
+            EXIT,
+        ];
+        assert_eq!(rt;
+            outcome(rt.alloc(), &slots)?,
+            want,
+            "at {offset} by {mask} and {shift}"
+        );
+    }
+    Ok(())
+}
+
+#[test]
+fn a_limit_that_is_just_enough(rt: HostRuntime) -> Result<(), Fail> {
+    // r1 = 10; r0 = 0; r0 += r1; r1 += -1; if r1 != 0 goto -3; exit
+    let slots = [
+        0x0000_000a_0000_01b7,
+        0xb7,
+        0x100f,
+        0xffff_ffff_0000_0107,
+        0xfffd_0155,
+        EXIT,
+    ];
+    for (limit, want) in [
+        (33, (55, 33)),
+        (u64::MAX, (55, 33)),
+        (32, (11, 0)),
+        (0, (11, 0)),
+    ] {
+        let found = outcome_within(rt.alloc(), Hook::Veto, limit, &slots)?;
+        assert_eq!(rt; found, want, "with limit {limit}");
+    }
+    // where the last step leads there is no instruction
+    for (limit, want) in [(1, 11), (2, 1)] {
+        let found = outcome_within(rt.alloc(), Hook::Veto, limit, &[0x0000_0007_0000_00b7])?;
+        assert_eq!(rt; found, (want, 0), "with limit {limit}");
+    }
+    Ok(())
+}

@@ -1,0 +1,8 @@
+pub mod Sizes
+pub mod Cuts
+pub mod Firsts
+pub mod Records
+pub mod Bodies
+pub mod Again
+pub mod Whole
+pub mod Patch

@@ -1,0 +1,114 @@
+//! What is wrong with the bytes of a packet, in the order in which it is reported.
+ghost use Rattle.std.specs.Prelude.{◌≡◌, ◌≤◌, ◌+◌, ℕ, length, take, drop, Some};
+ghost use Rattle.packet.specs.Reading.{are_lsas, is_filled, least_length};
+ghost use Rattle.packet.specs.Outcome.{Judges};
+
+use crate::checksum::checksum;
+use crate::model::PacketType;
+use crate::refusal::Fault;
+use words::{byte_at, u16_at, u32_at};
+
+/// A packet's largest length, in bytes.
+const LARGEST: usize = 8192;
+
+fn least_length(kind: Option<PacketType>) -> usize
+    ensures { result ≡ least_length kind }
+{
+    match kind {
+        None => 24,
+        Some(PacketType::Hello) => 44,
+        Some(PacketType::Description) => 32,
+        Some(PacketType::Request) => 24,
+        Some(PacketType::Update) => 28,
+        Some(PacketType::Acknowledgment) => 24,
+    }
+}
+
+/// The first so many bytes.
+pub fn front(bytes: &[u8], count: usize) -> &[u8]
+    requires { count ≤ length bytes.now }
+    ensures { result.now ≡ take count bytes.now }
+{
+    &bytes[..count]
+}
+
+/// What stands behind so many bytes.
+pub fn behind(bytes: &[u8], count: usize) -> &[u8]
+    requires { count ≤ length bytes.now }
+    ensures { result.now ≡ drop count bytes.now }
+{
+    &bytes[count..]
+}
+
+// Whether so many LSAs, cut by their length fields, fill these bytes exactly.
+#[tactic(auto, using(crate::proofs::Cuts::lsas_short, crate::proofs::Cuts::lsas_cut, crate::proofs::Cuts::lsas_on))]
+fn are_lsas(count: u32, bytes: &[u8]) -> bool
+    ensures { result ≡ are_lsas count bytes.now }
+{
+    let mut rest = bytes;
+    for i in 0..count {
+        if rest.len() < 20 {
+            return false;
+        }
+        let size = usize::from(u16_at(rest, 18));
+        if size < 20 || rest.len() < size {
+            return false;
+        }
+        rest = behind(rest, size);
+    }
+    rest.is_empty()
+}
+
+// Whether a body of this type fills these bytes exactly.
+fn is_filled(kind: PacketType, body: &[u8]) -> bool
+    requires { least_length (Some kind) ≤ 24 + length body.now }
+    ensures { result ≡ is_filled kind body.now }
+{
+    match kind {
+        PacketType::Hello => (body.len() - 20) % 4 == 0,
+        PacketType::Description => byte_at(body, 3) < 8 && (body.len() - 8) % 20 == 0,
+        PacketType::Request => body.len() % 12 == 0,
+        PacketType::Update => are_lsas(u32_at(body, 0), behind(body, 4)),
+        PacketType::Acknowledgment => body.len() % 20 == 0,
+    }
+}
+
+/// The type of the packet in the bytes, or the first thing that is wrong with them.
+#[tactic(auto, unfolding(crate::specs::Reading::fault_of))]
+pub fn judge(bytes: &[u8]) -> Result<PacketType, Fault>
+    ensures { Judges bytes.now result }
+{
+    let size = bytes.len();
+    if size < 24 {
+        return Err(Fault::Short);
+    }
+    let named = PacketType::named(byte_at(bytes, 1));
+    if size < least_length(named) {
+        return Err(Fault::Short);
+    }
+    if byte_at(bytes, 0) != 2 {
+        return Err(Fault::Version);
+    }
+    let Some(kind) = named else {
+        return Err(Fault::PacketType);
+    };
+    if usize::from(u16_at(bytes, 2)) != size {
+        return Err(Fault::Length);
+    }
+    if size > LARGEST {
+        return Err(Fault::Length);
+    }
+    if u16_at(bytes, 12) != checksum(bytes) {
+        return Err(Fault::Checksum);
+    }
+    if u32_at(bytes, 8) != 0 {
+        return Err(Fault::Area);
+    }
+    if u16_at(bytes, 14) != 0 {
+        return Err(Fault::Auth);
+    }
+    if !is_filled(kind, behind(bytes, 24)) {
+        return Err(Fault::Body);
+    }
+    Ok(kind)
+}

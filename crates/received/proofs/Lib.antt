@@ -1,0 +1,2 @@
+pub mod Flooded
+pub mod Firsts

@@ -1,0 +1,19 @@
+//! Laws of flooding, each carried by a function with an empty body.
+ghost use Rattle.received.specs.Laws.{ExactlyOneCaseApplies, FloodingReplacesOlderInstances};
+ghost use Rattle.received.specs.Worked.{WorkedCases};
+
+/// After an LSA was flooded, the only instance of its key on the retransmission list of a neighbor in Exchange or later is the LSA
+/// itself, and exactly where the neighbor got it: no older one stays (RFC 2328, sections 13 and 13.3).
+pub fn flooding_replaces_older_instances()
+    ensures { FloodingReplacesOlderInstances }
+{}
+
+/// Each readable LSA of an Update is of exactly one case, the first of the table that fits (RFC 2328, section 13).
+pub fn exactly_one_case_applies()
+    ensures { ExactlyOneCaseApplies }
+{}
+
+/// An LSA at MaxAge without a copy: acknowledged alone where all neighbors are Full, installed where one is in Loading.
+pub fn worked_cases()
+    ensures { WorkedCases }
+{}

@@ -1,0 +1,4 @@
+pub mod Paths
+pub mod Links
+pub mod Offers
+pub mod Candidates
