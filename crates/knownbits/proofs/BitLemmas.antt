@@ -281,3 +281,6 @@ shared_bits a b m same =
     same_from_bits _ _ (λ i. simp bit_at_and (
     let here : min (bit_at a i) (bit_at 4294967295 i) ≡ min (bit_at b i) (bit_at 4294967295 i) = sym (bit_at_and a 4294967295 i) ∙ ap (λ n. bit_at n i) halves ∙ bit_at_and b 4294967295 i in
     omega (arith, here)))
+
+pub zero_seen : (m v i : ℕ) → v < 2 ^ 64 → i < 64 → bit_at m i ≡ 1 → bit_at v i ≡ 0 → bit_at (bit_and m (bit_not w64 v)) i ≡ 1
+zero_seen m v i small below known low = both_known m (bit_not w64 v) i known (not_bit v i small below low)

@@ -97,3 +97,7 @@ IsPreciseTest Equal w left right answer =
     IfSome answer (λ both. KnowsBoth left (shared_known w right) both.0 × KnowsBoth right (shared_known w left) both.1)
     × (Contradict (bits w) left right ⊎ Contradict (bits w) right left → answer ≡ None)
 IsPreciseTest other w left right answer = answer ≡ Some (left, right)
+
+-- No run of low bits that are known to be 0 is longer.
+abbrev pub KnowsZerosTo : KnownBits → ℕ → Type 0
+KnowsZerosTo known most = (count : ℕ) → count ≤ 64 → ((i : ℕ) → i < count → KnowsZero known i) → count ≤ most

@@ -4,7 +4,7 @@ ghost use Rattle.isa.specs.declared.instruction.Width.{Width};
 ghost use Rattle.isa.specs.declared.instruction.Operation.TheVariants.{And, Or, Xor};
 ghost use Rattle.isa.specs.Arithmetic.{bits, low};
 ghost use Rattle.knownbits.specs.Masks.{HasBits, Knows, KnowsBelow};
-ghost use Rattle.knownbits.specs.Known.{IsPrecise, KnowsBoth, KnowsZero, KnowsOne, KnowsUpper, low_known, shared_known};
+ghost use Rattle.knownbits.specs.Known.{IsPrecise, KnowsBoth, KnowsZero, KnowsOne, KnowsUpper, KnowsZerosTo, low_known, shared_known};
 
 use crate::value::KnownBits;
 use isa::Width;
@@ -134,7 +134,8 @@ pub(crate) fn join(left: KnownBits, right: KnownBits) -> Option<KnownBits>
 
 /// How many low bits are known to be 0.
 pub(crate) fn low_zeros(known: KnownBits) -> u32
-    ensures { (n : ℕ) → HasBits known n → n % 2 ^ result ≡ 0 }
+    ensures holds { (n : ℕ) → HasBits known n → n % 2 ^ result ≡ 0 }
+    ensures all { KnowsZerosTo known result }
 {
     let zeros = known.mask & !known.value;
     if zeros == u64::MAX {

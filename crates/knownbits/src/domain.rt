@@ -4,7 +4,7 @@ ghost use Rattle.isa.specs.declared.instruction.Operation.TheVariants.{Add, Subt
 ghost use Rattle.isa.specs.Arithmetic.{bits, operate};
 ghost use Rattle.absdom.specs.Unary.{unary_result};
 ghost use Rattle.knownbits.specs.Masks.{HasBits, KnowsBelow};
-ghost use Rattle.knownbits.specs.Known.{IsPrecise, IsPreciseResult, IsPreciseOf, IsPreciseUnary, IsPreciseTest, HasResults, KnowsUpper, unary_width};
+ghost use Rattle.knownbits.specs.Known.{IsPrecise, IsPreciseResult, IsPreciseOf, IsPreciseUnary, IsPreciseTest, HasResults, KnowsUpper, KnowsZerosTo, unary_width};
 
 use crate::bits::{and, cut, every, is_single, join, low_zeros, or, shared, single, xor};
 use crate::shift::{left_shift, right_shift, shift_count};
@@ -107,7 +107,7 @@ impl Domain for KnownBits {
 
     ghost range_gives = { λ k answer. Unit {0} };
 
-    ghost multiple_gives = { λ k answer. Unit {0} };
+    ghost multiple_gives = { KnowsZerosTo };
 
     fn constant(number: u64) -> Self {
         single(number)
