@@ -1,23 +1,26 @@
 //! Code made instruction by instruction.
 use super::*;
 
-#[test]
-fn a_builder_ends_at_4096_slots(rt: HostRuntime) -> Result<(), Fail> {
-    let wide = Instruction::LoadMap {
-        target: register(&rt, 9),
+fn wide(rt: &impl Abort) -> Instruction {
+    Instruction::LoadMap {
+        target: register(rt, 9),
         map: 0,
         offset: 0,
-    };
+    }
+}
+
+#[test]
+fn a_builder_ends_at_4096_slots(rt: HostRuntime) -> Result<(), Fail> {
     let mut builder = CodeBuilder::new(rt.alloc());
     assert!(rt; builder.is_empty());
-    builder.push(wide)?;
+    builder.push(wide(&rt))?;
     assert!(rt; !builder.is_empty());
     assert_eq!(rt; builder.len(), 2);
     for _slot in 2..4095u32 {
         builder.push(Instruction::Exit)?;
     }
     assert_eq!(rt; builder.len(), 4095);
-    assert!(rt; builder.push(wide) == Err(BuildError::TooLong));
+    assert!(rt; builder.push(wide(&rt)) == Err(BuildError::TooLong));
     assert_eq!(rt; builder.len(), 4095);
     builder.push(Instruction::Exit)?;
     assert!(rt; builder.push(Instruction::Exit) == Err(BuildError::TooLong));

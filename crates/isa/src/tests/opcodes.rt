@@ -76,13 +76,11 @@ const TESTS: &[(Test, [u8; 4])] = &[
 
 // Four ways to say the second operand, -2 and r7, with the bytes of the registers and of the immediate: r3 is the first.
 fn operands(rt: &impl Abort) -> [(Width, Source, u8, u8); 4] {
-    let number = Source::Immediate(-2);
-    let held = Source::Register(register(rt, 7));
     [
-        (Width::Bits32, number, 0x03, 0xff),
-        (Width::Bits32, held, 0x73, 0),
-        (Width::Bits64, number, 0x03, 0xff),
-        (Width::Bits64, held, 0x73, 0),
+        (Width::Bits32, Source::Immediate(-2), 0x03, 0xff),
+        (Width::Bits32, Source::Register(register(rt, 7)), 0x73, 0),
+        (Width::Bits64, Source::Immediate(-2), 0x03, 0xff),
+        (Width::Bits64, Source::Register(register(rt, 7)), 0x73, 0),
     ]
 }
 
