@@ -11,9 +11,7 @@ ghost use Rattle.machine.specs.Faults.{operation_reads};
 ghost use Rattle.interp.specs.Classes.{fault_of_fill, fault_of_change, fault_of_target, fault_of_map};
 
 use crate::{contents, registers};
-use isa::{
-    ByteOrder, Extension, Map, Operation, Register, Source, SwapWidth, Width, arithmetic,
-};
+use isa::{ByteOrder, Extension, Map, Operation, Register, Source, SwapWidth, Width, arithmetic};
 use machine::{Content, Fault, Pointer, State};
 
 /// An operation on two operands.

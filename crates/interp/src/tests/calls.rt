@@ -102,12 +102,7 @@ fn calls_of_helpers(rt: HostRuntime) -> Result<(), Fail> {
 #[test]
 fn a_cost_of_the_table(rt: HostRuntime) -> Result<(), Fail> {
     let prefix = wide(1, 0xc000_0200);
-    for (length, want) in [
-        (24, 20),
-        (25, 0x1_0000_0000),
-        (26, 30),
-        (33, 0x1_0000_0000),
-    ] {
+    for (length, want) in [(24, 20), (25, 0x1_0000_0000), (26, 30), (33, 0x1_0000_0000)] {
         let slots = [
             prefix[0],
             prefix[1],
