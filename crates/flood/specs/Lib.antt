@@ -1,0 +1,3 @@
+pub mod Routers
+pub mod Hellos
+pub mod HelloPath

@@ -1,0 +1,1 @@
+//! Laws of events, each carried by a function with an empty body.
