@@ -1,3 +1,5 @@
 pub mod Routers
 pub mod Hellos
 pub mod HelloPath
+pub mod Numbers
+pub mod Seen

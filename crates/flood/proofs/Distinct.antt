@@ -1,0 +1,20 @@
+-- Which configurations are in the profile: one interface more against those behind it, and what follows for the links at the start.
+use Rattle.std.proofs.Common.{◌≡◌, ℕ, ◌+◌, ◌<◌, ◌≤◌, Bool, true, false, not, ◌&&◌, eqb, List, [], ◌∷◌, length, get_or, drop, map, refl, sym, ap, ◌∙◌, arith}
+use Rattle.std.specs.List.{list_all, list_any, AllByRecursion}
+use Rattle.std.proofs.lemmas.Bool.{leb-true}
+use Rattle.std.proofs.lemmas.List.Elements.{All-from_recursion}
+use Rattle.std.proofs.lemmas.List.{at_drop_more}
+use Rattle.adjacency.specs.declared.interface.Interface.{Interface}
+use Rattle.flood.specs.Routers.{are_distinct, is_lawful}
+
+distinct_here : (xs : List Interface) (i : ℕ) (x : Interface) → i < length xs → x ≡ get_or xs i x
+    → are_distinct (drop i xs) ≡ (not (list_any (λ j. eqb j.address x.address) (drop (i + 1) xs)) && are_distinct (drop (i + 1) xs))
+distinct_here xs i x lt is = at_drop_more are_distinct xs i x lt ∙ ap (λ y. are_distinct (y ∷ drop (i + 1) xs)) (sym is)
+
+pub distinct_more : (xs : List Interface) (i : ℕ) (x : Interface) → i < length xs → x ≡ get_or xs i x
+    → list_any (λ j. eqb j.address x.address) (drop (i + 1) xs) ≡ false → are_distinct (drop i xs) ≡ are_distinct (drop (i + 1) xs)
+distinct_more xs i x lt is none = distinct_here xs i x lt is ∙ ap (λ b. not b && are_distinct (drop (i + 1) xs)) none
+
+pub distinct_fails : (xs : List Interface) (i : ℕ) (x : Interface) → i < length xs → x ≡ get_or xs i x
+    → list_any (λ j. eqb j.address x.address) (drop (i + 1) xs) ≡ true → are_distinct (drop i xs) ≡ false
+distinct_fails xs i x lt is one = distinct_here xs i x lt is ∙ ap (λ b. not b && are_distinct (drop (i + 1) xs)) one
