@@ -1,3 +1,13 @@
 pub mod Routers
 pub mod Hellos
 pub mod HelloPath
+pub mod Progress
+pub mod Originations
+pub mod Packets
+pub mod Ticks
+pub mod Commands
+pub mod Endings
+pub mod Packing
+pub mod Events
+pub mod Refusals
+pub mod Laws
