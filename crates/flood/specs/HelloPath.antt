@@ -1,5 +1,5 @@
 -- A router that keeps the Hello protocol alone (RFC 2328, sections 9.5, 10.3 and 10.5): its neighbors are Down or in Init, and it has no LSAs.
-use Rattle.std.specs.Prelude.{◌≡◌, ℕ, ◌-◌, ◌^◌, Bool, true, ◌&&◌, ◌||◌, nat_le, nat_lt, if◌then◌else◌, List, [], ◌∷◌, length, map, slice_get, slice_set, Option, None, Some, Result, Ok, Err}
+use Rattle.std.specs.Prelude.{◌≡◌, ◌≤◌, ℕ, ◌-◌, ◌^◌, Bool, ◌&&◌, ◌||◌, nat_le, nat_lt, if◌then◌else◌, List, [], ◌∷◌, length, map, slice_get, slice_set, Option, None, Some, Result, Ok, Err}
 use Rattle.std.specs.List.{enumerate_from, flat_map}
 use Rattle.packet.specs.declared.model.Body.{Body}
 use Rattle.packet.specs.declared.model.Body.TheVariants as body
@@ -60,7 +60,7 @@ pub record Receives (old : Router) (moment : ℕ) (number : ℕ) (bytes : List �
   pub packet : Packet
   pub text : PacketText bytes packet
   pub link : Link
-  pub counted : nat_le 1 number ≡ true
+  pub counted : 1 ≤ number
   pub here : slice_get old.area.links (number - 1) ≡ Some link
   pub after : new ≡ with_links_at (slice_set old.area.links (number - 1) (after_packet old.id moment packet link)) moment old
   pub nothing_sent : outs ≡ []
