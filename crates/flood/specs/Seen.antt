@@ -29,7 +29,16 @@ as_links ls = map as_link ls
 abbrev pub as_router : Kept → Router
 as_router k = with_links k.id (as_links k.links) k.moment
 
+-- a link on which nothing was heard or sent
+abbrev pub fresh : Interface → Link
+fresh i = record { interface = i; neighbor = None; greeted = None }
+
 -- ---- what is shown of it
+
+-- the link of the interface of this number
+abbrev pub link_at : Kept → ℕ → Option Link
+link_at k zero = None
+link_at k (suc n) = slice_get k.links n
 
 abbrev pub interface_on : Option Link → Option Interface
 interface_on None = None
@@ -37,5 +46,4 @@ interface_on (Some link) = Some link.interface
 
 -- the configuration of the interface of this number
 abbrev pub interface_at : Kept → ℕ → Option Interface
-interface_at k zero = None
-interface_at k (suc n) = interface_on (slice_get k.links n)
+interface_at k number = interface_on (link_at k number)

@@ -1,11 +1,11 @@
 //! One link under received Hellos and Ticks (RFC 2328, sections 9.5 and 10.5). Nothing here needs memory but what is sent.
-ghost use Rattle.std.specs.Prelude.{◌≡◌, ◌≤◌, ◌^◌, ◌<◌, All, IfOk, Some, length, map};
+ghost use Rattle.std.specs.Prelude.{◌≡◌, ◌≤◌, ◌^◌, ◌<◌, All, IfOk, Some, if◌then◌else◌, length, map};
 ghost use Rattle.std.specs.List.{flat_map, enumerate_from};
 ghost use Rattle.words.specs.Prefixes.{mask_of};
 ghost use Rattle.packet.specs.Text.{canonical};
-ghost use Rattle.adjacency.specs.Adjacencies.{has_passed, heard_by};
+ghost use Rattle.adjacency.specs.Adjacencies.{has_passed, heard_by, still_heard};
 ghost use Rattle.flood.specs.HelloPath.{after_hello, after_packet, aged, greeting, ticked};
-ghost use Rattle.flood.specs.Hellos.{accepts, agrees, greets, heard_of, hello_packet, is_foreign, may_be};
+ghost use Rattle.flood.specs.Hellos.{accepts, agrees, greeted, greets, heard_of, hello_packet, is_due, is_foreign, may_be};
 ghost use Rattle.flood.specs.Seen.{as_link, as_links, as_neighbor};
 
 use crate::link::{Link, Neighbor};
@@ -83,45 +83,73 @@ pub fn after_packet(own: RouterId, moment: Second, packet: &Packet, link: Link) 
     }
 }
 
+fn still_heard(moment: Second, dead: u32, neighbor: Option<Neighbor>) -> Option<Neighbor>
+    ensures { as_neighbor result ≡ still_heard moment dead (as_neighbor neighbor) }
+{
+    match neighbor {
+        None => None,
+        Some(n) => {
+            if has_passed(n.heard, u64::from(dead), moment) {
+                None
+            } else {
+                Some(n)
+            }
+        }
+    }
+}
+
 fn aged(moment: Second, link: Link) -> Link
     ensures { as_link result ≡ aged moment (as_link link) }
 {
-    match link.neighbor {
-        None => link,
-        Some(n) => {
-            if has_passed(n.heard, u64::from(link.interface.dead_interval), moment) {
-                Link {
-                    neighbor: None,
-                    ..link
-                }
-            } else {
-                link
-            }
-        }
+    let neighbor = still_heard(moment, link.interface.dead_interval, link.neighbor);
+    Link { neighbor, ..link }
+}
+
+fn is_due(moment: Second, interval: u16, last: Option<Second>) -> bool
+    ensures { result ≡ is_due moment interval last }
+{
+    match last {
+        None => true,
+        Some(last) => has_passed(last, u64::from(interval), moment),
     }
 }
 
 fn greets(moment: Second, link: Link) -> bool
     ensures { result ≡ greets moment (as_link link) }
 {
-    match link.greeted {
-        None => true,
-        Some(last) => has_passed(last, u64::from(link.interface.hello_interval), moment),
+    is_due(moment, link.interface.hello_interval, link.greeted)
+}
+
+// When the last Hello went out, once a Tick has passed.
+fn greeted_at(moment: Second, interval: u16, last: Option<Second>) -> Option<Second>
+    ensures { result ≡ (if is_due moment interval last then Some moment else last) }
+{
+    match last {
+        None => Some(moment),
+        Some(at) => {
+            if has_passed(at, u64::from(interval), moment) {
+                Some(moment)
+            } else {
+                Some(at)
+            }
+        }
+    }
+}
+
+fn greeted(moment: Second, link: Link) -> Link
+    ensures { as_link result ≡ greeted moment (as_link link) }
+{
+    let at = greeted_at(moment, link.interface.hello_interval, link.greeted);
+    Link {
+        greeted: at,
+        ..link
     }
 }
 
 fn ticked(moment: Second, link: Link) -> Link
     ensures { as_link result ≡ ticked moment (as_link link) }
 {
-    let aged = aged(moment, link);
-    if greets(moment, link) {
-        Link {
-            greeted: Some(moment),
-            ..aged
-        }
-    } else {
-        aged
-    }
+    greeted(moment, aged(moment, link))
 }
 
 /// Lets a Tick pass at each link.

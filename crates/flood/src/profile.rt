@@ -1,8 +1,8 @@
 //! Which configurations a router takes, and its links at the start.
 ghost use Rattle.std.specs.Prelude.{◌≡◌, ◌==◌, IfOk, map};
 ghost use Rattle.std.specs.List.{list_all, list_any};
-ghost use Rattle.flood.specs.Routers.{are_distinct, in_profile, is_lawful, silent};
-ghost use Rattle.flood.specs.Seen.{as_links};
+ghost use Rattle.flood.specs.Routers.{are_distinct, in_profile, is_lawful};
+ghost use Rattle.flood.specs.Seen.{fresh};
 
 use crate::link::Link;
 use crate::model::Config;
@@ -63,7 +63,7 @@ pub fn in_profile(config: &Config) -> bool
 
 /// The links at the start, one for each interface.
 pub fn links_of(alloc: Global, interfaces: &[Interface]) -> Result<Vec<Link>, AllocError>
-    ensures { IfOk result (λ links. as_links links.items ≡ map silent interfaces.now) }
+    ensures { IfOk result (λ links. links.items ≡ map fresh interfaces.now) }
 {
     interfaces
         .iter()

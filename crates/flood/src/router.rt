@@ -1,8 +1,10 @@
 //! The router: it takes events one by one, and answers what it sends.
 ghost use Rattle.std.specs.Prelude.{◌≡◌, ◌↔◌, IfOk, IsErrOf, OnErr, true, false};
+ghost use Rattle.flood.specs.Routers.{shown};
+ghost use Rattle.flood.specs.Seen.{as_neighbor};
 
 use crate::hello::{after_packet, greetings, tick_all};
-use crate::link::Link;
+use crate::link::{Link, Neighbor};
 use crate::model::{Config, ConfigError, CoreError, Event, Out};
 use crate::profile::{in_profile, links_of};
 use adjacency::{Interface, State};
@@ -82,12 +84,13 @@ impl Core {
 impl Core {
     ghost use Rattle.std.specs.Prelude.{length, map};
     ghost use Rattle.flood.specs.Routers.{in_profile, shown_at, unannounced};
-    ghost use Rattle.flood.specs.Seen.{as_router, interface_at};
+    ghost use Rattle.flood.specs.Seen.{as_router, interface_at, link_at};
 
     /// A router that has heard of nobody, whose last event was at the start.
     ///
     /// `Interface` is answered exactly where the configuration is outside of what [`Config`] allows, `Memory` only where an allocation
     /// was refused.
+    #[tactic(auto, using(crate::proofs::Links::as_links_fresh))]
     pub fn new(alloc: Global, config: Config) -> Result<Core, ConfigError>
         ensures ok { IfOk result (λ core. (in_profile config ≡ true) × (as_router core ≡ unannounced config)) }
         ensures refused { IsErrOf result ConfigError.Interface ↔ (in_profile config ≡ false) }
@@ -143,21 +146,42 @@ impl Core {
         self.links.len()
     }
 
+    // The link of the interface of this number.
+    fn link(&self, number: u16) -> Option<Link>
+        ensures { result ≡ link_at self.now number }
+    {
+        let place = usize::from(number).checked_sub(1)?;
+        let link = self.links.get(place)?;
+        Some(*link)
+    }
+
     /// The configuration of the interface of this number, or None where there is no such interface.
     pub fn interface(&self, number: u16) -> Option<Interface>
         ensures { result ≡ interface_at self.now number }
     {
-        let place = usize::from(number).checked_sub(1)?;
-        let link = self.links.get(place)?;
-        Some(link.interface)
+        match self.link(number) {
+            None => None,
+            Some(link) => Some(link.interface),
+        }
     }
 
     /// The neighbor at the interface of this number and its state, or None where it is Down or there is no such interface.
+    #[tactic(auto, using(crate::proofs::Links::shown_none, crate::proofs::Links::shown_some))]
     pub fn neighbor(&self, number: u16) -> Option<(RouterId, State)>
         ensures { result ≡ shown_at (as_router self.now) number }
     {
-        let place = usize::from(number).checked_sub(1)?;
-        let neighbor = self.links.get(place)?.neighbor?;
-        Some((neighbor.router, State::Init))
+        match self.link(number) {
+            None => None,
+            Some(link) => shown(link.neighbor),
+        }
+    }
+}
+
+fn shown(neighbor: Option<Neighbor>) -> Option<(RouterId, State)>
+    ensures { result ≡ shown (as_neighbor neighbor) }
+{
+    match neighbor {
+        None => None,
+        Some(n) => Some((n.router, State::Init)),
     }
 }

@@ -1,6 +1,5 @@
 //! Which configurations a router takes, and what it shows of them.
-use super::packets;
-use super::*;
+use super::{packets, *};
 
 // What a router is answered with these two interfaces.
 fn answered(
@@ -30,22 +29,75 @@ fn other() -> Interface {
 #[test]
 fn interfaces_keep_their_ranges(rt: HostRuntime) -> Result<(), Fail> {
     for (outside, within) in [
-        (Interface { length: 33, ..other() }, Interface { length: 32, ..other() }),
-        (Interface { cost: 0, ..other() }, Interface { length: 0, ..other() }),
         (
-            Interface { hello_interval: 0, ..other() },
-            Interface { hello_interval: 1, cost: 65535, ..other() },
+            Interface {
+                length: 33,
+                ..other()
+            },
+            Interface {
+                length: 32,
+                ..other()
+            },
         ),
         (
-            Interface { dead_interval: 0, ..other() },
-            Interface { dead_interval: 1, cost: 1, ..other() },
+            Interface { cost: 0, ..other() },
+            Interface {
+                length: 0,
+                ..other()
+            },
         ),
         (
-            Interface { retransmit_interval: 0, ..other() },
-            Interface { retransmit_interval: 1, ..other() },
+            Interface {
+                hello_interval: 0,
+                ..other()
+            },
+            Interface {
+                hello_interval: 1,
+                cost: 65535,
+                ..other()
+            },
         ),
-        (Interface { delay: 0, ..other() }, Interface { delay: 1, ..other() }),
-        (Interface { delay: 3601, ..other() }, Interface { delay: 3600, ..other() }),
+        (
+            Interface {
+                dead_interval: 0,
+                ..other()
+            },
+            Interface {
+                dead_interval: 1,
+                cost: 1,
+                ..other()
+            },
+        ),
+        (
+            Interface {
+                retransmit_interval: 0,
+                ..other()
+            },
+            Interface {
+                retransmit_interval: 1,
+                ..other()
+            },
+        ),
+        (
+            Interface {
+                delay: 0,
+                ..other()
+            },
+            Interface {
+                delay: 1,
+                ..other()
+            },
+        ),
+        (
+            Interface {
+                delay: 3601,
+                ..other()
+            },
+            Interface {
+                delay: 3600,
+                ..other()
+            },
+        ),
         (interface(), other()),
     ] {
         let refused = answered(rt.alloc(), 1, 0, interface(), outside);
@@ -88,7 +140,11 @@ fn a_router_has_1_to_63_interfaces(rt: HostRuntime) -> Result<(), Fail> {
             start: Second::new(0),
             interfaces: Sequence::from_vec(interfaces),
         };
-        assert_eq!(rt; Core::new(rt.alloc(), config).is_ok(), accepted, "{count} interfaces");
+        assert_eq!(rt;
+            Core::new(rt.alloc(), config).is_ok(),
+            accepted,
+            "{count} interfaces"
+        );
     }
     Ok(())
 }

@@ -1,6 +1,5 @@
 //! Neighbors come and go, and Hellos are sent.
-use super::packets;
-use super::*;
+use super::{packets, *};
 
 #[test]
 fn hears_greets_and_forgets(rt: HostRuntime) -> Result<(), Fail> {
@@ -20,7 +19,12 @@ fn hears_greets_and_forgets(rt: HostRuntime) -> Result<(), Fail> {
     let outs = stepped(&mut core, 49, &Event::Tick)?;
     assert_eq!(rt; outs.len(), 1);
     assert_eq!(rt; outs[0].bytes.as_slice(), packets::ALONE);
-    assert!(rt; matches!(stepped(&mut core, 48, &Event::Tick), Err(CoreError::ClockBack)));
+    assert!(rt;
+        matches!(
+            stepped(&mut core, 48, &Event::Tick),
+            Err(CoreError::ClockBack)
+        )
+    );
     assert_eq!(rt; core.moment(), Second::new(49));
     Ok(())
 }

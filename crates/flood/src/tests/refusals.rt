@@ -1,6 +1,5 @@
 //! Refused events, by what is wrong with them.
-use super::packets;
-use super::*;
+use super::{packets, *};
 use packet::Fault;
 
 // The router hears nobody by these bytes, which have this fault.
@@ -16,7 +15,10 @@ fn a_short_packet_changes_nothing(rt: HostRuntime) -> Result<(), Fail> {
     let mut core = started(rt.alloc())?;
     for length in 0..44 {
         let event = packet(rt.alloc(), 1, &packets::HEARD[..length])?;
-        assert!(rt; is_refused(&mut core, &event, Fault::Short), "{length} bytes");
+        assert!(rt;
+            is_refused(&mut core, &event, Fault::Short),
+            "{length} bytes"
+        );
     }
     Ok(())
 }
@@ -64,14 +66,34 @@ fn the_clock_comes_before_the_interface_and_the_packet(rt: HostRuntime) -> Resul
         let event = packet(rt.alloc(), interface, packets::SUMMED)?;
         assert!(rt; matches!(stepped(&mut core, 4, &event), Err(CoreError::ClockBack)));
         assert!(rt; matches!(stepped(&mut core, 5, &event), Err(CoreError::NoInterface)));
-        assert!(rt; matches!(stepped(&mut core, 1 << 62, &event), Err(CoreError::ClockBack)));
+        assert!(rt;
+            matches!(
+                stepped(&mut core, 1 << 62, &event),
+                Err(CoreError::ClockBack)
+            )
+        );
     }
-    assert!(rt; matches!(stepped(&mut core, 4, &Event::Tick), Err(CoreError::ClockBack)));
+    assert!(rt;
+        matches!(
+            stepped(&mut core, 4, &Event::Tick),
+            Err(CoreError::ClockBack)
+        )
+    );
     assert_eq!(rt; core.moment(), Second::new(5));
     let last = (1 << 62) - 1;
     assert_eq!(rt; stepped(&mut core, last, &Event::Tick)?.len(), 1);
-    assert!(rt; matches!(stepped(&mut core, 1 << 62, &Event::Tick), Err(CoreError::ClockBack)));
-    assert!(rt; matches!(stepped(&mut core, u64::MAX, &Event::Tick), Err(CoreError::ClockBack)));
+    assert!(rt;
+        matches!(
+            stepped(&mut core, 1 << 62, &Event::Tick),
+            Err(CoreError::ClockBack)
+        )
+    );
+    assert!(rt;
+        matches!(
+            stepped(&mut core, u64::MAX, &Event::Tick),
+            Err(CoreError::ClockBack)
+        )
+    );
     assert_eq!(rt; core.moment(), Second::new(last));
     Ok(())
 }
