@@ -1,1 +1,4 @@
 pub mod Outcomes
+pub mod Quiet
+pub mod Greetings
+pub mod HelloPath

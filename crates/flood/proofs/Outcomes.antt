@@ -21,6 +21,7 @@ own_once rules moment (Occurrence.LinkDown number) p a b x y = x ∙ sym y
 
 pub determined : EventsAreDetermined
 determined rules old moment event sent others new another a b =
-    let same : a.after ≡ b.after = own_once rules moment event _ a.after b.after a.own b.own in
-    (a.sent ∙ ap (λ (q : Progress). outs_of old.id old.area.links (finished old moment q).sends) same ∙ sym b.sent,
-     a.router ∙ ap (λ (q : Progress). (finished old moment q).router) same ∙ sym b.router)
+    let same : a.after ≡ b.after = own_once rules moment event _ a.after b.after a.own b.own in (
+      a.sent ∙ ap (λ (q : Progress). outs_of old.id old.area.links (finished old moment q).sends) same ∙ sym b.sent,
+      a.router ∙ ap (λ (q : Progress). (finished old moment q).router) same ∙ sym b.router,
+    )

@@ -10,4 +10,5 @@ pub mod Endings
 pub mod Packing
 pub mod Events
 pub mod Refusals
+pub mod Bare
 pub mod Laws
