@@ -1,2 +1,6 @@
+pub mod Outcomes
+pub mod Quiet
+pub mod Greetings
+pub mod HelloPath
 pub mod Links
 pub mod Distinct

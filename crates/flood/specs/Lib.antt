@@ -10,6 +10,7 @@ pub mod Endings
 pub mod Packing
 pub mod Events
 pub mod Refusals
+pub mod Bare
 pub mod Laws
 pub mod Numbers
 pub mod Seen
