@@ -4,3 +4,4 @@ pub mod Greetings
 pub mod HelloPath
 pub mod Links
 pub mod Distinct
+pub mod Whole

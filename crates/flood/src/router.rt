@@ -34,11 +34,28 @@ impl Model for Core {
 }
 
 impl Core {
-    ghost use Rattle.flood.specs.HelloPath.{Answers, Happens, Receives, Ticks, event_refusal, refusal_of};
+    ghost use Rattle.flood.specs.Events.{HappensBy, hellos_alone};
+    ghost use Rattle.flood.specs.HelloPath.{Answers, Happens, Receives, Ticks, event_refusal, occurrence_of, refusal_of};
     ghost use Rattle.flood.specs.Seen.{as_router};
 
-    /// One event. A refusal leaves the router as it was.
+    /// One event at a moment: what it makes of the router, and what is to be sent, in the order in which it is to be sent.
+    ///
+    /// Refused, in this order: `ClockBack` where the moment is before that of the last event or isn't below 2^62, `NoInterface` where a
+    /// packet's interface doesn't exist, `BadPacket` where its bytes are no packet's text, `Memory` where none of these stands and an
+    /// allocation was refused. A refusal leaves the router as it was.
     pub fn step(&mut self, moment: Second, event: &Event) -> Result<Vec<Out>, CoreError>
+        // It is what the whole router's rules make of the event where neighbors stay in Init and nothing is originated.
+        ensures whole { IfOk result (λ outs. HappensBy hellos_alone (as_router self.old) moment (occurrence_of event.now) outs.items (as_router self.new)) }
+        // In the words of the Hello protocol alone: a packet changes one link, a Tick sends what is due.
+        ensures ok { IfOk result (λ outs. Happens (as_router self.old) moment event.now outs.items (as_router self.new)) }
+        // Which refusal it is; none stands where the event is taken or memory is wanting.
+        ensures refused { Answers (refusal_of (as_router self.old) moment event.now) result }
+        ensures err { OnErr result (self.new ≡ self.old) }
+    {
+        self.take(moment, event)
+    }
+
+    fn take(&mut self, moment: Second, event: &Event) -> Result<Vec<Out>, CoreError>
         ensures ok { IfOk result (λ outs. Happens (as_router self.old) moment event.now outs.items (as_router self.new)) }
         ensures refused { Answers (refusal_of (as_router self.old) moment event.now) result }
         ensures err { OnErr result (self.new ≡ self.old) }
