@@ -1,0 +1,5 @@
+pub mod Lists
+pub mod Determined
+pub mod TableLaws
+pub mod Least
+pub mod Reached

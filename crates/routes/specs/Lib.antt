@@ -2,3 +2,5 @@ pub mod Paths
 pub mod Links
 pub mod Offers
 pub mod Candidates
+pub mod Tables
+pub mod Laws

@@ -8,7 +8,7 @@ use Rattle.lsa.specs.declared.body.LinkKind.TheVariants.{Stub}
 use Rattle.lsa.specs.declared.body.NetworkLsa.{NetworkLsa}
 use Rattle.lsa.specs.declared.body.RouterLsa.{RouterLsa}
 use Rattle.lsdb.specs.Copies.{Database}
-use Rattle.routes.specs.Links.{ANetwork, ARouter, HasLink, IsNetworkLsa, IsRouterLsa, Leads}
+use Rattle.routes.specs.Links.{Node, ANetwork, ARouter, HasLink, IsNetworkLsa, IsRouterLsa, Leads}
 use Rattle.routes.specs.Paths.{IsWay, Way}
 use Rattle.routes.specs.declared.root.Root.{Root}
 
@@ -31,36 +31,23 @@ intra prefix cost hops = record { prefix = prefix; kind = Intra; cost = cost; di
 
 -- ---- within the area (section 16.1)
 
--- a reachable network offers itself
-pub record OffersNetwork (moment : ℕ) (db : Database) (root : Root) (o : Offer) : Type 0 where
-  pub id : ℕ
-  pub by : ℕ
-  pub lsa : NetworkLsa
-  pub its : IsNetworkLsa moment db id by lsa
-  pub prefix : Network
-  pub is_prefix : IsPrefix id lsa.mask prefix
-  pub way : Way
-  pub reached : IsWay (Leads moment db root) (ARouter root.router) (ANetwork id by) way
-  pub is : o ≡ intra prefix way.distance way.hops
+-- the network is the node's own, or a stub link of the router leads to it, at this cost beyond the way to the node
+abbrev pub Attaches : ℕ → Database → Node → Network → ℕ → Type 0
+Attaches moment db (ANetwork id by) prefix more = (lsa : NetworkLsa) × IsNetworkLsa moment db id by lsa × IsPrefix id lsa.mask prefix × (more ≡ 0)
+Attaches moment db (ARouter router) prefix more = (link : Link) × HasLink moment db router link × (link.kind ≡ Stub) × IsPrefix link.link_id link.link_data prefix × (more ≡ link.metric)
 
--- a reachable router offers its stub links, those of the root with no other hop than 0, the router itself
-pub record OffersStub (moment : ℕ) (db : Database) (root : Root) (o : Offer) : Type 0 where
-  pub router : ℕ
-  pub link : Link
-  pub its : HasLink moment db router link
-  pub is_stub : link.kind ≡ Stub
+-- a reachable node offers what it attaches, by the hops of the way to it; the root itself by no other hop than 0
+pub record OffersWithin (moment : ℕ) (db : Database) (root : Root) (o : Offer) : Type 0 where
+  pub node : Node
   pub prefix : Network
-  pub is_prefix : IsPrefix link.link_id link.link_data prefix
+  pub more : ℕ
+  pub attached : Attaches moment db node prefix more
   pub way : Way
-  pub reached : IsWay (Leads moment db root) (ARouter root.router) (ARouter router) way
+  pub reached : IsWay (Leads moment db root) (ARouter root.router) node way
   pub hops : ℕ
-  pub by_root : router ≡ root.router → hops ≡ 1
-  pub by_others : ¬ (router ≡ root.router) → hops ≡ way.hops
-  pub is : o ≡ intra prefix (way.distance + link.metric) hops
-
-pub data OffersWithin (moment : ℕ) (db : Database) (root : Root) (o : Offer) : Type 0 where
-  OfNetwork : OffersNetwork moment db root o → OffersWithin moment db root o
-  OfStub : OffersStub moment db root o → OffersWithin moment db root o
+  pub by_root : node ≡ ARouter root.router → hops ≡ 1
+  pub by_others : ¬ (node ≡ ARouter root.router) → hops ≡ way.hops
+  pub is : o ≡ intra prefix (way.distance + more) hops
 
 -- ---- the best offers
 

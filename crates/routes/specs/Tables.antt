@@ -1,0 +1,28 @@
+-- The routing table: the candidates that the operator's program let in when it was last asked about all of them.
+use Rattle.std.specs.Prelude.{ℕ, List, ◌↔◌}
+use Rattle.std.specs.List.{AllPairs, Contains}
+use Rattle.words.specs.declared.route.Route.{Route}
+use Rattle.lsdb.specs.Copies.{Database}
+use Rattle.routes.specs.Candidates.{IsBefore, IsCandidate}
+use Rattle.routes.specs.declared.root.Root.{Root}
+
+-- routes with the words that were answered of them, 0 to let the route in; there are none before the first answers
+abbrev pub Answers : Type 0
+Answers = List (Route × ℕ)
+
+-- an equal route stands among the answers with 0
+abbrev pub IsLetIn : Answers → Route → Type 0
+IsLetIn answers r = Contains answers (r, 0)
+
+-- an equal route stands among the answers
+abbrev pub IsAnswered : Answers → Route → Type 0
+IsAnswered answers r = (word : ℕ) × Contains answers (r, word)
+
+-- exactly the candidates that are let in, in the order of their prefixes
+pub record IsTable (moment : ℕ) (db : Database) (root : Root) (answers : Answers) (table : List Route) : Type 0 where
+  pub each : (r : Route) → Contains table r ↔ (IsCandidate moment db root r × IsLetIn answers r)
+  pub ascending : AllPairs (λ (a : Route) (b : Route). IsBefore a.prefix b.prefix) table
+
+-- some candidate isn't answered: the program is to be asked again
+abbrev pub IsStale : ℕ → Database → Root → Answers → Type 0
+IsStale moment db root answers = (r : Route) × IsCandidate moment db root r × (IsAnswered answers r → ⊥)

@@ -1,0 +1,38 @@
+//! Laws of the candidates and of the routing table, each carried by a function with an empty body.
+ghost use Rattle.routes.specs.Laws.{AnswersToAllAreNotStale, CandidatesAreCheapestWalks, CandidatesAreDetermined, OneCandidateForEachPrefix, TablesAreDetermined, TablesArePartsOfCandidates, WaysAreDetermined};
+
+/// A node has one distance and one set of next hops (RFC 2328, section 16.1).
+pub fn ways_are_determined()
+    ensures { WaysAreDetermined }
+{}
+
+/// A prefix has at most one candidate.
+pub fn one_candidate_for_each_prefix()
+    ensures { OneCandidateForEachPrefix }
+{}
+
+/// A database has one list of candidates, by the address of the prefix and then its length.
+pub fn candidates_are_determined()
+    ensures { CandidatesAreDetermined }
+{}
+
+/// A network that a walk reaches has a candidate within the area only; that candidate's cost is the least of any walk, and its next hops
+/// are exactly the first interfaces of all walks of that cost (RFC 2328, section 16.1).
+pub fn candidates_are_cheapest_walks()
+    ensures { CandidatesAreCheapestWalks }
+{}
+
+/// A database and answers have one table.
+pub fn tables_are_determined()
+    ensures { TablesAreDetermined }
+{}
+
+/// The table is what the answers let in of the candidates, and empty before any answers.
+pub fn tables_are_parts_of_candidates()
+    ensures { TablesArePartsOfCandidates }
+{}
+
+/// Right after answers to all candidates nothing is stale.
+pub fn answers_to_all_are_not_stale()
+    ensures { AnswersToAllAreNotStale }
+{}
