@@ -2,3 +2,5 @@ pub mod Outcomes
 pub mod Quiet
 pub mod Greetings
 pub mod HelloPath
+pub mod Packings
+pub mod Worlds

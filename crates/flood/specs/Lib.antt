@@ -11,4 +11,6 @@ pub mod Packing
 pub mod Events
 pub mod Refusals
 pub mod Bare
+pub mod PackingLaws
+pub mod Worlds
 pub mod Laws
