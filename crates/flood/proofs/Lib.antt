@@ -4,3 +4,4 @@ pub mod Greetings
 pub mod HelloPath
 pub mod Packings
 pub mod Worlds
+pub mod Worked

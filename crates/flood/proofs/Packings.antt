@@ -8,7 +8,7 @@ use Rattle.std.specs.Ordering.{is_eq, is_gt, ordering_reverse}
 use Rattle.std.specs.declared.cmp.Ordering.{Ordering}
 use Rattle.std.specs.declared.cmp.Ordering.TheVariants.{Less, Equal, Greater}
 use Rattle.words.specs.declared.key.Key.{Key}
-use Rattle.lsdb.specs.Headers.{Header, Lsa, key_of, lsa_key}
+use Rattle.lsdb.specs.Headers.{Header, key_of, lsa_key}
 use Rattle.lsdb.specs.Keys.{key_cmp, same_key}
 use Rattle.lsdb.proofs.Keys.{keys_exact, keys_total}
 use Rattle.packet.specs.declared.model.Body.{Body}
@@ -16,7 +16,7 @@ use Rattle.received.specs.Links.{Link}
 use Rattle.received.specs.Outcomes.{Send}
 use Rattle.flood.specs.declared.model.Out.{Out}
 use Rattle.flood.specs.Packing.{at_interface, bodies, fill_on, header_size, in_key_order, is_after, out_of, outs_at, outs_of, lsa_size, packed, put}
-use Rattle.flood.specs.PackingLaws.{AreByInterface, AreFull, IsAscending, IsFull, IsInKeyOrder, IsPacking, OutsAreOrderedAndPacked, first_size, sizes, total}
+use Rattle.flood.specs.PackingLaws.{AreByInterface, AreFull, IsAscending, IsFull, IsInKeyOrder, IsPacking, OutsAreOrderedAndPacked, sizes, total}
 
 -- ---- the order of keys
 
@@ -88,8 +88,10 @@ module _ {X : Type 0} (key : X → Key) where
     where
       contradiction : true ≡ false → ⊥
       contradiction f = cc
+
       never : is_after (key x) (key y) ≡ true → same_key k (key y) ≡ true → same_key k (key x) ≡ true → ⊥
       never e q p = contradiction (sym e ∙ tied_both k (key x) (key y) p q)
+
       by_test : (b : Bool) → is_after (key x) (key y) ≡ b → filter (λ z. same_key k (key z)) (put key x ys) ≡ filter (λ z. same_key k (key z)) (x ∷ ys)
           → filter (λ z. same_key k (key z)) (cond b (y ∷ put key x ys) (x ∷ (y ∷ ys))) ≡ filter (λ z. same_key k (key z)) (x ∷ (y ∷ ys))
       by_test true e rest =
@@ -112,8 +114,10 @@ module _ {X : Type 0} (size : X → ℕ) (start : ℕ) where
     where
       sums : start + (sizes size xs + size x) ≡ start + sizes size xs + size x
       sums = omega arith
+
       further : (a b c : ℕ) → a + (b + c) ≡ a + b + c
       further a b c = omega arith
+
       sum_more : (ys : List X) → sizes size (ys ++ (x ∷ [])) ≡ sizes size ys + size x
       sum_more [] = one (size x)
         where
@@ -153,14 +157,15 @@ module _ {X : Type 0} (size : X → ℕ) (start : ℕ) where
   all_within [] taken used is le fit = (subst (λ n. n ≤ 8192) is le, tt)
   all_within (x ∷ xs) taken used is le fit =
       by_test (nat_le (used + size x) 8192) refl
-        (λ more. all_within xs (taken ++ (x ∷ [])) (used + size x) (ap (λ n. n + size x) is ∙ sym (total_more taken x)) more fit.1)
-        (all_within xs (x ∷ []) (start + size x) (one x) fit.0 fit.1)
+      (λ more. all_within xs (taken ++ (x ∷ [])) (used + size x) (ap (λ n. n + size x) is ∙ sym (total_more taken x)) more fit.1)
+      (all_within xs (x ∷ []) (start + size x) (one x) fit.0 fit.1)
     where
       one : (y : X) → start + size y ≡ total size start (y ∷ [])
       one y = ap (λ n. start + n) (zero_behind (size y))
         where
           zero_behind : (n : ℕ) → n ≡ n + 0
           zero_behind n = omega arith
+
       by_test : (b : Bool) → nat_le (used + size x) 8192 ≡ b
           → (used + size x ≤ 8192 → AllByRecursion (λ p. total size start p ≤ 8192) (fill_on size start (used + size x) (taken ++ (x ∷ [])) xs))
           → AllByRecursion (λ p. total size start p ≤ 8192) (fill_on size start (start + size x) (x ∷ []) xs)
@@ -172,16 +177,18 @@ module _ {X : Type 0} (size : X → ℕ) (start : ℕ) where
   all_full [] taken used is = (tt, tt)
   all_full (x ∷ xs) taken used is =
       by_test (nat_le (used + size x) 8192) refl
-        (all_full xs (taken ++ (x ∷ [])) (used + size x) (ap (λ n. n + size x) is ∙ sym (total_more taken x)))
-        (all_full xs (x ∷ []) (start + size x) (one x))
+      (all_full xs (taken ++ (x ∷ [])) (used + size x) (ap (λ n. n + size x) is ∙ sym (total_more taken x)))
+      (all_full xs (x ∷ []) (start + size x) (one x))
     where
       one : (y : X) → start + size y ≡ total size start (y ∷ [])
       one y = ap (λ n. start + n) (zero_behind (size y))
         where
           zero_behind : (n : ℕ) → n ≡ n + 0
           zero_behind n = omega arith
+
       beyond : nat_le (used + size x) 8192 ≡ false → 8192 < total size start taken + size x
       beyond e = subst (λ n. 8192 < n + size x) is (leb-false (used + size x) 8192 e)
+
       by_test : (b : Bool) → nat_le (used + size x) 8192 ≡ b
           → AreFull size start (fill_on size start (used + size x) (taken ++ (x ∷ [])) xs)
           → AreFull size start (fill_on size start (start + size x) (x ∷ []) xs)
@@ -219,7 +226,7 @@ module _ (own : ℕ) (sends : List Send) where
   all_from k n (link ∷ links) le =
       let more : k ≤ n + 1 = omega (arith, le) in
       both_from k (outs_at own sends n link) (flat_map (λ (e : ℕ × Link). outs_at own sends e.0 e.1) (enumerate_from (n + 1) links))
-        (from_interface k n link le (bodies link.interface.delay (filter_map (at_interface n) sends))) (all_from k (n + 1) links more)
+      (from_interface k n link le (bodies link.interface.delay (filter_map (at_interface n) sends))) (all_from k (n + 1) links more)
 
   in_front : (n : ℕ) (bs : List Body) (outs : List Out) → AllByRecursion (λ (o : Out). n ≤ o.interface) outs → AreByInterface outs → AreByInterface (map (out_of own n) bs ++ outs)
   in_front n [] outs from by = by
@@ -236,7 +243,7 @@ module _ (own : ℕ) (sends : List Send) where
   by_interface_from n (link ∷ links) =
       let le : n ≤ n + 1 = omega arith in
       in_front n (bodies link.interface.delay (filter_map (at_interface n) sends)) (flat_map (λ (e : ℕ × Link). outs_at own sends e.0 e.1) (enumerate_from (n + 1) links))
-        (all_from n (n + 1) links le) (by_interface_from (n + 1) links)
+      (all_from n (n + 1) links le) (by_interface_from (n + 1) links)
 
 pub by_interface : (own : ℕ) (links : List Link) (sends : List Send) → AreByInterface (outs_of own links sends)
 by_interface own links sends = by_interface_from own sends 1 links

@@ -1,17 +1,15 @@
 -- What is acknowledged was received: each instance that a router holds or tells is one that it received or originated.
-use Rattle.std.proofs.Common.{◌≡◌, ℕ, zero, suc, ◌<◌, Bool, true, length, List, [], ◌∷◌, ◌++◌, map, set, Option, None, Some, inl, inr, ◌⊎◌, refl, sym, ap, subst, ◌∙◌, arith}
+use Rattle.std.proofs.Common.{◌≡◌, ℕ, zero, suc, ◌<◌, length, List, [], ◌∷◌, ◌++◌, map, set, Some, inl, inr, ◌⊎◌, refl, sym, ap, subst, ◌∙◌, arith}
 use Rattle.std.specs.Prelude.{slice_get, slice_index_or}
-use Rattle.std.specs.List.{Contains, flat_map}
+use Rattle.std.specs.List.{Contains}
 use Rattle.std.proofs.lemmas.List.Elements.{Contains-append_cases, Contains-append_left, Contains-append_right}
 use Rattle.packet.specs.declared.model.Packet.{Packet}
 use Rattle.packet.specs.Text.{PacketText}
 use Rattle.packet.proofs.Whole.{one_packet}
-use Rattle.lsdb.specs.Instances.{Listed}
 use Rattle.flood.specs.declared.model.Config.{Config}
-use Rattle.flood.specs.declared.model.Out.{Out}
 use Rattle.flood.specs.Events.{initial}
 use Rattle.flood.specs.Routers.{Occurrence, Router}
-use Rattle.flood.specs.Worlds.{AcknowledgedWasReceived, Brings, Datagram, IsHistory, IsKnown, IsLawfulOut, Joins, Knowledge, Lives, Name, Restarts, World, WorldStep, all_known, begun_with, known_as, knows, name_of, names_brought, names_held, names_told, sent_from, taken_by}
+use Rattle.flood.specs.Worlds.{AcknowledgedWasReceived, Brings, Datagram, IsHistory, IsKnown, IsLawfulOut, Joins, Knowledge, Lives, Name, Restarts, World, WorldStep, all_known, begun_with, known_as, knows, name_of, names_brought, names_held, names_told, sent_from}
 
 -- ---- lists
 
@@ -61,7 +59,7 @@ known_at [] place r e name c = absurd (cc)
 known_at (s ∷ rs) zero r e name c =
     let it : r ≡ s = cc in
     subst (λ (t : Router). Contains (known_as t.id (names_held t) ++ all_known rs) (knows r.id name)) it
-      (Contains-append_left (known_as r.id (names_held r)) (all_known rs) (knows r.id name) (mapped (knows r.id) (names_held r) name c))
+    (Contains-append_left (known_as r.id (names_held r)) (all_known rs) (knows r.id name) (mapped (knows r.id) (names_held r) name c))
 known_at (s ∷ rs) (suc place) r e name c =
     Contains-append_right (known_as s.id (names_held s)) (all_known rs) (knows r.id name) (known_at rs place r e name c)
 
@@ -84,24 +82,27 @@ module _ (joins : Joins) (w : World) (knowing : IsKnowing w) where
       let same : given.0 ≡ packet = one_packet bytes given.0 packet given.1 text in
       let there : Contains l.brought name = subst (λ names. Contains names name) (sym (given.2 ∙ ap (λ (p : Packet). names_brought p.body) same)) c in
       Contains-append_right w.known (known_as l.old.id (l.brought ++ l.originated)) (knows l.old.id name)
-        (mapped (knows l.old.id) (l.brought ++ l.originated) name (Contains-append_left l.brought l.originated name there))
+      (mapped (knows l.old.id) (l.brought ++ l.originated) name (Contains-append_left l.brought l.originated name there))
   learnt place moment event after l name (IsKnown.Originated c) =
       Contains-append_right w.known (known_as l.old.id (l.brought ++ l.originated)) (knows l.old.id name)
-        (mapped (knows l.old.id) (l.brought ++ l.originated) name (Contains-append_right l.brought l.originated name c))
+      (mapped (knows l.old.id) (l.brought ++ l.originated) name (Contains-append_right l.brought l.originated name c))
 
   lived : (place moment : ℕ) (event : Occurrence) (after : World) → Lives joins w place moment event after → IsKnowing after
   lived place moment event after l = subst IsKnowing (sym l.is) (record { held = held_after; told = told_after })
     where
       more : List Knowledge
       more = known_as l.old.id (l.brought ++ l.originated)
+
       held_by : (p : ℕ) (r : Router) (name : Name) → Contains (names_held r) name → (l.new ≡ r) ⊎ (slice_get w.routers p ≡ Some r) → Contains (w.known ++ more) (knows r.id name)
       held_by p r name c (inl same) =
           subst (λ (t : Router). Contains (w.known ++ more) (knows t.id name)) same
-            (subst (λ id. Contains (w.known ++ more) (knows id name)) (sym l.keeps.same_router)
-              (learnt place moment event after l name (l.keeps.held name (subst (λ (t : Router). Contains (names_held t) name) (sym same) c))))
+          (subst (λ id. Contains (w.known ++ more) (knows id name)) (sym l.keeps.same_router)
+          (learnt place moment event after l name (l.keeps.held name (subst (λ (t : Router). Contains (names_held t) name) (sym same) c))))
       held_by p r name c (inr there) = Contains-append_left w.known more (knows r.id name) (knowing.held p r there name c)
+
       held_after : (p : ℕ) (r : Router) → slice_get (set w.routers place l.new) p ≡ Some r → (name : Name) → Contains (names_held r) name → Contains (w.known ++ more) (knows r.id name)
       held_after p r e name c = held_by p r name c (changed_place w.routers place p l.new r e)
+
       told_by : (d : Datagram) (packet : Packet) → PacketText d.bytes packet → (name : Name) → Contains (names_told packet.body) name
           → Contains w.sent d ⊎ Contains (map (sent_from place) l.outs) d → Contains (w.known ++ more) (knows packet.router name)
       told_by d packet text name c (inl before) = Contains-append_left w.known more (knows packet.router name) (knowing.told d before packet text name c)
@@ -111,8 +112,9 @@ module _ (joins : Joins) (w : World) (knowing : IsKnowing w) where
           let its : PacketText d.bytes lawful.packet = subst (λ (e : Datagram). PacketText e.bytes lawful.packet) out.2 lawful.text in
           let same : lawful.packet ≡ packet = one_packet d.bytes lawful.packet packet its text in
           subst (λ (p : Packet). Contains (w.known ++ more) (knows p.router name)) same
-            (subst (λ id. Contains (w.known ++ more) (knows id name)) (sym lawful.own)
-              (learnt place moment event after l name (lawful.known name (subst (λ (p : Packet). Contains (names_told p.body) name) (sym same) c))))
+          (subst (λ id. Contains (w.known ++ more) (knows id name)) (sym lawful.own)
+          (learnt place moment event after l name (lawful.known name (subst (λ (p : Packet). Contains (names_told p.body) name) (sym same) c))))
+
       told_after : (d : Datagram) → Contains (w.sent ++ map (sent_from place) l.outs) d → (packet : Packet) → PacketText d.bytes packet → (name : Name)
           → Contains (names_told packet.body) name → Contains (w.known ++ more) (knows packet.router name)
       told_after d c packet text name told = told_by d packet text name told (Contains-append_cases w.sent (map (sent_from place) l.outs) d c)
@@ -122,16 +124,20 @@ module _ (joins : Joins) (w : World) (knowing : IsKnowing w) where
     where
       again : Router
       again = initial s.config
+
       more : List Knowledge
       more = known_as (initial s.config).id (names_held (initial s.config))
+
       held_by : (p : ℕ) (r : Router) (name : Name) → Contains (names_held r) name → (initial s.config ≡ r) ⊎ (slice_get w.routers p ≡ Some r) → Contains (w.known ++ more) (knows r.id name)
       held_by p r name c (inl same) =
           subst (λ (t : Router). Contains (w.known ++ more) (knows t.id name)) same
-            (Contains-append_right w.known more (knows (initial s.config).id name)
-              (mapped (knows (initial s.config).id) (names_held (initial s.config)) name (subst (λ (t : Router). Contains (names_held t) name) (sym same) c)))
+          (Contains-append_right w.known more (knows (initial s.config).id name)
+          (mapped (knows (initial s.config).id) (names_held (initial s.config)) name (subst (λ (t : Router). Contains (names_held t) name) (sym same) c)))
       held_by p r name c (inr there) = Contains-append_left w.known more (knows r.id name) (knowing.held p r there name c)
+
       held_after : (p : ℕ) (r : Router) → slice_get (set w.routers place (initial s.config)) p ≡ Some r → (name : Name) → Contains (names_held r) name → Contains (w.known ++ more) (knows r.id name)
       held_after p r e name c = held_by p r name c (changed_place w.routers place p (initial s.config) r e)
+
       told_after : (d : Datagram) → Contains w.sent d → (packet : Packet) → PacketText d.bytes packet → (name : Name)
           → Contains (names_told packet.body) name → Contains (w.known ++ more) (knows packet.router name)
       told_after d c packet text name told = Contains-append_left w.known more (knows packet.router name) (knowing.told d c packet text name told)

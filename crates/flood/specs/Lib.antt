@@ -13,4 +13,5 @@ pub mod Refusals
 pub mod Bare
 pub mod PackingLaws
 pub mod Worlds
+pub mod Worked
 pub mod Laws

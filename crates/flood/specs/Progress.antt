@@ -1,5 +1,5 @@
 -- An event in the making: the router as it is by now, and what was sent, in the order in which it arose.
-use Rattle.std.specs.Prelude.{ℕ, List, Option, None}
+use Rattle.std.specs.Prelude.{ℕ, List, None}
 use Rattle.lsdb.specs.Headers.{Lsa}
 use Rattle.received.specs.Flooding.{flood}
 use Rattle.received.specs.Outcomes.{Outcome, Send}

@@ -1,5 +1,5 @@
 -- When an event is refused, and why, in the order in which the reasons are tried.
-use Rattle.std.specs.Prelude.{◌≡◌, ◌⊎◌, ℕ, Bool, true, false, not, ◌||◌, nat_lt, if◌then◌else◌, List, [], ◌∷◌, Option, None, Some, Result, Ok, Err}
+use Rattle.std.specs.Prelude.{◌≡◌, ℕ, Bool, true, false, not, ◌||◌, nat_lt, if◌then◌else◌, List, Option, None, Some, Result, Ok, Err}
 use Rattle.std.specs.FinMap as finite
 use Rattle.packet.specs.Reading.{fault_of}
 use Rattle.words.specs.Prefixes.{Network}

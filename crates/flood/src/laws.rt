@@ -1,6 +1,7 @@
 //! Laws of events, each carried by a function with an empty body.
 ghost use Rattle.flood.specs.Laws.{EventsAreDetermined, HellosAloneAreTheHelloProtocol};
 ghost use Rattle.flood.specs.PackingLaws.{OutsAreOrderedAndPacked};
+ghost use Rattle.flood.specs.Worked.{WorkedEvents};
 ghost use Rattle.flood.specs.Worlds.{AcknowledgedWasReceived};
 
 /// An event has one outcome: what it makes of a router, and what the router sends, leave nothing to choose.
@@ -24,4 +25,10 @@ pub fn outs_are_ordered_and_packed()
 /// packet takes off a retransmission list as acknowledged, the router that it is from had received or originated.
 pub fn acknowledged_was_received()
     ensures { AcknowledgedWasReceived }
+{}
+
+/// Worked parts of events: a clash of two destinations, a withdrawal of nothing, a metric that withholds, five seconds between instances,
+/// renewal, the end of the sequence numbers, and ages of what is sent.
+pub fn worked_events()
+    ensures { WorkedEvents }
 {}
