@@ -5,3 +5,6 @@ pub mod HelloPath
 pub mod Links
 pub mod Distinct
 pub mod Whole
+pub mod Packings
+pub mod Worlds
+pub mod Worked
