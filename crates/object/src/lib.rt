@@ -1,0 +1,21 @@
+//! Object files: a program's code with what is stated at some of its slots, as bytes and as a type that holds no ill-formed one.
+#![tactic(auto)]
+
+mod error;
+mod fields;
+mod kind;
+mod number;
+mod object;
+mod offset;
+mod rank;
+mod stack;
+mod statement;
+
+pub use error::ReadError;
+pub use kind::Kind;
+pub use number::StatedNumber;
+pub use object::Object;
+pub use offset::{ContextOffset, StackOffset};
+pub use rank::{Rank, RankTerm};
+pub use stack::StackBytes;
+pub use statement::Statement;
