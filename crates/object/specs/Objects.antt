@@ -1,5 +1,5 @@
 -- What an object is made of.
-use Rattle.std.specs.Prelude.{◌≡◌, ℕ, suc, ◌/◌, ◌%◌, ◌≤◌, ◌<◌, ◌^◌, List, [], ◌∷◌, length}
+use Rattle.std.specs.Prelude.{◌≡◌, ℕ, ◌+◌, ◌/◌, ◌%◌, ◌≤◌, ◌<◌, ◌^◌, List, [], ◌∷◌, length}
 use Rattle.isa.specs.declared.hook.Hook.{Hook}
 use Rattle.object.specs.Statements.{StatementParts, IsStatement}
 
@@ -17,12 +17,12 @@ slots_of o = length o.code / 8
 -- Statements in the order of their slots, each slot once, from one slot on and below another.
 abbrev pub AreStatements : ℕ → ℕ → List StatementParts → Type 0
 AreStatements least slots [] = Unit {0}
-AreStatements least slots (s ∷ ss) = IsStatement s × (least ≤ s.slot) × (s.slot < slots) × AreStatements (suc s.slot) slots ss
+AreStatements least slots (s ∷ ss) = IsStatement s × (least ≤ s.slot) × (s.slot < slots) × AreStatements (s.slot + 1) slots ss
 
 -- the first slot that a statement behind these may have, where the first may have `least`
 abbrev pub next_slot : ℕ → List StatementParts → ℕ
 next_slot least [] = least
-next_slot least (s ∷ ss) = next_slot (suc s.slot) ss
+next_slot least (s ∷ ss) = next_slot (s.slot + 1) ss
 
 pub record IsObject (o : ObjectParts) : Type 0 where
   pub entry_rank : o.entry_rank < 2 ^ 32

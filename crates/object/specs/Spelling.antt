@@ -1,5 +1,5 @@
 -- The bytes of an object file. Each object has one spelling; numbers stand with their lowest byte first.
-use Rattle.std.specs.Prelude.{◌≡◌, ℕ, suc, ◌+◌, ◌*◌, ◌<◌, ◌^◌, Bool, true, false, List, [], ◌∷◌, ◌++◌, length, Option, Some, None}
+use Rattle.std.specs.Prelude.{◌≡◌, ℕ, ◌+◌, ◌*◌, Bool, true, false, List, [], ◌∷◌, ◌++◌, length, Option, Some, None}
 use Rattle.std.specs.List.{flat_map}
 use Rattle.std.specs.Int.{w16, w32, w64, to_le_bytes}
 use Rattle.isa.specs.Hooks.{hook_number}
@@ -16,9 +16,14 @@ use Rattle.object.specs.Objects.{ObjectParts, IsObject, slots_of}
 
 -- ---- a register: 40 bytes
 
+abbrev pub register_front : RegisterFields → List ℕ
+register_front f = f.kind ∷ f.map ∷ to_le_bytes w16 f.unused ++ to_le_bytes w32 f.offset
+
+abbrev pub register_numbers : RegisterFields → List ℕ
+register_numbers f = to_le_bytes w64 f.low ++ to_le_bytes w64 f.high ++ to_le_bytes w64 f.mask ++ to_le_bytes w64 f.value
+
 abbrev pub register_bytes : RegisterFields → List ℕ
-register_bytes f = f.kind ∷ f.map ∷ to_le_bytes w16 f.unused ++ to_le_bytes w32 f.offset
-    ++ to_le_bytes w64 f.low ++ to_le_bytes w64 f.high ++ to_le_bytes w64 f.mask ++ to_le_bytes w64 f.value
+register_bytes f = register_front f ++ register_numbers f
 
 abbrev pub register_fields : ℕ → ℕ → ℕ → Numbers → RegisterFields
 register_fields kind map offset n = record { kind = kind; map = map; unused = 0; offset = offset; low = n.low; high = n.high; mask = n.mask; value = n.value }

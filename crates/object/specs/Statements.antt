@@ -14,17 +14,26 @@ IsKind (kinds.Context offset) = offset ≤ 64
 IsKind (kinds.Stack offset) = offset ≤ 512
 IsKind (kinds.MapValue map numbers) = IsNumbers numbers
 
+abbrev pub IsTermOrNone : Option Term → Type 0
+IsTermOrNone None = Unit {0}
+IsTermOrNone (Some term) = IsTerm term
+
+pub record IsRank (rank : Rank) : Type 0 where
+  pub constant : rank.constant < 2 ^ 32
+  pub first : IsTermOrNone rank.first
+  pub second : IsTermOrNone rank.second
+
 -- The register is stated as a number.
 abbrev pub IsNumberAt : List Kind → ℕ → Type 0
 IsNumberAt registers register = (numbers : Numbers) × (slice_get registers register ≡ Some (kinds.Number numbers))
 
--- A term is one of a register that is stated as a number.
+-- A term's register is stated as a number.
 abbrev pub IsTermOver : List Kind → Option Term → Type 0
 IsTermOver registers None = Unit {0}
-IsTermOver registers (Some term) = IsTerm term × IsNumberAt registers term.register
+IsTermOver registers (Some term) = IsNumberAt registers term.register
 
 pub record IsRankOver (registers : List Kind) (rank : Rank) : Type 0 where
-  pub constant : rank.constant < 2 ^ 32
+  pub is_rank : IsRank rank
   pub first : IsTermOver registers rank.first
   pub second : IsTermOver registers rank.second
 

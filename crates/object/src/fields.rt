@@ -69,7 +69,7 @@ pub struct RegisterFields {
 }
 
 impl RegisterFields {
-    ghost use Rattle.object.specs.Spelling.{register_bytes};
+    ghost use Rattle.object.specs.Spelling.{register_bytes, register_front, register_numbers};
 
     /// The numbers in these 40 bytes.
     pub fn read(bytes: &[u8]) -> RegisterFields
@@ -92,9 +92,21 @@ impl RegisterFields {
     pub fn write(self, out: &mut Vec<u8>) -> Result<(), AllocError>
         ensures { OnOk result (out.new.items ≡ out.old.items ++ register_bytes self) }
     {
+        self.write_front(out)?;
+        self.write_numbers(out)
+    }
+
+    fn write_front(self, out: &mut Vec<u8>) -> Result<(), AllocError>
+        ensures { OnOk result (out.new.items ≡ out.old.items ++ register_front self) }
+    {
         out.extend_from_slice(&[self.kind, self.map])?;
         put_u16(out, self.unused)?;
-        put_u32(out, self.offset)?;
+        put_u32(out, self.offset)
+    }
+
+    fn write_numbers(self, out: &mut Vec<u8>) -> Result<(), AllocError>
+        ensures { OnOk result (out.new.items ≡ out.old.items ++ register_numbers self) }
+    {
         put_u64(out, self.low)?;
         put_u64(out, self.high)?;
         put_u64(out, self.mask)?;

@@ -4,6 +4,7 @@
 mod error;
 mod fields;
 mod kind;
+mod lawful;
 mod number;
 mod object;
 mod offset;

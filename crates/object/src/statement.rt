@@ -1,7 +1,7 @@
 //! Statements: what holds at a slot of the code whenever the program comes there.
 ghost use Rattle.std.specs.Prelude.{◌≡◌, ◌↔◌, length, IfSome, IsSome, IsTrue};
 ghost use Rattle.std.specs.List.{All};
-ghost use Rattle.object.specs.Statements.{IsKind, IsRankOver, IsStatement, IsTermOver, StatementParts};
+ghost use Rattle.object.specs.Statements.{IsKind, IsRankOver, IsStatement, IsTermOrNone, IsTermOver, StatementParts};
 
 use crate::kind::Kind;
 use crate::rank::{Rank, RankTerm};
@@ -42,7 +42,8 @@ fn check_kinds(kinds: &[Kind])
 /// Tells whether a term's register is stated as a number.
 fn is_term_over(kinds: &[Kind], term: Option<RankTerm>) -> bool
     requires { length kinds.now ≡ 10 }
-    ensures { IsTrue result ↔ IsTermOver kinds.now term }
+    ensures over { IsTrue result ↔ IsTermOver kinds.now term }
+    ensures is_term { IsTermOrNone term }
 {
     let Some(term) = term else {
         return true;
@@ -58,7 +59,9 @@ impl Statement {
     {
         check_kinds(&kinds);
         let _is_set = stack.contains(0);
-        if !is_term_over(&kinds, rank.first) || !is_term_over(&kinds, rank.second) {
+        let is_first = is_term_over(&kinds, rank.first);
+        let is_second = is_term_over(&kinds, rank.second);
+        if !is_first || !is_second {
             return None;
         }
         Some(Statement {
