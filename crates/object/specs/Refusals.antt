@@ -8,7 +8,9 @@ use Rattle.object.specs.declared.error.ReadError.{ReadError}
 use Rattle.object.specs.declared.error.ReadError.TheVariants as errors
 use Rattle.object.specs.Statements.{StatementParts, IsStatement}
 use Rattle.object.specs.Objects.{AreStatements, next_slot}
-use Rattle.object.specs.Spelling.{magic, statement_text}
+use Rattle.object.specs.declared.fields.HeaderFields.{HeaderFields}
+use Rattle.object.specs.Fields.{AreHeader}
+use Rattle.object.specs.Spelling.{magic, header_bytes, statement_text}
 
 -- the numbers that users see
 abbrev pub error_number : ReadError → ℕ
@@ -56,6 +58,15 @@ pub record HasSize (bytes : List ℕ) : Type 0 where
   pub begins : HasSlots bytes
   pub size : length bytes ≡ announced bytes
 
+-- what the fields behind the first four bytes say
+pub record AreFieldsOf (bytes : List ℕ) (f : HeaderFields) : Type 0 where
+  pub begins : HasSlots bytes
+  pub bytes_are : header_bytes f ≡ take 12 (drop 4 bytes)
+  pub version_is : f.version ≡ 1
+  pub count_is : f.statements ≡ count_in bytes
+  pub slots_are : f.slots ≡ slots_in bytes
+  pub ranges : AreHeader f
+
 -- ---- the first statement that fails
 
 -- The slot in front of these bytes isn't above those before, or not in the code.
@@ -81,11 +92,22 @@ pub record FailsBehind (bytes : List ℕ) (slots count : ℕ) (error : ReadError
   pub few : length statements < count
   pub fails : Fails (next_slot 0 statements) slots rest error
 
+-- why statements aren't read of so many bytes: want of memory says nothing of them
+abbrev pub StatementsFail : List ℕ → ℕ → ℕ → ReadError → Type 0
+StatementsFail bytes slots count errors.Memory = Unit {0}
+StatementsFail bytes slots count error = FailsBehind bytes slots count error
+
+-- The bytes spell so many statements.
+pub record AreSpelled (bytes : List ℕ) (slots count : ℕ) (statements : List StatementParts) : Type 0 where
+  pub are : AreStatements 0 slots statements
+  pub text : flat_map statement_text statements ≡ bytes
+  pub count_is : length statements ≡ count
+
 pub record FailsAt (bytes : List ℕ) (error : ReadError) : Type 0 where
   pub begins : HasSize bytes
   pub behind : FailsBehind (drop (16 + 8 * slots_in bytes) bytes) (slots_in bytes) (count_in bytes) error
 
--- why bytes are no object file
+-- Why bytes are no object file. Memory is asked for only where the bytes are as many as the header announces.
 abbrev pub Refuses : List ℕ → ReadError → Type 0
 Refuses bytes errors.Short = (length bytes < 16) ⊎ (HasSlots bytes × (length bytes < announced bytes))
 Refuses bytes errors.Magic = (16 ≤ length bytes) × (take 4 bytes ≢ magic)
@@ -94,4 +116,4 @@ Refuses bytes errors.Hook = HasVersion bytes × ((hook : Hook) → hook_number h
 Refuses bytes errors.Order = FailsAt bytes errors.Order
 Refuses bytes errors.Field = (HasHook bytes × ((slots_in bytes ≡ 0) ⊎ (4096 < slots_in bytes))) ⊎ FailsAt bytes errors.Field
 Refuses bytes errors.Trailing = HasSlots bytes × (announced bytes < length bytes)
-Refuses bytes errors.Memory = Unit {0}
+Refuses bytes errors.Memory = HasSize bytes

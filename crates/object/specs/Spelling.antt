@@ -1,5 +1,5 @@
 -- The bytes of an object file. Each object has one spelling; numbers stand with their lowest byte first.
-use Rattle.std.specs.Prelude.{◌≡◌, ℕ, ◌+◌, ◌*◌, Bool, true, false, List, [], ◌∷◌, ◌++◌, length, Option, Some, None}
+use Rattle.std.specs.Prelude.{◌≡◌, ℕ, List, [], ◌∷◌, ◌++◌, length, Option, Some, None}
 use Rattle.std.specs.List.{flat_map}
 use Rattle.std.specs.Int.{w16, w32, w64, to_le_bytes}
 use Rattle.isa.specs.Hooks.{hook_number}
@@ -12,6 +12,7 @@ use Rattle.object.specs.declared.fields.RankFields.{RankFields}
 use Rattle.object.specs.declared.fields.HeaderFields.{HeaderFields}
 use Rattle.object.specs.Numbers.{Numbers, Term}
 use Rattle.object.specs.Statements.{StatementParts}
+use Rattle.object.specs.Packing.{packed}
 use Rattle.object.specs.Objects.{ObjectParts, IsObject, slots_of}
 
 -- ---- a register: 40 bytes
@@ -67,17 +68,6 @@ fields_of_rank slot rank = record {
   first_coefficient = term_coefficient rank.first;
   second_coefficient = term_coefficient rank.second;
 }
-
--- ---- the stack bytes: 64 bytes, bit i of byte j is stack byte 8 * j + i
-
-abbrev pub bit : Bool → ℕ
-bit true = 1
-bit false = 0
-
-abbrev pub packed : List Bool → List ℕ
-packed (a ∷ b ∷ c ∷ d ∷ e ∷ f ∷ g ∷ h ∷ rest) =
-    (bit a + 2 * bit b + 4 * bit c + 8 * bit d + 16 * bit e + 32 * bit f + 64 * bit g + 128 * bit h) ∷ packed rest
-packed other = []
 
 -- ---- a statement: 484 bytes
 

@@ -13,7 +13,7 @@ fn u16_at(bytes: &[u8], at: usize) -> u16
 }
 
 /// The number in the four bytes at a place.
-fn u32_at(bytes: &[u8], at: usize) -> u32
+pub fn u32_at(bytes: &[u8], at: usize) -> u32
     requires { at + 4 ≤ length bytes.now }
     ensures { to_le_bytes w32 result ≡ take 4 (drop at bytes.now) }
 {
@@ -69,12 +69,14 @@ pub struct RegisterFields {
 }
 
 impl RegisterFields {
+    ghost use Rattle.object.specs.Fields.{AreRegister};
     ghost use Rattle.object.specs.Spelling.{register_bytes, register_front, register_numbers};
 
     /// The numbers in these 40 bytes.
     pub fn read(bytes: &[u8]) -> RegisterFields
         requires { length bytes.now ≡ 40 }
-        ensures { register_bytes result ≡ bytes.now }
+        ensures bytes { register_bytes result ≡ bytes.now }
+        ensures ranges { AreRegister result }
     {
         RegisterFields {
             kind: bytes[0],
@@ -127,12 +129,14 @@ pub struct RankFields {
 }
 
 impl RankFields {
+    ghost use Rattle.object.specs.Fields.{AreRank};
     ghost use Rattle.object.specs.Spelling.{rank_bytes};
 
     /// The numbers in these 20 bytes.
     pub fn read(bytes: &[u8]) -> RankFields
         requires { length bytes.now ≡ 20 }
-        ensures { rank_bytes result ≡ bytes.now }
+        ensures bytes { rank_bytes result ≡ bytes.now }
+        ensures ranges { AreRank result }
     {
         RankFields {
             slot: u32_at(bytes, 0),
@@ -169,12 +173,14 @@ pub struct HeaderFields {
 }
 
 impl HeaderFields {
+    ghost use Rattle.object.specs.Fields.{AreHeader};
     ghost use Rattle.object.specs.Spelling.{header_bytes};
 
     /// The numbers in these 12 bytes.
     pub fn read(bytes: &[u8]) -> HeaderFields
         requires { length bytes.now ≡ 12 }
-        ensures { header_bytes result ≡ bytes.now }
+        ensures bytes { header_bytes result ≡ bytes.now }
+        ensures ranges { AreHeader result }
     {
         HeaderFields {
             version: bytes[0],

@@ -44,9 +44,7 @@ fn number(fields: RegisterFields) -> Option<Kind>
     if fields.map != 0 || fields.offset != 0 {
         return None;
     }
-    let Some(numbers) =
-        StatedNumber::new(fields.low, fields.high, fields.mask, fields.value)
-    else {
+    let Some(numbers) = StatedNumber::new(fields.low, fields.high, fields.mask, fields.value) else {
         return None;
     };
     Some(Kind::Number(numbers))
@@ -97,9 +95,7 @@ fn map_value(fields: RegisterFields) -> Option<Kind>
     let Some(map) = Map::from_number(fields.map) else {
         return None;
     };
-    let Some(numbers) =
-        StatedNumber::new(fields.low, fields.high, fields.mask, fields.value)
-    else {
+    let Some(numbers) = StatedNumber::new(fields.low, fields.high, fields.mask, fields.value) else {
         return None;
     };
     Some(Kind::MapValue(map, numbers))

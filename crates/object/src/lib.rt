@@ -5,12 +5,15 @@ mod error;
 mod fields;
 mod kind;
 mod lawful;
+pub mod laws;
 mod number;
 mod object;
 mod offset;
 mod rank;
+mod reading;
 mod stack;
 mod statement;
+mod writing;
 
 pub use error::ReadError;
 pub use kind::Kind;
@@ -18,5 +21,10 @@ pub use number::StatedNumber;
 pub use object::Object;
 pub use offset::{ContextOffset, StackOffset};
 pub use rank::{Rank, RankTerm};
+pub use reading::read;
 pub use stack::StackBytes;
 pub use statement::Statement;
+pub use writing::write;
+
+#[cfg(test)]
+mod tests;

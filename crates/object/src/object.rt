@@ -1,5 +1,5 @@
 //! Objects: code with its hook, the rank at its entry and its statements.
-ghost use Rattle.std.specs.Prelude.{◌≡◌, ◌↔◌, ◌^◌, ◌<◌, IfSome, IsSome, IsTrue};
+ghost use Rattle.std.specs.Prelude.{◌≡◌, ◌↔◌, ◌^◌, ◌<◌, ◌≤◌, length, IfSome, IsSome, IsTrue};
 ghost use Rattle.object.specs.Objects.{AreStatements, IsObject, ObjectParts, slots_of};
 
 use crate::statement::Statement;
@@ -69,6 +69,23 @@ impl Object {
         })
     }
 
+    pub(crate) fn from_parts(
+        hook: Hook,
+        entry_rank: u32,
+        code: Vec<u8>,
+        statements: Vec<Statement>,
+    ) -> Object
+        requires { IsObject (record { hook = hook; entry_rank = entry_rank; code = code.items; statements = statements.items }) }
+        ensures { result ≡ record { hook = hook; entry_rank = entry_rank; code = code.items; statements = statements.items } }
+    {
+        Object {
+            hook,
+            entry_rank,
+            code,
+            statements,
+        }
+    }
+
     /// Where in the router the program is asked.
     pub fn hook(&self) -> Hook
         ensures value { result ≡ self.now.hook }
@@ -101,10 +118,12 @@ impl Object {
         self.code.len() / 8
     }
 
-    /// The statements, in the order of their slots.
+    /// The statements, in the order of their slots: at most 4096.
+    #[tactic(auto, using(crate::proofs::Orders::few_statements))]
     pub fn statements(&self) -> &[Statement]
         ensures value { result.now ≡ self.now.statements }
         ensures is_object { IsObject self.now }
+        ensures most { length result.now ≤ 4096 }
     {
         &self.statements
     }

@@ -1,7 +1,10 @@
 //! Sets of stack bytes.
-ghost use Rattle.std.specs.Prelude.{◌≡◌, ◌≤◌, ◌<◌};
+ghost use Rattle.std.specs.Prelude.{◌≡◌, ◌≤◌, ◌<◌, ◌∷◌, [], ◌++◌, length, nat_eq, OnOk};
+ghost use Rattle.std.specs.Int.{bit_at};
 ghost use Rattle.object.specs.Sets.{IsStackBytes, has_byte, no_bytes, with_range};
+ghost use Rattle.object.specs.Packing.{bit, packed};
 
+use std::alloc::AllocError;
 use std::marker::Model;
 
 /// How many bytes the stack has.
@@ -26,7 +29,61 @@ impl Model for StackBytes {
     ghost inverse = { λ bytes. record { bytes = bytes } };
 }
 
+/// Tells whether a bit of the byte is 1.
+fn has_bit(byte: u8, bit: usize) -> bool
+    requires { bit < 8 }
+    ensures { result ≡ nat_eq (bit_at byte bit) 1 }
+{
+    byte >> bit & 1 == 1
+}
+
+/// A truth value as a bit.
+fn bit(is_set: bool) -> u8
+    ensures value { result ≡ bit is_set }
+    ensures within { result ≤ 1 }
+{
+    if is_set { 1 } else { 0 }
+}
+
+/// The byte whose bits these eight are, bit 0 first.
+fn packed_byte(bits: &[bool]) -> u8
+    requires { length bits.now ≡ 8 }
+    ensures { result ∷ [] ≡ packed bits.now }
+{
+    bit(bits[0])
+        + 2 * bit(bits[1])
+        + 4 * bit(bits[2])
+        + 8 * bit(bits[3])
+        + 16 * bit(bits[4])
+        + 32 * bit(bits[5])
+        + 64 * bit(bits[6])
+        + 128 * bit(bits[7])
+}
+
 impl StackBytes {
+    /// The set in 64 bytes: bit i of byte j is stack byte 8 * j + i.
+    pub(crate) fn unpack(bytes: &[u8]) -> StackBytes
+        requires { length bytes.now ≡ 64 }
+        ensures packed { packed result ≡ bytes.now }
+        ensures are { IsStackBytes result }
+    {
+        let mut set = [false; 512];
+        for byte in 0..512 {
+            set[byte] = has_bit(bytes[byte / 8], byte % 8);
+        }
+        StackBytes { bytes: set }
+    }
+
+    /// Adds the 64 bytes of the set.
+    pub(crate) fn pack(&self, out: &mut Vec<u8>) -> Result<(), AllocError>
+        ensures { OnOk result (out.new.items ≡ out.old.items ++ packed self.now) }
+    {
+        for byte in 0..64 {
+            out.push(packed_byte(&self.bytes[8 * byte..8 * byte + 8]))?;
+        }
+        Ok(())
+    }
+
     /// No byte.
     pub fn new() -> StackBytes
         ensures { result ≡ no_bytes }
