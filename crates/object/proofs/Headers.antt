@@ -41,16 +41,11 @@ told bytes f small e = record {
   slots = sym (from_le_bytes-to_le_bytes_4 f.slots small.slots) ∙ ap (λ t. from_le_bytes w32 (take 4 (drop 8 t))) e ∙ ap (λ t. from_le_bytes w32 t) (within 8 4 bytes (omega arith));
 }
 
-hook_found : (r : Option Hook) (n : ℕ) → IfSome r (λ hook. hook_number hook ≡ n) → is_some r ≡ true → (hook : Hook) × (hook_number hook ≡ n)
-hook_found None n h e = absurd (cc e)
-hook_found (Some hook) n h e = (hook, h)
-
-pub has_hook : (bytes : List ℕ) (f : HeaderFields) (r : Option Hook) → 16 ≤ length bytes → take 4 bytes ≡ magic → AreHeader f → header_bytes f ≡ take 12 (drop 4 bytes) → f.version ≡ 1
-    → IfSome r (λ hook. hook_number hook ≡ f.hook) → is_some r ≡ true → HasHook bytes
-has_hook bytes f r long magic_is small e version found some =
+pub has_hook : (bytes : List ℕ) (f : HeaderFields) (hook : Hook) → 16 ≤ length bytes → take 4 bytes ≡ magic → AreHeader f → header_bytes f ≡ take 12 (drop 4 bytes) → f.version ≡ 1
+    → hook_number hook ≡ f.hook → HasHook bytes
+has_hook bytes f hook long magic_is small e version found =
     let t = told bytes f small e in
-    let hook = hook_found r f.hook found some in
-    record { begins = record { begins = record { long = long; magic_is = magic_is }; version_is = sym t.version ∙ version }; hook = hook.0; hook_is = hook.1 ∙ t.hook }
+    record { begins = record { begins = record { long = long; magic_is = magic_is }; version_is = sym t.version ∙ version }; hook = hook; hook_is = found ∙ t.hook }
 
 pub has_fields : (bytes : List ℕ) (f : HeaderFields) → HasHook bytes → AreHeader f → header_bytes f ≡ take 12 (drop 4 bytes) → f.version ≡ 1 → (f.slots ≡ 0 → ⊥) → f.slots ≤ 4096 → AreFieldsOf bytes f
 has_fields bytes f begins small e version some most =

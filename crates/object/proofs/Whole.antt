@@ -1,6 +1,6 @@
 -- An object file as a whole.
 use Rattle.std.proofs.Common.{◌≡◌, ℕ, ◌+◌, ◌-◌, ◌*◌, ◌/◌, ◌%◌, ◌^◌, ◌≤◌, ◌<◌, List, [], ◌∷◌, ◌++◌, length, take, drop, get_or, refl, sym, ap, subst, ◌∙◌, arith, length-append, length-take, length-drop, append_assoc, inl, inr}
-use Rattle.std.specs.Prelude.{slice_index}
+use Rattle.std.specs.Prelude.{slice_index, Result, Ok, Err, IfOk, IfErr, MatchResult}
 use Rattle.std.specs.List.{flat_map}
 use Rattle.std.specs.Int.{w16, w32, from_le_bytes}
 use Rattle.std.proofs.lemmas.Nat.{from_le_bytes-to_le_bytes_2, from_le_bytes-to_le_bytes_4}
@@ -223,3 +223,8 @@ read_spells bytes f o h =
       is_object = read_object bytes f o h;
       spelled = sym (take-append-drop 4 bytes) ∙ ap (λ t. t ++ drop 4 bytes) h.fields.begins.begins.begins.begins.magic_is ∙ ap (λ t. magic ++ t) front;
     }
+
+pub only_one : (bytes : List ℕ) (r : Result ObjectParts ReadError) → IfOk r (λ o. Spells bytes o) → IfErr r (λ e. Refuses bytes e) → (o : ObjectParts) → Spells bytes o
+    → MatchResult r (λ found. found ≡ o) (λ e. e ≡ errors.Memory)
+only_one bytes (Ok found) h g o s = same_object bytes found o h s
+only_one bytes (Err e) h g o s = refused bytes o e s g

@@ -2,6 +2,7 @@
 ghost use Rattle.std.specs.Prelude.{◌≡◌, ◌*◌, ◌≤◌, ◌<◌, ◌^◌, ◌↔◌, List, length, take, MatchResult, IfErr, IfOk, IfSome, IsTrue, Some};
 ghost use Rattle.std.specs.Int.{w32, from_le_bytes};
 ghost use Rattle.std.specs.List.{All, flat_map};
+ghost use Rattle.isa.specs.Hooks.{hook_number};
 ghost use Rattle.object.specs.declared.error.ReadError.TheVariants.{Memory};
 ghost use Rattle.object.specs.declared.kind.Kind.{Kind};
 ghost use Rattle.object.specs.Statements.{IsKind, IsStatement, StatementParts};
@@ -117,9 +118,9 @@ fn has_magic(bytes: &[u8]) -> bool
     bytes[0] == 0x42 && bytes[1] == 0x50 && bytes[2] == 0x46 && bytes[3] == 0x48
 }
 
-/// The fields of a header that is lawful up to the number of slots.
-fn header(bytes: &[u8]) -> Result<HeaderFields, ReadError>
-    ensures found { IfOk result (λ fields. AreFieldsOf bytes.now fields) }
+/// The hook and the fields of a header that is lawful up to the number of slots.
+fn header(bytes: &[u8]) -> Result<(Hook, HeaderFields), ReadError>
+    ensures found { IfOk result (λ header. AreFieldsOf bytes.now header.1 × (hook_number header.0 ≡ header.1.hook)) }
     ensures why { IfErr result (λ e. Refuses bytes.now e) }
 {
     if bytes.len() < 16 {
@@ -132,13 +133,13 @@ fn header(bytes: &[u8]) -> Result<HeaderFields, ReadError>
     if fields.version != 1 {
         return Err(ReadError::Version);
     }
-    if Hook::from_number(fields.hook).is_none() {
+    let Some(hook) = Hook::from_number(fields.hook) else {
         return Err(ReadError::Hook);
-    }
+    };
     if fields.slots == 0 || fields.slots as usize > MOST_SLOTS {
         return Err(ReadError::Field);
     }
-    Ok(fields)
+    Ok((hook, fields))
 }
 
 /// The object in the bytes, or the first refusal.
@@ -146,8 +147,8 @@ fn outcome(alloc: Global, bytes: &[u8]) -> Result<Object, ReadError>
     ensures found { IfOk result (λ object. Spells bytes.now object) }
     ensures why { IfErr result (λ e. Refuses bytes.now e) }
 {
-    let fields = match header(bytes) {
-        Ok(fields) => fields,
+    let (hook, fields) = match header(bytes) {
+        Ok(found) => found,
         Err(e) => return Err(e),
     };
     let count = usize::from(fields.statements);
@@ -159,9 +160,6 @@ fn outcome(alloc: Global, bytes: &[u8]) -> Result<Object, ReadError>
     if bytes.len() > start + 484 * count {
         return Err(ReadError::Trailing);
     }
-    let Some(hook) = Hook::from_number(fields.hook) else {
-        return Err(ReadError::Hook);
-    };
     let Ok(code) = Vec::from_slice(alloc, &bytes[16..start]) else {
         return Err(ReadError::Memory);
     };

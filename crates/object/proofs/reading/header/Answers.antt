@@ -5,7 +5,7 @@ use Rattle.object.proofs.reading.header.Goals.{then-fields-eq0-via-then-fields-e
 
 pub returns-then-fields-eq0-clause-why : goal.returns-then-fields-eq0-clause-why
 returns-then-fields-eq0-clause-why c =
-    let begins = has_hook c.args.bytes.now c.read-fields.result c.from_number.result c.if-bytes-lt16.false (c.has_magic.ensures.0 c.if-not-has_magic.false) c.read-fields.ensures.ranges c.read-fields.ensures.bytes c.if-fields-ne1.false c.from_number.ensures.found c.if-is_none.ensures in
+    let begins = has_hook c.args.bytes.now c.read-fields.result c.in-Some.hook c.if-bytes-lt16.false (c.has_magic.ensures.0 c.if-not-has_magic.false) c.read-fields.ensures.ranges c.read-fields.ensures.bytes c.if-fields-ne1.false c.in-Some.ensures.found in
     let slots = (told c.args.bytes.now c.read-fields.result c.read-fields.ensures.ranges c.read-fields.ensures.bytes).slots in
     elim c.then-fields-eq0.branch [
       | then-fields-eq0-via-then-fields-eq0 w ↦ inl (begins, inl (sym slots ∙ w.if-fields-eq0.true))
@@ -14,5 +14,5 @@ returns-then-fields-eq0-clause-why c =
 
 pub returns-clause-found : goal.returns-clause-found
 returns-clause-found c =
-    let begins = has_hook c.args.bytes.now c.read-fields.result c.from_number.result c.if-bytes-lt16.false (c.has_magic.ensures.0 c.if-not-has_magic.false) c.read-fields.ensures.ranges c.read-fields.ensures.bytes c.if-fields-ne1.false c.from_number.ensures.found c.if-is_none.ensures in
-    has_fields c.args.bytes.now c.read-fields.result begins c.read-fields.ensures.ranges c.read-fields.ensures.bytes c.if-fields-ne1.false c.if-fields-eq0.false c.if-fields-gt-MOST_SLOTS.false
+    let begins = has_hook c.args.bytes.now c.read-fields.result c.in-Some.hook c.if-bytes-lt16.false (c.has_magic.ensures.0 c.if-not-has_magic.false) c.read-fields.ensures.ranges c.read-fields.ensures.bytes c.if-fields-ne1.false c.in-Some.ensures.found in
+    (has_fields c.args.bytes.now c.read-fields.result begins c.read-fields.ensures.ranges c.read-fields.ensures.bytes c.if-fields-ne1.false c.if-fields-eq0.false c.if-fields-gt-MOST_SLOTS.false, c.in-Some.ensures.found)
