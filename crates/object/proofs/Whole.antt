@@ -4,7 +4,7 @@ use Rattle.std.specs.Prelude.{slice_index, Result, Ok, Err, IfOk, IfErr, MatchRe
 use Rattle.std.specs.List.{flat_map}
 use Rattle.std.specs.Int.{w16, w32, from_le_bytes}
 use Rattle.std.proofs.lemmas.Nat.{from_le_bytes-to_le_bytes_2, from_le_bytes-to_le_bytes_4}
-use Rattle.std.proofs.lemmas.List.{take-append-drop, drop-drop, take_at, drop_at}
+use Rattle.std.proofs.lemmas.List.{take-append-drop, drop-drop, take_at, drop_at, take_rest}
 use Rattle.isa.specs.declared.hook.Hook.{Hook}
 use Rattle.isa.specs.declared.hook.Hook.TheVariants as hooks
 use Rattle.isa.specs.Hooks.{hook_number}
@@ -228,3 +228,34 @@ pub only_one : (bytes : List ℕ) (r : Result ObjectParts ReadError) → IfOk r 
     → MatchResult r (λ found. found ≡ o) (λ e. e ≡ errors.Memory)
 only_one bytes (Ok found) h g o s = same_object bytes found o h s
 only_one bytes (Err e) h g o s = refused bytes o e s g
+
+-- ---- what is written
+
+pub written : (o : ObjectParts) (none front all : List ℕ) → IsObject o → none ≡ [] → front ≡ none ++ (magic ++ header_bytes (fields_of_header o) ++ o.code) → all ≡ front ++ flat_map statement_text o.statements → Spells all o
+written o none front all is n f a = record {
+  is_object = is;
+  spelled = a ∙ ap (λ t. t ++ flat_map statement_text o.statements) (f ∙ ap (λ t. t ++ (magic ++ header_bytes (fields_of_header o) ++ o.code)) n);
+}
+
+-- the parts as they were cut
+pub read_of : (bytes : List ℕ) (f : HeaderFields) (o : ObjectParts) (count : ℕ) → AreFieldsOf bytes f × (hook_number o.hook ≡ f.hook) → count ≡ f.statements
+    → 16 + 8 * f.slots + 484 * count ≤ length bytes → length bytes ≤ 16 + 8 * f.slots + 484 * count → o.entry_rank ≡ f.entry_rank → o.code ≡ take (16 + 8 * f.slots - 16) (drop 16 bytes)
+    → AreSpelled (take (length bytes - (16 + 8 * f.slots)) (drop (16 + 8 * f.slots) bytes)) f.slots count o.statements → IsReadOf bytes f o
+read_of bytes f o count h count_is ge le entry code spelled =
+    let long : 16 + 8 * f.slots - 16 ≡ 8 * f.slots = omega arith in
+    let P : List ℕ → Type 0 = λ t. AreSpelled t f.slots count o.statements in
+    let Q : ℕ → Type 0 = λ n. AreSpelled (drop (16 + 8 * f.slots) bytes) f.slots n o.statements in
+    record {
+      fields = h.0;
+      size = omega arith;
+      hook = h.1;
+      entry_rank = entry;
+      code = code ∙ ap (λ n. take n (drop 16 bytes)) long;
+      statements = subst Q count_is (subst P (take_rest bytes (16 + 8 * f.slots)) spelled);
+    }
+
+pub cut_fails : (bytes : List ℕ) (f : HeaderFields) (count : ℕ) (error : ReadError) → AreFieldsOf bytes f → count ≡ f.statements → 16 + 8 * f.slots + 484 * count ≤ length bytes
+    → length bytes ≤ 16 + 8 * f.slots + 484 * count → StatementsFail (take (length bytes - (16 + 8 * f.slots)) (drop (16 + 8 * f.slots) bytes)) f.slots count error → Refuses bytes error
+cut_fails bytes f count error h count_is ge le fails =
+    let Q : ℕ → Type 0 = λ n. StatementsFail (take (length bytes - (16 + 8 * f.slots)) (drop (16 + 8 * f.slots) bytes)) f.slots n error in
+    statements_fail bytes (take (length bytes - (16 + 8 * f.slots)) (drop (16 + 8 * f.slots) bytes)) f error h (omega arith) (take_rest bytes (16 + 8 * f.slots)) (subst Q count_is fails)

@@ -119,7 +119,6 @@ impl Object {
     }
 
     /// The statements, in the order of their slots: at most 4096.
-    #[tactic(auto, using(crate::proofs::Orders::few_statements))]
     pub fn statements(&self) -> &[Statement]
         ensures value { result.now ≡ self.now.statements }
         ensures is_object { IsObject self.now }

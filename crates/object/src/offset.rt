@@ -6,7 +6,7 @@ use std::marker::Model;
 /// A place in the context or at its end, 0 to 64. Clauses see the number.
 #[derive(Clone, Copy, PartialEq, Eq, Debug)]
 pub struct ContextOffset {
-    bytes: u32,
+    place: u32,
 }
 
 impl Model for ContextOffset {
@@ -14,11 +14,11 @@ impl Model for ContextOffset {
 
     ghost Value = { ℕ };
 
-    ghost view = { λ offset. offset.bytes };
+    ghost view = { λ offset. offset.place };
 
-    ghost invariant = { λ offset. offset.bytes ≤ 64 };
+    ghost invariant = { λ offset. offset.place ≤ 64 };
 
-    ghost inverse = { λ bytes. record { bytes = bytes } };
+    ghost inverse = { λ bytes. record { place = bytes } };
 }
 
 impl ContextOffset {
@@ -28,7 +28,7 @@ impl ContextOffset {
         ensures value { IfSome result (λ offset. offset ≡ bytes) }
     {
         if bytes <= 64 {
-            Some(ContextOffset { bytes })
+            Some(ContextOffset { place: bytes })
         } else {
             None
         }
@@ -39,7 +39,7 @@ impl ContextOffset {
         ensures value { result ≡ self }
         ensures within { result ≤ 64 }
     {
-        self.bytes
+        self.place
     }
 }
 

@@ -93,13 +93,13 @@ impl StackBytes {
         }
     }
 
-    /// Tells whether the byte is in the set.
-    pub fn contains(&self, byte: usize) -> bool
-        requires { byte < 512 }
-        ensures value { result ≡ has_byte self.now byte }
+    /// Tells whether the byte at this place of the stack is in the set.
+    pub fn contains(&self, place: usize) -> bool
+        requires { place < 512 }
+        ensures value { result ≡ has_byte self.now place }
         ensures are { IsStackBytes self.now }
     {
-        self.bytes[byte]
+        self.bytes[place]
     }
 
     /// Adds the bytes from `start` up to `end`, which isn't among them.

@@ -87,12 +87,19 @@ fn fields_of_rank(slot: u32, rank: Rank) -> RankFields
     }
 }
 
+/// Adds the 40 bytes of a register.
+fn put_kind(out: &mut Vec<u8>, kind: &Kind) -> Result<(), AllocError>
+    ensures { OnOk result (out.new.items ≡ out.old.items ++ kind_text kind.now) }
+{
+    fields_of_kind(kind).write(out)
+}
+
 /// Adds the texts of registers.
 fn put_kinds(out: &mut Vec<u8>, kinds: &[Kind]) -> Result<(), AllocError>
     ensures { OnOk result (out.new.items ≡ out.old.items ++ flat_map kind_text kinds.now) }
 {
     for kind in kinds {
-        fields_of_kind(kind).write(out)?;
+        put_kind(out, kind)?;
     }
     Ok(())
 }

@@ -1,4 +1,4 @@
-use Rattle.std.proofs.Common.{◌≡◌, sym, ◌∙◌, inl, inr, arith}
+use Rattle.std.proofs.Common.{sym, ◌∙◌, inl, inr}
 use Rattle.object.proofs.Headers.{told, has_hook, has_fields}
 use Rattle.object.proofs.reading.header.Goals as goal
 use Rattle.object.proofs.reading.header.Goals.{then-fields-eq0-via-then-fields-eq0, then-fields-eq0-via-else-fields-eq0+then-fields-gt-MOST_SLOTS}
