@@ -1,0 +1,10 @@
+mod Cuts
+mod Ranges
+mod Orders
+mod Packing
+mod Same
+mod Parts
+mod Headers
+mod Behind
+mod Texts
+mod Whole

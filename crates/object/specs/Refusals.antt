@@ -1,0 +1,119 @@
+-- Why bytes are no object file: the first refusal in the order of the tests.
+use Rattle.std.specs.Prelude.{◌≡◌, ◌≢◌, ℕ, ◌+◌, ◌*◌, ◌≤◌, ◌<◌, ◌⊎◌, List, ◌++◌, length, take, drop, slice_index}
+use Rattle.std.specs.List.{flat_map}
+use Rattle.std.specs.Int.{w16, w32, from_le_bytes}
+use Rattle.isa.specs.declared.hook.Hook.{Hook}
+use Rattle.isa.specs.Hooks.{hook_number}
+use Rattle.object.specs.declared.error.ReadError.{ReadError}
+use Rattle.object.specs.declared.error.ReadError.TheVariants as errors
+use Rattle.object.specs.Statements.{StatementParts, IsStatement}
+use Rattle.object.specs.Objects.{AreStatements, next_slot}
+use Rattle.object.specs.declared.fields.HeaderFields.{HeaderFields}
+use Rattle.object.specs.Fields.{AreHeader}
+use Rattle.object.specs.Spelling.{magic, header_bytes, statement_text}
+
+-- the numbers that users see
+abbrev pub error_number : ReadError → ℕ
+error_number errors.Short = 1
+error_number errors.Magic = 2
+error_number errors.Version = 3
+error_number errors.Hook = 4
+error_number errors.Order = 5
+error_number errors.Field = 6
+error_number errors.Trailing = 7
+error_number errors.Memory = 8
+
+-- ---- what the header announces
+
+abbrev pub count_in : List ℕ → ℕ
+count_in bytes = from_le_bytes w16 (take 2 (drop 6 bytes))
+
+abbrev pub slots_in : List ℕ → ℕ
+slots_in bytes = from_le_bytes w32 (take 4 (drop 12 bytes))
+
+abbrev pub announced : List ℕ → ℕ
+announced bytes = 16 + 8 * slots_in bytes + 484 * count_in bytes
+
+-- ---- the tests that come before, each with those before it
+
+pub record HasMagic (bytes : List ℕ) : Type 0 where
+  pub long : 16 ≤ length bytes
+  pub magic_is : take 4 bytes ≡ magic
+
+pub record HasVersion (bytes : List ℕ) : Type 0 where
+  pub begins : HasMagic bytes
+  pub version_is : slice_index bytes 4 ≡ 1
+
+pub record HasHook (bytes : List ℕ) : Type 0 where
+  pub begins : HasVersion bytes
+  pub hook : Hook
+  pub hook_is : hook_number hook ≡ slice_index bytes 5
+
+pub record HasSlots (bytes : List ℕ) : Type 0 where
+  pub begins : HasHook bytes
+  pub some : 1 ≤ slots_in bytes
+  pub most : slots_in bytes ≤ 4096
+
+pub record HasSize (bytes : List ℕ) : Type 0 where
+  pub begins : HasSlots bytes
+  pub size : length bytes ≡ announced bytes
+
+-- what the fields behind the first four bytes say
+pub record AreFieldsOf (bytes : List ℕ) (f : HeaderFields) : Type 0 where
+  pub begins : HasSlots bytes
+  pub bytes_are : header_bytes f ≡ take 12 (drop 4 bytes)
+  pub version_is : f.version ≡ 1
+  pub count_is : f.statements ≡ count_in bytes
+  pub slots_are : f.slots ≡ slots_in bytes
+  pub ranges : AreHeader f
+
+-- ---- the first statement that fails
+
+-- The slot in front of these bytes isn't above those before, or not in the code.
+abbrev pub IsOutOfOrder : ℕ → ℕ → List ℕ → Type 0
+IsOutOfOrder least slots bytes = (from_le_bytes w32 (take 4 bytes) < least) ⊎ (slots ≤ from_le_bytes w32 (take 4 bytes))
+
+-- No statement is spelled by the first 484 bytes.
+abbrev pub IsNoStatement : List ℕ → Type 0
+IsNoStatement bytes = (s : StatementParts) → IsStatement s → statement_text s ≡ take 484 bytes → ⊥
+
+-- why no statement can stand in front of these bytes
+abbrev pub Fails : ℕ → ℕ → List ℕ → ReadError → Type 0
+Fails least slots bytes errors.Order = IsOutOfOrder least slots bytes
+Fails least slots bytes errors.Field = (IsOutOfOrder least slots bytes → ⊥) × IsNoStatement bytes
+Fails least slots bytes other = ⊥
+
+-- Some statements are spelled by the bytes, and behind them one of so many fails.
+pub record FailsBehind (bytes : List ℕ) (slots count : ℕ) (error : ReadError) : Type 0 where
+  pub statements : List StatementParts
+  pub rest : List ℕ
+  pub parts : bytes ≡ flat_map statement_text statements ++ rest
+  pub are : AreStatements 0 slots statements
+  pub few : length statements < count
+  pub fails : Fails (next_slot 0 statements) slots rest error
+
+-- why statements aren't read of so many bytes: want of memory says nothing of them
+abbrev pub StatementsFail : List ℕ → ℕ → ℕ → ReadError → Type 0
+StatementsFail bytes slots count errors.Memory = Unit {0}
+StatementsFail bytes slots count error = FailsBehind bytes slots count error
+
+-- The bytes spell so many statements.
+pub record AreSpelled (bytes : List ℕ) (slots count : ℕ) (statements : List StatementParts) : Type 0 where
+  pub are : AreStatements 0 slots statements
+  pub text : flat_map statement_text statements ≡ bytes
+  pub count_is : length statements ≡ count
+
+pub record FailsAt (bytes : List ℕ) (error : ReadError) : Type 0 where
+  pub begins : HasSize bytes
+  pub behind : FailsBehind (drop (16 + 8 * slots_in bytes) bytes) (slots_in bytes) (count_in bytes) error
+
+-- Why bytes are no object file. Memory is asked for only where the bytes are as many as the header announces.
+abbrev pub Refuses : List ℕ → ReadError → Type 0
+Refuses bytes errors.Short = (length bytes < 16) ⊎ (HasSlots bytes × (length bytes < announced bytes))
+Refuses bytes errors.Magic = (16 ≤ length bytes) × (take 4 bytes ≢ magic)
+Refuses bytes errors.Version = HasMagic bytes × (slice_index bytes 4 ≢ 1)
+Refuses bytes errors.Hook = HasVersion bytes × ((hook : Hook) → hook_number hook ≢ slice_index bytes 5)
+Refuses bytes errors.Order = FailsAt bytes errors.Order
+Refuses bytes errors.Field = (HasHook bytes × ((slots_in bytes ≡ 0) ⊎ (4096 < slots_in bytes))) ⊎ FailsAt bytes errors.Field
+Refuses bytes errors.Trailing = HasSlots bytes × (announced bytes < length bytes)
+Refuses bytes errors.Memory = HasSize bytes

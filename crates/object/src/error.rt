@@ -1,0 +1,62 @@
+//! Why bytes are no object file.
+ghost use Rattle.std.specs.Prelude.{◌≡◌};
+ghost use Rattle.object.specs.declared.error.ReadError.TheVariants.{Memory};
+ghost use Rattle.object.specs.Refusals.{error_number};
+
+use std::alloc::{AllocError, AllocFailed};
+
+/// Why bytes are no object file: the first that holds, in the order of the tests. These are: `Short` for the header, `Magic`, `Version`,
+/// `Hook`, `Field` for the number of slots, `Short` for the rest, `Trailing`, and then for each statement in turn `Order` and `Field`.
+#[derive(Clone, Copy, Debug, PartialEq, Eq)]
+pub enum ReadError {
+    /// Fewer than 16 bytes, or fewer than the header announces.
+    Short,
+    /// The first four bytes aren't BPFH.
+    Magic,
+    /// The version isn't 1.
+    Version,
+    /// No hook has this number.
+    Hook,
+    /// A statement's slot isn't above the one before, or not in the code.
+    Order,
+    /// The number of slots is 0 or above 4096, or a statement has a field that isn't lawful.
+    Field,
+    /// More bytes than the header announces.
+    Trailing,
+    /// Memory ran out.
+    Memory,
+}
+
+impl ReadError {
+    /// The number that users see: 1 to 8, in the order of the variants.
+    pub fn number(self) -> u8
+        ensures { result ≡ error_number self }
+    {
+        match self {
+            ReadError::Short => 1,
+            ReadError::Magic => 2,
+            ReadError::Version => 3,
+            ReadError::Hook => 4,
+            ReadError::Order => 5,
+            ReadError::Field => 6,
+            ReadError::Trailing => 7,
+            ReadError::Memory => 8,
+        }
+    }
+}
+
+impl From<AllocError> for ReadError {
+    ghost from_gives = { λ _ e. e ≡ Memory };
+
+    fn from(_e: AllocError) -> ReadError {
+        ReadError::Memory
+    }
+}
+
+impl<T: Drop> From<AllocFailed<T>> for ReadError {
+    ghost from_gives = { λ _ e. e ≡ Memory };
+
+    fn from(_e: AllocFailed<T>) -> ReadError {
+        ReadError::Memory
+    }
+}

@@ -1,0 +1,41 @@
+//! What is stated of a register.
+use crate::number::StatedNumber;
+use crate::offset::{ContextOffset, StackOffset};
+use isa::Map;
+
+/// What a register holds where a statement stands.
+#[derive(Clone, Copy, PartialEq, Eq, Debug)]
+pub enum Kind {
+    /// Anything, also nothing: the program doesn't read it before it writes it.
+    Empty,
+    /// One of these numbers.
+    Number(StatedNumber),
+    /// A pointer into the context.
+    Context(ContextOffset),
+    /// A pointer into the stack.
+    Stack(StackOffset),
+    /// A pointer into a map, whose offset is one of these numbers.
+    MapValue(Map, StatedNumber),
+}
+
+impl Kind {
+    ghost use Rattle.object.specs.Statements.{IsKind};
+
+    /// Says that each part is in its range, as the parts' types keep it. It does nothing when the program runs.
+    pub fn check_ranges(&self)
+        ensures { IsKind self.now }
+    {
+        match self {
+            Kind::Empty => {}
+            Kind::Number(numbers) | Kind::MapValue(_, numbers) => {
+                let _low = numbers.low();
+            }
+            Kind::Context(offset) => {
+                let _bytes = offset.bytes();
+            }
+            Kind::Stack(offset) => {
+                let _bytes = offset.bytes();
+            }
+        }
+    }
+}

@@ -1,0 +1,30 @@
+//! Object files: a program's code with what is stated at some of its slots, as bytes and as a type that holds no ill-formed one.
+#![tactic(auto)]
+
+mod error;
+mod fields;
+mod kind;
+mod lawful;
+pub mod laws;
+mod number;
+mod object;
+mod offset;
+mod rank;
+mod reading;
+mod stack;
+mod statement;
+mod writing;
+
+pub use error::ReadError;
+pub use kind::Kind;
+pub use number::StatedNumber;
+pub use object::Object;
+pub use offset::{ContextOffset, StackOffset};
+pub use rank::{Rank, RankTerm};
+pub use reading::read;
+pub use stack::StackBytes;
+pub use statement::Statement;
+pub use writing::write;
+
+#[cfg(test)]
+mod tests;

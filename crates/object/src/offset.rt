@@ -1,0 +1,84 @@
+//! Offsets into the regions that a program may point to.
+ghost use Rattle.std.specs.Prelude.{◌≡◌, ◌≤◌, ◌↔◌, IfSome, IsSome};
+
+use std::marker::Model;
+
+/// A place in the context or at its end, 0 to 64. Clauses see the number.
+#[derive(Clone, Copy, PartialEq, Eq, Debug)]
+pub struct ContextOffset {
+    place: u32,
+}
+
+impl Model for ContextOffset {
+    ghost use Rattle.std.specs.Prelude.{ℕ, ◌≤◌};
+
+    ghost Value = { ℕ };
+
+    ghost view = { λ offset. offset.place };
+
+    ghost invariant = { λ offset. offset.place ≤ 64 };
+
+    ghost inverse = { λ bytes. record { place = bytes } };
+}
+
+impl ContextOffset {
+    /// The place so many bytes behind the context's first. None above 64.
+    pub fn new(bytes: u32) -> Option<ContextOffset>
+        ensures some { IsSome result ↔ (bytes ≤ 64) }
+        ensures value { IfSome result (λ offset. offset ≡ bytes) }
+    {
+        if bytes <= 64 {
+            Some(ContextOffset { place: bytes })
+        } else {
+            None
+        }
+    }
+
+    /// How many bytes it lies behind the first.
+    pub fn bytes(self) -> u32
+        ensures value { result ≡ self }
+        ensures within { result ≤ 64 }
+    {
+        self.place
+    }
+}
+
+/// A place in the stack or at its end, 0 to 512. Clauses see the number.
+#[derive(Clone, Copy, PartialEq, Eq, Debug)]
+pub struct StackOffset {
+    bytes: u32,
+}
+
+impl Model for StackOffset {
+    ghost use Rattle.std.specs.Prelude.{ℕ, ◌≤◌};
+
+    ghost Value = { ℕ };
+
+    ghost view = { λ offset. offset.bytes };
+
+    ghost invariant = { λ offset. offset.bytes ≤ 512 };
+
+    ghost inverse = { λ bytes. record { bytes = bytes } };
+}
+
+impl StackOffset {
+    /// The place so many bytes behind the stack's first. None above 512.
+    pub fn new(bytes: u32) -> Option<StackOffset>
+        ensures some { IsSome result ↔ (bytes ≤ 512) }
+        ensures value { IfSome result (λ offset. offset ≡ bytes) }
+    {
+        if bytes <= 512 {
+            Some(StackOffset { bytes })
+        } else {
+            None
+        }
+    }
+
+    /// How many bytes it lies behind the first.
+    pub fn bytes(self) -> u32
+        ensures value { result ≡ self }
+        ensures within { result ≤ 512 }
+    {
+        self.bytes
+    }
+}

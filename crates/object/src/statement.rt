@@ -1,0 +1,106 @@
+//! Statements: what holds at a slot of the code whenever the program comes there.
+ghost use Rattle.std.specs.Prelude.{◌≡◌, ◌↔◌, length, IfSome, IsSome, IsTrue};
+ghost use Rattle.std.specs.List.{All};
+ghost use Rattle.object.specs.Statements.{IsKind, IsRankOver, IsStatement, IsTermOrNone, IsTermOver, StatementParts};
+
+use crate::kind::Kind;
+use crate::rank::{Rank, RankTerm};
+use crate::stack::StackBytes;
+use std::marker::Model;
+
+/// What is stated at a slot: what r0 to r9 hold, which stack bytes hold bytes, and the rank, over registers that are stated as numbers.
+/// Clauses see the record of all four.
+#[derive(Clone, Copy, PartialEq, Eq, Debug)]
+pub struct Statement {
+    slot: u32,
+    rank: Rank,
+    kinds: [Kind; 10],
+    stack: StackBytes,
+}
+
+impl Model for Statement {
+    ghost use Rattle.object.specs.Statements.{IsStatement, StatementParts};
+
+    ghost Value = { StatementParts };
+
+    ghost view = { λ s. record { slot = s.slot; rank = s.rank; kinds = s.kinds; stack = s.stack } };
+
+    ghost invariant = { λ s. IsStatement (record { slot = s.slot; rank = s.rank; kinds = s.kinds; stack = s.stack }) };
+
+    ghost inverse = { λ s. record { slot = s.slot; rank = s.rank; kinds = s.kinds; stack = s.stack } };
+}
+
+/// Says that what is stated of each register is in its range.
+fn check_kinds(kinds: &[Kind])
+    ensures { All IsKind kinds.now }
+{
+    for kind in kinds {
+        kind.check_ranges();
+    }
+}
+
+/// Tells whether a term's register is stated as a number.
+fn is_term_over(kinds: &[Kind], term: Option<RankTerm>) -> bool
+    requires { length kinds.now ≡ 10 }
+    ensures over { IsTrue result ↔ IsTermOver kinds.now term }
+    ensures is_term { IsTermOrNone term }
+{
+    let Some(term) = term else {
+        return true;
+    };
+    matches!(kinds[usize::from(term.register())], Kind::Number(_))
+}
+
+impl Statement {
+    /// What is stated at a slot. None where a term of the rank is of a register that isn't stated as a number.
+    pub fn new(slot: u32, rank: Rank, kinds: [Kind; 10], stack: StackBytes) -> Option<Statement>
+        ensures some { IsSome result ↔ IsRankOver kinds rank }
+        ensures value { IfSome result (λ s. s ≡ record { slot = slot; rank = rank; kinds = kinds; stack = stack }) }
+    {
+        check_kinds(&kinds);
+        let _is_set = stack.contains(0);
+        let is_first = is_term_over(&kinds, rank.first);
+        let is_second = is_term_over(&kinds, rank.second);
+        if !is_first || !is_second {
+            return None;
+        }
+        Some(Statement {
+            slot,
+            rank,
+            kinds,
+            stack,
+        })
+    }
+
+    /// The slot that it stands at.
+    pub fn slot(&self) -> u32
+        ensures value { result ≡ self.now.slot }
+        ensures is_statement { IsStatement self.now }
+    {
+        self.slot
+    }
+
+    /// The rank there.
+    pub fn rank(&self) -> Rank
+        ensures value { result ≡ self.now.rank }
+        ensures is_statement { IsStatement self.now }
+    {
+        self.rank
+    }
+
+    /// What r0 to r9 hold there, ten in order.
+    pub fn kinds(&self) -> &[Kind]
+        ensures value { result.now ≡ self.now.kinds }
+        ensures is_statement { IsStatement self.now }
+    {
+        &self.kinds
+    }
+
+    /// The stack bytes that hold bytes there.
+    pub fn stack(&self) -> &StackBytes
+        ensures value { result.now ≡ self.now.stack }
+        ensures is_statement { IsStatement self.now }
+    {
+        &self.stack
+    }
+}

@@ -1,0 +1,289 @@
+use crate::error::ReadError;
+use crate::kind::Kind;
+use crate::number::StatedNumber;
+use crate::object::Object;
+use crate::offset::{ContextOffset, StackOffset};
+use crate::rank::{Rank, RankTerm};
+use crate::reading::read;
+use crate::stack::StackBytes;
+use crate::statement::Statement;
+use crate::writing::write;
+use isa::{Hook, Map};
+use std::alloc::Global;
+use std::process::Abort;
+use std::test::Fail;
+
+/// The object of this text, at `price`, entry rank 10: `r1 = 10; r0 = 0; r0 += r1; r1 += -1; if r1 != 0 goto -3; exit`, with slot 2
+/// stated: rank `r1 * 1`, r0 any number, r1 from 1 to 10.
+fn counting() -> [u8; 548] {
+    let mut bytes = [0; 548];
+    bytes[..64].copy_from_slice(&[
+        0x42, 0x50, 0x46, 0x48, 1, 3, 1, 0, 10, 0, 0, 0, 6, 0, 0, 0, // header
+        0xb7, 1, 0, 0, 10, 0, 0, 0, 0xb7, 0, 0, 0, 0, 0, 0, 0, // r1 = 10; r0 = 0
+        0x0f, 0x10, 0, 0, 0, 0, 0, 0, 7, 1, 0, 0, 255, 255, 255, 255, // r0 += r1; r1 += -1
+        0x55, 1, 0xfd, 0xff, 0, 0, 0, 0, 0x95, 0, 0, 0, 0, 0, 0, 0, // if r1 != 0 goto -3; exit
+    ]);
+    bytes[64] = 2;
+    bytes[72] = 1;
+    bytes[76] = 1;
+    bytes[148] = 1;
+    bytes[164..172].copy_from_slice(&[255; 8]);
+    bytes[188] = 1;
+    bytes[196] = 1;
+    bytes[204] = 10;
+    bytes
+}
+
+/// The refusal's number, or 0 where the bytes are read.
+fn refusal(alloc: Global, bytes: &[u8]) -> Result<u8, ReadError> {
+    match read(alloc, bytes) {
+        Ok(_) => Ok(0),
+        Err(ReadError::Memory) => Err(ReadError::Memory),
+        Err(e) => Ok(e.number()),
+    }
+}
+
+fn number(rt: &impl Abort, low: u64, high: u64) -> StatedNumber {
+    StatedNumber::new(low, high, 0, 0).expect(rt, "a range")
+}
+
+#[test]
+fn reads_and_writes_a_counting_program(rt: HostRuntime) -> Result<(), Fail> {
+    let bytes = counting();
+    let object = read(rt.alloc(), &bytes)?;
+    assert!(rt; object.hook() == Hook::Price);
+    assert!(rt; object.entry_rank() == 10);
+    assert!(rt; object.slots() == 6);
+    assert!(rt; object.code() == &bytes[16..64]);
+    assert!(rt; object.statements().len() == 1);
+    let statement = object.statements().first().expect(&rt, "a statement");
+    assert!(rt; statement.slot() == 2);
+    let rank = Rank {
+        constant: 0,
+        first: RankTerm::new(1, 1),
+        second: None,
+    };
+    assert!(rt; statement.rank() == rank);
+    let mut kinds = [Kind::Empty; 10];
+    kinds[0] = Kind::Number(number(&rt, 0, u64::MAX));
+    kinds[1] = Kind::Number(number(&rt, 1, 10));
+    assert!(rt; statement.kinds() == kinds.as_slice());
+    assert!(rt; !statement.stack().contains(0) && !statement.stack().contains(511));
+    assert!(rt; write(rt.alloc(), &object)?.as_slice() == bytes.as_slice());
+    Ok(())
+}
+
+#[test]
+fn reads_and_writes_an_object_without_statements(rt: HostRuntime) -> Result<(), Fail> {
+    let bytes = [
+        0x42, 0x50, 0x46, 0x48, 1, 3, 0, 0, 0, 0, 0, 0, 2, 0, 0, 0, 0xb7, 0, 0, 0, 7, 0, 0, 0,
+        0x95, 0, 0, 0, 0, 0, 0, 0,
+    ];
+    let object = read(rt.alloc(), &bytes)?;
+    assert!(rt; object.entry_rank() == 0);
+    assert!(rt; object.slots() == 2);
+    assert!(rt; object.statements().is_empty());
+    assert!(rt; write(rt.alloc(), &object)?.as_slice() == bytes.as_slice());
+    Ok(())
+}
+
+#[test]
+fn refuses_files_of_other_lengths(rt: HostRuntime) -> Result<(), Fail> {
+    let bytes = counting();
+    assert!(rt; refusal(rt.alloc(), &[])? == 1);
+    assert!(rt; refusal(rt.alloc(), &bytes[..15])? == 1);
+    assert!(rt; refusal(rt.alloc(), &bytes[..16])? == 1);
+    assert!(rt; refusal(rt.alloc(), &bytes[..547])? == 1);
+    assert!(rt; refusal(rt.alloc(), &bytes)? == 0);
+    let mut longer = [0; 549];
+    longer[..548].copy_from_slice(&bytes);
+    assert!(rt; refusal(rt.alloc(), &longer)? == 7);
+    Ok(())
+}
+
+/// Each byte's place and value, and the refusal of the counting program's object with just that byte changed, or 0.
+const ONE_BYTE: [(usize, u8, u8); 43] = [
+    (0, 0x43, 2),
+    (3, 0, 2),
+    (4, 0, 3),
+    (4, 2, 3),
+    (5, 0, 4),
+    (5, 4, 0),
+    (5, 5, 4),
+    (6, 0, 7),
+    (6, 2, 1),
+    (7, 1, 1),
+    (12, 0, 6),
+    (12, 5, 7),
+    (12, 7, 1),
+    (13, 0x10, 6),
+    (15, 1, 6),
+    (64, 5, 0),
+    (64, 6, 5),
+    (67, 1, 5),
+    (72, 0, 0),
+    (72, 2, 6),
+    (72, 10, 6),
+    (73, 1, 6),
+    (74, 1, 6),
+    (75, 1, 6),
+    (76, 0, 6),
+    (80, 1, 0),
+    (84, 255, 0),
+    (147, 128, 0),
+    (148, 0, 6),
+    (148, 2, 6),
+    (148, 5, 6),
+    (149, 1, 6),
+    (150, 1, 6),
+    (151, 1, 6),
+    (152, 1, 6),
+    (196, 10, 0),
+    (196, 11, 6),
+    (212, 1, 0),
+    (220, 1, 6),
+    (229, 1, 6),
+    (232, 1, 6),
+    (236, 1, 6),
+    (547, 1, 6),
+];
+
+#[test]
+fn refuses_each_fault_of_one_byte(rt: HostRuntime) -> Result<(), Fail> {
+    for (at, value, want) in ONE_BYTE {
+        let mut bytes = counting();
+        if let Some(byte) = bytes.get_mut(at) {
+            *byte = value;
+        }
+        let found = refusal(rt.alloc(), &bytes)?;
+        assert!(rt; found == want, "byte {at} as {value}: {found}");
+    }
+    Ok(())
+}
+
+/// The kind of r2, its map, its offset's two low bytes, the low byte of its highest number, its mask's and its value's, and the refusal of
+/// the counting program's object with these in it, or 0.
+const REGISTERS: [([u8; 7], u8); 16] = [
+    ([0, 0, 0, 0, 0, 0, 0], 0),
+    ([0, 0, 0, 0, 1, 0, 0], 6),
+    ([0, 0, 0, 0, 0, 1, 0], 6),
+    ([0, 0, 0, 0, 0, 0, 1], 6),
+    ([1, 0, 0, 0, 9, 5, 5], 0),
+    ([1, 0, 0, 0, 9, 5, 2], 6),
+    ([2, 0, 64, 0, 0, 0, 0], 0),
+    ([2, 0, 65, 0, 0, 0, 0], 6),
+    ([2, 1, 64, 0, 0, 0, 0], 6),
+    ([2, 0, 64, 0, 1, 0, 0], 6),
+    ([3, 0, 0, 2, 0, 0, 0], 0),
+    ([3, 0, 1, 2, 0, 0, 0], 6),
+    ([3, 0, 0, 2, 0, 1, 0], 6),
+    ([4, 1, 0, 0, 9, 7, 0], 0),
+    ([4, 2, 0, 0, 9, 7, 0], 6),
+    ([4, 1, 8, 0, 9, 7, 0], 6),
+];
+
+#[test]
+fn refuses_each_fault_of_a_register(rt: HostRuntime) -> Result<(), Fail> {
+    for ([kind, map, low, high, most, mask, value], want) in REGISTERS {
+        let mut bytes = counting();
+        bytes[228] = kind;
+        bytes[229] = map;
+        bytes[232] = low;
+        bytes[233] = high;
+        bytes[244] = most;
+        bytes[252] = mask;
+        bytes[260] = value;
+        let found = refusal(rt.alloc(), &bytes)?;
+        assert!(rt; found == want, "kind {kind}, map {map}: {found}");
+    }
+    Ok(())
+}
+
+/// The slots of two statements, a byte at the front of each one's unused ones, and the refusal, or 0.
+const PAIRS: [(u8, u8, u8, u8, u8); 7] = [
+    (2, 3, 0, 0, 0),
+    (2, 2, 0, 0, 5),
+    (3, 2, 0, 0, 5),
+    (2, 6, 0, 0, 5),
+    (2, 2, 1, 0, 6),
+    (6, 2, 1, 0, 5),
+    (2, 2, 0, 1, 5),
+];
+
+#[test]
+fn refuses_the_first_fault_of_two_statements(rt: HostRuntime) -> Result<(), Fail> {
+    let one = counting();
+    for (first, second, first_unused, second_unused, want) in PAIRS {
+        let mut bytes = [0; 1032];
+        bytes[..548].copy_from_slice(&one);
+        bytes[548..].copy_from_slice(&one[64..]);
+        bytes[6] = 2;
+        bytes[64] = first;
+        bytes[74] = first_unused;
+        bytes[548] = second;
+        bytes[558] = second_unused;
+        let found = refusal(rt.alloc(), &bytes)?;
+        assert!(rt; found == want, "slots {first} and {second}: {found}");
+    }
+    Ok(())
+}
+
+#[test]
+fn packs_stack_bytes_from_the_lowest_bit_on(rt: HostRuntime) -> Result<(), Fail> {
+    let mut stack = StackBytes::new();
+    stack.insert_range(3, 10);
+    stack.insert_range(511, 512);
+    let rank = Rank {
+        constant: 7,
+        first: None,
+        second: None,
+    };
+    let mut kinds = [Kind::Empty; 10];
+    kinds[1] = ContextOffset::new(0)
+        .map(Kind::Context)
+        .expect(&rt, "an offset");
+    kinds[2] = StackOffset::new(512)
+        .map(Kind::Stack)
+        .expect(&rt, "an offset");
+    kinds[9] = Kind::MapValue(Map::Cells, number(&rt, 0, 504));
+    let statement = Statement::new(0, rank, kinds, stack).expect(&rt, "a statement");
+    let mut statements = Vec::with_capacity(rt.alloc(), 1)?;
+    statements.push(statement)?;
+    let code = Vec::from_slice(rt.alloc(), &[0x95, 0, 0, 0, 0, 0, 0, 0])?;
+    let object = Object::new(Hook::Veto, 9, code, statements).expect(&rt, "an object");
+    let bytes = write(rt.alloc(), &object)?;
+    assert!(rt; bytes.len() == 508);
+    let front = [
+        0x42, 0x50, 0x46, 0x48, 1, 4, 1, 0, 9, 0, 0, 0, 1, 0, 0, 0, 0x95, 0, 0, 0, 0, 0, 0, 0, 0,
+        0, 0, 0, 7, 0, 0, 0,
+    ];
+    assert!(rt; bytes.get(..32) == Some(front.as_slice()));
+    assert!(rt; bytes.get(44..47) == Some([0xf8, 3, 0].as_slice()));
+    assert!(rt; bytes.get(106..108) == Some([0, 0x80].as_slice()));
+    assert!(rt; bytes.get(148..156) == Some([2, 0, 0, 0, 0, 0, 0, 0].as_slice()));
+    assert!(rt; bytes.get(188..196) == Some([3, 0, 0, 0, 0, 2, 0, 0].as_slice()));
+    assert!(rt; bytes.get(468..478) == Some([4, 1, 0, 0, 0, 0, 0, 0, 0, 0].as_slice()));
+    assert!(rt; bytes.get(484..486) == Some([0xf8, 1].as_slice()));
+    let again = read(rt.alloc(), &bytes)?;
+    assert!(rt; again.statements() == object.statements());
+    Ok(())
+}
+
+#[test]
+fn holds_no_ill_formed_part(rt: HostRuntime) -> Result<(), Fail> {
+    assert!(rt; StatedNumber::new(2, 1, 0, 0) == None);
+    assert!(rt; StatedNumber::new(0, 9, 4, 5) == None);
+    assert!(rt; ContextOffset::new(65) == None);
+    assert!(rt; StackOffset::new(513) == None);
+    assert!(rt; RankTerm::new(10, 1) == None);
+    assert!(rt; RankTerm::new(0, 0) == None);
+    let rank = Rank {
+        constant: 0,
+        first: RankTerm::new(3, 1),
+        second: None,
+    };
+    assert!(rt; Statement::new(0, rank, [Kind::Empty; 10], StackBytes::new()) == None);
+    let code = Vec::from_slice(rt.alloc(), &[0; 12])?;
+    assert!(rt; Object::new(Hook::Tag, 0, code, Vec::new(rt.alloc())).is_none());
+    Ok(())
+}
