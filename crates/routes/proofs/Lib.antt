@@ -3,3 +3,9 @@ pub mod Determined
 pub mod TableLaws
 pub mod Least
 pub mod Reached
+pub mod Entries
+pub mod Labels
+pub mod Alone
+pub mod Made
+pub mod Square
+pub mod TwoRouters

@@ -4,3 +4,4 @@ pub mod Offers
 pub mod Candidates
 pub mod Tables
 pub mod Laws
+pub mod Worked
