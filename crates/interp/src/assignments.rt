@@ -10,8 +10,8 @@ ghost use Rattle.machine.specs.Steps.{Fills, result_of, on_number, map_of};
 ghost use Rattle.machine.specs.Faults.{operation_reads};
 ghost use Rattle.interp.specs.Classes.{fault_of_fill, fault_of_change, fault_of_target, fault_of_map};
 
-use crate::{contents, numbers, registers};
-use isa::{ByteOrder, Extension, Map, Operation, Register, Source, SwapWidth, Width};
+use crate::{contents, registers};
+use isa::{ByteOrder, Extension, Map, Operation, Register, Source, SwapWidth, Width, arithmetic};
 use machine::{Content, Fault, Pointer, State};
 
 /// An operation on two operands.
@@ -66,7 +66,7 @@ pub(crate) fn negate(state: &mut State, width: Width, target: Register) -> Resul
     registers::fill(
         state,
         target,
-        Content::Number(numbers::negated(width, number)),
+        Content::Number(arithmetic::negated(width, number)),
     );
     Ok(())
 }
@@ -89,7 +89,7 @@ pub(crate) fn sign_extend(
     registers::fill(
         state,
         target,
-        Content::Number(numbers::extended(extension, number)),
+        Content::Number(arithmetic::extended(extension, number)),
     );
     Ok(())
 }
@@ -112,7 +112,7 @@ pub(crate) fn reorder(
     registers::fill(
         state,
         target,
-        Content::Number(numbers::reordered(order, width, number)),
+        Content::Number(arithmetic::reordered(order, width, number)),
     );
     Ok(())
 }

@@ -4,8 +4,7 @@ ghost use Rattle.machine.specs.Memory.{at_distance};
 ghost use Rattle.machine.specs.Steps.{displaced, combined, copied, result_of, tested};
 ghost use Rattle.machine.specs.Faults.{has, is_nothing, operation_reads, is_same_pointer};
 
-use crate::numbers;
-use isa::{Map, Operation, Test, Width};
+use isa::{Map, Operation, Test, Width, arithmetic};
 use machine::{Content, Pointer};
 
 /// The pointer further on in its region. Its offset wraps.
@@ -58,7 +57,7 @@ fn combined(width: Width, operation: Operation, left: Content, right: Content) -
 {
     match (left, right) {
         (Content::Number(a), Content::Number(b)) => {
-            Some(Content::Number(numbers::operate(width, operation, a, b)))
+            Some(Content::Number(arithmetic::operate(width, operation, a, b)))
         }
         (Content::Address(pointer), Content::Number(b)) => match width {
             Width::Bits32 => None,
@@ -74,7 +73,7 @@ fn copied(width: Width, content: Content) -> Option<Content>
 {
     match content {
         Content::Nothing => None,
-        Content::Number(number) => Some(Content::Number(numbers::low(width, number))),
+        Content::Number(number) => Some(Content::Number(arithmetic::low(width, number))),
         Content::Address(_) => match width {
             Width::Bits32 => None,
             Width::Bits64 => Some(content),
@@ -112,7 +111,7 @@ pub(crate) fn tested(width: Width, test: Test, left: Content, right: Content) ->
     ensures { result ≡ tested width test left right }
 {
     match (left, right) {
-        (Content::Number(a), Content::Number(b)) => Some(numbers::test(width, test, a, b)),
+        (Content::Number(a), Content::Number(b)) => Some(arithmetic::test_holds(width, test, a, b)),
         _ => None,
     }
 }

@@ -8,7 +8,6 @@ mod assignments;
 mod contents;
 mod control;
 mod loads;
-mod numbers;
 mod pieces;
 mod registers;
 mod run;

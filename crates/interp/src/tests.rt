@@ -60,7 +60,7 @@ fn table(alloc: Global, count: usize) -> Result<(Shared, Vec<Seat>), MapsError>
     }
 }
 
-// A Hello of 44 bytes, and the route 192.0.2.0/24 of cost 20. Byte k of the context is 128 + k.
+// A Hello of 44 bytes, and the routes 192.0.2.0/24 of cost 20 and 192.0.2.0/26 of cost 30. Byte k of the context is 128 + k.
 fn input_once(alloc: Global) -> Result<Input, AllocError> {
     let mut context = [0u8; 64];
     for (index, byte) in context.iter_mut().enumerate() {
@@ -71,8 +71,10 @@ fn input_once(alloc: Global) -> Result<Input, AllocError> {
         0xff, 0xff, 0, 0, 0x0a, 2, 1, 0, 0, 0, 0x28, 0, 0, 0, 0, 0, 0, 0, 0,
     ];
     let mut rows = Vec::new(alloc);
-    if let Some(prefix) = Prefix::new(Address::new(0xc000_0200), 24) {
-        rows.push(TableRow { prefix, cost: 20 })?;
+    for (length, cost) in [(24, 20), (26, 30)] {
+        if let Some(prefix) = Prefix::new(Address::new(0xc000_0200), length) {
+            rows.push(TableRow { prefix, cost })?;
+        }
     }
     Ok(Input {
         context,

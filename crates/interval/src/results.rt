@@ -8,8 +8,9 @@ ghost use Rattle.interval.specs.Results.{HasResults, IsNarrow, IsNarrowResult, I
 
 use crate::bounds::{cut, every, modulus, single, wrapped};
 use crate::value::Interval;
-use absdom::{UnaryOperation, arithmetic};
-use isa::{Extension, Operation, SwapWidth, Width};
+use absdom::UnaryOperation;
+use absdom::arithmetic::unary;
+use isa::{Extension, Operation, SwapWidth, Width, arithmetic};
 
 /// The sums.
 fn sum(width: Width, left: Interval, right: Interval) -> Interval
@@ -220,7 +221,7 @@ pub(crate) fn unary_results(operation: UnaryOperation, operand: Interval) -> Int
     ensures narrow { IsNarrowUnaryResult operation (bounds_of operand) (bounds_of result) }
 {
     if operand.low == operand.high {
-        return single(arithmetic::unary(operation, operand.low));
+        return single(unary(operation, operand.low));
     }
     match operation {
         UnaryOperation::Negate(width) => negation(width, cut(width, operand)),

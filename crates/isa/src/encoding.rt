@@ -1,7 +1,8 @@
 //! From instructions to the bytes that spell them.
-ghost use Rattle.std.specs.Prelude.{◌≡◌, ◌<◌, ◌≤◌, ◌++◌, IfOk, OnOk};
+ghost use Rattle.std.specs.Prelude.{◌≡◌, ◌+◌, ◌*◌, ◌<◌, ◌≤◌, ◌++◌, IfOk, OnOk};
+ghost use Rattle.std.specs.Int.{w16, cast_unsigned};
 ghost use Rattle.isa.specs.Code.{IsCode};
-ghost use Rattle.isa.specs.Spelling.{Spells, fields_of, fields_of_extension, fields_of_store, bytes_of, second_half, bytes_of_fields, source_bit, source_register, source_number, operation_code, operation_offset, test_code, load_code, store_code, order_opcode, swap_bits, arithmetic_class, jump_class};
+ghost use Rattle.isa.specs.Spelling.{Spells, fields, fields_of, fields_of_extension, fields_of_store, bytes_of, second_half, bytes_of_fields, source_bit, source_register, source_number, operation_code, operation_offset, test_code, load_code, store_code, order_opcode, swap_bits, arithmetic_class, jump_class};
 ghost use Rattle.isa.specs.Slots.{bytes_of_half};
 
 use crate::code::{Code, Slot};
@@ -175,6 +176,49 @@ fn extension_fields(extension: Extension, target: u8, source: u8) -> Fields
     }
 }
 
+/// The slot of an operation on two operands.
+fn arithmetic_fields(width: Width, operation: Operation, target: u8, source: Source) -> Fields
+    ensures value { result ≡ fields (16 * operation_code operation + source_bit source + arithmetic_class width) target (source_register source) (operation_offset operation) (source_number source) }
+    ensures source { result.source ≤ 10 }
+{
+    let operand = operand_of(source);
+    Fields {
+        opcode: 16 * operation_code(operation) + operand.bit + arithmetic_class(width),
+        target,
+        source: operand.register,
+        offset: operation_offset(operation),
+        immediate: operand.number,
+    }
+}
+
+/// The slot of a conditional jump.
+fn branch_fields(width: Width, test: Test, left: u8, right: Source, distance: i16) -> Fields
+    ensures value { result ≡ fields (16 * test_code test + source_bit right + jump_class width) left (source_register right) (cast_unsigned w16 distance) (source_number right) }
+    ensures source { result.source ≤ 10 }
+{
+    let operand = operand_of(right);
+    Fields {
+        opcode: 16 * test_code(test) + operand.bit + jump_class(width),
+        target: left,
+        source: operand.register,
+        offset: distance.cast_unsigned(),
+        immediate: operand.number,
+    }
+}
+
+/// The slot of an instruction that names one register or none, with a number.
+fn fields_with(opcode: u8, target: u8, immediate: u32) -> Fields
+    ensures { result ≡ fields opcode target 0 0 immediate }
+{
+    Fields {
+        opcode,
+        target,
+        source: 0,
+        offset: 0,
+        immediate,
+    }
+}
+
 /// The first, or only, slot of an instruction.
 fn fields_of(instruction: &Instruction) -> Fields
     ensures value { result ≡ fields_of instruction.now }
@@ -187,23 +231,10 @@ fn fields_of(instruction: &Instruction) -> Fields
             operation,
             target,
             source,
-        } => {
-            let operand = operand_of(source);
-            Fields {
-                opcode: 16 * operation_code(operation) + operand.bit + arithmetic_class(width),
-                target: target.number(),
-                source: operand.register,
-                offset: operation_offset(operation),
-                immediate: operand.number,
-            }
+        } => arithmetic_fields(width, operation, target.number(), source),
+        Instruction::Negate { width, target } => {
+            fields_with(128 + arithmetic_class(width), target.number(), 0)
         }
-        Instruction::Negate { width, target } => Fields {
-            opcode: 128 + arithmetic_class(width),
-            target: target.number(),
-            source: 0,
-            offset: 0,
-            immediate: 0,
-        },
         Instruction::SignExtend {
             extension,
             target,
@@ -213,89 +244,53 @@ fn fields_of(instruction: &Instruction) -> Fields
             order,
             width,
             target,
-        } => Fields {
-            opcode: order_opcode(order),
-            target: target.number(),
-            source: 0,
-            offset: 0,
-            immediate: swap_bits(width),
-        },
+        } => fields_with(order_opcode(order), target.number(), swap_bits(width)),
         Instruction::Jump { distance } => Fields {
-            opcode: 5,
-            target: 0,
-            source: 0,
             offset: distance.cast_unsigned(),
-            immediate: 0,
+            ..fields_with(5, 0, 0)
         },
-        Instruction::LongJump { distance } => Fields {
-            opcode: 6,
-            target: 0,
-            source: 0,
-            offset: 0,
-            immediate: distance.cast_unsigned(),
-        },
+        Instruction::LongJump { distance } => fields_with(6, 0, distance.cast_unsigned()),
         Instruction::Branch {
             width,
             test,
             left,
             right,
             distance,
-        } => {
-            let operand = operand_of(right);
-            Fields {
-                opcode: 16 * test_code(test) + operand.bit + jump_class(width),
-                target: left.number(),
-                source: operand.register,
-                offset: distance.cast_unsigned(),
-                immediate: operand.number,
-            }
-        }
-        Instruction::Call { helper } => Fields {
-            opcode: 133,
-            target: 0,
-            source: 0,
-            offset: 0,
-            immediate: helper.cast_unsigned(),
-        },
-        Instruction::Exit => Fields {
-            opcode: 149,
-            target: 0,
-            source: 0,
-            offset: 0,
-            immediate: 0,
-        },
+        } => branch_fields(width, test, left.number(), right, distance),
+        Instruction::Call { helper } => fields_with(133, 0, helper.cast_unsigned()),
+        Instruction::Exit => fields_with(149, 0, 0),
         Instruction::Load {
             size,
             target,
             base,
             offset,
-        } => Fields {
-            opcode: load_code(size) + 1,
-            target: target.number(),
-            source: base.number(),
-            offset: offset.cast_unsigned(),
-            immediate: 0,
-        },
+        } => load_fields(size, target.number(), base.number(), offset),
         Instruction::Store {
             size,
             base,
             offset,
             source,
         } => store_fields(size, base.number(), offset, source),
-        Instruction::LoadNumber { target, number } => Fields {
-            opcode: 24,
-            target: target.number(),
-            source: 0,
-            offset: 0,
-            immediate: (number % 4294967296) as u32,
-        },
+        Instruction::LoadNumber { target, number } => {
+            fields_with(24, target.number(), (number % 4294967296) as u32)
+        }
         Instruction::LoadMap { target, map, .. } => Fields {
-            opcode: 24,
-            target: target.number(),
             source: 6,
-            offset: 0,
-            immediate: map.cast_unsigned(),
+            ..fields_with(24, target.number(), map.cast_unsigned())
         },
+    }
+}
+
+/// The slot of a load.
+fn load_fields(size: LoadSize, target: u8, base: u8, offset: i16) -> Fields
+    ensures { result ≡ fields (load_code size + 1) target base (cast_unsigned w16 offset) 0 }
+{
+    Fields {
+        opcode: load_code(size) + 1,
+        target,
+        source: base,
+        offset: offset.cast_unsigned(),
+        immediate: 0,
     }
 }
 

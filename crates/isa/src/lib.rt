@@ -1,6 +1,7 @@
 //! The instructions of RFC 9669 that this project takes, and their encoding.
 #![tactic(auto)]
 
+pub mod arithmetic;
 mod builder;
 mod code;
 mod decoding;

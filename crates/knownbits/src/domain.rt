@@ -10,8 +10,9 @@ use crate::bits::{and, cut, every, is_single, join, low_zeros, or, shared, singl
 use crate::shift::{left_shift, right_shift, shift_count};
 use crate::sum::{difference, sum};
 use crate::value::KnownBits;
-use absdom::{Domain, UnaryOperation, arithmetic};
-use isa::{Extension, Operation, SwapWidth, Test, Width};
+use absdom::arithmetic::unary;
+use absdom::{Domain, UnaryOperation};
+use isa::{Extension, Operation, SwapWidth, Test, Width, arithmetic};
 
 /// The numbers shifted to the left: by one number the bits move.
 fn shifted_left(width: Width, left: KnownBits, right: KnownBits) -> KnownBits
@@ -139,7 +140,7 @@ impl Domain for KnownBits {
         let width = unary_width(operation);
         let operand = cut(width, operand);
         if is_single(operand) {
-            return single(arithmetic::unary(operation, operand.value));
+            return single(unary(operation, operand.value));
         }
         every(width)
     }

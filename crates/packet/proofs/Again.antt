@@ -107,7 +107,7 @@ lsas_again (lsa ∷ lsas) all =
     )
 
 -- each has room for its header
-lsas_room : (lsas : List (List ℕ)) → AllByRecursion IsUnread lsas → 20 * length lsas ≤ length (flat_map (λ (lsa : List ℕ). lsa) lsas)
+pub lsas_room : (lsas : List (List ℕ)) → AllByRecursion IsUnread lsas → 20 * length lsas ≤ length (flat_map (λ (lsa : List ℕ). lsa) lsas)
 lsas_room [] all = omega arith
 lsas_room (lsa ∷ lsas) all = omega (arith, lsas_room lsas all.1, all.0.room, length-append lsa (flat_map (λ (lsa : List ℕ). lsa) lsas))
 

@@ -6,3 +6,4 @@ pub mod Bodies
 pub mod Again
 pub mod Whole
 pub mod Patch
+pub mod Writable

@@ -10,6 +10,8 @@ pub mod laws;
 mod model;
 mod reading;
 mod refusal;
+#[cfg(test)]
+mod tests;
 mod writing;
 
 pub use lsa::Header;

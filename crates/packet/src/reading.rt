@@ -1,7 +1,7 @@
 //! Packets out of bytes.
-ghost use Rattle.std.specs.Prelude.{◌≡◌, ◌≤◌, ◌+◌, ◌*◌, ◌/◌, ◌⊎◌, true, length, drop, IfOk};
+ghost use Rattle.std.specs.Prelude.{◌≡◌, ◌≤◌, ◌<◌, ◌+◌, ◌*◌, ◌/◌, ◌^◌, ◌⊎◌, true, length, drop, IfOk};
 ghost use Rattle.lsa.specs.Headers.{header_at};
-ghost use Rattle.packet.specs.Text.{PacketText};
+ghost use Rattle.packet.specs.Text.{PacketText, closed, lsa_count, text};
 ghost use Rattle.packet.specs.Reading.{are_lsas, body_of, description_of, hello_of, is_filled, key_at, least_length, lsas_of, router_at};
 ghost use Rattle.words.specs.Records.{records};
 ghost use Rattle.packet.specs.Outcome.{Reads};
@@ -168,6 +168,8 @@ pub fn read(alloc: Global, bytes: &[u8]) -> Result<Packet, ReadError>
     ensures only { (p : Packet) → PacketText bytes.now p → result ≡ Ok p ⊎ (result ≡ Err ReadError.Memory) }
     // Which fault it is; want of memory comes only where there is none.
     ensures exact { Reads bytes.now result }
+    // What is read can be written.
+    ensures writable { IfOk result (λ p. (length (text closed 0 p) ≤ 8192) × (lsa_count p.body < 2 ^ 32)) }
 {
     outcome(alloc, bytes)
 }

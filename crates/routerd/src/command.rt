@@ -1,5 +1,9 @@
 //! The command line: its words, and what they ask for.
 
+ghost use Rattle.std.specs.Prelude.{◌≡◌, IfSome, Some};
+ghost use Rattle.isa.specs.declared.hook.Hook.{Hook};
+ghost use Rattle.routerd.specs.Words.{hook_name};
+
 use clap::{Arg, ArgMatches, Command, Error, value_parser};
 use isa::Hook;
 use std::alloc::{AllocError, Global};
@@ -58,7 +62,10 @@ fn whole<'a>(alloc: Global) -> Result<Command<'a>, AllocError> {
         .subcommand(raw(alloc)?)
 }
 
-fn hook_named(name: &str) -> Option<Hook> {
+fn hook_named(name: &str) -> Option<Hook>
+    ensures found { IfSome result (λ hook. name.now ≡ hook_name hook) }
+    ensures only { (hook : Hook) → name.now ≡ hook_name hook → result ≡ Some hook }
+{
     match name {
         "count" => Some(Hook::Count),
         "tag" => Some(Hook::Tag),

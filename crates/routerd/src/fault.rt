@@ -1,3 +1,6 @@
+ghost use Rattle.std.specs.Prelude.{◌≡◌, ◌≤◌};
+ghost use Rattle.routerd.specs.Statuses.{status_of, fault_of_refusal};
+
 use clap::error::ErrorKind;
 use isa::DecodeError;
 use maps::MapsError;
@@ -49,6 +52,8 @@ impl<'a, T: Drop> From<AllocFailed<T>> for Fault<'a> {
 }
 
 impl<'a> From<DecodeError> for Fault<'a> {
+    ghost from_gives = { λ error fault. fault ≡ fault_of_refusal error };
+
     fn from(error: DecodeError) -> Fault<'a> {
         match error.kind {
             isa::DecodeFault::Memory => Fault::Memory,
@@ -78,7 +83,10 @@ impl<'a> From<clap::Error> for Fault<'a> {
 
 impl<'a> Fault<'a> {
     /// The status that the program ends with.
-    pub fn status(&self) -> u8 {
+    pub fn status(&self) -> u8
+        ensures value { result ≡ status_of self.now }
+        ensures within { result ≤ 4 }
+    {
         match self {
             Fault::Read { .. } | Fault::Output => OUTSIDE,
             Fault::Code { .. } => REFUSED,

@@ -1,5 +1,7 @@
 //! Files, read whole.
 
+ghost use Rattle.std.specs.Prelude.{◌≤◌, IfOk, vec_len};
+
 use crate::fault::Fault;
 use std::alloc::Global;
 use std::fs;
@@ -10,7 +12,9 @@ use std::rt::Files;
 const MOST_BYTES: u64 = 16_777_216;
 
 /// The bytes of the file at `path`. `Fault::Read` where it can't be opened or read, or is too long.
-pub fn read<'a, R: Files + AllocGlobal>(rt: &R, path: &'a str) -> Result<Vec<u8>, Fault<'a>> {
+pub fn read<'a, R: Files + AllocGlobal>(rt: &R, path: &'a str) -> Result<Vec<u8>, Fault<'a>>
+    ensures { IfOk result (λ bytes. vec_len bytes ≤ 16777216) }
+{
     let Ok(file) = fs::open(rt, path) else {
         return Err(Fault::Read { path });
     };

@@ -1,5 +1,7 @@
 //! The whole program, over readers and writers that are handed in.
 
+ghost use Rattle.std.specs.Prelude.{◌≤◌, IfOk};
+
 use crate::command::{self, Request};
 use crate::fault::{DONE, Fault, REFUSED};
 use crate::raw;
@@ -11,7 +13,9 @@ use std::thread::Threads;
 fn answer<'a, R: Files + AllocGlobal + Threads + Sync>(
     rt: &R,
     words: &'a [&'a str],
-) -> Result<(String, u8), Fault<'a>> {
+) -> Result<(String, u8), Fault<'a>>
+    ensures { IfOk result (λ told. told.1 ≤ 1) }
+{
     match command::parse(rt.alloc(), words)? {
         Request::Raw { hook, file, seats } => {
             let report = raw::raw(rt, hook, file, seats)?;
@@ -21,7 +25,9 @@ fn answer<'a, R: Files + AllocGlobal + Threads + Sync>(
 }
 
 // The text of a fault goes to the second writer where it is clap's, and else to the first.
-fn tell<O: Write, E: Write>(fault: &Fault<'_>, output: &mut O, errors: &mut E) -> u8 {
+fn tell<O: Write, E: Write>(fault: &Fault<'_>, output: &mut O, errors: &mut E) -> u8
+    ensures { result ≤ 4 }
+{
     let written = match fault {
         Fault::Usage(error) => write!(errors, "{error}"),
         _ => writeln!(output, "{fault}"),
@@ -42,7 +48,9 @@ pub fn program<R: Files + AllocGlobal + Threads + Sync, I: BufRead, O: Write, E:
     _input: &mut I,
     output: &mut O,
     errors: &mut E,
-) -> u8 {
+) -> u8
+    ensures { result ≤ 4 }
+{
     match answer(rt, words) {
         Ok((text, status)) => match output.write_all(text.as_bytes()) {
             Ok(()) => status,

@@ -201,6 +201,156 @@ fn bare_code_at_the_limits(rt: HostRuntime) -> Result<(), Fail> {
     )
 }
 
+// The bytes of slots. A slot is written as a number whose lowest byte is its first: the immediate, the offset, the
+// registers (source and target) and the opcode.
+fn bytes_of<R: AllocGlobal>(rt: &R, slots: &[u64]) -> Result<Vec<u8>, Fail> {
+    let mut bytes = Vec::new(rt.alloc());
+    for slot in slots {
+        bytes.extend_from_slice(&slot.to_le_bytes())?;
+    }
+    Ok(bytes)
+}
+
+const EXIT: u64 = 0x95;
+
+// r0 = r1
+const ANSWER: u64 = 0x10bf;
+
+// r1 = 0 and r2 = 0; the number stands above
+const FIRST: u64 = 0x01b7;
+
+const SECOND: u64 = 0x02b7;
+
+const CALL: u64 = 0x85;
+
+// Code, the hook, the status and what is printed by one seat.
+type Row<'a> = (&'a [u64], &'a str, u8, &'a str);
+
+fn expect_rows<R: Files + AllocGlobal + Threads + Sync + Env + Abort>(
+    rt: &R,
+    id: u32,
+    rows: &[Row<'_>],
+) -> Result<(), Fail> {
+    for (slots, hook, status, lines) in rows.iter().copied() {
+        let bytes = bytes_of(rt, slots)?;
+        expect_raw(rt, id, bytes.as_slice(), hook, "1", status, lines)?;
+    }
+    Ok(())
+}
+
+#[test]
+fn sums_wrap_and_pointers_are_told_from_numbers(rt: HostRuntime) -> Result<(), Fail> {
+    let rows: [Row<'_>; 8] = [
+        // r0 = -1; r0 += 2
+        (
+            &[0xffff_ffff_0000_00b7, 0x0000_0002_0000_0007, EXIT],
+            "count",
+            0,
+            "seat 1 answer 1 used 3\n",
+        ),
+        // r0 = 5; r0 += -7
+        (
+            &[0x0000_0005_0000_00b7, 0xffff_fff9_0000_0007, EXIT],
+            "tag",
+            0,
+            "seat 1 answer 18446744073709551614 used 3\n",
+        ),
+        // r0 = 5; r1 = -1; r0 += r1
+        (
+            &[0x0000_0005_0000_00b7, 0xffff_ffff_0000_01b7, 0x100f, EXIT],
+            "price",
+            0,
+            "seat 1 answer 4 used 4\n",
+        ),
+        // two pointers: r1 += r10
+        (&[0xa10f, EXIT], "count", 1, "seat 1 trap 4\n"),
+        // a number and a pointer: r2 = 8; r2 += r1
+        (
+            &[0x0000_0008_0000_02b7, 0x120f, EXIT],
+            "count",
+            1,
+            "seat 1 trap 4\n",
+        ),
+        // a pointer and a number, loaded from: r1 += 8; r0 = *u8 r1 0
+        (
+            &[0x0000_0008_0000_0107, 0x1071, EXIT],
+            "count",
+            0,
+            "seat 1 answer 0 used 3\n",
+        ),
+        // the same, answered, and a pointer that isn't the first operand: r2 = 8; r1 += r2; r0 = r1
+        (
+            &[0x0000_0008_0000_02b7, 0x210f, ANSWER, EXIT],
+            "count",
+            1,
+            "seat 1 trap 10\n",
+        ),
+        // r10 is written: r10 = r1
+        (&[0x1abf, EXIT], "veto", 1, "seat 1 trap 9\n"),
+    ];
+    expect_rows(&rt, process::id(rt.process()), rows.as_slice())
+}
+
+#[test]
+fn helpers_at_their_limits(rt: HostRuntime) -> Result<(), Fail> {
+    let five = FIRST | 5 << 32;
+    let add = CALL | 1 << 32;
+    let rows: [Row<'_>; 9] = [
+        (
+            &[five, SECOND | 0xff_ffff << 32, add, EXIT],
+            "count",
+            0,
+            "seat 1 answer 0 used 4\ncounter 5 16777215\n",
+        ),
+        (
+            &[five, SECOND | 0x100_0000 << 32, add, EXIT],
+            "count",
+            1,
+            "seat 1 trap 8\n",
+        ),
+        (
+            &[FIRST | 255 << 32, SECOND | 1 << 32, add, EXIT],
+            "veto",
+            0,
+            "seat 1 answer 0 used 4\ncounter 255 1\n",
+        ),
+        (
+            &[FIRST | 256 << 32, SECOND | 1 << 32, add, EXIT],
+            "veto",
+            1,
+            "seat 1 trap 8\n",
+        ),
+        // what was added is printed though the run is stuck later
+        (
+            &[five, SECOND | 3 << 32, add, ANSWER, EXIT],
+            "tag",
+            1,
+            "seat 1 trap 3\ncounter 5 3\n",
+        ),
+        // helper 2 reads a counter, 3 the packet, which is empty, 4 the table, which is empty
+        (
+            &[five, CALL | 2 << 32, EXIT],
+            "count",
+            0,
+            "seat 1 answer 0 used 3\n",
+        ),
+        (
+            &[five, CALL | 3 << 32, EXIT],
+            "count",
+            0,
+            "seat 1 answer 256 used 3\n",
+        ),
+        (
+            &[five, SECOND, CALL | 4 << 32, EXIT],
+            "price",
+            0,
+            "seat 1 answer 4294967296 used 4\n",
+        ),
+        (&[five, CALL, EXIT], "count", 1, "seat 1 trap 7\n"),
+    ];
+    expect_rows(&rt, process::id(rt.process()), rows.as_slice())
+}
+
 #[test]
 fn sixty_four_seats_print_in_seat_order(rt: HostRuntime) -> Result<(), Fail> {
     let id = process::id(rt.process());
@@ -240,8 +390,12 @@ fn help_names_each_command(rt: HostRuntime) -> Result<(), Fail> {
     assert_eq!(rt; outcome.status, 0);
     assert!(rt; outcome.lines.as_str() == "");
     assert!(rt; outcome.usage.as_str().contains("raw"));
+    assert!(rt; outcome.usage.as_str().contains("Runs bare code"));
+    assert!(rt; outcome.usage.as_str().contains("Statuses: 0 done"));
     let outcome = run(&rt, &["routerd", "raw", "--help"])?;
     assert_eq!(rt; outcome.status, 0);
+    assert!(rt; outcome.lines.as_str() == "");
+    assert!(rt; outcome.usage.as_str().contains("Runs bare code"));
     assert!(rt;
         outcome
             .usage

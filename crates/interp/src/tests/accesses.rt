@@ -55,7 +55,30 @@ fn stores_and_loads_on_the_stack(rt: HostRuntime) -> Result<(), Fail> {
         (0xfff8_2a7b, 0xfff8_a091, (0xffff_ffff_ffff_ff88, 4)),
         (0xfff8_2a7b, 0xfff8_a089, (0x7788, 4)),
         (0xfff8_2a7b, 0xfffb_a061, (0x2233_4455, 4)),
+        // by the sign at both ends
+        (0xffff_2a73, 0xffff_a091, (0xffff_ffff_ffff_ff88, 4)),
+        (0xfe00_2a73, 0xfe00_a091, (0xffff_ffff_ffff_ff88, 4)),
+        (0xfffe_2a6b, 0xfffe_a089, (0x7788, 4)),
+        (0xfe00_2a6b, 0xfe00_a089, (0x7788, 4)),
+        (0xfffc_2a63, 0xfffc_a081, (0x5566_7788, 4)),
+        (0xfe00_2a63, 0xfe00_a081, (0x5566_7788, 4)),
         // immediates, widened by their sign
+        (
+            0x8000_0000_fe00_0a7a,
+            0xfe00_a079,
+            (0xffff_ffff_8000_0000, 4),
+        ),
+        (
+            0x8000_0000_fe00_0a62,
+            0xfe00_a081,
+            (0xffff_ffff_8000_0000, 4),
+        ),
+        (0xffff_8000_fe00_0a6a, 0xfe00_a069, (0x8000, 4)),
+        (
+            0x0000_0180_fe00_0a72,
+            0xfe00_a091,
+            (0xffff_ffff_ffff_ff80, 4),
+        ),
         (0xffff_fffe_fff8_0a7a, 0xfff8_a079, (2u64.wrapping_neg(), 4)),
         (0xffff_fffe_fffc_0a62, 0xfffc_a061, (0xffff_fffe, 4)),
         (0xffff_fffe_fffe_0a6a, 0xfffe_a089, (2u64.wrapping_neg(), 4)),
@@ -69,6 +92,11 @@ fn stores_and_loads_on_the_stack(rt: HostRuntime) -> Result<(), Fail> {
         (0xfffd_2a63, EXIT, (5, 0)),
         (0xfff9_2a7b, EXIT, (5, 0)),
         (0xfdff_2a73, EXIT, (5, 0)),
+        (0x0000_0a72, EXIT, (5, 0)),
+        (0xffff_0a6a, EXIT, (5, 0)),
+        (0xfffd_0a62, EXIT, (5, 0)),
+        (0xfff9_0a7a, EXIT, (5, 0)),
+        (0xfdff_0a7a, EXIT, (5, 0)),
         (0xfff8_2a7b, 0xfff9_a079, (5, 0)),
         (0xfff8_2a7b, 0xfdff_a071, (5, 0)),
     ] {

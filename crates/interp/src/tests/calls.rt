@@ -22,8 +22,13 @@ fn arguments_of_helpers(rt: HostRuntime) -> Result<(), Fail> {
         (Hook::Tag, 255, 0, 2, (0, 4)),
         (Hook::Tag, 256, 0, 2, (8, 0)),
         (Hook::Count, 1, 0, 3, (1, 4)),
+        (Hook::Count, 35, 0, 3, (0x28, 4)),
         (Hook::Count, 43, 0, 3, (0, 4)),
         (Hook::Count, 44, 0, 3, (256, 4)),
+        (Hook::Count, 45, 0, 3, (256, 4)),
+        (Hook::Count, 0xffff_ffff, 0, 3, (256, 4)),
+        (Hook::Tag, 1, 0, 3, (7, 0)),
+        (Hook::Price, 1, 0, 3, (7, 0)),
         (Hook::Veto, 0, 0, 3, (7, 0)),
         (Hook::Count, 0, 0, 4, (7, 0)),
         (Hook::Price, 0, 0, 4, (0x1_0000_0000, 4)),
@@ -46,7 +51,9 @@ fn arguments_of_helpers(rt: HostRuntime) -> Result<(), Fail> {
 #[test]
 fn calls_of_helpers(rt: HostRuntime) -> Result<(), Fail> {
     let add = with(CALL, 1);
-    let programs: [(&[u64], (u64, u64)); 9] = [
+    let programs: [(&[u64], (u64, u64)); 10] = [
+        // the second byte of the packet
+        (&[with(FIRST, 1), with(CALL, 3), EXIT], (1, 3)),
         // an argument is empty or a pointer; an unknown helper comes first
         (&[with(FIRST, 5), add, EXIT], (3, 0)),
         (&[add, EXIT], (3, 0)),
@@ -95,7 +102,7 @@ fn calls_of_helpers(rt: HostRuntime) -> Result<(), Fail> {
 #[test]
 fn a_cost_of_the_table(rt: HostRuntime) -> Result<(), Fail> {
     let prefix = wide(1, 0xc000_0200);
-    for (length, want) in [(24, 20), (25, 0x1_0000_0000)] {
+    for (length, want) in [(24, 20), (25, 0x1_0000_0000), (26, 30), (33, 0x1_0000_0000)] {
         let slots = [
             prefix[0],
             prefix[1],

@@ -1,5 +1,6 @@
 use Rattle.std.proofs.Common.{arith}
 use Rattle.packet.proofs.Whole.{is_found, is_only}
+use Rattle.packet.proofs.Writable.{is_writable}
 use Rattle.packet.proofs.reading.read.Goals as goal
 
 pub returns-clause-found : goal.returns-clause-found
@@ -7,3 +8,6 @@ returns-clause-found c = is_found c.args.bytes.now c.outcome.result (λ i. omega
 
 pub returns-clause-only : goal.returns-clause-only
 returns-clause-only c = is_only c.args.bytes.now c.outcome.result c.outcome.ensures
+
+pub returns-clause-writable : goal.returns-clause-writable
+returns-clause-writable c = is_writable c.args.bytes.now c.outcome.result (returns-clause-found c)

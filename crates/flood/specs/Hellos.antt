@@ -1,0 +1,65 @@
+-- Hellos: which are accepted, when one is due, and what it says (RFC 2328, sections 8.2, 9.5 and 10.5).
+use Rattle.std.specs.Prelude.{ℕ, Bool, true, not, ◌&&◌, ◌==◌, bit_and, if◌then◌else◌, List, [], ◌∷◌, Option, None, Some}
+use Rattle.std.specs.List.{list_any}
+use Rattle.words.specs.Prefixes.{mask_of}
+use Rattle.packet.specs.declared.model.Body.TheVariants as body
+use Rattle.packet.specs.declared.model.Hello.{Hello}
+use Rattle.packet.specs.declared.model.Packet.{Packet}
+use Rattle.adjacency.specs.Adjacencies.{has_passed}
+use Rattle.adjacency.specs.Neighbors.{Neighbor}
+use Rattle.received.specs.Links.{Link}
+
+-- ---- received Hellos
+
+-- a packet of no router, and one of this router's own, isn't a neighbor's
+abbrev pub is_foreign : ℕ → ℕ → Bool
+is_foreign own from = not (from == 0) && not (from == own)
+
+-- HelloInterval, RouterDeadInterval and the E bit are those of the interface
+abbrev pub agrees : Link → Hello → Bool
+agrees link h =
+    h.hello_interval == link.interface.hello_interval
+    && h.dead_interval == link.interface.dead_interval
+    && not (bit_and h.options 2 == 0)
+
+-- another router is heard only where the neighbor is Down
+abbrev pub may_be : Option Neighbor → ℕ → Bool
+may_be None from = true
+may_be (Some n) from = n.router == from
+
+abbrev pub accepts : ℕ → ℕ → Hello → Link → Bool
+accepts own from h link = is_foreign own from && (agrees link h && may_be link.neighbor from)
+
+-- the Hello names this router
+abbrev pub names : ℕ → Hello → Bool
+names own h = list_any (λ (router : ℕ). router == own) h.neighbors
+
+-- ---- sent Hellos
+
+abbrev pub is_due : ℕ → ℕ → Option ℕ → Bool
+is_due moment interval None = true
+is_due moment interval (Some last) = has_passed last interval moment
+
+-- a Hello is sent at the first Tick, and where HelloInterval has passed since the last one
+abbrev pub greets : ℕ → Link → Bool
+greets moment link = is_due moment link.interface.hello_interval link.greeted
+
+abbrev pub greeted : ℕ → Link → Link
+greeted moment link = record link { greeted = if greets moment link then Some moment else link.greeted }
+
+abbrev pub heard_of : Option Neighbor → List ℕ
+heard_of None = []
+heard_of (Some n) = n.router ∷ []
+
+abbrev pub hello_on : Link → Hello
+hello_on link = record {
+  mask = mask_of link.interface.length;
+  hello_interval = link.interface.hello_interval;
+  options = 2;
+  priority = 1;
+  dead_interval = link.interface.dead_interval;
+  neighbors = heard_of link.neighbor;
+}
+
+abbrev pub hello_packet : ℕ → Link → Packet
+hello_packet own link = record { router = own; body = body.Hello (hello_on link) }

@@ -1,0 +1,315 @@
+//! Each opcode, both ways. The bytes are those of RFC 9669, sections 3 to 5: opcode, registers (source and target),
+//! offset and immediate.
+use super::*;
+
+// Instructions, and the bytes that spell them.
+#[derive(Drop)]
+struct Listing {
+    builder: CodeBuilder,
+    bytes: Vec<u8>,
+}
+
+impl Listing {
+    fn new(rt: &impl AllocGlobal) -> Listing {
+        Listing {
+            builder: CodeBuilder::new(rt.alloc()),
+            bytes: Vec::new(rt.alloc()),
+        }
+    }
+
+    fn add(&mut self, instruction: Instruction, bytes: &[u8]) -> Result<(), Fail> {
+        self.builder.push(instruction)?;
+        self.bytes.extend_from_slice(bytes)?;
+        Ok(())
+    }
+
+    // The instructions are encoded to the bytes, and the bytes are decoded to the instructions.
+    fn check<R: AllocGlobal + Abort>(self, rt: &R) -> Result<(), Fail> {
+        let Listing { builder, bytes } = self;
+        let code = builder.finish().ok_or("no instruction")?;
+        let encoded = encode(rt.alloc(), &code)?;
+        assert_eq!(rt; encoded.len(), bytes.len());
+        for (index, byte) in bytes.iter().enumerate() {
+            assert_eq!(rt; encoded.get(index).copied(), Some(*byte), "at byte {index}");
+        }
+        let decoded = decode(rt.alloc(), bytes.as_slice())?;
+        assert_eq!(rt; decoded.len(), code.len());
+        for (index, slot) in code.slots().iter().enumerate() {
+            assert_eq!(rt; decoded.at(index as u64), Some(*slot), "at slot {index}");
+        }
+        Ok(())
+    }
+}
+
+// An operation, its offset, and its opcodes: of 32 bits with an immediate and with a register, of 64 bits likewise.
+const OPERATIONS: &[(Operation, u8, [u8; 4])] = &[
+    (Operation::Add, 0, [0x04, 0x0c, 0x07, 0x0f]),
+    (Operation::Subtract, 0, [0x14, 0x1c, 0x17, 0x1f]),
+    (Operation::Multiply, 0, [0x24, 0x2c, 0x27, 0x2f]),
+    (Operation::Divide, 0, [0x34, 0x3c, 0x37, 0x3f]),
+    (Operation::SignedDivide, 1, [0x34, 0x3c, 0x37, 0x3f]),
+    (Operation::Or, 0, [0x44, 0x4c, 0x47, 0x4f]),
+    (Operation::And, 0, [0x54, 0x5c, 0x57, 0x5f]),
+    (Operation::ShiftLeft, 0, [0x64, 0x6c, 0x67, 0x6f]),
+    (Operation::ShiftRight, 0, [0x74, 0x7c, 0x77, 0x7f]),
+    (Operation::Modulo, 0, [0x94, 0x9c, 0x97, 0x9f]),
+    (Operation::SignedModulo, 1, [0x94, 0x9c, 0x97, 0x9f]),
+    (Operation::Xor, 0, [0xa4, 0xac, 0xa7, 0xaf]),
+    (Operation::Move, 0, [0xb4, 0xbc, 0xb7, 0xbf]),
+    (Operation::ArithmeticShiftRight, 0, [0xc4, 0xcc, 0xc7, 0xcf]),
+];
+
+// A test, and its opcodes: of 32 bits with an immediate and with a register, of 64 bits likewise.
+const TESTS: &[(Test, [u8; 4])] = &[
+    (Test::Equal, [0x16, 0x1e, 0x15, 0x1d]),
+    (Test::Greater, [0x26, 0x2e, 0x25, 0x2d]),
+    (Test::GreaterOrEqual, [0x36, 0x3e, 0x35, 0x3d]),
+    (Test::AnyBitSet, [0x46, 0x4e, 0x45, 0x4d]),
+    (Test::NotEqual, [0x56, 0x5e, 0x55, 0x5d]),
+    (Test::SignedGreater, [0x66, 0x6e, 0x65, 0x6d]),
+    (Test::SignedGreaterOrEqual, [0x76, 0x7e, 0x75, 0x7d]),
+    (Test::Less, [0xa6, 0xae, 0xa5, 0xad]),
+    (Test::LessOrEqual, [0xb6, 0xbe, 0xb5, 0xbd]),
+    (Test::SignedLess, [0xc6, 0xce, 0xc5, 0xcd]),
+    (Test::SignedLessOrEqual, [0xd6, 0xde, 0xd5, 0xdd]),
+];
+
+// Four ways to say the second operand, -2 and r7, with the bytes of the registers and of the immediate: r3 is the first.
+fn operands(rt: &impl Abort) -> [(Width, Source, u8, u8); 4] {
+    [
+        (Width::Bits32, Source::Immediate(-2), 0x03, 0xff),
+        (Width::Bits32, Source::Register(register(rt, 7)), 0x73, 0),
+        (Width::Bits64, Source::Immediate(-2), 0x03, 0xff),
+        (Width::Bits64, Source::Register(register(rt, 7)), 0x73, 0),
+    ]
+}
+
+#[test]
+fn operations(rt: HostRuntime) -> Result<(), Fail> {
+    let mut listing = Listing::new(&rt);
+    for (operation, offset, opcodes) in OPERATIONS.iter().copied() {
+        for ((width, source, registers, fill), opcode) in operands(&rt)
+            .iter()
+            .copied()
+            .zip(opcodes)
+        {
+            let instruction = Instruction::Arithmetic {
+                width,
+                operation,
+                target: register(&rt, 3),
+                source,
+            };
+            let lowest = fill & 0xfe;
+            listing.add(
+                instruction,
+                &[opcode, registers, offset, 0, lowest, fill, fill, fill],
+            )?;
+        }
+    }
+    listing.check(&rt)
+}
+
+#[test]
+fn conditional_jumps(rt: HostRuntime) -> Result<(), Fail> {
+    let mut listing = Listing::new(&rt);
+    for (test, opcodes) in TESTS.iter().copied() {
+        for ((width, right, registers, fill), opcode) in operands(&rt)
+            .iter()
+            .copied()
+            .zip(opcodes)
+        {
+            let instruction = Instruction::Branch {
+                width,
+                test,
+                left: register(&rt, 3),
+                right,
+                distance: -3,
+            };
+            let lowest = fill & 0xfe;
+            listing.add(
+                instruction,
+                &[opcode, registers, 0xfd, 0xff, lowest, fill, fill, fill],
+            )?;
+        }
+    }
+    listing.check(&rt)
+}
+
+#[test]
+fn changes_of_one_number(rt: HostRuntime) -> Result<(), Fail> {
+    let mut listing = Listing::new(&rt);
+    let target = register(&rt, 3);
+    let source = register(&rt, 7);
+    for (width, opcode) in [(Width::Bits32, 0x84), (Width::Bits64, 0x87)] {
+        listing.add(
+            Instruction::Negate { width, target },
+            &[opcode, 3, 0, 0, 0, 0, 0, 0],
+        )?;
+    }
+    for (extension, opcode, offset) in [
+        (Extension::Byte(Width::Bits32), 0xbc, 8),
+        (Extension::Half(Width::Bits32), 0xbc, 16),
+        (Extension::Byte(Width::Bits64), 0xbf, 8),
+        (Extension::Half(Width::Bits64), 0xbf, 16),
+        (Extension::Word, 0xbf, 32),
+    ] {
+        let instruction = Instruction::SignExtend {
+            extension,
+            target,
+            source,
+        };
+        listing.add(instruction, &[opcode, 0x73, offset, 0, 0, 0, 0, 0])?;
+    }
+    for (order, opcode) in [
+        (ByteOrder::Little, 0xd4),
+        (ByteOrder::Big, 0xdc),
+        (ByteOrder::Swap, 0xd7),
+    ] {
+        for (width, bits) in [
+            (SwapWidth::Bits16, 16),
+            (SwapWidth::Bits32, 32),
+            (SwapWidth::Bits64, 64),
+        ] {
+            let instruction = Instruction::Reorder {
+                order,
+                width,
+                target,
+            };
+            listing.add(instruction, &[opcode, 3, 0, 0, bits, 0, 0, 0])?;
+        }
+    }
+    listing.check(&rt)
+}
+
+#[test]
+fn jumps_calls_and_wide_instructions(rt: HostRuntime) -> Result<(), Fail> {
+    let mut listing = Listing::new(&rt);
+    let target = register(&rt, 10);
+    listing.add(
+        Instruction::Jump { distance: -2 },
+        &[0x05, 0, 0xfe, 0xff, 0, 0, 0, 0],
+    )?;
+    listing.add(
+        Instruction::LongJump { distance: -3 },
+        &[0x06, 0, 0, 0, 0xfd, 0xff, 0xff, 0xff],
+    )?;
+    listing.add(
+        Instruction::LoadNumber {
+            target,
+            number: 0x1122_3344_5566_7788,
+        },
+        &[
+            0x18, 0x0a, 0, 0, 0x88, 0x77, 0x66, 0x55, 0, 0, 0, 0, 0x44, 0x33, 0x22, 0x11,
+        ],
+    )?;
+    listing.add(
+        Instruction::LoadMap {
+            target,
+            map: 1,
+            offset: -8,
+        },
+        &[
+            0x18, 0x6a, 0, 0, 1, 0, 0, 0, 0, 0, 0, 0, 0xf8, 0xff, 0xff, 0xff,
+        ],
+    )?;
+    listing.add(
+        Instruction::Call { helper: 0x1020 },
+        &[0x85, 0, 0, 0, 0x20, 0x10, 0, 0],
+    )?;
+    listing.add(Instruction::Exit, &[0x95, 0, 0, 0, 0, 0, 0, 0])?;
+    listing.check(&rt)
+}
+
+#[test]
+fn loads_and_stores(rt: HostRuntime) -> Result<(), Fail> {
+    let mut listing = Listing::new(&rt);
+    let target = register(&rt, 3);
+    let base = register(&rt, 10);
+    for (size, opcode) in [
+        (LoadSize::Unsigned32, 0x61),
+        (LoadSize::Unsigned16, 0x69),
+        (LoadSize::Unsigned8, 0x71),
+        (LoadSize::Unsigned64, 0x79),
+        (LoadSize::Signed32, 0x81),
+        (LoadSize::Signed16, 0x89),
+        (LoadSize::Signed8, 0x91),
+    ] {
+        let instruction = Instruction::Load {
+            size,
+            target,
+            base,
+            offset: -512,
+        };
+        listing.add(instruction, &[opcode, 0xa3, 0, 0xfe, 0, 0, 0, 0])?;
+    }
+    for (size, opcode, register_opcode) in [
+        (StoreSize::Bits32, 0x62, 0x63),
+        (StoreSize::Bits16, 0x6a, 0x6b),
+        (StoreSize::Bits8, 0x72, 0x73),
+        (StoreSize::Bits64, 0x7a, 0x7b),
+    ] {
+        let of_number = Instruction::Store {
+            size,
+            base,
+            offset: -2,
+            source: Source::Immediate(513),
+        };
+        listing.add(of_number, &[opcode, 0x0a, 0xfe, 0xff, 1, 2, 0, 0])?;
+        let of_register = Instruction::Store {
+            size,
+            base,
+            offset: 0x102,
+            source: Source::Register(target),
+        };
+        listing.add(of_register, &[register_opcode, 0x3a, 2, 1, 0, 0, 0, 0])?;
+    }
+    listing.check(&rt)
+}
+
+// Lines of assembly: `w1 s%= w2`, `if w1 s< -1 goto -2`, `*u16 r10 -2 = 513`, `r3 = *s32 r1 4`, `r0 = swap32`,
+// `r0 = wide 4294967298`.
+#[test]
+fn lines_of_assembly(rt: HostRuntime) -> Result<(), Fail> {
+    let mut listing = Listing::new(&rt);
+    let modulo = Instruction::Arithmetic {
+        width: Width::Bits32,
+        operation: Operation::SignedModulo,
+        target: register(&rt, 1),
+        source: Source::Register(register(&rt, 2)),
+    };
+    listing.add(modulo, &[0x9c, 0x21, 1, 0, 0, 0, 0, 0])?;
+    let branch = Instruction::Branch {
+        width: Width::Bits32,
+        test: Test::SignedLess,
+        left: register(&rt, 1),
+        right: Source::Immediate(-1),
+        distance: -2,
+    };
+    listing.add(branch, &[0xc6, 1, 0xfe, 0xff, 0xff, 0xff, 0xff, 0xff])?;
+    let store = Instruction::Store {
+        size: StoreSize::Bits16,
+        base: register(&rt, 10),
+        offset: -2,
+        source: Source::Immediate(513),
+    };
+    listing.add(store, &[0x6a, 0x0a, 0xfe, 0xff, 1, 2, 0, 0])?;
+    let load = Instruction::Load {
+        size: LoadSize::Signed32,
+        target: register(&rt, 3),
+        base: register(&rt, 1),
+        offset: 4,
+    };
+    listing.add(load, &[0x81, 0x13, 4, 0, 0, 0, 0, 0])?;
+    let swap = Instruction::Reorder {
+        order: ByteOrder::Swap,
+        width: SwapWidth::Bits32,
+        target: register(&rt, 0),
+    };
+    listing.add(swap, &[0xd7, 0, 0, 0, 0x20, 0, 0, 0])?;
+    let wide = Instruction::LoadNumber {
+        target: register(&rt, 0),
+        number: 4_294_967_298,
+    };
+    listing.add(wide, &[0x18, 0, 0, 0, 2, 0, 0, 0, 0, 0, 0, 0, 1, 0, 0, 0])?;
+    listing.check(&rt)
+}

@@ -1,0 +1,10 @@
+-- The words of the command line.
+use Rattle.std.specs.Prelude.{ℕ, List, codes}
+use Rattle.isa.specs.declared.hook.Hook.{Hook}
+use Rattle.isa.specs.declared.hook.Hook.TheVariants as hooks
+
+abbrev pub hook_name : Hook → List ℕ
+hook_name hooks.Count = codes "count"
+hook_name hooks.Tag = codes "tag"
+hook_name hooks.Price = codes "price"
+hook_name hooks.Veto = codes "veto"
