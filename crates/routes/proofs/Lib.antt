@@ -9,3 +9,9 @@ pub mod Alone
 pub mod Made
 pub mod Square
 pub mod TwoRouters
+pub mod Covers
+pub mod Exact
+pub mod Nearest
+pub mod Rounds
+pub mod Settling
+pub mod Bridge

@@ -5,3 +5,6 @@ pub mod Candidates
 pub mod Tables
 pub mod Laws
 pub mod Worked
+pub mod Graphs
+pub mod Search
+pub mod Answers

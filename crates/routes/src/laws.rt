@@ -1,4 +1,5 @@
 //! Laws of the candidates and of the routing table, each carried by a function with an empty body.
+ghost use Rattle.routes.specs.Answers.{GraphsCarryAnswers};
 ghost use Rattle.routes.specs.Laws.{AnswersToAllAreNotStale, CandidatesAreCheapestWalks, CandidatesAreDetermined, OneCandidateForEachPrefix, TablesAreDetermined, TablesArePartsOfCandidates, WaysAreDetermined};
 ghost use Rattle.routes.specs.Worked.{WorkedSquare, WorkedTwoRouters};
 
@@ -47,4 +48,9 @@ pub fn worked_square()
 /// The candidates of one of two routers on a link, also with an external destination of type 1 and of type 2 at the other one.
 pub fn worked_two_routers()
     ensures { WorkedTwoRouters }
+{}
+
+/// A graph whose links are those of a database gives, by `least_ways`, the distances and next hops of the database (RFC 2328, section 16.1).
+pub fn graphs_carry_answers()
+    ensures { GraphsCarryAnswers }
 {}
