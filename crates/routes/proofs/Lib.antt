@@ -3,3 +3,15 @@ pub mod Determined
 pub mod TableLaws
 pub mod Least
 pub mod Reached
+pub mod Entries
+pub mod Labels
+pub mod Alone
+pub mod Made
+pub mod Square
+pub mod TwoRouters
+pub mod Covers
+pub mod Exact
+pub mod Nearest
+pub mod Rounds
+pub mod Settling
+pub mod Bridge

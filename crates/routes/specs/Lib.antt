@@ -4,3 +4,7 @@ pub mod Offers
 pub mod Candidates
 pub mod Tables
 pub mod Laws
+pub mod Worked
+pub mod Graphs
+pub mod Search
+pub mod Answers

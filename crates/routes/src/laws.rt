@@ -1,5 +1,7 @@
 //! Laws of the candidates and of the routing table, each carried by a function with an empty body.
+ghost use Rattle.routes.specs.Answers.{GraphsCarryAnswers};
 ghost use Rattle.routes.specs.Laws.{AnswersToAllAreNotStale, CandidatesAreCheapestWalks, CandidatesAreDetermined, OneCandidateForEachPrefix, TablesAreDetermined, TablesArePartsOfCandidates, WaysAreDetermined};
+ghost use Rattle.routes.specs.Worked.{WorkedSquare, WorkedTwoRouters};
 
 /// A node has one distance and one set of next hops (RFC 2328, section 16.1).
 pub fn ways_are_determined()
@@ -35,4 +37,20 @@ pub fn tables_are_parts_of_candidates()
 /// Right after answers to all candidates nothing is stale.
 pub fn answers_to_all_are_not_stale()
     ensures { AnswersToAllAreNotStale }
+{}
+
+/// A stub network of metric 10 behind two neighbors, all links of cost 5: one route of cost 20 by both interfaces, in the table where the
+/// answer of it is 0, and not where it is 1.
+pub fn worked_square()
+    ensures { WorkedSquare }
+{}
+
+/// The candidates of one of two routers on a link, also with an external destination of type 1 and of type 2 at the other one.
+pub fn worked_two_routers()
+    ensures { WorkedTwoRouters }
+{}
+
+/// A graph whose links are those of a database gives, by `least_ways`, the distances and next hops of the database (RFC 2328, section 16.1).
+pub fn graphs_carry_answers()
+    ensures { GraphsCarryAnswers }
 {}

@@ -1,7 +1,11 @@
 //! The routing table's calculation: walks over the links that count, and the routes that they offer (RFC 2328, section 16).
 #![tactic(auto)]
 
+mod graph;
 pub mod laws;
 mod root;
+mod search;
 
+pub use graph::{Kind, Link, Vertex, Way};
 pub use root::Root;
+pub use search::least_ways;
