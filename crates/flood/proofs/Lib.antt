@@ -6,5 +6,6 @@ pub mod Links
 pub mod Distinct
 pub mod Whole
 pub mod Packings
+pub mod Rooms
 pub mod Worlds
 pub mod Worked

@@ -8,15 +8,15 @@ use Rattle.std.specs.Ordering.{is_eq, is_gt, ordering_reverse}
 use Rattle.std.specs.declared.cmp.Ordering.{Ordering}
 use Rattle.std.specs.declared.cmp.Ordering.TheVariants.{Less, Equal, Greater}
 use Rattle.words.specs.declared.key.Key.{Key}
-use Rattle.lsdb.specs.Headers.{Header, key_of, lsa_key}
+use Rattle.lsdb.specs.Headers.{Header}
 use Rattle.lsdb.specs.Keys.{key_cmp, same_key}
 use Rattle.lsdb.proofs.Keys.{keys_exact, keys_total}
 use Rattle.packet.specs.declared.model.Body.{Body}
 use Rattle.received.specs.Links.{Link}
 use Rattle.received.specs.Outcomes.{Send}
 use Rattle.flood.specs.declared.model.Out.{Out}
-use Rattle.flood.specs.Packing.{at_interface, bodies, fill_on, header_size, in_key_order, is_after, out_of, outs_at, outs_of, lsa_size, packed, put}
-use Rattle.flood.specs.PackingLaws.{AreByInterface, AreFull, IsAscending, IsFull, IsInKeyOrder, IsPacking, OutsAreOrderedAndPacked, sizes, total}
+use Rattle.flood.specs.Packing.{at_interface, bodies, fill_on, header_size, in_key_order, is_after, out_of, outs_at, outs_of, packed, put}
+use Rattle.flood.specs.PackingLaws.{AreByInterface, AreFull, IsAscending, IsFull, IsInKeyOrder, IsPacking, sizes, total}
 
 -- ---- the order of keys
 
@@ -40,7 +40,7 @@ after_not : (x y : Key) → is_after x y ≡ true → is_after y x ≡ false
 after_not x y e = after_by (key_cmp y x) (ap is_gt (sym (keys_total.antisymm x y)) ∙ e)
 
 module _ {X : Type 0} (key : X → Key) where
-  put_all : (P : X → Type 0) (x : X) (ys : List X) → P x → AllByRecursion P ys → AllByRecursion P (put key x ys)
+  pub put_all : (P : X → Type 0) (x : X) (ys : List X) → P x → AllByRecursion P ys → AllByRecursion P (put key x ys)
   put_all P x [] p all = (p, tt)
   put_all P x (y ∷ ys) p all = by_test (is_after (key x) (key y)) (put_all P x ys p all.1)
     where
@@ -248,15 +248,6 @@ module _ (own : ℕ) (sends : List Send) where
 pub by_interface : (own : ℕ) (links : List Link) (sends : List Send) → AreByInterface (outs_of own links sends)
 by_interface own links sends = by_interface_from own sends 1 links
 
-headers_fit : (hs : List Header) → AllByRecursion (λ h. 24 + header_size h ≤ 8192) hs
+pub headers_fit : (hs : List Header) → AllByRecursion (λ h. 24 + header_size h ≤ 8192) hs
 headers_fit [] = tt
 headers_fit (h ∷ hs) = (lit≤ tt, headers_fit hs)
-
-pub ordered_and_packed : OutsAreOrderedAndPacked
-ordered_and_packed = record {
-  interfaces = by_interface;
-  updates = λ lsas. ordered lsa_key lsas;
-  acknowledgments = λ headers. ordered key_of headers;
-  packed_updates = λ lsas fit. packs lsa_size 28 lsas fit;
-  packed_acknowledgments = λ headers. packs header_size 24 headers (headers_fit headers);
-}

@@ -1,9 +1,11 @@
 -- What the order and the packing of what is sent come to.
-use Rattle.std.specs.Prelude.{◌≡◌, ◌≤◌, ◌<◌, ℕ, ◌+◌, false, List, [], ◌∷◌}
+use Rattle.std.specs.Prelude.{◌≡◌, ◌≤◌, ◌<◌, ℕ, ◌+◌, false, List, [], ◌∷◌, length}
 use Rattle.std.specs.List.{AllByRecursion, filter, flat_map}
 use Rattle.words.specs.declared.key.Key.{Key}
+use Rattle.lsa.specs.Text.{text}
 use Rattle.lsdb.specs.Headers.{Header, Lsa, key_of, lsa_key}
 use Rattle.lsdb.specs.Keys.{same_key}
+use Rattle.adjacency.specs.Contents.{Content}
 use Rattle.received.specs.Links.{Link}
 use Rattle.received.specs.Outcomes.{Send}
 use Rattle.flood.specs.declared.model.Out.{Out}
@@ -55,6 +57,17 @@ abbrev pub AreByInterface : List Out → Type 0
 AreByInterface [] = Unit {0}
 AreByInterface (o ∷ outs) = AllByRecursion (λ (p : Out). o.interface ≤ p.interface) outs × AreByInterface outs
 
+-- ---- in room
+
+-- What has room in a packet: a Hello names one router at most, a Description has 408 headers, a Request 680 keys; an LSA's length is that of
+-- its text, and an Update has room for it.
+abbrev pub HasRoom : Content → Type 0
+HasRoom (Content.Greets h) = length h.neighbors ≤ 1
+HasRoom (Content.Describes d) = length d.headers ≤ 408
+HasRoom (Content.Requests keys) = length keys ≤ 680
+HasRoom (Content.Updates lsa) = (length (text lsa) ≡ lsa_size lsa) × (28 + lsa_size lsa ≤ 8192)
+HasRoom (Content.Acknowledges h) = Unit {0}
+
 -- ---- the law
 
 pub record OutsAreOrderedAndPacked : Type 0 where
@@ -64,3 +77,6 @@ pub record OutsAreOrderedAndPacked : Type 0 where
   -- an Update has 28 bytes before its first LSA, and each LSA came in an Update or is a short one of this router's own
   pub packed_updates : (lsas : List Lsa) → AllByRecursion (λ l. 28 + lsa_size l ≤ 8192) lsas → IsPacking lsa_size 28 lsas (packed lsa_size 28 lsas)
   pub packed_acknowledgments : (headers : List Header) → IsPacking header_size 24 headers (packed header_size 24 headers)
+  -- no packet has more than 8,192 bytes
+  pub bytes : (own : ℕ) (links : List Link) (sends : List Send) → AllByRecursion (λ (s : Send). HasRoom s.content) sends
+      → AllByRecursion (λ (o : Out). length o.bytes ≤ 8192) (outs_of own links sends)
