@@ -1,10 +1,10 @@
 -- Under the rules of the Hello protocol alone an event comes to what `HelloPath` says.
-use Rattle.std.proofs.Common.{◌≡◌, ℕ, zero, suc, ◌+◌, ◌-◌, ◌<◌, ◌≤◌, Bool, true, false, cond, not, ◌&&◌, ◌||◌, List, [], ◌∷◌, ◌++◌, map, set, Option, None, Some, refl, sym, ap, subst, ◌∙◌, arith}
+use Rattle.std.proofs.Common.{◌≡◌, ℕ, zero, suc, ◌+◌, ◌-◌, ◌<◌, Bool, true, false, cond, not, ◌&&◌, List, [], ◌∷◌, ◌++◌, map, set, Option, None, Some, refl, sym, ap, subst, ◌∙◌, arith}
 use Rattle.std.specs.Prelude.{◌==◌, slice_get}
 use Rattle.std.specs.List.{enumerate_from, filter_map, flat_map, fold}
 use Rattle.std.specs.FinMap as finite
 use Rattle.std.specs.FinSet as keyset
-use Rattle.std.proofs.lemmas.List.{append-nil, map-set}
+use Rattle.std.proofs.lemmas.List.{map-set}
 use Rattle.words.specs.declared.key.Key.{Key}
 use Rattle.lsdb.specs.Copies.{Database}
 use Rattle.lsdb.specs.Headers.{Header}
@@ -15,16 +15,15 @@ use Rattle.packet.specs.declared.model.Body.{Body}
 use Rattle.packet.specs.declared.model.Body.TheVariants as body
 use Rattle.packet.specs.declared.model.Description.{Description}
 use Rattle.packet.specs.declared.model.Hello.{Hello}
-use Rattle.packet.specs.declared.model.Packet.{Packet}
 use Rattle.packet.specs.Text.{canonical}
 use Rattle.adjacency.specs.Adjacencies.{has_passed, heard_by, still_heard}
 use Rattle.adjacency.specs.Adjacencies as adjacencies
 use Rattle.adjacency.specs.Contents.{Content, Step, quiet, then_}
-use Rattle.adjacency.specs.Descriptions.{after_description, judge}
+use Rattle.adjacency.specs.Descriptions.{after_description}
 use Rattle.adjacency.specs.Neighbors.{Neighbor, fresh}
 use Rattle.adjacency.specs.Retransmissions.{next_retransmissions, request_again, send_again, update_again}
-use Rattle.received.specs.Links.{Link, change_link, link_at, neighbor_at, neighbor_on}
-use Rattle.received.specs.Outcomes.{Outcome, Send, Stepping, marked, numbered, on_links, only_at}
+use Rattle.received.specs.Links.{Link, change_link, neighbor_at, neighbor_on}
+use Rattle.received.specs.Outcomes.{Outcome, Send, marked, numbered, on_links, only_at}
 use Rattle.flood.specs.declared.model.Event.{Event}
 use Rattle.flood.specs.declared.model.Event.TheVariants as event
 use Rattle.flood.specs.declared.model.Out.{Out}

@@ -2,6 +2,9 @@ pub mod Outcomes
 pub mod Quiet
 pub mod Greetings
 pub mod HelloPath
+pub mod Packings
+pub mod Worlds
+pub mod Worked
 pub mod Links
 pub mod Distinct
 pub mod Whole

@@ -1,14 +1,13 @@
 -- An event has one outcome.
-use Rattle.std.proofs.Common.{◌≡◌, ℕ, List, sym, ap, ◌∙◌}
+use Rattle.std.proofs.Common.{◌≡◌, ℕ, sym, ap, ◌∙◌}
 use Rattle.packet.proofs.Whole.{one_packet}
-use Rattle.flood.specs.declared.model.Out.{Out}
 use Rattle.flood.specs.Endings.{finished}
-use Rattle.flood.specs.Events.{HappensBy, OwnPart, Rules}
+use Rattle.flood.specs.Events.{OwnPart, Rules}
 use Rattle.flood.specs.Laws.{EventsAreDetermined}
 use Rattle.flood.specs.Packets.{after_packet}
 use Rattle.flood.specs.Packing.{outs_of}
 use Rattle.flood.specs.Progress.{Progress}
-use Rattle.flood.specs.Routers.{Occurrence, Router}
+use Rattle.flood.specs.Routers.{Occurrence}
 
 own_once : (rules : Rules) (moment : ℕ) (event : Occurrence) (p a b : Progress) → OwnPart rules moment event p a → OwnPart rules moment event p b → a ≡ b
 own_once rules moment (Occurrence.Packet number bytes) p a b x y =

@@ -1,21 +1,17 @@
 -- A router whose neighbors are Down or in Init and which has no LSAs: most parts of an event leave it as it is, and send nothing.
-use Rattle.std.proofs.Common.{◌≡◌, ℕ, ◌+◌, Bool, true, false, cond, not, ◌&&◌, ◌||◌, List, [], ◌∷◌, ◌++◌, map, Option, None, Some, refl, sym, ap, ◌∙◌}
-use Rattle.std.specs.Prelude.{◌==◌}
-use Rattle.std.specs.List.{enumerate_from, flat_map, fold, list_any}
+use Rattle.std.proofs.Common.{◌≡◌, ℕ, ◌+◌, true, false, cond, not, ◌&&◌, ◌||◌, List, [], ◌∷◌, ◌++◌, map, Option, None, Some, refl, sym, ap, ◌∙◌}
+use Rattle.std.specs.List.{enumerate_from, flat_map, fold}
 use Rattle.std.specs.Cmp.{tied_itself}
 use Rattle.std.specs.Cmp.Lexicographic.{nat_list_cmp_total}
 use Rattle.std.specs.FinMap as finite
-use Rattle.std.specs.FinSet as set
 use Rattle.std.specs.Ordering.{is_eq}
 use Rattle.std.proofs.lemmas.List.{append-nil}
 use Rattle.lsa.specs.Text.{body_text}
 use Rattle.lsa.specs.declared.body.Body.{Body}
 use Rattle.lsa.specs.declared.body.Body.TheVariants as body
-use Rattle.lsa.specs.declared.body.Link.{Link as RouterLink}
 use Rattle.lsdb.specs.Copies.{Database}
-use Rattle.lsdb.specs.Keys.{key_cmp}
 use Rattle.lsdb.proofs.Empty.{no_entries, retained_none}
-use Rattle.adjacency.specs.Contents.{Content, Step, quiet}
+use Rattle.adjacency.specs.Contents.{Step, quiet}
 use Rattle.adjacency.specs.Neighbors.{Neighbor, fresh}
 use Rattle.adjacency.specs.Requests.{request_next}
 use Rattle.adjacency.specs.declared.interface.Interface.{Interface}

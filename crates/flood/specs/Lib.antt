@@ -11,6 +11,9 @@ pub mod Packing
 pub mod Events
 pub mod Refusals
 pub mod Bare
+pub mod PackingLaws
+pub mod Worlds
+pub mod Worked
 pub mod Laws
 pub mod Numbers
 pub mod Seen

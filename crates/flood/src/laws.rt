@@ -1,5 +1,8 @@
 //! Laws of events, each carried by a function with an empty body.
 ghost use Rattle.flood.specs.Laws.{EventsAreDetermined, HellosAloneAreTheHelloProtocol};
+ghost use Rattle.flood.specs.PackingLaws.{OutsAreOrderedAndPacked};
+ghost use Rattle.flood.specs.Worked.{WorkedEvents};
+ghost use Rattle.flood.specs.Worlds.{AcknowledgedWasReceived};
 
 /// An event has one outcome: what it makes of a router, and what the router sends, leave nothing to choose.
 pub fn events_are_determined()
@@ -10,4 +13,22 @@ pub fn events_are_determined()
 /// protocol says: a packet changes at most the link that it came in at, and a Tick takes inactive neighbors down and sends what is due.
 pub fn hellos_alone_are_the_hello_protocol()
     ensures { HellosAloneAreTheHelloProtocol }
+{}
+
+/// What is sent stands in the order of the interfaces; LSAs and headers stand in key order, those of one key as they arose; each is in one
+/// packet, a packet has at most 8,192 bytes, and the first of the next packet had no room in it.
+pub fn outs_are_ordered_and_packed()
+    ensures { OutsAreOrderedAndPacked }
+{}
+
+/// Over every history of routers whose steps keep what `Keeps` says, whatever is lost, repeated or late and whoever begins anew: what a
+/// packet takes off a retransmission list as acknowledged, the router that it is from had received or originated.
+pub fn acknowledged_was_received()
+    ensures { AcknowledgedWasReceived }
+{}
+
+/// Worked parts of events: a clash of two destinations, a withdrawal of nothing, a metric that withholds, five seconds between instances,
+/// renewal, the end of the sequence numbers, and ages of what is sent.
+pub fn worked_events()
+    ensures { WorkedEvents }
 {}

@@ -1,0 +1,51 @@
+-- Worked parts of events.
+use Rattle.std.specs.Prelude.{◌≡◌, ◌%◌, ◌^◌, ℕ, pos, Bool, true, false, None, Some}
+use Rattle.std.specs.FinMap as finite
+use Rattle.words.specs.Prefixes.{Network}
+use Rattle.words.specs.declared.key.Key.{Key}
+use Rattle.words.specs.declared.route.External.{External}
+use Rattle.words.specs.declared.route.ExternalType.TheVariants.{Type2}
+use Rattle.lsa.specs.declared.body.Body.{Body}
+use Rattle.lsdb.specs.Copies.{DatabaseCopy}
+use Rattle.lsdb.specs.Headers.{Lsa, lsa_aged}
+use Rattle.flood.specs.declared.model.CoreError.TheVariants as error
+use Rattle.flood.specs.Commands.{after_redistribute, after_withdraw, announce_as, end_want}
+use Rattle.flood.specs.HelloPath.{is_clock_back}
+use Rattle.flood.specs.Originations.{external_key, flush, interval_is_over, is_stale, originate_body}
+use Rattle.flood.specs.Packing.{sent_lsa}
+use Rattle.flood.specs.Progress.{Progress}
+use Rattle.flood.specs.Refusals.{first_refusal}
+use Rattle.flood.specs.Routers.{Occurrence, Router}
+
+-- the network of 10.0.0.0 with so many bits, and it as an external destination of metric 20
+abbrev pub ten : ℕ → Network
+ten length = record { address = 167772160; length = length }
+
+abbrev pub destination : Network → External
+destination prefix = record { prefix = prefix; metric = 20; kind = Type2; tag = 0 }
+
+-- a copy that flooding has brought at this moment
+abbrev pub brought : Lsa → ℕ → DatabaseCopy
+brought lsa at = record { lsa = lsa; stored = at; installed = Some at; sent = None }
+
+pub record WorkedEvents : Type 0 where
+  -- 10.0.0.0/16 isn't announced beside 10.0.0.0/8, and withdrawing what isn't there does nothing
+  pub clashes : (old : Router) (moment tag price : ℕ) → is_clock_back moment old ≡ false
+      → finite.get old.announced (external_key old.id (ten 16)) ≡ Some (destination (ten 8))
+      → first_refusal old moment (Occurrence.Redistribute (destination (ten 16)) tag (destination (ten 16)) price) ≡ Some error.Clash
+  pub unknown : (moment : ℕ) (prefix : Network) (p : Progress) → finite.get p.router.announced (external_key p.router.id prefix) ≡ None → after_withdraw moment prefix p ≡ p
+  -- a metric of 16,777,215 withholds the destination, 16,777,214 is announced
+  pub withheld : (moment tag : ℕ) (e : External) (p : Progress) → after_redistribute moment e tag 16777215 p ≡ end_want moment (external_key p.router.id e.prefix) p
+  pub announced : (moment tag : ℕ) (e : External) (p : Progress)
+      → after_redistribute moment e tag 16777214 p ≡ announce_as moment (external_key p.router.id e.prefix) (record e { metric = 16777214; tag = tag % 2 ^ 32 }) p
+  -- after an instance at moment 0 the next one goes out at 5 and not before; a copy is renewed at 1800
+  pub too_early : interval_is_over 4 (Some 0) ≡ false
+  pub in_time : interval_is_over 5 (Some 0) ≡ true
+  pub young : (lsa : Lsa) → is_stale 1799 (Some (brought (lsa_aged 0 lsa) 0)) ≡ false
+  pub renewed : (lsa : Lsa) → is_stale 1800 (Some (brought (lsa_aged 0 lsa) 0)) ≡ true
+  -- a copy of MaxSequenceNumber is flushed before its LSA is originated again
+  pub wraps : (may_now : Bool) (moment : ℕ) (key : Key) (says : Body) (c : DatabaseCopy) (p : Progress) → finite.get p.router.area.database key ≡ Some c
+      → c.lsa.header.sequence ≡ pos 2147483647 → originate_body may_now moment key (Some says) p ≡ flush moment key p
+  -- the age of what is sent grows up to MaxAge
+  pub grows : (lsa : Lsa) → (sent_lsa 1 (lsa_aged 3598 lsa)).header.age ≡ 3599
+  pub grows_no_more : (lsa : Lsa) → (sent_lsa 5 (lsa_aged 3598 lsa)).header.age ≡ 3600
