@@ -2,10 +2,10 @@ pub mod Outcomes
 pub mod Quiet
 pub mod Greetings
 pub mod HelloPath
-pub mod Links
-pub mod Distinct
-pub mod Whole
 pub mod Packings
 pub mod Rooms
 pub mod Worlds
 pub mod Worked
+pub mod Links
+pub mod Distinct
+pub mod Whole

@@ -1,8 +1,7 @@
 -- What the code keeps, seen as a router, has nothing but what the Hello protocol makes; so the rules of that protocol alone are those of the
 -- whole composition.
-use Rattle.std.proofs.Common.{◌≡◌, ℕ, List, [], ◌∷◌, map, IfOk, Option, None, Some, refl, ap}
+use Rattle.std.proofs.Common.{◌≡◌, ℕ, List, [], ◌∷◌, IfOk, Option, None, Some, refl, ap}
 use Rattle.std.specs.Prelude.{Result, Ok, Err}
-use Rattle.received.specs.Links as links
 use Rattle.flood.specs.declared.link.Link.{Link}
 use Rattle.flood.specs.declared.link.Neighbor.{Neighbor}
 use Rattle.flood.specs.declared.model.Event.{Event}
