@@ -6,6 +6,6 @@ pub mod laws;
 mod root;
 mod search;
 
-pub use graph::{Kind, Link, Vertex, Way};
+pub use graph::{Kind, Link, Vertex, Way, is_graph};
 pub use root::Root;
 pub use search::least_ways;
