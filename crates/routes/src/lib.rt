@@ -5,7 +5,9 @@ mod graph;
 pub mod laws;
 mod root;
 mod search;
+#[cfg(test)]
+mod tests;
 
-pub use graph::{Kind, Link, Vertex, Way};
+pub use graph::{Kind, Link, Vertex, Way, is_graph};
 pub use root::Root;
 pub use search::least_ways;
