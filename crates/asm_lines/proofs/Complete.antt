@@ -1,14 +1,13 @@
 -- What a line's words spell is what reading finds.
-use Rattle.std.proofs.Common.{◌≡◌, ℕ, ◌≤◌, ◌<◌, List, [], ◌∷◌, ◌++◌, Bool, true, false, ◌&&◌, ◌||◌, leb, Option, Some, None, refl, sym, ap, ◌∙◌, arith}
+use Rattle.std.proofs.Common.{◌≡◌, ℕ, ◌≤◌, List, [], ◌∷◌, ◌++◌, Bool, true, false, Option, Some, None, refl, sym, ap, ◌∙◌, arith}
 use Rattle.std.specs.Prelude.{is_some, codes}
 use Rattle.std.specs.Str.{bytes_eq}
-use Rattle.std.proofs.lemmas.Bool.{ne_eqb, ltb-false, le-ltb}
+use Rattle.std.proofs.lemmas.Bool.{ne_eqb}
 use Rattle.std.proofs.lemmas.Bool.Decides.{nat_tests}
 use Rattle.isa.specs.declared.hook.Hook.{Hook}
 use Rattle.isa.specs.declared.instruction.Width.{Width}
 use Rattle.isa.specs.declared.instruction.Width.TheVariants.{Bits32, Bits64}
 use Rattle.isa.specs.declared.instruction.Operation.{Operation}
-use Rattle.isa.specs.declared.instruction.Operation.TheVariants as operations
 use Rattle.isa.specs.declared.instruction.Test.{Test}
 use Rattle.isa.specs.declared.instruction.Extension.{Extension}
 use Rattle.isa.specs.declared.instruction.ByteOrder.{ByteOrder}
@@ -28,17 +27,16 @@ use Rattle.asm_lines.specs.declared.line.Term.{Term}
 use Rattle.asm_lines.specs.declared.line.Terms.{Terms}
 use Rattle.asm_lines.specs.declared.line.Terms.TheVariants as terms
 use Rattle.asm_lines.specs.declared.line.Range.{Range}
-use Rattle.asm_lines.specs.declared.line.Content.{Content}
 use Rattle.asm_lines.specs.declared.line.Content.TheVariants as contents
 use Rattle.asm_lines.specs.Numbers.{number_of, distance_of}
 use Rattle.asm_lines.specs.Words.{hook_word, operation_word, test_word, load_word, store_word, reorder_word, register_word, register_table, register_of, test_of, extension_word, extension_width}
-use Rattle.asm_lines.specs.Forms.{Word, Part, Exactly, Number, Distance, Name, Definition, Matches, Fits, Spells, the_register, the_operand, the_target, the_slot, the_term, the_terms, the_range, the_content, is_label, is_letter, is_name, IsOperand}
-use Rattle.asm_lines.specs.Reading.{line_of, plain, when, of_width, register_at, operand_at, target_at, slot_at, name_at, state_of, before_colon, label_at, one, two, three, four, five, six, seven, eight, ten, range_of, term_of}
+use Rattle.asm_lines.specs.Forms.{Word, Exactly, Number, Definition, Matches, Spells, the_register, the_operand, the_target, the_slot, is_label, is_letter, is_name, IsOperand}
+use Rattle.asm_lines.specs.Reading.{line_of, plain, of_width, register_at, operand_at, target_at, slot_at, state_of, before_colon, label_at, one, two, three, four, five, six, seven, eight, ten, range_of, term_of}
 use Rattle.std.specs.Char.{is_ascii_digit}
 use Rattle.isa.specs.declared.instruction.Extension.TheVariants as extensions
 use Rattle.isa.specs.declared.instruction.LoadSize.TheVariants as loads
 use Rattle.asm_lines.proofs.Numbers.{both}
-use Rattle.asm_lines.proofs.Tokens.{hook_again, operation_again, test_again, load_again, store_again, reorder_again, register_again, extension_again, not_equal, not_in_table}
+use Rattle.asm_lines.proofs.Tokens.{hook_again, operation_again, test_again, load_again, store_again, register_again, not_equal, not_in_table}
 use Rattle.asm_lines.proofs.Fitting.{no_words, One, one_words, Two, two_words, Three, three_words, Four, four_words, Five, five_words, Six, six_words, Seven, seven_words, Eight, eight_words, Ten, ten_words}
 
 -- ---- registers

@@ -1,5 +1,5 @@
 -- Lines and names that grow together.
-use Rattle.std.proofs.Common.{◌≡◌, ℕ, List, [], ◌∷◌, ◌++◌, length, Option, Some, None, refl, ap, arith, ◌∙◌, sym, subst}
+use Rattle.std.proofs.Common.{◌≡◌, ℕ, List, [], ◌∷◌, ◌++◌, length, Option, None, refl, ap, arith, sym, subst}
 use Rattle.std.specs.Prelude.{map, filter, Bool, true, false}
 use denote.Ref.{Bor}
 use Rattle.asm_lines.specs.declared.line.Line.{Line}

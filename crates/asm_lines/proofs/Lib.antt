@@ -4,3 +4,5 @@ pub mod Fitting
 pub mod Complete
 pub mod Seen
 pub mod Items
+pub mod Spaced
+pub mod Whole

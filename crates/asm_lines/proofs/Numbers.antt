@@ -1,9 +1,8 @@
 -- Words that spell no number, or one that is too large.
-use Rattle.std.proofs.Common.{◌≡◌, ℕ, ◌<◌, ◌≤◌, ◌^◌, List, [], ◌∷◌, length, Bool, true, false, ◌&&◌, refl, sym, ap, ◌∙◌, arith, Some, None, Option}
+use Rattle.std.proofs.Common.{◌≡◌, ℕ, ◌<◌, ◌≤◌, ◌^◌, List, [], ◌∷◌, length, Bool, true, false, ◌&&◌, refl, ap, arith, None}
 use Rattle.std.specs.Str.{all_ascii_digits}
-use Rattle.std.specs.Str.Parse.{digits_value}
 use Rattle.std.proofs.lemmas.Bool.{le-ltb, ne_eqb}
-use Rattle.asm_lines.specs.Numbers.{is_numeral, natural_of, negative_of, number_of, distance_of, held}
+use Rattle.asm_lines.specs.Numbers.{is_numeral, natural_of, number_of, distance_of, held}
 use Rattle.asm_lines.specs.declared.numeral.Numeral.TheVariants.{Huge}
 
 pub held_huge : (v : ℕ) → 2 ^ 64 ≤ v → held v ≡ Huge

@@ -1,5 +1,5 @@
 -- The words of a slice that was taken apart.
-use Rattle.std.proofs.Common.{◌≡◌, ℕ, ◌<◌, ◌≤◌, zero, suc, List, [], ◌∷◌, length, get_or, Option, Some, None, refl, arith}
+use Rattle.std.proofs.Common.{◌≡◌, ◌<◌, ◌≤◌, List, [], ◌∷◌, length, get_or, Option, Some, None, refl, arith}
 use Rattle.std.specs.Prelude.{IfSome}
 use denote.Ref.{Bor}
 use Rattle.asm_lines.specs.Forms.{Word}

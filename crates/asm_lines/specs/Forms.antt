@@ -1,10 +1,8 @@
 -- The grammar of lines: one table of forms. A form is a list of parts, each of which is one word of the line.
-use Rattle.std.specs.Prelude.{◌≡◌, ℕ, ◌+◌, Bool, true, false, ◌&&◌, ◌||◌, nat_le, ◌≤◌, nat_eq, ◌==◌, List, [], ◌∷◌, ◌++◌, Option, Some, None, if◌then◌else◌, codes}
-use Rattle.std.specs.Fmt.{decimal}
+use Rattle.std.specs.Prelude.{◌≡◌, ℕ, Bool, true, false, ◌&&◌, ◌||◌, nat_le, ◌≤◌, ◌==◌, List, [], ◌∷◌, ◌++◌, Some, codes}
 use Rattle.isa.specs.declared.instruction.Width.{Width}
-use Rattle.isa.specs.declared.instruction.Width.TheVariants.{Bits32, Bits64}
+use Rattle.isa.specs.declared.instruction.Width.TheVariants.{Bits64}
 use Rattle.asm_lines.specs.declared.numeral.Numeral.{Numeral}
-use Rattle.asm_lines.specs.declared.numeral.Numeral.TheVariants as numerals
 use Rattle.asm_lines.specs.declared.line.Line.{Line}
 use Rattle.asm_lines.specs.declared.line.Line.TheVariants as lines
 use Rattle.asm_lines.specs.declared.line.Operand.{Operand}
@@ -142,6 +140,18 @@ names_label (lines.LongJump target) = is_label target
 names_label (lines.Branch width test left right target) = is_label target
 names_label (lines.State slot constant terms) = is_label slot
 names_label other = false
+
+-- an assignment to a register, a load or a store
+abbrev pub is_data : Line → Bool
+is_data (lines.Arithmetic width operation target source) = true
+is_data (lines.Negate width target) = true
+is_data (lines.SignExtend extension target source) = true
+is_data (lines.Reorder order width target) = true
+is_data (lines.Load size target base offset) = true
+is_data (lines.Store size base offset source) = true
+is_data (lines.LoadNumber target n) = true
+is_data (lines.LoadMap target map offset) = true
+is_data other = false
 
 -- what ranges over the registers that there are
 abbrev pub IsOperand : Operand → Type 0

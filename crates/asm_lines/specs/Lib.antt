@@ -4,3 +4,4 @@ pub mod Forms
 pub mod Reading
 pub mod Views
 pub mod Text
+pub mod Written

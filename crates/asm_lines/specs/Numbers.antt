@@ -1,5 +1,5 @@
 -- The numbers that words spell.
-use Rattle.std.specs.Prelude.{ℕ, ◌^◌, ◌-◌, Bool, List, [], ◌∷◌, length, Option, Some, None, if◌then◌else◌, nat_lt, nat_eq, ◌==◌, ◌&&◌, not}
+use Rattle.std.specs.Prelude.{ℤ, pos, negsuc, ℕ, ◌^◌, ◌-◌, Bool, List, [], ◌∷◌, length, Option, Some, None, if◌then◌else◌, nat_lt, ◌==◌, ◌&&◌, not}
 use Rattle.std.specs.Str.{all_ascii_digits}
 use Rattle.std.specs.Str.Parse.{digits_value}
 use Rattle.asm_lines.specs.declared.numeral.Numeral.{Numeral}
@@ -36,3 +36,8 @@ number_of (c ∷ cs) = if c == 45 then negative_of cs else natural_of (c ∷ cs)
 abbrev pub distance_of : List ℕ → Option Numeral
 distance_of [] = None
 distance_of (c ∷ cs) = if c == 43 then natural_of cs else (if c == 45 then negative_of cs else None)
+
+-- a signed number of 32 bits as a text writes it
+abbrev pub numeral_of : ℤ → Numeral
+numeral_of (pos n) = Natural n
+numeral_of (negsuc n) = Negative n

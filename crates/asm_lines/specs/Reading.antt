@@ -1,11 +1,10 @@
 -- Reading a line: what words spell, looked for by their number and their first word.
-use Rattle.std.specs.Prelude.{ℕ, Bool, ◌&&◌, List, [], ◌∷◌, Option, Some, None, if◌then◌else◌, codes, ◌==◌}
+use Rattle.std.specs.Prelude.{ℕ, Bool, List, [], ◌∷◌, Option, Some, None, if◌then◌else◌, codes, ◌==◌}
 use Rattle.std.specs.Str.{bytes_eq}
 use Rattle.isa.specs.declared.instruction.Width.{Width}
 use Rattle.isa.specs.declared.instruction.Width.TheVariants.{Bits32, Bits64}
 use Rattle.isa.specs.declared.instruction.Operation.{Operation}
 use Rattle.isa.specs.declared.instruction.Operation.TheVariants as operations
-use Rattle.asm_lines.specs.declared.numeral.Numeral.{Numeral}
 use Rattle.asm_lines.specs.declared.line.Line.{Line}
 use Rattle.asm_lines.specs.declared.line.Line.TheVariants as lines
 use Rattle.asm_lines.specs.declared.line.Operand.{Operand}
@@ -16,7 +15,6 @@ use Rattle.asm_lines.specs.declared.line.Term.{Term}
 use Rattle.asm_lines.specs.declared.line.Terms.{Terms}
 use Rattle.asm_lines.specs.declared.line.Terms.TheVariants as terms
 use Rattle.asm_lines.specs.declared.line.Range.{Range}
-use Rattle.asm_lines.specs.declared.line.Content.{Content}
 use Rattle.asm_lines.specs.declared.line.Content.TheVariants as contents
 use Rattle.asm_lines.specs.Numbers.{number_of, distance_of}
 use Rattle.asm_lines.specs.Words.{hook_of, operation_of, test_of, load_of, store_of, reorder_of, register_of, extension_of, if_wide}

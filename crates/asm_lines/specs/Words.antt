@@ -1,5 +1,5 @@
 -- The words that name one thing of several.
-use Rattle.std.specs.Prelude.{ℕ, Bool, List, [], ◌∷◌, Option, Some, None, if◌then◌else◌, codes, ◌==◌, ◌+◌}
+use Rattle.std.specs.Prelude.{ℕ, List, [], ◌∷◌, Option, Some, None, if◌then◌else◌, codes, ◌==◌, ◌+◌}
 use Rattle.std.specs.Str.{bytes_eq}
 use Rattle.isa.specs.declared.hook.Hook.{Hook}
 use Rattle.isa.specs.declared.hook.Hook.TheVariants as hooks

@@ -125,6 +125,85 @@ pub enum Line {
     },
 }
 
+impl Operand {
+    ghost use Rattle.asm_lines.specs.Forms.{IsOperand};
+
+    /// Says that a register is one of r0 to r10. It does nothing when the program runs.
+    fn check_ranges(&self)
+        ensures { IsOperand self.now }
+    {
+        match *self {
+            Operand::Register(register) => {
+                let _ = register.number();
+            }
+            Operand::Number(_number) => {}
+        }
+    }
+}
+
+impl Terms {
+    ghost use Rattle.asm_lines.specs.Forms.{AreTerms};
+
+    /// Says that the registers are among r0 to r10. It does nothing when the program runs.
+    fn check_ranges(&self)
+        ensures { AreTerms self.now }
+    {
+        match *self {
+            Terms::None => {}
+            Terms::One(term) => {
+                let _ = term.register.number();
+            }
+            Terms::Two(first, second) => {
+                let _ = first.register.number();
+                let _ = second.register.number();
+            }
+        }
+    }
+}
+
+impl Line {
+    ghost use Rattle.asm_lines.specs.Forms.{IsLine};
+
+    /// Says that each register of the line is one of r0 to r10, as its type keeps it. It does nothing when the program runs.
+    pub fn check_ranges(&self)
+        ensures { IsLine self.now }
+    {
+        match *self {
+            Line::Arithmetic { target, source, .. } => {
+                let _ = target.number();
+                source.check_ranges();
+            }
+            Line::Branch { left, right, .. } => {
+                let _ = left.number();
+                right.check_ranges();
+            }
+            Line::Store { base, source, .. } => {
+                let _ = base.number();
+                source.check_ranges();
+            }
+            Line::SignExtend { target, source, .. } => {
+                let _ = target.number();
+                let _ = source.number();
+            }
+            Line::Load { target, base, .. } => {
+                let _ = target.number();
+                let _ = base.number();
+            }
+            Line::Negate { target, .. }
+            | Line::Reorder { target, .. }
+            | Line::LoadNumber { target, .. }
+            | Line::LoadMap { target, .. } => {
+                let _ = target.number();
+            }
+            Line::With { register, .. } => {
+                let _ = register.number();
+            }
+            Line::State { terms, .. } => terms.check_ranges(),
+            _ => {}
+        }
+    }
+}
+
 /// A line of a text: what it says, and the name of the label that it gives or uses, empty where it does neither.
 #[derive(Clone, Copy, Debug)]
 pub(crate) struct Item<'a> {

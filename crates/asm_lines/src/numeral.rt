@@ -76,17 +76,17 @@ pub(crate) fn read_distance(word: &str) -> Option<Numeral>
     }
 }
 
-impl From<u32> for Numeral {
-    fn from(number: u32) -> Numeral {
-        Numeral::Natural(u64::from(number))
-    }
-}
+impl Numeral {
+    ghost use Rattle.asm_lines.specs.Numbers.{numeral_of};
 
-impl From<i32> for Numeral {
-    fn from(number: i32) -> Numeral {
-        match u32::try_from(number) {
-            Ok(number) => Numeral::Natural(u64::from(number)),
-            Err(_) => Numeral::Negative(!number.cast_unsigned()),
+    /// The number as a text writes it.
+    pub fn from_signed(number: i32) -> Numeral
+        ensures { result ≡ numeral_of number }
+    {
+        if number < 0 {
+            Numeral::Negative((-1 - number) as u32)
+        } else {
+            Numeral::Natural(number as u64)
         }
     }
 }

@@ -1,5 +1,6 @@
 //! The words that name one thing of several, both ways.
-ghost use Rattle.std.specs.Prelude.{◌≡◌, ◌≤◌, IfSome};
+ghost use Rattle.std.specs.Prelude.{◌≡◌, ◌≤◌, true, IfSome};
+ghost use Rattle.asm_lines.specs.Written.{is_word};
 ghost use Rattle.asm_lines.specs.Words.{operation_word, operation_of, test_word, test_of, hook_word, hook_of, load_word, load_of, store_word, store_of, reorder_word, reorder_of, register_word, register_of, extension_word, extension_width, extension_of};
 
 use isa::{
@@ -8,7 +9,8 @@ use isa::{
 
 /// The operator of an assignment: `=` moves.
 pub(crate) fn operation_word(operation: Operation) -> &'static str
-    ensures { result.now ≡ operation_word operation }
+    ensures value { result.now ≡ operation_word operation }
+    ensures word { is_word result.now ≡ true }
 {
     match operation {
         Operation::Add => "+=",
@@ -54,7 +56,8 @@ pub(crate) fn operation_of(word: &str) -> Option<Operation>
 
 /// The operator of a conditional jump.
 pub(crate) fn test_word(test: Test) -> &'static str
-    ensures { result.now ≡ test_word test }
+    ensures value { result.now ≡ test_word test }
+    ensures word { is_word result.now ≡ true }
 {
     match test {
         Test::Equal => "==",
@@ -94,7 +97,8 @@ pub(crate) fn test_of(word: &str) -> Option<Test>
 
 /// A hook's name.
 pub(crate) fn hook_word(hook: Hook) -> &'static str
-    ensures { result.now ≡ hook_word hook }
+    ensures value { result.now ≡ hook_word hook }
+    ensures word { is_word result.now ≡ true }
 {
     match hook {
         Hook::Count => "count",
@@ -120,7 +124,8 @@ pub(crate) fn hook_of(word: &str) -> Option<Hook>
 
 /// What stands before the address of a load.
 pub(crate) fn load_word(size: LoadSize) -> &'static str
-    ensures { result.now ≡ load_word size }
+    ensures value { result.now ≡ load_word size }
+    ensures word { is_word result.now ≡ true }
 {
     match size {
         LoadSize::Unsigned8 => "*u8",
@@ -152,7 +157,8 @@ pub(crate) fn load_of(word: &str) -> Option<LoadSize>
 
 /// What stands before the address of a store.
 pub(crate) fn store_word(size: StoreSize) -> &'static str
-    ensures { result.now ≡ store_word size }
+    ensures value { result.now ≡ store_word size }
+    ensures word { is_word result.now ≡ true }
 {
     match size {
         StoreSize::Bits8 => "*u8",
@@ -178,7 +184,8 @@ pub(crate) fn store_of(word: &str) -> Option<StoreSize>
 
 /// What reorders the bytes of a register.
 pub(crate) fn reorder_word(order: ByteOrder, width: SwapWidth) -> &'static str
-    ensures { result.now ≡ reorder_word (order, width) }
+    ensures value { result.now ≡ reorder_word (order, width) }
+    ensures word { is_word result.now ≡ true }
 {
     match (order, width) {
         (ByteOrder::Little, SwapWidth::Bits16) => "le16",
@@ -214,7 +221,8 @@ pub(crate) fn reorder_of(word: &str) -> Option<(ByteOrder, SwapWidth)>
 
 /// A register's name: `r` for all of its bits, `w` for the low 32.
 pub(crate) fn register_word(width: Width, register: Register) -> &'static str
-    ensures { result.now ≡ register_word (width, register) }
+    ensures value { result.now ≡ register_word (width, register) }
+    ensures word { is_word result.now ≡ true }
 {
     match (width, register.index()) {
         (Width::Bits64, 0) => "r0",
@@ -288,7 +296,8 @@ pub(crate) fn register_of(word: &str) -> Option<(Width, Register)>
 
 /// The word of a move that widens a signed number.
 pub(crate) fn extension_word(extension: Extension) -> &'static str
-    ensures { result.now ≡ extension_word extension }
+    ensures value { result.now ≡ extension_word extension }
+    ensures word { is_word result.now ≡ true }
 {
     match extension {
         Extension::Byte(_) => "s8",

@@ -1,4 +1,10 @@
 //! The text of a line: its words between single spaces, and a line feed at its end.
+ghost use Rattle.std.specs.Prelude.{◌≡◌, ◌≤◌, true, false, List, [], ◌∷◌, ◌++◌, codes, OnOk, string_bytes};
+ghost use Rattle.asm_lines.specs.Forms.{Word, Exactly, Number, Distance, Name, Definition, the_register, the_operand, the_target, the_slot, the_term, the_terms, the_range, the_content, form_of, is_name, is_label, is_data};
+ghost use Rattle.asm_lines.specs.Words.{extension_width, test_word};
+ghost use Rattle.asm_lines.specs.Written.{Adds, Starts, AreLines, IsNamed, is_word, line_text};
+ghost use Rattle.asm_lines.specs.declared.line.Line.{Line};
+ghost use Rattle.asm_lines.specs.declared.numeral.Numeral.{Numeral};
 
 use crate::line::{Content, Line, Operand, Range, Target, Term, Terms};
 use crate::numeral::Numeral;
@@ -6,45 +12,92 @@ use crate::word::{
     extension_word, hook_word, load_word, operation_word, register_word, reorder_word, store_word,
     test_word,
 };
-use isa::{Extension, Register, Width};
+use isa::{
+    ByteOrder, Extension, Hook, LoadSize, Operation, Register, StoreSize, SwapWidth, Test, Width,
+};
 use std::alloc::AllocError;
 use std::fmt::Write;
 
-/// Another word of the line.
-fn next(text: &mut String, word: &str) -> Result<(), AllocError> {
-    text.push(' ')?;
+/// The first word of the line.
+fn first(text: &mut String, word: &str) -> Result<(), AllocError>
+    requires { is_word word.now ≡ true }
+    ensures { OnOk result (Starts (string_bytes text.old) (string_bytes text.new) (Exactly word.now ∷ [])) }
+{
     text.push_str(word)
 }
 
-fn next_register(text: &mut String, width: Width, register: Register) -> Result<(), AllocError> {
+/// Another word of the line.
+fn next(text: &mut String, word: &str) -> Result<(), AllocError>
+    requires { is_word word.now ≡ true }
+    ensures { OnOk result (Adds (string_bytes text.old) (string_bytes text.new) (Exactly word.now ∷ [])) }
+{
+    text.push_str(" ")?;
+    text.push_str(word)
+}
+
+/// The name of a label.
+fn next_name(text: &mut String, name: &str) -> Result<(), AllocError>
+    requires { is_name name.now ≡ true }
+    ensures { OnOk result (Adds (string_bytes text.old) (string_bytes text.new) (Name name.now ∷ [])) }
+{
+    text.push_str(" ")?;
+    text.push_str(name)
+}
+
+fn next_register(text: &mut String, width: Width, register: Register) -> Result<(), AllocError>
+    ensures { OnOk result (Adds (string_bytes text.old) (string_bytes text.new) (the_register width register ∷ [])) }
+{
     next(text, register_word(width, register))
 }
 
+/// A number that isn't below 0: its digits.
+fn next_natural(text: &mut String, n: u64) -> Result<(), AllocError>
+    ensures { OnOk result (Adds (string_bytes text.old) (string_bytes text.new) (Number (Numeral.Natural n) ∷ [])) }
+{
+    write!(text, " {n}")
+}
+
+/// A distance that isn't below 0: a `+` and its digits.
+fn next_forward(text: &mut String, n: u64) -> Result<(), AllocError>
+    ensures { OnOk result (Adds (string_bytes text.old) (string_bytes text.new) (Distance (Numeral.Natural n) ∷ [])) }
+{
+    write!(text, " +{n}")
+}
+
+/// A number or a distance below 0, -1 less this: a `-` and digits.
+fn next_negative(text: &mut String, n: u32) -> Result<(), AllocError>
+    ensures number { OnOk result (Adds (string_bytes text.old) (string_bytes text.new) (Number (Numeral.Negative n) ∷ [])) }
+    ensures distance { OnOk result (Adds (string_bytes text.old) (string_bytes text.new) (Distance (Numeral.Negative n) ∷ [])) }
+{
+    let n = u64::from(n) + 1;
+    write!(text, " -{n}")
+}
+
 /// A number: digits, with a `-` before them where it is below 0.
-fn next_number(text: &mut String, number: Numeral) -> Result<(), AllocError> {
+fn next_number(text: &mut String, number: Numeral) -> Result<(), AllocError>
+    ensures { OnOk result (Adds (string_bytes text.old) (string_bytes text.new) (Number number ∷ [])) }
+{
     match number {
-        Numeral::Natural(n) => write!(text, " {n}"),
-        Numeral::Negative(n) => {
-            let n = u64::from(n) + 1;
-            write!(text, " -{n}")
-        }
-        Numeral::Huge => next(text, "18446744073709551616"),
+        Numeral::Natural(n) => next_natural(text, n),
+        Numeral::Negative(n) => next_negative(text, n),
+        Numeral::Huge => text.push_str(" 18446744073709551616"),
     }
 }
 
 /// A distance: its sign and digits.
-fn next_distance(text: &mut String, number: Numeral) -> Result<(), AllocError> {
+fn next_distance(text: &mut String, number: Numeral) -> Result<(), AllocError>
+    ensures { OnOk result (Adds (string_bytes text.old) (string_bytes text.new) (Distance number ∷ [])) }
+{
     match number {
-        Numeral::Natural(n) => write!(text, " +{n}"),
-        Numeral::Negative(n) => {
-            let n = u64::from(n) + 1;
-            write!(text, " -{n}")
-        }
-        Numeral::Huge => next(text, "+18446744073709551616"),
+        Numeral::Natural(n) => next_forward(text, n),
+        Numeral::Negative(n) => next_negative(text, n),
+        Numeral::Huge => text.push_str(" +18446744073709551616"),
     }
 }
 
-fn next_operand(text: &mut String, width: Width, operand: Operand) -> Result<(), AllocError> {
+fn next_operand(text: &mut String, width: Width, operand: Operand) -> Result<(), AllocError>
+    ensures { OnOk result (Adds (string_bytes text.old) (string_bytes text.new) (the_operand width operand ∷ [])) }
+{
     match operand {
         Operand::Register(register) => next_register(text, width, register),
         Operand::Number(number) => next_number(text, number),
@@ -52,28 +105,38 @@ fn next_operand(text: &mut String, width: Width, operand: Operand) -> Result<(),
 }
 
 /// A distance, or the name of a label.
-fn next_target(text: &mut String, target: Target, name: &str) -> Result<(), AllocError> {
+fn next_target(text: &mut String, target: Target, name: &str) -> Result<(), AllocError>
+    requires { is_label target ≡ true → is_name name.now ≡ true }
+    ensures { OnOk result (Adds (string_bytes text.old) (string_bytes text.new) (the_target target name.now ∷ [])) }
+{
     match target {
         Target::Number(number) => next_distance(text, number),
-        Target::Label => next(text, name),
+        Target::Label => next_name(text, name),
     }
 }
 
 /// The number of a slot, or the name of a label.
-fn next_slot(text: &mut String, slot: Target, name: &str) -> Result<(), AllocError> {
+fn next_slot(text: &mut String, slot: Target, name: &str) -> Result<(), AllocError>
+    requires { is_label slot ≡ true → is_name name.now ≡ true }
+    ensures { OnOk result (Adds (string_bytes text.old) (string_bytes text.new) (the_slot slot name.now ∷ [])) }
+{
     match slot {
         Target::Number(number) => next_number(text, number),
-        Target::Label => next(text, name),
+        Target::Label => next_name(text, name),
     }
 }
 
-fn next_term(text: &mut String, term: Term) -> Result<(), AllocError> {
+fn next_term(text: &mut String, term: Term) -> Result<(), AllocError>
+    ensures { OnOk result (Adds (string_bytes text.old) (string_bytes text.new) (the_term term [])) }
+{
     next_register(text, Width::Bits64, term.register)?;
     next(text, "*")?;
     next_number(text, term.coefficient)
 }
 
-fn next_terms(text: &mut String, terms: Terms) -> Result<(), AllocError> {
+fn next_terms(text: &mut String, terms: Terms) -> Result<(), AllocError>
+    ensures { OnOk result (Adds (string_bytes text.old) (string_bytes text.new) (the_terms terms)) }
+{
     match terms {
         Terms::None => Ok(()),
         Terms::One(term) => next_term(text, term),
@@ -84,14 +147,26 @@ fn next_terms(text: &mut String, terms: Terms) -> Result<(), AllocError> {
     }
 }
 
-fn next_range(text: &mut String, range: Range) -> Result<(), AllocError> {
+fn next_range(text: &mut String, range: Range) -> Result<(), AllocError>
+    ensures { OnOk result (Adds (string_bytes text.old) (string_bytes text.new) (the_range range)) }
+{
     next_number(text, range.low)?;
     next_number(text, range.high)?;
     next_number(text, range.mask)?;
     next_number(text, range.value)
 }
 
-fn next_content(text: &mut String, content: Content) -> Result<(), AllocError> {
+/// A register that is a pointer into a map, after the word for it.
+fn next_map_value(text: &mut String, map: Numeral, offset: Range) -> Result<(), AllocError>
+    ensures { OnOk result (Adds (string_bytes text.old) (string_bytes text.new) (Number map ∷ the_range offset)) }
+{
+    next_number(text, map)?;
+    next_range(text, offset)
+}
+
+fn next_content(text: &mut String, content: Content) -> Result<(), AllocError>
+    ensures { OnOk result (Adds (string_bytes text.old) (string_bytes text.new) (the_content content)) }
+{
     match content {
         Content::Number(range) => {
             next(text, "number")?;
@@ -107,14 +182,15 @@ fn next_content(text: &mut String, content: Content) -> Result<(), AllocError> {
         }
         Content::Map { map, offset } => {
             next(text, "map")?;
-            next_number(text, map)?;
-            next_range(text, offset)
+            next_map_value(text, map, offset)
         }
     }
 }
 
 /// The width of the registers of a move that widens.
-fn extension_width(extension: Extension) -> Width {
+fn extension_width(extension: Extension) -> Width
+    ensures { result ≡ extension_width extension }
+{
     match extension {
         Extension::Byte(width) | Extension::Half(width) => width,
         Extension::Word => Width::Bits64,
@@ -122,70 +198,266 @@ fn extension_width(extension: Extension) -> Width {
 }
 
 /// An assignment to a register, as far as the `=`.
-fn assigned(text: &mut String, width: Width, target: Register) -> Result<(), AllocError> {
-    text.push_str(register_word(width, target))?;
+fn assigned(text: &mut String, width: Width, target: Register) -> Result<(), AllocError>
+    ensures { OnOk result (Starts (string_bytes text.old) (string_bytes text.new) (the_register width target ∷ Exactly (codes "=") ∷ [])) }
+{
+    first(text, register_word(width, target))?;
     next(text, "=")
 }
 
 /// A line whose words are a keyword and a number.
-fn keyword_number(text: &mut String, keyword: &str, number: Numeral) -> Result<(), AllocError> {
-    text.push_str(keyword)?;
+fn keyword_number(text: &mut String, keyword: &str, number: Numeral) -> Result<(), AllocError>
+    requires { is_word keyword.now ≡ true }
+    ensures { OnOk result (Starts (string_bytes text.old) (string_bytes text.new) (Exactly keyword.now ∷ Number number ∷ [])) }
+{
+    first(text, keyword)?;
     next_number(text, number)
 }
 
-/// The words of a line, with this name where it gives or uses a label.
-fn write_words(text: &mut String, line: Line, name: &str) -> Result<(), AllocError> {
+fn write_hook(text: &mut String, hook: Hook) -> Result<(), AllocError>
+    ensures { OnOk result (Starts (string_bytes text.old) (string_bytes text.new) (form_of (Line.Hook hook) [])) }
+{
+    first(text, "hook")?;
+    next(text, hook_word(hook))
+}
+
+/// A label: its name and a colon.
+fn write_label(text: &mut String, name: &str) -> Result<(), AllocError>
+    requires { is_name name.now ≡ true }
+    ensures { OnOk result (Starts (string_bytes text.old) (string_bytes text.new) (Definition name.now ∷ [])) }
+{
+    text.push_str(name)?;
+    text.push_str(":")
+}
+
+fn write_arithmetic(
+    text: &mut String,
+    width: Width,
+    operation: Operation,
+    target: Register,
+    source: Operand,
+) -> Result<(), AllocError>
+    ensures { OnOk result (Starts (string_bytes text.old) (string_bytes text.new) (form_of (Line.Arithmetic width operation target source) [])) }
+{
+    first(text, register_word(width, target))?;
+    next(text, operation_word(operation))?;
+    next_operand(text, width, source)
+}
+
+fn write_negate(text: &mut String, width: Width, target: Register) -> Result<(), AllocError>
+    ensures { OnOk result (Starts (string_bytes text.old) (string_bytes text.new) (form_of (Line.Negate width target) [])) }
+{
+    assigned(text, width, target)?;
+    next(text, "neg")
+}
+
+fn write_extend(
+    text: &mut String,
+    extension: Extension,
+    target: Register,
+    source: Register,
+) -> Result<(), AllocError>
+    ensures { OnOk result (Starts (string_bytes text.old) (string_bytes text.new) (form_of (Line.SignExtend extension target source) [])) }
+{
+    let width = extension_width(extension);
+    assigned(text, width, target)?;
+    next(text, extension_word(extension))?;
+    next_register(text, width, source)
+}
+
+fn write_reorder(
+    text: &mut String,
+    order: ByteOrder,
+    width: SwapWidth,
+    target: Register,
+) -> Result<(), AllocError>
+    ensures { OnOk result (Starts (string_bytes text.old) (string_bytes text.new) (form_of (Line.Reorder order width target) [])) }
+{
+    assigned(text, Width::Bits64, target)?;
+    next(text, reorder_word(order, width))
+}
+
+/// A jump without a condition, by its keyword.
+fn write_jump(
+    text: &mut String,
+    keyword: &str,
+    target: Target,
+    name: &str,
+) -> Result<(), AllocError>
+    requires keyword { is_word keyword.now ≡ true }
+    requires named { is_label target ≡ true → is_name name.now ≡ true }
+    ensures { OnOk result (Starts (string_bytes text.old) (string_bytes text.new) (Exactly keyword.now ∷ the_target target name.now ∷ [])) }
+{
+    first(text, keyword)?;
+    next_target(text, target, name)
+}
+
+/// The condition of a jump.
+fn write_condition(
+    text: &mut String,
+    width: Width,
+    test: Test,
+    left: Register,
+    right: Operand,
+) -> Result<(), AllocError>
+    ensures { OnOk result (Starts (string_bytes text.old) (string_bytes text.new) (Exactly (codes "if") ∷ the_register width left ∷ Exactly (test_word test) ∷ the_operand width right ∷ [])) }
+{
+    first(text, "if")?;
+    next_register(text, width, left)?;
+    next(text, test_word(test))?;
+    next_operand(text, width, right)
+}
+
+/// Where a conditional jump goes.
+fn write_goto(text: &mut String, target: Target, name: &str) -> Result<(), AllocError>
+    requires { is_label target ≡ true → is_name name.now ≡ true }
+    ensures { OnOk result (Adds (string_bytes text.old) (string_bytes text.new) (Exactly (codes "goto") ∷ the_target target name.now ∷ [])) }
+{
+    next(text, "goto")?;
+    next_target(text, target, name)
+}
+
+fn write_load(
+    text: &mut String,
+    size: LoadSize,
+    target: Register,
+    base: Register,
+    offset: Numeral,
+) -> Result<(), AllocError>
+    ensures { OnOk result (Starts (string_bytes text.old) (string_bytes text.new) (form_of (Line.Load size target base offset) [])) }
+{
+    assigned(text, Width::Bits64, target)?;
+    next(text, load_word(size))?;
+    next_register(text, Width::Bits64, base)?;
+    next_number(text, offset)
+}
+
+fn write_store(
+    text: &mut String,
+    size: StoreSize,
+    base: Register,
+    offset: Numeral,
+    source: Operand,
+) -> Result<(), AllocError>
+    ensures { OnOk result (Starts (string_bytes text.old) (string_bytes text.new) (form_of (Line.Store size base offset source) [])) }
+{
+    first(text, store_word(size))?;
+    next_register(text, Width::Bits64, base)?;
+    next_number(text, offset)?;
+    next(text, "=")?;
+    next_operand(text, Width::Bits64, source)
+}
+
+fn write_load_number(text: &mut String, target: Register, number: Numeral) -> Result<(), AllocError>
+    ensures { OnOk result (Starts (string_bytes text.old) (string_bytes text.new) (form_of (Line.LoadNumber target number) [])) }
+{
+    assigned(text, Width::Bits64, target)?;
+    next(text, "wide")?;
+    next_number(text, number)
+}
+
+fn write_load_map(
+    text: &mut String,
+    target: Register,
+    map: Numeral,
+    offset: Numeral,
+) -> Result<(), AllocError>
+    ensures { OnOk result (Starts (string_bytes text.old) (string_bytes text.new) (form_of (Line.LoadMap target map offset) [])) }
+{
+    assigned(text, Width::Bits64, target)?;
+    next(text, "map")?;
+    next_number(text, map)?;
+    next_number(text, offset)
+}
+
+fn write_state(
+    text: &mut String,
+    slot: Target,
+    constant: Numeral,
+    terms: Terms,
+    name: &str,
+) -> Result<(), AllocError>
+    requires { is_label slot ≡ true → is_name name.now ≡ true }
+    ensures { OnOk result (Starts (string_bytes text.old) (string_bytes text.new) (form_of (Line.State slot constant terms) name.now)) }
+{
+    first(text, "state")?;
+    next_slot(text, slot, name)?;
+    next(text, "rank")?;
+    next_number(text, constant)?;
+    next_terms(text, terms)
+}
+
+fn write_with(text: &mut String, register: Register, content: Content) -> Result<(), AllocError>
+    ensures { OnOk result (Starts (string_bytes text.old) (string_bytes text.new) (form_of (Line.With register content) [])) }
+{
+    first(text, "with")?;
+    next_register(text, Width::Bits64, register)?;
+    next_content(text, content)
+}
+
+fn write_bytes(text: &mut String, start: Numeral, end: Numeral) -> Result<(), AllocError>
+    ensures { OnOk result (Starts (string_bytes text.old) (string_bytes text.new) (form_of (Line.Bytes start end) [])) }
+{
+    keyword_number(text, "bytes", start)?;
+    next_number(text, end)
+}
+
+/// The words of an assignment to a register, of a load or of a store.
+fn write_data(text: &mut String, line: Line) -> Result<(), AllocError>
+    ensures { OnOk result (is_data line ≡ true → Starts (string_bytes text.old) (string_bytes text.new) (form_of line [])) }
+{
     match line {
-        Line::Empty => Ok(()),
-        Line::Hook(hook) => {
-            text.push_str("hook")?;
-            next(text, hook_word(hook))
-        }
-        Line::Rank(rank) => keyword_number(text, "rank", rank),
-        Line::Label => {
-            text.push_str(name)?;
-            text.push_str(":")
-        }
         Line::Arithmetic {
             width,
             operation,
             target,
             source,
-        } => {
-            text.push_str(register_word(width, target))?;
-            next(text, operation_word(operation))?;
-            next_operand(text, width, source)
-        }
-        Line::Negate { width, target } => {
-            assigned(text, width, target)?;
-            next(text, "neg")
-        }
+        } => write_arithmetic(text, width, operation, target, source),
+        Line::Negate { width, target } => write_negate(text, width, target),
         Line::SignExtend {
             extension,
             target,
             source,
-        } => {
-            let width = extension_width(extension);
-            assigned(text, width, target)?;
-            next(text, extension_word(extension))?;
-            next_register(text, width, source)
-        }
+        } => write_extend(text, extension, target, source),
         Line::Reorder {
             order,
             width,
             target,
-        } => {
-            assigned(text, Width::Bits64, target)?;
-            next(text, reorder_word(order, width))
-        }
-        Line::Jump(target) => {
-            text.push_str("goto")?;
-            next_target(text, target, name)
-        }
-        Line::LongJump(target) => {
-            text.push_str("gotol")?;
-            next_target(text, target, name)
-        }
+        } => write_reorder(text, order, width, target),
+        Line::Load {
+            size,
+            target,
+            base,
+            offset,
+        } => write_load(text, size, target, base, offset),
+        Line::Store {
+            size,
+            base,
+            offset,
+            source,
+        } => write_store(text, size, base, offset, source),
+        Line::LoadNumber { target, number } => write_load_number(text, target, number),
+        Line::LoadMap {
+            target,
+            map,
+            offset,
+        } => write_load_map(text, target, map, offset),
+        _ => Ok(()),
+    }
+}
+
+/// The words of a line, with this name where it gives or uses a label.
+fn write_words(text: &mut String, line: Line, name: &str) -> Result<(), AllocError>
+    requires { IsNamed line name.now }
+    ensures { OnOk result (Starts (string_bytes text.old) (string_bytes text.new) (form_of line name.now)) }
+{
+    match line {
+        Line::Empty => Ok(()),
+        Line::Hook(hook) => write_hook(text, hook),
+        Line::Rank(rank) => keyword_number(text, "rank", rank),
+        Line::Label => write_label(text, name),
+        Line::Jump(target) => write_jump(text, "goto", target, name),
+        Line::LongJump(target) => write_jump(text, "gotol", target, name),
         Line::Branch {
             width,
             test,
@@ -193,78 +465,31 @@ fn write_words(text: &mut String, line: Line, name: &str) -> Result<(), AllocErr
             right,
             target,
         } => {
-            text.push_str("if")?;
-            next_register(text, width, left)?;
-            next(text, test_word(test))?;
-            next_operand(text, width, right)?;
-            next(text, "goto")?;
-            next_target(text, target, name)
+            write_condition(text, width, test, left, right)?;
+            write_goto(text, target, name)
         }
         Line::Call(helper) => keyword_number(text, "call", helper),
-        Line::Exit => text.push_str("exit"),
-        Line::Load {
-            size,
-            target,
-            base,
-            offset,
-        } => {
-            assigned(text, Width::Bits64, target)?;
-            next(text, load_word(size))?;
-            next_register(text, Width::Bits64, base)?;
-            next_number(text, offset)
-        }
-        Line::Store {
-            size,
-            base,
-            offset,
-            source,
-        } => {
-            text.push_str(store_word(size))?;
-            next_register(text, Width::Bits64, base)?;
-            next_number(text, offset)?;
-            next(text, "=")?;
-            next_operand(text, Width::Bits64, source)
-        }
-        Line::LoadNumber { target, number } => {
-            assigned(text, Width::Bits64, target)?;
-            next(text, "wide")?;
-            next_number(text, number)
-        }
-        Line::LoadMap {
-            target,
-            map,
-            offset,
-        } => {
-            assigned(text, Width::Bits64, target)?;
-            next(text, "map")?;
-            next_number(text, map)?;
-            next_number(text, offset)
-        }
+        Line::Exit => first(text, "exit"),
         Line::State {
             slot,
             constant,
             terms,
-        } => {
-            text.push_str("state")?;
-            next_slot(text, slot, name)?;
-            next(text, "rank")?;
-            next_number(text, constant)?;
-            next_terms(text, terms)
-        }
-        Line::With { register, content } => {
-            text.push_str("with")?;
-            next_register(text, Width::Bits64, register)?;
-            next_content(text, content)
-        }
-        Line::Bytes { start, end } => {
-            keyword_number(text, "bytes", start)?;
-            next_number(text, end)
-        }
+        } => write_state(text, slot, constant, terms, name),
+        Line::With { register, content } => write_with(text, register, content),
+        Line::Bytes { start, end } => write_bytes(text, start, end),
+        _ => write_data(text, line),
     }
 }
 
-/// Writes a line at the text's end, with this name where it gives or uses a label, and a line feed behind it.
-pub fn write_line(text: &mut String, line: Line, name: &str) -> Result<(), AllocError> {
+/// Writes a line at the text's end, with this name where it gives or uses a label (else the name is to be empty), and a line feed behind it.
+///
+/// What `read_lines` finds in a text of whole lines it finds there afterwards too, and then this line. After an error the text is to be given up.
+pub fn write_line(text: &mut String, line: Line, name: &str) -> Result<(), AllocError>
+    requires { IsNamed line name.now }
+    ensures written { OnOk result (string_bytes text.new ≡ string_bytes text.old ++ line_text line name.now) }
+    ensures reads_back { OnOk result ((items : List (Line × Word)) → AreLines (string_bytes text.old) items → AreLines (string_bytes text.new) (items ++ (line, name.now) ∷ [])) }
+{
+    line.check_ranges();
     write_words(text, line, name)?;
     text.push_str("\n")
 }

@@ -1,8 +1,7 @@
-use Rattle.std.proofs.Common.{◌≡◌, ℕ, ◌<◌, ◌≤◌, ◌^◌, List, length, Bool, true, false, ◌&&◌, refl, sym, ap, ◌∙◌, arith, Some, rules}
-use Rattle.std.specs.Str.{all_ascii_digits}
+use Rattle.std.proofs.Common.{◌≡◌, length, true, refl, sym, rules}
 use Rattle.std.specs.Str.Parse.{digits_value}
 use Rattle.std.proofs.lemmas.Str.Parse.{parse_digits, numerals_by_value, tells_all_ascii_digits}
-use Rattle.asm_lines.specs.Numbers.{is_numeral, natural_of}
+use Rattle.asm_lines.specs.Numbers.{is_numeral}
 use Rattle.asm_lines.proofs.Numbers.{held_huge, is_digits, is_some, large}
 use Rattle.asm_lines.proofs.numeral.read_natural.Goals as goal
 

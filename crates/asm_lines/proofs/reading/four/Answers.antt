@@ -1,4 +1,4 @@
-use Rattle.std.proofs.Common.{[], ◌∷◌}
+use Rattle.std.proofs.Common.{[]}
 use Rattle.asm_lines.proofs.Seen.{if_some}
 use Rattle.asm_lines.proofs.reading.four.Goals as goal
 

@@ -1,6 +1,5 @@
 use Rattle.std.proofs.Common.{◌∙◌, sym, ap, subst, arith, List, [], refl}
 use Rattle.std.specs.Prelude.{IfSome}
-use denote.Ref.{Bor}
 use Rattle.asm_lines.specs.Forms.{Word}
 use Rattle.asm_lines.specs.Views.{SpellsItem}
 use Rattle.asm_lines.specs.Reading.{line_of}

@@ -1,4 +1,4 @@
-use Rattle.std.proofs.Common.{◌≡◌, ◌∙◌, ap, sym, Some}
+use Rattle.std.proofs.Common.{◌∙◌, ap, sym}
 use Rattle.asm_lines.specs.Forms.{Word}
 use Rattle.asm_lines.specs.declared.line.Line.{Line}
 use Rattle.asm_lines.proofs.Complete.{complete}

@@ -2,7 +2,7 @@ use Rattle.std.proofs.Common.{◌≡◌, ◌∙◌, ap, subst, List}
 use Rattle.asm_lines.specs.Forms.{Word, Spells}
 use Rattle.asm_lines.specs.Views.{views}
 use Rattle.asm_lines.specs.Reading.{line_of}
-use Rattle.asm_lines.specs.Text.{words_in, Reads}
+use Rattle.asm_lines.specs.Text.{words_in}
 use Rattle.asm_lines.proofs.Items.{adds, no_reading}
 use Rattle.asm_lines.proofs.reading.read_line.Goals as goal
 use Rattle.asm_lines.proofs.reading.read_line.Goals.{in-Some+in_ok-push-in-Some+in_ok-push-in-Some-2, in-None+in_ok-push-in-None+in_ok-push-in-None-2}

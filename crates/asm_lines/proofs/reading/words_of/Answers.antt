@@ -1,4 +1,4 @@
-use Rattle.std.proofs.Common.{◌≡◌, ◌∙◌, ap, List, lit<}
+use Rattle.std.proofs.Common.{◌∙◌, ap, List, lit<}
 use Rattle.std.specs.Prelude.{filter}
 use Rattle.std.proofs.lemmas.Iterator.Consumers.{YieldsList-end}
 use Rattle.std.proofs.lemmas.Iterator.Splits.{YieldsList-from_str_split}

@@ -1,7 +1,5 @@
-use Rattle.std.proofs.Common.{◌≡◌, map}
-use Rattle.std.specs.Prelude.{filter, length, not, ◌==◌}
-use denote.Ref.{Bor}
-use Rattle.asm_lines.specs.Forms.{Word}
+use Rattle.std.proofs.Common.{◌≡◌}
+use Rattle.std.specs.Prelude.{filter}
 use Rattle.asm_lines.specs.Views.{views}
 use Rattle.asm_lines.specs.Text.{has_bytes}
 use Rattle.asm_lines.proofs.reading.words_of.Given as goal

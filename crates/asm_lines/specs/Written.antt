@@ -1,0 +1,84 @@
+-- What a line is written as: a word for each part of its form, between single spaces.
+use Rattle.std.specs.Prelude.{◌≡◌, ℕ, ◌+◌, List, [], ◌∷◌, ◌++◌, map, Option, Some, Bool, true, false, not, ◌==◌, ◌&&◌, codes}
+use Rattle.std.specs.List.{list_all}
+use Rattle.std.specs.Fmt.{decimal}
+use Rattle.asm_lines.specs.declared.numeral.Numeral.{Numeral}
+use Rattle.asm_lines.specs.declared.numeral.Numeral.TheVariants as numerals
+use Rattle.asm_lines.specs.declared.line.Line.{Line}
+use Rattle.asm_lines.specs.Forms.{Word, Part, Exactly, Number, Distance, Name, Definition, Matches, form_of, names_label, is_name}
+use Rattle.asm_lines.specs.Text.{lines_in, Readings}
+
+-- A number that no field holds is written as 2 ^ 64.
+abbrev pub number_word : Numeral → Word
+number_word (numerals.Natural n) = decimal n
+number_word (numerals.Negative n) = 45 ∷ decimal (n + 1)
+number_word numerals.Huge = codes "18446744073709551616"
+
+abbrev pub distance_word : Numeral → Word
+distance_word (numerals.Natural n) = 43 ∷ decimal n
+distance_word (numerals.Negative n) = 45 ∷ decimal (n + 1)
+distance_word numerals.Huge = codes "+18446744073709551616"
+
+abbrev pub part_word : Part → Word
+part_word (Exactly text) = text
+part_word (Number n) = number_word n
+part_word (Distance n) = distance_word n
+part_word (Name name) = name
+part_word (Definition name) = name ++ 58 ∷ []
+
+-- the words, each with a space (32) before it
+abbrev pub followed : List Part → List ℕ
+followed [] = []
+followed (part ∷ parts) = 32 ∷ (part_word part ++ followed parts)
+
+-- the words between single spaces
+abbrev pub spaced : List Part → List ℕ
+spaced [] = []
+spaced (part ∷ parts) = part_word part ++ followed parts
+
+-- the bytes of a line, with a line feed (10) at their end
+abbrev pub line_text : Line → Word → List ℕ
+line_text line name = spaced (form_of line name) ++ 10 ∷ []
+
+-- Where the line gives or uses a label, this is a label's name; else it is empty.
+abbrev pub IsNamed : Line → Word → Type 0
+IsNamed line name = (names_label line ≡ true → is_name name ≡ true) × (names_label line ≡ false → name ≡ [])
+
+-- ---- one word: neither empty nor cut by a space or a line feed
+
+abbrev pub is_inner : ℕ → Bool
+is_inner c = not (c == 32) && not (c == 10)
+
+abbrev pub is_word : Word → Bool
+is_word [] = false
+is_word (c ∷ cs) = is_inner c && list_all is_inner cs
+
+-- The part is written as one word, which matches it.
+pub record IsWritten (part : Part) : Type 0 where
+  pub one_word : is_word (part_word part) ≡ true
+  pub matches : Matches part (part_word part)
+
+abbrev pub AreWritten : List Part → Type 0
+AreWritten [] = Unit {0}
+AreWritten (part ∷ parts) = IsWritten part × AreWritten parts
+
+-- New is old and these parts behind it, each with a space before it.
+pub record Adds (old new : List ℕ) (parts : List Part) : Type 0 where
+  pub bytes : new ≡ old ++ followed parts
+  pub written : AreWritten parts
+
+-- New is old and these parts behind it, with spaces between them.
+pub record Starts (old new : List ℕ) (parts : List Part) : Type 0 where
+  pub bytes : new ≡ old ++ spaced parts
+  pub written : AreWritten parts
+
+-- ---- whole texts
+
+abbrev pub some_reading : Line × Word → Option (Line × Word)
+some_reading item = Some item
+
+-- The text is these lines, each with a line feed at its end.
+pub record AreLines (text : List ℕ) (items : List (Line × Word)) : Type 0 where
+  pub front : List (List ℕ)
+  pub lines : lines_in text ≡ front ++ [] ∷ []
+  pub read : Readings front (map some_reading items)
