@@ -6,3 +6,6 @@ pub mod Packings
 pub mod Rooms
 pub mod Worlds
 pub mod Worked
+pub mod Links
+pub mod Distinct
+pub mod Whole

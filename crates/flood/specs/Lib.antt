@@ -15,3 +15,5 @@ pub mod PackingLaws
 pub mod Worlds
 pub mod Worked
 pub mod Laws
+pub mod Numbers
+pub mod Seen

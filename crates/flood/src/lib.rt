@@ -1,7 +1,18 @@
-//! The router as a machine over events: what an event makes of it, and what it sends (RFC 2328).
+//! The router as a machine over events (RFC 2328): moments and bytes in, bytes out, nothing else.
+//!
+//! [`Core`] takes one [`Event`] after the other, each with its moment, and answers what is to be sent. So far it runs the Hello protocol
+//! alone (sections 9.5, 10.3 and 10.5): a neighbor is Down or in Init, and there are no LSAs.
 #![tactic(auto)]
 
+mod hello;
 pub mod laws;
+mod link;
 mod model;
+mod profile;
+mod router;
+#[cfg(test)]
+mod tests;
 
+pub use adjacency::{Interface, State};
 pub use model::{Config, ConfigError, CoreError, Event, Out};
+pub use router::Core;
