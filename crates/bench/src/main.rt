@@ -1,8 +1,7 @@
-//! Figures of speed, printed on demand: `bench run`, `bench decode`, `bench maps`, `bench object`. With no words it prints nothing.
+//! Figures of speed, printed on demand: `bench run`, `bench decode`, `bench maps`. With no words it prints nothing.
 #![tactic(auto)]
 
 mod maps_speed;
-mod object_speed;
 mod programs;
 mod run_speed;
 
@@ -21,7 +20,6 @@ fn measure<R: Clock + Print + AllocGlobal + Threads + Sync>(
         "run" => run_speed::print(rt)?,
         "decode" => run_speed::print_decode(rt)?,
         "maps" => maps_speed::print(rt)?,
-        "object" => object_speed::print(rt)?,
         _ => return Ok(false),
     }
     Ok(true)
@@ -41,6 +39,6 @@ fn main(rt: HostRuntime) -> anyhow::Result<ExitCode> {
     if measure(&rt, name.as_str())? {
         return Ok(ExitCode::SUCCESS);
     }
-    eprintln!(rt; "usage: bench run | decode | maps | object")?;
+    eprintln!(rt; "usage: bench run | decode | maps")?;
     Ok(ExitCode::from(2))
 }
