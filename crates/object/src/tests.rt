@@ -98,9 +98,10 @@ fn longer() -> [u8; 549] {
 fn refuses_files_of_other_lengths(rt: HostRuntime) -> Result<(), Fail> {
     let bytes = counting();
     assert!(rt; refusal(rt.alloc(), &[])? == 1);
-    assert!(rt; refusal(rt.alloc(), &bytes[..15])? == 1);
-    assert!(rt; refusal(rt.alloc(), &bytes[..16])? == 1);
-    assert!(rt; refusal(rt.alloc(), &bytes[..547])? == 1);
+    for count in [15, 16, 547] {
+        let front = bytes.get(..count).expect(&rt, "a front");
+        assert!(rt; refusal(rt.alloc(), front)? == 1);
+    }
     assert!(rt; refusal(rt.alloc(), &bytes)? == 0);
     assert!(rt; refusal(rt.alloc(), &longer())? == 7);
     Ok(())

@@ -466,16 +466,16 @@ fn expect_run<R: Files + AllocGlobal + Threads + Sync + Env + Abort>(
     Ok(())
 }
 
-const EXIT: [u8; 8] = [0x95, 0, 0, 0, 0, 0, 0, 0];
+const EXIT_SLOT: [u8; 8] = [0x95, 0, 0, 0, 0, 0, 0, 0];
 
 #[test]
 fn an_object_prints_its_answer(rt: HostRuntime) -> Result<(), Fail> {
     let id = process::id(rt.process());
     let sum = counting();
     expect_run(&rt, id, &sum, "-", "-", 0, "answer 55 used 33\n")?;
-    let seven = small(0, [0xb7, 0, 0, 0, 7, 0, 0, 0], EXIT);
+    let seven = small(0, [0xb7, 0, 0, 0, 7, 0, 0, 0], EXIT_SLOT);
     expect_run(&rt, id, &seven, "-", "-", 0, "answer 7 used 2\n")?;
-    let loads = small(0, [0x71, 0x10, 63, 0, 0, 0, 0, 0], EXIT);
+    let loads = small(0, [0x71, 0x10, 63, 0, 0, 0, 0, 0], EXIT_SLOT);
     expect_run(&rt, id, &loads, "-", "0aFF", 0, "answer 0 used 2\n")?;
     let mut context = String::new(rt.alloc());
     for _ in 0..63 {
@@ -491,9 +491,9 @@ fn an_object_prints_its_answer(rt: HostRuntime) -> Result<(), Fail> {
         0,
         "answer 254 used 2\n",
     )?;
-    let forever = small(3, [0x05, 0, 0xff, 0xff, 0, 0, 0, 0], EXIT);
+    let forever = small(3, [0x05, 0, 0xff, 0xff, 0, 0, 0, 0], EXIT_SLOT);
     expect_run(&rt, id, &forever, "-", "-", 1, "trap 11\n")?;
-    let empty = small(0, EXIT, EXIT);
+    let empty = small(0, EXIT_SLOT, EXIT_SLOT);
     expect_run(&rt, id, &empty, "-", "-", 1, "trap 3\n")
 }
 
@@ -502,11 +502,19 @@ fn an_object_that_is_none_is_refused(rt: HostRuntime) -> Result<(), Fail> {
     let id = process::id(rt.process());
     let sum = counting();
     expect_run(&rt, id, &[], "-", "-", 1, "object refusal 1\n")?;
-    expect_run(&rt, id, &sum[..547], "-", "-", 1, "object refusal 1\n")?;
+    expect_run(
+        &rt,
+        id,
+        sum.get(..547).expect(&rt, "a front"),
+        "-",
+        "-",
+        1,
+        "object refusal 1\n",
+    )?;
     let mut wrong = sum;
     wrong[4] = 2;
     expect_run(&rt, id, &wrong, "-", "-", 1, "object refusal 3\n")?;
-    let unlisted = small(0, EXIT, [0xff, 0, 0, 0, 0, 0, 0, 0]);
+    let unlisted = small(0, EXIT_SLOT, [0xff, 0, 0, 0, 0, 0, 0, 0]);
     expect_run(&rt, id, &unlisted, "-", "-", 1, "code refusal 2 slot 1\n")?;
     for (context, packet) in [
         ("0", "-"),
