@@ -87,17 +87,23 @@ fn reads_and_writes_an_object_without_statements(rt: HostRuntime) -> Result<(), 
     Ok(())
 }
 
+/// The counting program's object with a byte behind it.
+fn longer() -> [u8; 549] {
+    let mut bytes = [0; 549];
+    bytes[..548].copy_from_slice(&counting());
+    bytes
+}
+
 #[test]
 fn refuses_files_of_other_lengths(rt: HostRuntime) -> Result<(), Fail> {
     let bytes = counting();
     assert!(rt; refusal(rt.alloc(), &[])? == 1);
-    assert!(rt; refusal(rt.alloc(), &bytes[..15])? == 1);
-    assert!(rt; refusal(rt.alloc(), &bytes[..16])? == 1);
-    assert!(rt; refusal(rt.alloc(), &bytes[..547])? == 1);
+    for count in [15, 16, 547] {
+        let front = bytes.get(..count).expect(&rt, "a front");
+        assert!(rt; refusal(rt.alloc(), front)? == 1);
+    }
     assert!(rt; refusal(rt.alloc(), &bytes)? == 0);
-    let mut longer = [0; 549];
-    longer[..548].copy_from_slice(&bytes);
-    assert!(rt; refusal(rt.alloc(), &longer)? == 7);
+    assert!(rt; refusal(rt.alloc(), &longer())? == 7);
     Ok(())
 }
 
@@ -210,18 +216,24 @@ const PAIRS: [(u8, u8, u8, u8, u8); 7] = [
     (2, 2, 0, 1, 5),
 ];
 
+/// The counting program's object with its statement twice, at these slots and with these values in a byte that isn't used.
+fn pair(first: u8, second: u8, first_unused: u8, second_unused: u8) -> [u8; 1032] {
+    let one = counting();
+    let mut bytes = [0; 1032];
+    bytes[..548].copy_from_slice(&one);
+    bytes[548..].copy_from_slice(&one[64..]);
+    bytes[6] = 2;
+    bytes[64] = first;
+    bytes[74] = first_unused;
+    bytes[548] = second;
+    bytes[558] = second_unused;
+    bytes
+}
+
 #[test]
 fn refuses_the_first_fault_of_two_statements(rt: HostRuntime) -> Result<(), Fail> {
-    let one = counting();
     for (first, second, first_unused, second_unused, want) in PAIRS {
-        let mut bytes = [0; 1032];
-        bytes[..548].copy_from_slice(&one);
-        bytes[548..].copy_from_slice(&one[64..]);
-        bytes[6] = 2;
-        bytes[64] = first;
-        bytes[74] = first_unused;
-        bytes[548] = second;
-        bytes[558] = second_unused;
+        let bytes = pair(first, second, first_unused, second_unused);
         let found = refusal(rt.alloc(), &bytes)?;
         assert!(rt; found == want, "slots {first} and {second}: {found}");
     }

@@ -7,6 +7,9 @@ use Rattle.isa.specs.declared.decoding.DecodeError.{DecodeError}
 use Rattle.isa.specs.declared.decoding.DecodeFault.{DecodeFault}
 use Rattle.isa.specs.declared.decoding.DecodeFault.TheVariants as decoding
 use Rattle.isa.specs.Refusals.{fault_number}
+use Rattle.object.specs.declared.error.ReadError.{ReadError}
+use Rattle.object.specs.declared.error.ReadError.TheVariants as reading
+use Rattle.object.specs.Refusals.{error_number}
 use Rattle.routerd.specs.declared.fault.Fault.{Fault}
 use Rattle.routerd.specs.declared.fault.Fault.TheVariants as faults
 
@@ -19,6 +22,7 @@ status_of_usage other = 2
 abbrev pub status_of : Fault → ℕ
 status_of (faults.Read path) = 3
 status_of (faults.Code number slot) = 1
+status_of (faults.Object number) = 1
 status_of (faults.Usage error) = status_of_usage (kind_of error)
 status_of faults.Output = 3
 status_of faults.Memory = 4
@@ -30,3 +34,8 @@ fault_of_kind kind slot = faults.Code (fault_number kind) slot
 
 abbrev pub fault_of_refusal : DecodeError → Fault
 fault_of_refusal error = fault_of_kind error.kind error.slot
+
+-- What is told of bytes that are no object file: the number of the refusal, or want of memory.
+abbrev pub fault_of_object : ReadError → Fault
+fault_of_object reading.Memory = faults.Memory
+fault_of_object error = faults.Object (error_number error)

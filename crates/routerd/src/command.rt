@@ -1,21 +1,32 @@
 //! The command line: its words, and what they ask for.
 
-ghost use Rattle.std.specs.Prelude.{◌≡◌, IfSome, Some};
+ghost use Rattle.std.specs.Prelude.{◌≡◌, ◌≢◌, ◌⊎◌, [], codes, replicate, IfSome, MatchResult, Err, Ok, Some};
+ghost use Rattle.std.specs.Result.{result_ok};
+ghost use Rattle.hex.specs.declared.error.FromHexError.TheVariants.{OutOfMemory};
+ghost use Rattle.hex.specs.Hex.{decode_of, decode_sized};
 ghost use Rattle.isa.specs.declared.hook.Hook.{Hook};
 ghost use Rattle.routerd.specs.Words.{hook_name};
 
+use clap::error::ErrorKind;
 use clap::{Arg, ArgMatches, Command, Error, value_parser};
+use hex::{FromHex, FromHexError};
 use isa::Hook;
 use std::alloc::{AllocError, Global};
 
 /// What the words of a command line ask for.
-#[derive(Clone, Copy, Debug)]
+#[derive(Debug, Drop)]
 pub enum Request<'a> {
     /// Run bare code once on each of `seats` threads.
     Raw {
         hook: Hook,
         file: &'a str,
         seats: usize,
+    },
+    /// Run the program of an object file once, on this context and packet.
+    Run {
+        object: &'a str,
+        context: [u8; 64],
+        packet: Vec<u8>,
     },
 }
 
@@ -25,6 +36,11 @@ const RAW: &str =
     "Runs bare code (slots of 8 bytes) once on each of SEATS threads, all on the same counters, and prints each answer and each counter above 0";
 
 const RAW_EXAMPLE: &str = "Example: routerd raw count adds.bin 2";
+
+const RUN: &str =
+    "Runs the program of an object file once, on no table rows, and prints its answer and how many instructions it took";
+
+const RUN_EXAMPLE: &str = "Example: routerd run sum.o - -";
 
 const STATUSES: &str = "Statuses: 0 done, 1 refused or stuck, 2 usage, 3 file or socket, 4 memory.";
 
@@ -53,13 +69,34 @@ fn raw<'a>(alloc: Global) -> Result<Command<'a>, AllocError> {
         .arg(seats)
 }
 
+fn run<'a>(alloc: Global) -> Result<Command<'a>, AllocError> {
+    let object = required(alloc, "OBJECT", "The object file");
+    let context = required(
+        alloc,
+        "CONTEXT",
+        "The 64 bytes of the context as 128 hex digits, or - for zeros",
+    );
+    let packet = required(
+        alloc,
+        "PACKET",
+        "The bytes of the packet in hex digits, or - for none",
+    );
+    Command::new(alloc, "run")
+        .about(RUN)
+        .after_help(RUN_EXAMPLE)
+        .arg(object)?
+        .arg(context)?
+        .arg(packet)
+}
+
 fn whole<'a>(alloc: Global) -> Result<Command<'a>, AllocError> {
     Command::new(alloc, "routerd")
         .about(ABOUT)
         .after_help(STATUSES)
         .subcommand_required(true)
         .arg_required_else_help(true)
-        .subcommand(raw(alloc)?)
+        .subcommand(raw(alloc)?)?
+        .subcommand(run(alloc)?)
 }
 
 fn hook_named(name: &str) -> Option<Hook>
@@ -86,10 +123,68 @@ fn raw_request<'a>(matches: &ArgMatches<'a>) -> Option<Request<'a>> {
     })
 }
 
-fn request_of<'a>(matches: &ArgMatches<'a>) -> Option<Request<'a>> {
-    match matches.subcommand()? {
-        ("raw", matches) => raw_request(matches),
-        _ => None,
+/// The context that a word stands for: zeros for `-`, else 64 bytes in hex. None where it is neither.
+fn context_of(word: &str) -> Option<[u8; 64]>
+    ensures dash { word.now ≡ codes "-" → result ≡ Some (replicate 64 0) }
+    ensures hex { word.now ≢ codes "-" → result ≡ result_ok (decode_sized word.now 64) }
+{
+    if word == "-" {
+        return Some([0; 64]);
+    }
+    <[u8; 64] as FromHex>::from_hex(word).ok()
+}
+
+/// The packet that a word stands for: none for `-`, else bytes in hex.
+fn packet_of(alloc: Global, word: &str) -> Result<Vec<u8>, FromHexError>
+    ensures dash { word.now ≡ codes "-" → MatchResult result (λ bytes. bytes.items ≡ []) (λ _. ⊥) }
+    ensures hex { word.now ≢ codes "-" → MatchResult result (λ bytes. decode_of word.now ≡ Ok bytes.items) (λ e. (e ≡ OutOfMemory) ⊎ (decode_of word.now ≡ Err e)) }
+{
+    if word == "-" {
+        return Ok(Vec::new(alloc));
+    }
+    hex::decode(alloc, word)
+}
+
+fn wrong_value(alloc: Global, text: &str) -> Result<Error, AllocError> {
+    whole(alloc)?.error(ErrorKind::InvalidValue, text)
+}
+
+fn run_request<'a>(
+    alloc: Global,
+    object: &'a str,
+    context: &str,
+    packet: &str,
+) -> Result<Request<'a>, Error> {
+    let Some(context) = context_of(context) else {
+        return Err(wrong_value(alloc, "CONTEXT is neither - nor 128 hex digits")?);
+    };
+    match packet_of(alloc, packet) {
+        Ok(packet) => Ok(Request::Run {
+            object,
+            context,
+            packet,
+        }),
+        Err(FromHexError::OutOfMemory) => Err(Error::from(AllocError)),
+        Err(_) => Err(wrong_value(alloc, "PACKET is neither - nor hex digits, two a byte")?),
+    }
+}
+
+// What the words of a command ask for. None where no command is given.
+fn request_of<'a>(alloc: Global, matches: &ArgMatches<'a>) -> Result<Option<Request<'a>>, Error> {
+    match matches.subcommand() {
+        Some(("raw", matches)) => Ok(raw_request(matches)),
+        Some(("run", matches)) => {
+            let object = matches.get_str("OBJECT");
+            let context = matches.get_str("CONTEXT");
+            let packet = matches.get_str("PACKET");
+            match (object, context, packet) {
+                (Some(object), Some(context), Some(packet)) => {
+                    Ok(Some(run_request(alloc, object, context, packet)?))
+                }
+                _ => Ok(None),
+            }
+        }
+        _ => Ok(None),
     }
 }
 
@@ -99,11 +194,8 @@ fn request_of<'a>(matches: &ArgMatches<'a>) -> Option<Request<'a>> {
 /// is want of memory where an allocation was refused.
 pub fn parse<'a>(alloc: Global, words: &'a [&'a str]) -> Result<Request<'a>, Error> {
     let matches = whole(alloc)?.try_get_matches_from(words)?;
-    match request_of(&matches) {
+    match request_of(alloc, &matches)? {
         Some(request) => Ok(request),
-        None => Err(whole(alloc)?.error(
-            clap::error::ErrorKind::MissingSubcommand,
-            "no command is given",
-        )?),
+        None => Err(whole(alloc)?.error(ErrorKind::MissingSubcommand, "no command is given")?),
     }
 }

@@ -1,9 +1,10 @@
 ghost use Rattle.std.specs.Prelude.{◌≡◌, ◌≤◌};
-ghost use Rattle.routerd.specs.Statuses.{status_of, fault_of_refusal};
+ghost use Rattle.routerd.specs.Statuses.{fault_of_object, fault_of_refusal, status_of};
 
 use clap::error::ErrorKind;
 use isa::DecodeError;
 use maps::MapsError;
+use object::ReadError;
 use std::alloc::{AllocError, AllocFailed};
 use std::io;
 use thiserror::Error;
@@ -28,6 +29,9 @@ pub enum Fault<'a> {
     /// Bytes that are no code: the number of the refusal, and the slot of the first bad instruction.
     #[error("code refusal {number} slot {slot}")]
     Code { number: u8, slot: u64 },
+    /// Bytes that are no object file: the number of the refusal.
+    #[error("object refusal {number}")]
+    Object { number: u8 },
     /// The words of the command line are wrong: the text says how.
     #[error("{0}")]
     Usage(clap::Error),
@@ -65,6 +69,19 @@ impl<'a> From<DecodeError> for Fault<'a> {
     }
 }
 
+impl<'a> From<ReadError> for Fault<'a> {
+    ghost from_gives = { λ error fault. fault ≡ fault_of_object error };
+
+    fn from(error: ReadError) -> Fault<'a> {
+        match error {
+            ReadError::Memory => Fault::Memory,
+            error => Fault::Object {
+                number: error.number(),
+            },
+        }
+    }
+}
+
 impl<'a> From<MapsError> for Fault<'a> {
     // The number of seats was judged with the words.
     fn from(_error: MapsError) -> Fault<'a> {
@@ -89,7 +106,7 @@ impl<'a> Fault<'a> {
     {
         match self {
             Fault::Read { .. } | Fault::Output => OUTSIDE,
-            Fault::Code { .. } => REFUSED,
+            Fault::Code { .. } | Fault::Object { .. } => REFUSED,
             Fault::Usage(error) if error.use_stderr() => USAGE,
             Fault::Usage(_) => DONE,
             Fault::Memory => MEMORY,

@@ -6,6 +6,7 @@ mod fault;
 mod files;
 mod program;
 mod raw;
+mod run;
 #[cfg(test)]
 mod tests;
 

@@ -4,7 +4,7 @@ ghost use Rattle.std.specs.Prelude.{◌≤◌, IfOk};
 
 use crate::command::{self, Request};
 use crate::fault::{DONE, Fault, REFUSED};
-use crate::raw;
+use crate::{raw, run};
 use std::io::{BufRead, Write};
 use std::rt::Files;
 use std::thread::Threads;
@@ -16,12 +16,15 @@ fn answer<'a, R: Files + AllocGlobal + Threads + Sync>(
 ) -> Result<(String, u8), Fault<'a>>
     ensures { IfOk result (λ told. told.1 ≤ 1) }
 {
-    match command::parse(rt.alloc(), words)? {
-        Request::Raw { hook, file, seats } => {
-            let report = raw::raw(rt, hook, file, seats)?;
-            Ok((report.text, if report.is_stuck { REFUSED } else { DONE }))
-        }
-    }
+    let report = match command::parse(rt.alloc(), words)? {
+        Request::Raw { hook, file, seats } => raw::raw(rt, hook, file, seats)?,
+        Request::Run {
+            object,
+            context,
+            packet,
+        } => run::run(rt, object, context, packet)?,
+    };
+    Ok((report.text, if report.is_stuck { REFUSED } else { DONE }))
 }
 
 // The text of a fault goes to the second writer where it is clap's, and else to the first.

@@ -415,3 +415,129 @@ fn a_file_that_is_not_there_cant_be_read(rt: HostRuntime) -> Result<(), Fail> {
     assert!(rt; outcome.lines.as_str() == line.as_str());
     Ok(())
 }
+
+/// The object of the counting program: `r1 = 10; r0 = 0; r0 += r1; r1 += -1; if r1 != 0 goto -3; exit` at `price`, entry rank 10, with
+/// slot 2 stated: rank `r1 * 1`, r0 any number, r1 from 1 to 10.
+fn counting() -> [u8; 548] {
+    let mut bytes = [0; 548];
+    bytes[..64].copy_from_slice(&[
+        0x42, 0x50, 0x46, 0x48, 1, 3, 1, 0, 10, 0, 0, 0, 6, 0, 0, 0, 0xb7, 1, 0, 0, 10, 0, 0, 0,
+        0xb7, 0, 0, 0, 0, 0, 0, 0, 0x0f, 0x10, 0, 0, 0, 0, 0, 0, 7, 1, 0, 0, 255, 255, 255, 255,
+        0x55, 1, 0xfd, 0xff, 0, 0, 0, 0, 0x95, 0, 0, 0, 0, 0, 0, 0,
+    ]);
+    bytes[64] = 2;
+    bytes[72] = 1;
+    bytes[76] = 1;
+    bytes[148] = 1;
+    bytes[164..172].copy_from_slice(&[255; 8]);
+    bytes[188] = 1;
+    bytes[196] = 1;
+    bytes[204] = 10;
+    bytes
+}
+
+/// The object of `hook count; rank B` and two instructions.
+fn small(rank: u8, first: [u8; 8], second: [u8; 8]) -> [u8; 32] {
+    let mut bytes = [0; 32];
+    bytes[..16].copy_from_slice(&[
+        0x42, 0x50, 0x46, 0x48, 1, 1, 0, 0, rank, 0, 0, 0, 2, 0, 0, 0,
+    ]);
+    bytes[16..24].copy_from_slice(&first);
+    bytes[24..].copy_from_slice(&second);
+    bytes
+}
+
+fn expect_run<R: Files + AllocGlobal + Threads + Sync + Env + Abort>(
+    rt: &R,
+    id: u32,
+    object: &[u8],
+    context: &str,
+    packet: &str,
+    status: u8,
+    lines: &str,
+) -> Result<(), Fail> {
+    let path = path_for(rt, id, "object")?;
+    fs::write(rt, path.as_str(), object)?;
+    let outcome = run(rt, &["routerd", "run", path.as_str(), context, packet])?;
+    fs::remove_file(rt, path.as_str())?;
+    let got = outcome.lines.as_str();
+    assert!(rt; got == lines, "{got}");
+    assert_eq!(rt; outcome.status, status, "{lines}");
+    Ok(())
+}
+
+const EXIT_SLOT: [u8; 8] = [0x95, 0, 0, 0, 0, 0, 0, 0];
+
+#[test]
+fn an_object_prints_its_answer(rt: HostRuntime) -> Result<(), Fail> {
+    let id = process::id(rt.process());
+    let sum = counting();
+    expect_run(&rt, id, &sum, "-", "-", 0, "answer 55 used 33\n")?;
+    let seven = small(0, [0xb7, 0, 0, 0, 7, 0, 0, 0], EXIT_SLOT);
+    expect_run(&rt, id, &seven, "-", "-", 0, "answer 7 used 2\n")?;
+    let loads = small(0, [0x71, 0x10, 63, 0, 0, 0, 0, 0], EXIT_SLOT);
+    expect_run(&rt, id, &loads, "-", "0aFF", 0, "answer 0 used 2\n")?;
+    let mut context = String::new(rt.alloc());
+    for _ in 0..63 {
+        context.push_str("00")?;
+    }
+    context.push_str("fE")?;
+    expect_run(
+        &rt,
+        id,
+        &loads,
+        context.as_str(),
+        "-",
+        0,
+        "answer 254 used 2\n",
+    )?;
+    let forever = small(3, [0x05, 0, 0xff, 0xff, 0, 0, 0, 0], EXIT_SLOT);
+    expect_run(&rt, id, &forever, "-", "-", 1, "trap 11\n")?;
+    let empty = small(0, EXIT_SLOT, EXIT_SLOT);
+    expect_run(&rt, id, &empty, "-", "-", 1, "trap 3\n")
+}
+
+#[test]
+fn an_object_that_is_none_is_refused(rt: HostRuntime) -> Result<(), Fail> {
+    let id = process::id(rt.process());
+    let sum = counting();
+    expect_run(&rt, id, &[], "-", "-", 1, "object refusal 1\n")?;
+    expect_run(
+        &rt,
+        id,
+        sum.get(..547).expect(&rt, "a front"),
+        "-",
+        "-",
+        1,
+        "object refusal 1\n",
+    )?;
+    let mut wrong = sum;
+    wrong[4] = 2;
+    expect_run(&rt, id, &wrong, "-", "-", 1, "object refusal 3\n")?;
+    let unlisted = small(0, EXIT_SLOT, [0xff, 0, 0, 0, 0, 0, 0, 0]);
+    expect_run(&rt, id, &unlisted, "-", "-", 1, "code refusal 2 slot 1\n")?;
+    for (context, packet) in [
+        ("0", "-"),
+        ("00", "-"),
+        ("-", "0"),
+        ("-", "0g"),
+        ("--", "-"),
+    ] {
+        expect_run(&rt, id, &sum, context, packet, 2, "")?;
+    }
+    let path = path_for(&rt, id, "missing")?;
+    let path = path.as_str();
+    let outcome = run(&rt, &["routerd", "run", path, "-", "-"])?;
+    assert_eq!(rt; outcome.status, 3);
+    let line = format!(in rt.alloc(); "cannot read {path}\n")?;
+    assert!(rt; outcome.lines.as_str() == line.as_str());
+    let outcome = run(&rt, &["routerd", "run", "--help"])?;
+    assert_eq!(rt; outcome.status, 0);
+    assert!(rt;
+        outcome
+            .usage
+            .as_str()
+            .contains("Example: routerd run sum.o - -")
+    );
+    Ok(())
+}

@@ -1,0 +1,77 @@
+//! One run of an object's program.
+
+ghost use Rattle.std.specs.Prelude.{◌≡◌, ◌+◌, ◌*◌, min};
+ghost use Rattle.object.specs.Objects.{slots_of};
+
+use crate::fault::Fault;
+use crate::files;
+use crate::raw::Report;
+use interp::{Run, Trap, run_checked};
+use isa::decode;
+use machine::Input;
+use maps::Shared;
+use object::Object;
+use std::alloc::{AllocError, Global};
+use std::rt::Files;
+use words::Sequence;
+
+/// How many instructions a run may take at most.
+const LIMIT: u64 = 1_000_000;
+
+/// How many instructions the object's program may take: as many slots as it has, once and once more for each rank below the entry's, and
+/// at most a million.
+fn limit(object: &Object) -> u64
+    ensures { result ≡ min ((object.now.entry_rank + 1) * slots_of object.now) 1000000 }
+{
+    let passes = u64::from(object.entry_rank()) + 1;
+    (passes * object.slots() as u64).min(LIMIT)
+}
+
+fn text_of(alloc: Global, outcome: Result<Run, Trap>) -> Result<String, AllocError> {
+    match outcome {
+        Ok(run) => {
+            let answer = run.answer;
+            let used = run.used;
+            format!(in alloc; "answer {answer} used {used}\n")
+        }
+        Err(trap) => {
+            let trap = trap.number();
+            format!(in alloc; "trap {trap}\n")
+        }
+    }
+}
+
+/// Runs the program of the object file at `path` once at its hook, on this context and packet and no table rows, with counters and cells
+/// of its own.
+///
+/// A fault where the file can't be read, is no object file, holds no code, or memory is refused.
+pub fn run<'a, R: Files + AllocGlobal>(
+    rt: &R,
+    path: &'a str,
+    context: [u8; 64],
+    packet: Vec<u8>,
+) -> Result<Report, Fault<'a>> {
+    let alloc = rt.alloc();
+    let bytes = files::read(rt, path)?;
+    let object = object::read(alloc, bytes.as_slice())?;
+    let code = decode(alloc, object.code())?;
+    let (shared, mut seats) = Shared::new(alloc, 1)?;
+    let mut seat = seats.remove(0);
+    let input = Input {
+        context,
+        packet: Sequence::from_vec(packet),
+        rows: Sequence::from_vec(Vec::new(alloc)),
+    };
+    let outcome = run_checked(
+        &code,
+        object.hook(),
+        limit(&object),
+        &input,
+        &shared,
+        &mut seat,
+    );
+    Ok(Report {
+        text: text_of(alloc, outcome)?,
+        is_stuck: outcome.is_err(),
+    })
+}
