@@ -6,6 +6,9 @@ pub mod Packings
 pub mod Rooms
 pub mod Worlds
 pub mod Worked
+pub mod WorkedLinks
+pub mod WorkedEnds
+pub mod WorkedUpdates
 pub mod Links
 pub mod Distinct
 pub mod Whole

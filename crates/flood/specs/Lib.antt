@@ -14,6 +14,7 @@ pub mod Bare
 pub mod PackingLaws
 pub mod Worlds
 pub mod Worked
+pub mod WorkedUpdates
 pub mod Laws
 pub mod Numbers
 pub mod Seen

@@ -2,6 +2,7 @@
 ghost use Rattle.flood.specs.Laws.{EventsAreDetermined, HellosAloneAreTheHelloProtocol};
 ghost use Rattle.flood.specs.PackingLaws.{OutsAreOrderedAndPacked};
 ghost use Rattle.flood.specs.Worked.{WorkedEvents};
+ghost use Rattle.flood.specs.WorkedUpdates.{ANewLsaComesTwice};
 ghost use Rattle.flood.specs.Worlds.{AcknowledgedWasReceived};
 
 /// An event has one outcome: what it makes of a router, and what the router sends, leave nothing to choose.
@@ -31,4 +32,10 @@ pub fn acknowledged_was_received()
 /// renewal, the end of the sequence numbers, and ages of what is sent.
 pub fn worked_events()
     ensures { WorkedEvents }
+{}
+
+/// A worked event: an Update with a new LSA comes twice from a Full neighbor. The first is acknowledged at a Tick, the second at once,
+/// and the second leaves the router as the first left it.
+pub fn a_new_lsa_comes_twice()
+    ensures { ANewLsaComesTwice }
 {}
