@@ -9,6 +9,7 @@ pub mod Worked
 pub mod WorkedLinks
 pub mod WorkedEnds
 pub mod WorkedUpdates
+pub mod WorkedOwn
 pub mod Links
 pub mod Distinct
 pub mod Whole

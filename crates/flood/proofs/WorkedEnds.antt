@@ -25,7 +25,6 @@ use Rattle.flood.specs.Endings.{begun, describe_router, describe_router_later, f
 use Rattle.flood.specs.Originations.{originate_or_wait, router_body, router_key, wait}
 use Rattle.flood.specs.Progress.{Progress, flood_from_nobody, on_area, on_router}
 use Rattle.flood.specs.Routers.{Router}
-use Rattle.flood.specs.WorkedUpdates.{IsAtRest}
 use Rattle.flood.proofs.WorkedLinks.{each_rest, left_false, right_false, same_rest, same_router, seen}
 
 -- ---- the beginning
@@ -36,10 +35,10 @@ ages_nothing before moment o (x ∷ es) e =
     ap (λ b. fold (with_age before moment) (cond b (flood_from_nobody moment (lsa_now moment x.1) o) o) es) (left_false _ _ e)
     ∙ ages_nothing before moment o es (right_false (has_just_aged_out before moment x.1) _ e)
 
-pub begins : (moment : ℕ) (r : Router) → IsAtRest r moment → begun moment r ≡ record { router = r; sends = [] }
-begins moment r rest =
+pub begins : (moment : ℕ) (r : Router) → list_any (λ e. has_just_aged_out r.moment moment e.1) (finite.entries r.area.database) ≡ false → begun moment r ≡ record { router = r; sends = [] }
+begins moment r nothing =
     ap (λ (o : Outcome). record { router = record r { area = o.area }; sends = o.sends })
-    (ages_nothing r.moment moment (record { area = r.area; sends = [] }) (finite.entries r.area.database) rest.nothing_ages)
+    (ages_nothing r.moment moment (record { area = r.area; sends = [] }) (finite.entries r.area.database) nothing)
 
 pub not_both_ways : (b : Bool) → (b && not b) ≡ false
 not_both_ways true = refl
@@ -78,10 +77,10 @@ same_itself b = ap is_eq (tied_itself nat_list_cmp_total (body_text b))
 differ_not : (a b : List Link) → router_body a ≡ router_body b → links_differ a b ≡ false
 differ_not a b e = ap (λ c. not (same_body c (router_body b))) e ∙ ap not (same_itself (router_body b))
 
-describes_not : (before : List Link) (moment : ℕ) (p : Progress) → links_differ before p.router.area.links ≡ false → describe_router before moment p ≡ p
+pub describes_not : (before : List Link) (moment : ℕ) (p : Progress) → links_differ before p.router.area.links ≡ false → describe_router before moment p ≡ p
 describes_not before moment p e = ap (λ b. cond (b && not (is_said moment p.router)) (originate_or_wait moment (router_key p.router.id) p) p) e
 
-describes_not_later : (p : Progress) → describe_router_later p.router.area.links p ≡ p
+pub describes_not_later : (p : Progress) → describe_router_later p.router.area.links p ≡ p
 describes_not_later p = ap (λ b. cond b (on_router (wait (router_key p.router.id)) p) p) (differ_not p.router.area.links p.router.area.links refl)
 
 -- ---- nothing is requested
@@ -101,10 +100,10 @@ removed moment o = on_database (λ db. finite.retain_keys db (stays moment o.are
 abbrev pub ended : ℕ → Progress → Progress
 ended moment p = on_router (λ (r : Router). record r { moment = moment }) (on_area (removed moment) p)
 
-abbrev last : ℕ → Progress → Progress
+abbrev pub last : ℕ → Progress → Progress
 last moment p = on_router (λ (r : Router). record r { moment = moment }) (on_area (λ o. remove_aged moment (request_all moment o)) p)
 
-last_rest : (moment : ℕ) (p : Progress) → anybody_synchronizes p.router.area.links ≡ false → last moment p ≡ ended moment p
+pub last_rest : (moment : ℕ) (p : Progress) → anybody_synchronizes p.router.area.links ≡ false → last moment p ≡ ended moment p
 last_rest moment p e =
     let o : Outcome = record { area = p.router.area; sends = p.sends } in
     let asked : request_all moment o ≡ o = each_rest (request_next moment) (asks_not moment) moment o e in

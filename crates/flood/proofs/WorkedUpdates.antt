@@ -1,6 +1,6 @@
 -- An Update with a new LSA comes twice from a Full neighbor.
 use Rattle.std.proofs.Common.{◌≡◌, ℕ, ◌+◌, ◌-◌, ◌<◌, ◌==◌, Bool, true, false, cond, not, ◌&&◌, ◌||◌, List, [], ◌∷◌, map, Option, None, Some, refl, sym, ap, ◌∙◌, subst, is_some, nat_lt, arith, true≢false}
-use Rattle.std.specs.List.{fold}
+use Rattle.std.specs.List.{fold, list_any}
 use Rattle.std.specs.Cmp.{int_cmp_total, nat_cmp_total, tied_itself}
 use Rattle.std.specs.FinMap as finite
 use Rattle.std.specs.Ordering.{eq_by_cmp, is_eq, is_gt, ordering_then}
@@ -8,7 +8,7 @@ use Rattle.std.specs.declared.cmp.Ordering.{Ordering}
 use Rattle.std.specs.declared.cmp.Ordering.TheVariants.{Less, Equal, Greater}
 use Rattle.words.specs.declared.key.Key.{Key}
 use Rattle.lsa.specs.Reading.{lsa_in}
-use Rattle.lsdb.specs.Copies.{Database, DatabaseCopy, copy_now, install_flooded, installed_just_now, mark_sent, sent_just_now}
+use Rattle.lsdb.specs.Copies.{Database, DatabaseCopy, copy_now, has_just_aged_out, install_flooded, installed_just_now, mark_sent, sent_just_now}
 use Rattle.lsdb.specs.Headers.{Lsa, lsa_key}
 use Rattle.lsdb.specs.Instances.{instance_of}
 use Rattle.lsdb.specs.Keys.{ByKey, key_cmp}
@@ -40,7 +40,7 @@ use Rattle.flood.specs.WorkedUpdates.{ANewLsaComesTwice, HasBrought, HasFullNeig
 use Rattle.flood.proofs.WorkedEnds.{begins, ended, ends, got, no_time_passes, not_both_ways, removed_once}
 use Rattle.flood.proofs.WorkedLinks.{acknowledged_seen, flooding_keeps, link_changed, same_rest, seen, stepped_seen}
 
-chosen : {A : Type 0} (b : Bool) (x : A) → cond b x x ≡ x
+pub chosen : {A : Type 0} (b : Bool) (x : A) → cond b x x ≡ x
 chosen true x = refl
 chosen false x = refl
 
@@ -52,7 +52,7 @@ inserted m k x = finite.get-insert keys_total m k x k ∙ ap (λ (o : Ordering).
 pub taken_off : {X : Type 0} (m : ByKey X) (k : Key) → finite.get (finite.remove m k) k ≡ None
 taken_off m k = finite.get-remove keys_total m k k ∙ ap (λ (o : Ordering). cond (is_eq o) None (finite.get m k)) (tied_itself keys_total k)
 
-tied : (o : Ordering) → is_eq o ≡ true → o ≡ Equal
+pub tied : (o : Ordering) → is_eq o ≡ true → o ≡ Equal
 tied Less e = absurd (true≢false (sym e))
 tied Equal e = refl
 tied Greater e = absurd (true≢false (sym e))
@@ -70,7 +70,7 @@ abbrev marks : ℕ → Option DatabaseCopy → Option DatabaseCopy
 marks moment None = None
 marks moment (Some c) = Some (sent_then moment c)
 
-abbrev IsStill : Database → Key → DatabaseCopy → Type 0
+abbrev pub IsStill : Database → Key → DatabaseCopy → Type 0
 IsStill db key c = (sent : Option ℕ) × (finite.get db key ≡ Some (record c { sent = sent }))
 
 marked_once : (moment : ℕ) (other key : Key) (c : DatabaseCopy) (db : Database) → finite.get db key ≡ Some c → IsStill (mark_sent moment other db) key c
@@ -125,38 +125,40 @@ alike lsa c moment same now young =
 
 -- ---- one Update with one LSA
 
-after_one : (moment number : ℕ) (unread : List ℕ) (lsa : Lsa) (p : Progress) → lsa_in unread ≡ Some lsa
+pub after_one : (moment number : ℕ) (unread : List ℕ) (lsa : Lsa) (p : Progress) → lsa_in unread ≡ Some lsa
     → after_lsas moment number (unread ∷ []) p ≡ after_lsa (case_at moment number lsa p.router.area) moment number lsa p
 after_one moment number unread lsa p e =
     chosen (goes_on (case_in moment number (lsa_in unread) p)) (after_unread moment number (lsa_in unread) p) ∙ ap (λ o. after_unread moment number o p) e
 
-itself : (n : ℕ) → (n == n) ≡ true
+pub itself : (n : ℕ) → (n == n) ≡ true
 itself n = grind arith
 
-update_heard : (moment number : ℕ) (p : Progress) (n : Neighbor) (texts : List (List ℕ)) → neighbor_at number p.router.area.links ≡ Some n → is_foreign p.router.id n.router ≡ true → takes_part n.state ≡ true
+pub update_heard : (moment number : ℕ) (p : Progress) (n : Neighbor) (texts : List (List ℕ)) → neighbor_at number p.router.area.links ≡ Some n → is_foreign p.router.id n.router ≡ true → takes_part n.state ≡ true
     → after_packet named moment number (record { router = n.router; body = body.Update texts }) p ≡ after_lsas moment number texts p
 update_heard moment number p n texts there other part =
     let packet : Packet = record { router = n.router; body = body.Update texts } in
     ap (λ o. cond (is_heard p.router.id packet o) (from_neighbor named moment number n.router (is_in_exchange o) packet.body p) p) there
     ∙ (λ i. cond (other i && (false || itself n.router i)) (cond (part i) (after_lsas moment number texts p) p) p)
 
-abbrev start : Router → Progress
+abbrev pub start : Router → Progress
 start r = record { router = r; sends = [] }
 
-own_part : (r : Router) (moment number : ℕ) (bytes : List ℕ) (lsa : Lsa) (link : Link) (n : Neighbor) (after : Progress)
-    → IsAtRest r moment → HasFullNeighbor r number link n → IsUpdateWith bytes n.router lsa → OwnPart whole moment (Occurrence.Packet number bytes) (begun moment r) after
+pub own_part : (r : Router) (moment number : ℕ) (bytes : List ℕ) (lsa : Lsa) (n : Neighbor) (after : Progress)
+    → list_any (λ e. has_just_aged_out r.moment moment e.1) (finite.entries r.area.database) ≡ false
+    → neighbor_at number r.area.links ≡ Some n → is_foreign r.id n.router ≡ true → takes_part n.state ≡ true
+    → IsUpdateWith bytes n.router lsa → OwnPart whole moment (Occurrence.Packet number bytes) (begun moment r) after
     → after ≡ after_lsa (case_at moment number lsa r.area) moment number lsa (start r)
-own_part r moment number bytes lsa link n after rest from text own =
+own_part r moment number bytes lsa n after nothing there other part text own =
     let packet : Packet = record { router = n.router; body = body.Update (text.unread ∷ []) } in
     own.2
     ∙ ap (λ q. after_packet named moment number q (begun moment r)) (one_packet bytes own.0 packet own.1 text.is_text)
-    ∙ ap (after_packet named moment number packet) (begins moment r rest)
-    ∙ update_heard moment number (start r) n (text.unread ∷ []) (ap neighbor_on from.link_there ∙ from.neighbor_there) from.is_other (ap takes_part from.is_full)
+    ∙ ap (after_packet named moment number packet) (begins moment r nothing)
+    ∙ update_heard moment number (start r) n (text.unread ∷ []) there other part
     ∙ after_one moment number text.unread lsa (start r) text.is_read
 
 -- ---- the first
 
-new_case : (moment number : ℕ) (lsa : Lsa) (a : Area) → finite.get a.database (lsa_key lsa) ≡ None → lsa.header.age < 3600 → case_at moment number lsa a ≡ Case.Newer
+pub new_case : (moment number : ℕ) (lsa : Lsa) (a : Area) → finite.get a.database (lsa_key lsa) ≡ None → lsa.header.age < 3600 → case_at moment number lsa a ≡ Case.Newer
 new_case moment number lsa a none young =
     ap (λ c. case_of_readable moment c (neighbor_at number a.links) (anybody_synchronizes a.links) lsa) none
     ∙ ap (λ b. cond (b && true && not (anybody_synchronizes a.links)) Case.NothingToFlush Case.Newer) (is_young lsa.header.age young)
@@ -255,7 +257,7 @@ again r new moment number bytes lsa link n more rest from none text young event 
     same_case moment number lsa m.area there.0 (released key n) there.1 (ap neighbor_on link_there) none (taken_off n.retransmissions key) young in
     let said : Progress = record { router = m; sends = acknowledges_at_once number lsa } in
     let own : event.after ≡ said =
-    own_part m moment number bytes lsa (sender_after lsa link n) (released key n) event.after quiet_still still text event.own
+    own_part m moment number bytes lsa (released key n) event.after quiet_still.nothing_ages (ap neighbor_on still.link_there) still.is_other (ap takes_part still.is_full) text event.own
     ∙ ap (λ c. after_lsa c moment number lsa (start m)) case in
     let end : finished m moment event.after ≡ ended moment said = ap (finished m moment) own ∙ ends m moment said refl quiet_still.nobody in
     let back : (ended moment said).router ≡ m = λ i. record m { area = record m.area { database = removed_once moment o i } } in (
@@ -269,7 +271,7 @@ pub comes_twice : ANewLsaComesTwice
 comes_twice old middle new moment number bytes lsa link n outs more rest from none text absent young other one two =
     let p : Progress = on_area (install moment number lsa) (start old) in
     let own : one.after ≡ p =
-    own_part old moment number bytes lsa link n one.after rest from text one.own
+    own_part old moment number bytes lsa n one.after rest.nothing_ages (ap neighbor_on from.link_there ∙ from.neighbor_there) from.is_other (ap takes_part from.is_full) text one.own
     ∙ ap (λ c. after_lsa c moment number lsa (start old)) (new_case moment number lsa old.area absent young)
     ∙ ap (λ b. cond b (settle_wanted (is_wanted (wanted_body p.router (lsa_key lsa))) moment (lsa_key lsa) p) p) other in
     let is : middle ≡ second old moment number lsa =

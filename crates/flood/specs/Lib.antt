@@ -15,6 +15,7 @@ pub mod PackingLaws
 pub mod Worlds
 pub mod Worked
 pub mod WorkedUpdates
+pub mod WorkedOwn
 pub mod Laws
 pub mod Numbers
 pub mod Seen

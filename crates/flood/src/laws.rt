@@ -2,6 +2,7 @@
 ghost use Rattle.flood.specs.Laws.{EventsAreDetermined, HellosAloneAreTheHelloProtocol};
 ghost use Rattle.flood.specs.PackingLaws.{OutsAreOrderedAndPacked};
 ghost use Rattle.flood.specs.Worked.{WorkedEvents};
+ghost use Rattle.flood.specs.WorkedOwn.{ALastRequestIsMet};
 ghost use Rattle.flood.specs.WorkedUpdates.{ANewLsaComesTwice};
 ghost use Rattle.flood.specs.Worlds.{AcknowledgedWasReceived};
 
@@ -38,4 +39,10 @@ pub fn worked_events()
 /// and the second leaves the router as the first left it.
 pub fn a_new_lsa_comes_twice()
     ensures { ANewLsaComesTwice }
+{}
+
+/// Worked events of a router with one interface: an Update meets the last request of a neighbor in Loading, which becomes Full. The
+/// router-LSA goes out at once where five seconds have passed since the last one, else it waits for a Tick.
+pub fn a_last_request_is_met()
+    ensures { ALastRequestIsMet }
 {}
