@@ -10,6 +10,7 @@ pub mod WorkedLinks
 pub mod WorkedEnds
 pub mod WorkedUpdates
 pub mod WorkedOwn
+pub mod WorkedFlush
 pub mod Links
 pub mod Distinct
 pub mod Whole

@@ -48,7 +48,7 @@ abbrev full : Lsa → Neighbor → Neighbor
 full lsa n = record (met lsa n) { state = Full }
 
 -- the LSA is installed, and this is the neighbor
-abbrev put : Router → Link → ℕ → Lsa → Neighbor → Progress
+abbrev pub put : Router → Link → ℕ → Lsa → Neighbor → Progress
 put r link moment lsa n = record {
   router = record r {
     area = record { links = acknowledge_later lsa.header (record link { neighbor = Some n }) ∷ []; database = install_flooded moment lsa r.area.database };
@@ -79,7 +79,7 @@ own_stays db lsa key own moment absent there = by_same (eq_by_cmp key_cmp key (l
     by_same true is = absurd (none_some (sym absent ∙ finite.get_tied keys_total db key (lsa_key lsa) (tied (key_cmp key (lsa_key lsa)) is) ∙ there))
     by_same false is = finite.get-insert keys_total db (lsa_key lsa) (brought lsa moment) key ∙ ap (λ b. cond b (Some (brought lsa moment)) (finite.get db key)) is ∙ there
 
-wanted : (r : Router) → wanted_body r (router_key r.id) ≡ Some (router_body r.area.links)
+pub wanted : (r : Router) → wanted_body r (router_key r.id) ≡ Some (router_body r.area.links)
 wanted r = ap (λ o. cond (is_eq o) (Some (router_body r.area.links)) (announced_body (finite.get r.announced (router_key r.id)))) (tied_itself keys_total (router_key r.id))
 
 -- what the end of an event makes of changed links, by whether the five seconds are over

@@ -59,7 +59,7 @@ tied Greater e = absurd (true≢false (sym e))
 
 -- ---- what is sent marks a copy and leaves it otherwise
 
-changed_by : Key → (DatabaseCopy → DatabaseCopy) → Database → Option DatabaseCopy → Database
+abbrev pub changed_by : Key → (DatabaseCopy → DatabaseCopy) → Database → Option DatabaseCopy → Database
 changed_by key change db None = db
 changed_by key change db (Some c) = finite.insert db key (change c)
 
@@ -73,8 +73,7 @@ marks moment (Some c) = Some (sent_then moment c)
 abbrev pub IsStill : Database → Key → DatabaseCopy → Type 0
 IsStill db key c = (sent : Option ℕ) × (finite.get db key ≡ Some (record c { sent = sent }))
 
-marked_once : (moment : ℕ) (other key : Key) (c : DatabaseCopy) (db : Database) → finite.get db key ≡ Some c → IsStill (mark_sent moment other db) key c
-unfolding changed_by
+pub marked_once : (moment : ℕ) (other key : Key) (c : DatabaseCopy) (db : Database) → finite.get db key ≡ Some c → IsStill (mark_sent moment other db) key c
 marked_once moment other key c db there = by_found (finite.get db other) refl
   where
     by_same : (d : DatabaseCopy) → finite.get db other ≡ Some d → (b : Bool) → eq_by_cmp key_cmp key other ≡ b → IsStill (finite.insert db other (sent_then moment d)) key c
@@ -112,7 +111,7 @@ same_age age moment young = omega (arith, young)
 pub is_young : (age : ℕ) → age < 3600 → is_max_age age ≡ false
 is_young age young = grind (arith, young)
 
-ages_itself : (a : ℕ) → compare_ages a a ≡ Equal
+pub ages_itself : (a : ℕ) → compare_ages a a ≡ Equal
 ages_itself a =
     (λ i. cond (not_both_ways (is_max_age a) i) Greater (cond (not_both_ways (is_max_age a) i) Less (cond (nat_lt max_age_difference ((a - a) + (a - a))) (tied_itself nat_cmp_total a i) Equal)))
     ∙ chosen (nat_lt max_age_difference ((a - a) + (a - a))) Equal
@@ -163,7 +162,7 @@ new_case moment number lsa a none young =
     ap (λ c. case_of_readable moment c (neighbor_at number a.links) (anybody_synchronizes a.links) lsa) none
     ∙ ap (λ b. cond (b && true && not (anybody_synchronizes a.links)) Case.NothingToFlush Case.Newer) (is_young lsa.header.age young)
 
-sender_step : (moment number : ℕ) (lsa : Lsa) (link : Link) (n : Neighbor) → takes_part n.state ≡ true → is_synchronizing n.state ≡ false
+pub sender_step : (moment number : ℕ) (lsa : Lsa) (link : Link) (n : Neighbor) → takes_part n.state ≡ true → is_synchronizing n.state ≡ false
     → flood_to moment (Some number) lsa number link n ≡ quiet (released (lsa_key lsa) n)
 sender_step moment number lsa link n part rest =
     let got_it : Step = record { neighbor = owed moment lsa.header (without_met_request moment lsa n); sends = Content.Updates lsa ∷ [] } in

@@ -16,6 +16,7 @@ pub mod Worlds
 pub mod Worked
 pub mod WorkedUpdates
 pub mod WorkedOwn
+pub mod WorkedFlush
 pub mod Laws
 pub mod Numbers
 pub mod Seen

@@ -2,6 +2,7 @@
 ghost use Rattle.flood.specs.Laws.{EventsAreDetermined, HellosAloneAreTheHelloProtocol};
 ghost use Rattle.flood.specs.PackingLaws.{OutsAreOrderedAndPacked};
 ghost use Rattle.flood.specs.Worked.{WorkedEvents};
+ghost use Rattle.flood.specs.WorkedFlush.{TheNumbersEnd};
 ghost use Rattle.flood.specs.WorkedOwn.{ALastRequestIsMet};
 ghost use Rattle.flood.specs.WorkedUpdates.{ANewLsaComesTwice};
 ghost use Rattle.flood.specs.Worlds.{AcknowledgedWasReceived};
@@ -45,4 +46,10 @@ pub fn a_new_lsa_comes_twice()
 /// router-LSA goes out at once where five seconds have passed since the last one, else it waits for a Tick.
 pub fn a_last_request_is_met()
     ensures { ALastRequestIsMet }
+{}
+
+/// Worked events of a router with one interface: its router-LSA comes back with MaxSequenceNumber, and is flushed; once that is
+/// acknowledged, it leaves the database.
+pub fn the_numbers_end()
+    ensures { TheNumbersEnd }
 {}
