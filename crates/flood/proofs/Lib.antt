@@ -11,6 +11,7 @@ pub mod WorkedEnds
 pub mod WorkedUpdates
 pub mod WorkedOwn
 pub mod WorkedFlush
+pub mod WorkedTicks
 pub mod Links
 pub mod Distinct
 pub mod Whole

@@ -78,7 +78,7 @@ who n = (n.router, n.state)
 abbrev pub Keeps : Stepping → Type 0
 Keeps f = (number : ℕ) (link : Link) (n : Neighbor) → who (f number link n).neighbor ≡ who n
 
-chosen_step : (b : Bool) (s t : Step) (w : ℕ × State) → who s.neighbor ≡ w → who t.neighbor ≡ w → who (cond b s t).neighbor ≡ w
+pub chosen_step : (b : Bool) (s t : Step) (w : ℕ × State) → who s.neighbor ≡ w → who t.neighbor ≡ w → who (cond b s t).neighbor ≡ w
 chosen_step true s t w p q = p
 chosen_step false s t w p q = q
 

@@ -17,6 +17,7 @@ pub mod Worked
 pub mod WorkedUpdates
 pub mod WorkedOwn
 pub mod WorkedFlush
+pub mod WorkedTicks
 pub mod Laws
 pub mod Numbers
 pub mod Seen

@@ -4,6 +4,7 @@ ghost use Rattle.flood.specs.PackingLaws.{OutsAreOrderedAndPacked};
 ghost use Rattle.flood.specs.Worked.{WorkedEvents};
 ghost use Rattle.flood.specs.WorkedFlush.{TheNumbersEnd};
 ghost use Rattle.flood.specs.WorkedOwn.{ALastRequestIsMet};
+ghost use Rattle.flood.specs.WorkedTicks.{ATickOriginates};
 ghost use Rattle.flood.specs.WorkedUpdates.{ANewLsaComesTwice};
 ghost use Rattle.flood.specs.Worlds.{AcknowledgedWasReceived};
 
@@ -52,4 +53,10 @@ pub fn a_last_request_is_met()
 /// acknowledged, it leaves the database.
 pub fn the_numbers_end()
     ensures { TheNumbersEnd }
+{}
+
+/// A worked Tick of a router with one interface: its router-LSA, which waits or has left the database, is originated, and the
+/// acknowledgments that wait go out.
+pub fn a_tick_originates()
+    ensures { ATickOriginates }
 {}
