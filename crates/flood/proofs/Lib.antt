@@ -12,6 +12,7 @@ pub mod WorkedUpdates
 pub mod WorkedOwn
 pub mod WorkedFlush
 pub mod WorkedTicks
+pub mod WorkedAdjacency
 pub mod Links
 pub mod Distinct
 pub mod Whole

@@ -74,7 +74,7 @@ none_filled p e = λ i. record p { router = record p.router { area = record p.ro
 same_itself : (b : Body) → same_body b b ≡ true
 same_itself b = ap is_eq (tied_itself nat_list_cmp_total (body_text b))
 
-differ_not : (a b : List Link) → router_body a ≡ router_body b → links_differ a b ≡ false
+pub differ_not : (a b : List Link) → router_body a ≡ router_body b → links_differ a b ≡ false
 differ_not a b e = ap (λ c. not (same_body c (router_body b))) e ∙ ap not (same_itself (router_body b))
 
 pub describes_not : (before : List Link) (moment : ℕ) (p : Progress) → links_differ before p.router.area.links ≡ false → describe_router before moment p ≡ p
@@ -110,18 +110,23 @@ last_rest moment p e =
     let left : remove_aged moment o ≡ removed moment o = ap (λ b. cond b o (removed moment o)) e in
     ap (λ (q : Outcome). record { router = record p.router { area = q.area; moment = moment }; sends = q.sends }) (ap (remove_aged moment) asked ∙ left)
 
+-- an event that leaves the router-LSA's content, with nobody in Exchange or Loading after it
+pub ends_by : (old : Router) (moment : ℕ) (p : Progress) → router_body old.area.links ≡ router_body p.router.area.links → anybody_synchronizes p.router.area.links ≡ false
+    → finished old moment p ≡ ended moment p
+ends_by old moment p same still =
+    let full : filled p ≡ p = none_filled p still in
+    let later : Progress → Progress = λ q. last moment (describe_router_later q.router.area.links (filled q)) in
+    ap (λ q. later (describe_router old.area.links moment q)) full
+    ∙ ap later (describes_not old.area.links moment p (differ_not old.area.links p.router.area.links same))
+    ∙ ap (λ q. last moment (describe_router_later p.router.area.links q)) full
+    ∙ ap (last moment) (describes_not_later p)
+    ∙ last_rest moment p still
+
 -- an event that leaves the neighbors and their states
 pub ends : (old : Router) (moment : ℕ) (p : Progress) → map seen p.router.area.links ≡ map seen old.area.links → anybody_synchronizes old.area.links ≡ false
     → finished old moment p ≡ ended moment p
 ends old moment p same rest =
-    let still : anybody_synchronizes p.router.area.links ≡ false = same_rest p.router.area.links old.area.links same ∙ rest in
-    let full : filled p ≡ p = none_filled p still in
-    let later : Progress → Progress = λ q. last moment (describe_router_later q.router.area.links (filled q)) in
-    ap (λ q. later (describe_router old.area.links moment q)) full
-    ∙ ap later (describes_not old.area.links moment p (differ_not old.area.links p.router.area.links (same_router old.area.links p.router.area.links (sym same))))
-    ∙ ap (λ q. last moment (describe_router_later p.router.area.links q)) full
-    ∙ ap (last moment) (describes_not_later p)
-    ∙ last_rest moment p still
+    ends_by old moment p (same_router old.area.links p.router.area.links (sym same)) (same_rest p.router.area.links old.area.links same ∙ rest)
 
 -- ---- what is left of the database
 

@@ -18,6 +18,7 @@ pub mod WorkedUpdates
 pub mod WorkedOwn
 pub mod WorkedFlush
 pub mod WorkedTicks
+pub mod WorkedAdjacency
 pub mod Laws
 pub mod Numbers
 pub mod Seen

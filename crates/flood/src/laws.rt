@@ -2,6 +2,7 @@
 ghost use Rattle.flood.specs.Laws.{EventsAreDetermined, HellosAloneAreTheHelloProtocol};
 ghost use Rattle.flood.specs.PackingLaws.{OutsAreOrderedAndPacked};
 ghost use Rattle.flood.specs.Worked.{WorkedEvents};
+ghost use Rattle.flood.specs.WorkedAdjacency.{AnAdjacencyBegins};
 ghost use Rattle.flood.specs.WorkedFlush.{TheNumbersEnd};
 ghost use Rattle.flood.specs.WorkedOwn.{ALastRequestIsMet};
 ghost use Rattle.flood.specs.WorkedTicks.{ATickOriginates};
@@ -59,4 +60,10 @@ pub fn the_numbers_end()
 /// acknowledgments that wait go out.
 pub fn a_tick_originates()
     ensures { ATickOriginates }
+{}
+
+/// Worked events of a router with one interface: a Hello that names it begins an adjacency; in Loading, the last Description again is
+/// answered again, and a mismatch begins the adjacency anew.
+pub fn an_adjacency_begins()
+    ensures { AnAdjacencyBegins }
 {}
