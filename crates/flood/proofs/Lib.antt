@@ -13,6 +13,7 @@ pub mod WorkedOwn
 pub mod WorkedFlush
 pub mod WorkedTicks
 pub mod WorkedAdjacency
+pub mod WorkedExchange
 pub mod Links
 pub mod Distinct
 pub mod Whole

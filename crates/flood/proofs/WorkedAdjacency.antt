@@ -85,10 +85,10 @@ begins_it_again r new link n moment bytes d outs nothing said event =
       event.sent ∙ ap (λ (q : Progress). outs_of r.id old.area.links q.sends) end,
     )
 
-abbrev answered : Router → Link → ℕ → Description → Neighbor → Progress
+abbrev pub answered : Router → Link → ℕ → Description → Neighbor → Progress
 answered r link moment last_one m = record (start (beside r link m)) { sends = describes last_one }
 
-abbrev at_moment : ℕ → Progress → Progress
+abbrev pub at_moment : ℕ → Progress → Progress
 at_moment moment p = on_router (λ (s : Router). record s { moment = moment }) p
 
 repeats_it : (r new : Router) (link : Link) (n : Neighbor) (moment : ℕ) (bytes : List ℕ) (d last_one : Description) (outs : List Out)

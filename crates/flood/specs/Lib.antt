@@ -19,6 +19,7 @@ pub mod WorkedOwn
 pub mod WorkedFlush
 pub mod WorkedTicks
 pub mod WorkedAdjacency
+pub mod WorkedExchange
 pub mod Laws
 pub mod Numbers
 pub mod Seen

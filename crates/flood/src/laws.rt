@@ -3,6 +3,7 @@ ghost use Rattle.flood.specs.Laws.{EventsAreDetermined, HellosAloneAreTheHelloPr
 ghost use Rattle.flood.specs.PackingLaws.{OutsAreOrderedAndPacked};
 ghost use Rattle.flood.specs.Worked.{WorkedEvents};
 ghost use Rattle.flood.specs.WorkedAdjacency.{AnAdjacencyBegins};
+ghost use Rattle.flood.specs.WorkedExchange.{AnExchangeAsSlave};
 ghost use Rattle.flood.specs.WorkedFlush.{TheNumbersEnd};
 ghost use Rattle.flood.specs.WorkedOwn.{ALastRequestIsMet};
 ghost use Rattle.flood.specs.WorkedTicks.{ATickOriginates};
@@ -66,4 +67,10 @@ pub fn a_tick_originates()
 /// answered again, and a mismatch begins the adjacency anew.
 pub fn an_adjacency_begins()
     ensures { AnAdjacencyBegins }
+{}
+
+/// Worked events of a router with one interface, the slave of an exchange: an opening Description is answered with the database's
+/// headers, and the master's last one, with a header that is wanted, leads to Loading, a reply and a Request.
+pub fn an_exchange_as_slave()
+    ensures { AnExchangeAsSlave }
 {}
