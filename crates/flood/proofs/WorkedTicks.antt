@@ -27,7 +27,7 @@ use Rattle.flood.specs.Routers.{Occurrence, Router}
 use Rattle.flood.specs.Ticks.{acknowledge_all, after_tick, again, greet_all, greeting_on, run_out, send_all_again, sends_of, settled_exchange}
 use Rattle.flood.specs.WorkedFlush.{full}
 use Rattle.flood.specs.WorkedOwn.{beside}
-use Rattle.flood.specs.WorkedTicks.{ATickOriginates, IsDueAtTick, originated_lsa, waiting_acknowledgments}
+use Rattle.flood.specs.WorkedTicks.{ATickOriginates, IsDueAtTick, IsNothingDue, originated_lsa, waiting_acknowledgments}
 use Rattle.flood.proofs.WorkedEnds.{begins, ended, ends}
 use Rattle.flood.proofs.WorkedLinks.{chosen_step, who}
 use Rattle.flood.proofs.WorkedOwn.{wanted}
@@ -149,10 +149,44 @@ tick_sends r new link n moment copy outs due event =
     by_case true = refl
     by_case false = refl
 
+none_due : (r : Router) (moment : ℕ) → finite.keys r.announced ≡ [] → is_due moment r (router_key r.id) ≡ false → due_keys moment r ≡ []
+none_due r moment none due =
+    (λ i. filter (is_due moment r) (router_key r.id ∷ none i)) ∙ (λ i. cond (due i) (router_key r.id ∷ []) [])
+
+tick_acknowledges : (r new : Router) (link : Link) (n : Neighbor) (moment : ℕ) (outs : List Out)
+    → IsNothingDue r link n moment → Happens (beside r link (full n)) moment Occurrence.Tick outs new
+    → (again more : List Send) × (outs ≡ outs_of r.id (beside r link (full n)).area.links (again ++ (waiting_acknowledgments link ++ more)))
+tick_acknowledges r new link n moment outs idle event =
+    let old : Router = beside r link (full n) in
+    let m : Neighbor = settled link n moment in
+    let q : Progress = resting r link n moment in
+    let after : Progress = rest_of_tick moment q in
+    let o : Outcome = record { area = q.router.area; sends = [] } in
+    let y : Outcome = acknowledge_all moment (send_all_again moment o) in
+    let resent : List Send = stepping_sends (again moment o) o.area.links in
+    let hellos : List Send = sends_of (greeting_on moment) y.area.links in
+    let same_router : m.router ≡ n.router = by_case (is_over_for moment link.interface.dead_interval n.exchanged) in
+    let begun_so : event.after ≡ after =
+    event.own
+    ∙ ap (after_tick due_keys moment) (begins moment old idle.nothing_ages)
+    ∙ ap (λ z. rest_of_tick moment (originate_due moment (due_keys moment z.router) z)) (rests r link n moment idle.is_heard)
+    ∙ ap (λ keys. rest_of_tick moment (originate_due moment keys q)) (none_due q.router moment idle.nothing_announced idle.not_due) in
+    let seen_same : who (send_again moment link.interface.retransmit_interval o.area.database (full m)).neighbor ≡ who (full n) =
+    again_keeps moment link.interface.retransmit_interval o.area.database m ∙ (λ i. (same_router i, (full n).state)) in
+    let end : finished old moment event.after ≡ ended moment after = ap (finished old moment) begun_so ∙ ends old moment after (λ i. (link.interface, Some (seen_same i)) ∷ []) refl in
+    let in_order : (resent ++ (waiting_acknowledgments link ++ [])) ++ hellos ≡ resent ++ (waiting_acknowledgments link ++ hellos) =
+    ap (λ a. (resent ++ a) ++ hellos) (append-nil (waiting_acknowledgments link)) ∙ append_assoc resent (waiting_acknowledgments link) hellos in
+    (resent, hellos, event.sent ∙ ap (λ (z : Progress). outs_of r.id old.area.links z.sends) end ∙ ap (outs_of r.id old.area.links) in_order)
+  where
+    by_case : (b : Bool) → (cond b (record n { described = None }) n).router ≡ n.router
+    by_case true = refl
+    by_case false = refl
+
 pub tick_originates : ATickOriginates
 unfolding sealed_lsa
 tick_originates = record {
   first_number = λ r link n. refl;
   next_number = λ r link n c. refl;
   sends = tick_sends;
+  acknowledges = tick_acknowledges;
 }

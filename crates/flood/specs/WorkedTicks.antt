@@ -35,6 +35,13 @@ originated_lsa r link n copy = new_instance (router_key r.id) copy (router_body 
 abbrev pub waiting_acknowledgments : Link → List Send
 waiting_acknowledgments link = numbered 1 (map Content.Acknowledges (finite.values link.acknowledgments))
 
+-- no own LSA is due, nothing is announced, no copy comes to MaxAge, and the neighbor was heard in time
+pub record IsNothingDue (r : Router) (link : Link) (n : Neighbor) (moment : ℕ) : Type 0 where
+  pub nothing_ages : list_any (λ e. has_just_aged_out r.moment moment e.1) (finite.entries r.area.database) ≡ false
+  pub is_heard : has_passed n.heard link.interface.dead_interval moment ≡ false
+  pub nothing_announced : finite.keys r.announced ≡ []
+  pub not_due : is_due moment r (router_key r.id) ≡ false
+
 pub record ATickOriginates : Type 0 where
   -- without a copy the number is InitialSequenceNumber, else the next one
   pub first_number : (r : Router) (link : Link) (n : Neighbor) → (originated_lsa r link n None).header.sequence ≡ initial_sequence
@@ -45,3 +52,7 @@ pub record ATickOriginates : Type 0 where
       → (again more : List Send)
       × (outs ≡ outs_of r.id (beside r link (full n)).area.links
       (record { number = 1; content = Content.Updates (originated_lsa r link n copy) } ∷ (again ++ (waiting_acknowledgments link ++ more))))
+  -- where nothing is due, all acknowledgments that wait are among what is sent
+  pub acknowledges : (r new : Router) (link : Link) (n : Neighbor) (moment : ℕ) (outs : List Out)
+      → IsNothingDue r link n moment → Happens (beside r link (full n)) moment Occurrence.Tick outs new
+      → (again more : List Send) × (outs ≡ outs_of r.id (beside r link (full n)).area.links (again ++ (waiting_acknowledgments link ++ more)))
