@@ -6,6 +6,14 @@ pub mod Packings
 pub mod Rooms
 pub mod Worlds
 pub mod Worked
+pub mod WorkedLinks
+pub mod WorkedEnds
+pub mod WorkedUpdates
+pub mod WorkedOwn
+pub mod WorkedFlush
+pub mod WorkedTicks
+pub mod WorkedAdjacency
+pub mod WorkedExchange
 pub mod Links
 pub mod Distinct
 pub mod Whole

@@ -14,6 +14,12 @@ pub mod Bare
 pub mod PackingLaws
 pub mod Worlds
 pub mod Worked
+pub mod WorkedUpdates
+pub mod WorkedOwn
+pub mod WorkedFlush
+pub mod WorkedTicks
+pub mod WorkedAdjacency
+pub mod WorkedExchange
 pub mod Laws
 pub mod Numbers
 pub mod Seen

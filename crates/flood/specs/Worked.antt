@@ -1,5 +1,5 @@
 -- Worked parts of events.
-use Rattle.std.specs.Prelude.{◌≡◌, ◌%◌, ◌^◌, ℕ, pos, Bool, true, false, None, Some}
+use Rattle.std.specs.Prelude.{◌≡◌, ◌%◌, ◌^◌, ℕ, pos, Bool, true, false, List, [], None, Some}
 use Rattle.std.specs.FinMap as finite
 use Rattle.words.specs.Prefixes.{Network}
 use Rattle.words.specs.declared.key.Key.{Key}
@@ -14,6 +14,9 @@ use Rattle.flood.specs.HelloPath.{is_clock_back}
 use Rattle.flood.specs.Originations.{external_key, flush, interval_is_over, is_stale, originate_body}
 use Rattle.flood.specs.Packing.{sent_lsa}
 use Rattle.flood.specs.Progress.{Progress}
+use Rattle.flood.specs.WorkedUpdates.{IsAtRest}
+use Rattle.flood.specs.Events.{Happens}
+use Rattle.flood.specs.declared.model.Out.{Out}
 use Rattle.flood.specs.Refusals.{first_refusal}
 use Rattle.flood.specs.Routers.{Occurrence, Router}
 
@@ -34,6 +37,9 @@ pub record WorkedEvents : Type 0 where
       → finite.get old.announced (external_key old.id (ten 16)) ≡ Some (destination (ten 8))
       → first_refusal old moment (Occurrence.Redistribute (destination (ten 16)) tag (destination (ten 16)) price) ≡ Some error.Clash
   pub unknown : (moment : ℕ) (prefix : Network) (p : Progress) → finite.get p.router.announced (external_key p.router.id prefix) ≡ None → after_withdraw moment prefix p ≡ p
+  -- the whole event of such a withdrawal, where nobody is in Exchange or Loading and no copy comes to MaxAge, sends nothing
+  pub unknown_event : (old new : Router) (moment : ℕ) (prefix : Network) (outs : List Out) → IsAtRest old moment
+      → finite.get old.announced (external_key old.id prefix) ≡ None → Happens old moment (Occurrence.Withdraw prefix) outs new → outs ≡ []
   -- a metric of 16,777,215 withholds the destination, 16,777,214 is announced
   pub withheld : (moment tag : ℕ) (e : External) (p : Progress) → after_redistribute moment e tag 16777215 p ≡ end_want moment (external_key p.router.id e.prefix) p
   pub announced : (moment tag : ℕ) (e : External) (p : Progress)

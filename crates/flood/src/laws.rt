@@ -2,6 +2,12 @@
 ghost use Rattle.flood.specs.Laws.{EventsAreDetermined, HellosAloneAreTheHelloProtocol};
 ghost use Rattle.flood.specs.PackingLaws.{OutsAreOrderedAndPacked};
 ghost use Rattle.flood.specs.Worked.{WorkedEvents};
+ghost use Rattle.flood.specs.WorkedAdjacency.{AnAdjacencyBegins};
+ghost use Rattle.flood.specs.WorkedExchange.{AnExchangeAsSlave};
+ghost use Rattle.flood.specs.WorkedFlush.{TheNumbersEnd};
+ghost use Rattle.flood.specs.WorkedOwn.{ALastRequestIsMet};
+ghost use Rattle.flood.specs.WorkedTicks.{ATickOriginates};
+ghost use Rattle.flood.specs.WorkedUpdates.{ANewLsaComesTwice};
 ghost use Rattle.flood.specs.Worlds.{AcknowledgedWasReceived};
 
 /// An event has one outcome: what it makes of a router, and what the router sends, leave nothing to choose.
@@ -31,4 +37,40 @@ pub fn acknowledged_was_received()
 /// renewal, the end of the sequence numbers, and ages of what is sent.
 pub fn worked_events()
     ensures { WorkedEvents }
+{}
+
+/// A worked event: an Update with a new LSA comes twice from a Full neighbor. The first is acknowledged at a Tick, the second at once,
+/// and the second leaves the router as the first left it.
+pub fn a_new_lsa_comes_twice()
+    ensures { ANewLsaComesTwice }
+{}
+
+/// Worked events of a router with one interface: an Update meets the last request of a neighbor in Loading, which becomes Full. The
+/// router-LSA goes out at once where five seconds have passed since the last one, else it waits for a Tick.
+pub fn a_last_request_is_met()
+    ensures { ALastRequestIsMet }
+{}
+
+/// Worked events of a router with one interface: its router-LSA comes back with MaxSequenceNumber, and is flushed; once that is
+/// acknowledged, it leaves the database.
+pub fn the_numbers_end()
+    ensures { TheNumbersEnd }
+{}
+
+/// A worked Tick of a router with one interface: its router-LSA, which waits or has left the database, is originated, and the
+/// acknowledgments that wait go out.
+pub fn a_tick_originates()
+    ensures { ATickOriginates }
+{}
+
+/// Worked events of a router with one interface: a Hello that names it begins an adjacency; in Loading, the last Description again is
+/// answered again, and a mismatch begins the adjacency anew.
+pub fn an_adjacency_begins()
+    ensures { AnAdjacencyBegins }
+{}
+
+/// Worked events of a router with one interface, the slave of an exchange: an opening Description is answered with the database's
+/// headers, and the master's last one, with a header that is wanted, leads to Loading, a reply and a Request.
+pub fn an_exchange_as_slave()
+    ensures { AnExchangeAsSlave }
 {}

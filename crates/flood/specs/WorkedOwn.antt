@@ -1,0 +1,67 @@
+-- Worked events of a router with one interface: its last request is met, and it tells of the new adjacency (RFC 2328, sections 10.9 and 12.4).
+use Rattle.std.specs.Prelude.{◌≡◌, ◌<◌, ℕ, ◌+◌, ◌+ℤ◌, pos, ◌==◌, true, false, List, [], ◌∷◌, None, Some}
+use Rattle.std.specs.FinMap as finite
+use Rattle.std.specs.FinSet as set
+use Rattle.std.specs.List.{list_any}
+use Rattle.lsdb.specs.Copies.{DatabaseCopy, has_just_aged_out}
+use Rattle.lsdb.specs.Headers.{Lsa, lsa_key}
+use Rattle.adjacency.specs.Contents.{Content}
+use Rattle.adjacency.specs.declared.state.State.TheVariants.{Full, Loading}
+use Rattle.adjacency.specs.Neighbors.{Neighbor}
+use Rattle.adjacency.specs.Requests.{requested}
+use Rattle.received.specs.Flooding.{meets}
+use Rattle.received.specs.Links.{Link}
+use Rattle.received.specs.Outcomes.{Send}
+use Rattle.flood.specs.declared.model.Out.{Out}
+use Rattle.flood.specs.Events.{Happens}
+use Rattle.flood.specs.Hellos.{is_foreign}
+use Rattle.flood.specs.Originations.{has_max_sequence, interval_is_over, new_instance, router_body, router_key}
+use Rattle.flood.specs.Packing.{outs_of}
+use Rattle.flood.specs.Routers.{Occurrence, Router, shown_at}
+use Rattle.flood.specs.WorkedUpdates.{IsUpdateWith, WaitsAt}
+
+-- the router with this one interface, and this neighbor at it
+abbrev pub beside : Router → Link → Neighbor → Router
+beside r link n = record r { area = record r.area { links = record link { neighbor = Some n } ∷ [] } }
+
+abbrev pub loading : Neighbor → Neighbor
+loading n = record n { state = Loading }
+
+-- the neighbor is asked for one LSA alone, and this one, of another router and without a copy here, meets the request; the own
+-- router-LSA stands in the database, below MaxSequenceNumber and MaxAge
+pub record MeetsTheLastRequest (r : Router) (n : Neighbor) (moment : ℕ) (lsa : Lsa) (own : DatabaseCopy) : Type 0 where
+  pub nothing_ages : list_any (λ e. has_just_aged_out r.moment moment e.1) (finite.entries r.area.database) ≡ false
+  pub is_other : is_foreign r.id n.router ≡ true
+  pub is_last : finite.len n.requests ≡ 1
+  pub is_met : meets moment lsa (requested n (lsa_key lsa)) ≡ true
+  pub is_absent : finite.get r.area.database (lsa_key lsa) ≡ None
+  pub is_young : lsa.header.age < 3600
+  pub is_foreign_lsa : (lsa.header.advertising_router == r.id) ≡ false
+  pub own_there : finite.get r.area.database (router_key r.id) ≡ Some own
+  pub counts_on : has_max_sequence (Some own) ≡ false
+
+-- the router-LSA with the links that the router now has, in the place of this copy
+abbrev pub next_router_lsa : Router → DatabaseCopy → Lsa
+next_router_lsa r own = new_instance (router_key r.id) (Some own) (router_body r.area.links)
+
+abbrev pub sends_update : Lsa → List Send
+sends_update lsa = record { number = 1; content = Content.Updates lsa } ∷ []
+
+pub record ALastRequestIsMet : Type 0 where
+  -- the next instance has the next number, and age 0
+  pub next_number : (r : Router) (own : DatabaseCopy) → (next_router_lsa r own).header.sequence ≡ own.lsa.header.sequence +ℤ pos 1
+  pub new_age : (r : Router) (own : DatabaseCopy) → (next_router_lsa r own).header.age ≡ 0
+  -- the last five seconds saw no own router-LSA: the neighbor is Full, and one Update with the next router-LSA is all that is sent; the
+  -- acknowledgment waits for a Tick
+  pub at_once : (r new : Router) (link : Link) (n : Neighbor) (moment : ℕ) (bytes : List ℕ) (lsa : Lsa) (own : DatabaseCopy) (outs : List Out)
+      → MeetsTheLastRequest r n moment lsa own → IsUpdateWith bytes n.router lsa
+      → interval_is_over moment (finite.get r.originated (router_key r.id)) ≡ true
+      → Happens (beside r link (loading n)) moment (Occurrence.Packet 1 bytes) outs new
+      → (shown_at new 1 ≡ Some (n.router, Full)) × WaitsAt new 1 lsa
+      × (outs ≡ outs_of r.id (beside r link (loading n)).area.links (sends_update (next_router_lsa new own)))
+  -- else the neighbor is Full, nothing is sent, and the router-LSA waits for a Tick
+  pub later : (r new : Router) (link : Link) (n : Neighbor) (moment last : ℕ) (bytes : List ℕ) (lsa : Lsa) (own : DatabaseCopy) (outs : List Out)
+      → MeetsTheLastRequest r n moment lsa own → IsUpdateWith bytes n.router lsa
+      → finite.get r.originated (router_key r.id) ≡ Some last → last < moment → moment < last + 5
+      → Happens (beside r link (loading n)) moment (Occurrence.Packet 1 bytes) outs new
+      → (shown_at new 1 ≡ Some (n.router, Full)) × WaitsAt new 1 lsa × (outs ≡ []) × (set.contains new.waiting (router_key r.id) ≡ true)
