@@ -5,3 +5,4 @@ pub mod Shapes
 pub mod Rules
 pub mod Assembling
 pub mod Views
+pub mod Listing

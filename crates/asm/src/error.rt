@@ -1,6 +1,6 @@
-//! Why a text spells no object.
+//! Why a text spells no object, and why an object has no listing.
 ghost use Rattle.std.specs.Prelude.{◌≡◌};
-ghost use Rattle.asm.specs.Faults.{fault_number};
+ghost use Rattle.asm.specs.Faults.{fault_number, list_number};
 
 use std::alloc::AllocError;
 
@@ -51,5 +51,32 @@ impl From<AllocError> for AsmError {
             line: 0,
             kind: AsmFault::Memory,
         }
+    }
+}
+
+/// Why an object has no listing.
+#[derive(Clone, Copy, PartialEq, Eq, Debug)]
+pub enum ListError {
+    /// Its code doesn't decode.
+    Code,
+    /// Memory ran out.
+    Memory,
+}
+
+impl ListError {
+    /// The number that users see: 1 and 2, in the order of the variants.
+    pub fn number(self) -> u8
+        ensures { result ≡ list_number self }
+    {
+        match self {
+            ListError::Code => 1,
+            ListError::Memory => 2,
+        }
+    }
+}
+
+impl From<AllocError> for ListError {
+    fn from(_error: AllocError) -> ListError {
+        ListError::Memory
     }
 }

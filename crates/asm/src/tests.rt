@@ -1,15 +1,19 @@
 //! Texts and the objects that they spell: each form of a line, each refusal, and listings that are assembled again.
 use crate::assembling::assemble;
-use crate::error::AsmFault;
+use crate::error::{AsmFault, ListError};
+use crate::writing::listing;
 use isa::Hook;
+use object::Object;
 use std::alloc::Global;
 use std::process::Abort;
 use std::test::Fail;
 
-/// Both texts spell the same object.
-fn same(rt: &impl Abort, alloc: Global, text: &str, other: &str) -> Result<(), Fail> {
+/// The listing of what the first text spells is the second, which spells the same.
+fn lists(rt: &impl Abort, alloc: Global, text: &str, listed: &str) -> Result<(), Fail> {
     let first = assemble(alloc, text)?;
-    let second = assemble(alloc, other)?;
+    let written = listing(alloc, &first)?;
+    assert!(rt; written.as_str() == listed, "{written}");
+    let second = assemble(alloc, &written)?;
     assert!(rt; second.hook() == first.hook());
     assert!(rt; second.entry_rank() == first.entry_rank());
     assert!(rt; second.code() == first.code());
@@ -17,10 +21,9 @@ fn same(rt: &impl Abort, alloc: Global, text: &str, other: &str) -> Result<(), F
     Ok(())
 }
 
-/// The text spells an object.
-fn assembles(alloc: Global, text: &str) -> Result<(), Fail> {
-    let _object = assemble(alloc, text)?;
-    Ok(())
+/// The text is a listing.
+fn is_listing(rt: &impl Abort, alloc: Global, text: &str) -> Result<(), Fail> {
+    lists(rt, alloc, text, text)
 }
 
 /// The text's first bad line and what is wrong with it.
@@ -85,7 +88,7 @@ fn sums_a_loop(rt: HostRuntime) -> Result<(), Fail> {
         "hook price\nrank 10\nr1 = 10\nr0 = 0\nL:\nr0 += r1\nr1 += -1\nif r1 != 0 goto L\nexit\nstate L rank 0 r1 * 1\nwith r0 number 0 18446744073709551615 0 0\nwith r1 number 1 10 0 0\n";
     let listed =
         "hook price\nrank 10\nr1 = 10\nr0 = 0\nr0 += r1\nr1 += -1\nif r1 != 0 goto -3\nexit\nstate 2 rank 0 r1 * 1\nwith r0 number 0 18446744073709551615 0 0\nwith r1 number 1 10 0 0\n";
-    same(&rt, alloc, text, listed)?;
+    lists(&rt, alloc, text, listed)?;
     let object = assemble(alloc, text)?;
     assert!(rt; object.hook() == Hook::Price && object.entry_rank() == 10);
     assert!(rt; object.slots() == 6 && object.statements().len() == 1);
@@ -93,45 +96,70 @@ fn sums_a_loop(rt: HostRuntime) -> Result<(), Fail> {
 }
 
 #[test]
-fn each_instruction_is_assembled(rt: HostRuntime) -> Result<(), Fail> {
+fn each_instruction_is_listed(rt: HostRuntime) -> Result<(), Fail> {
     let alloc = rt.alloc();
-    assembles(
+    is_listing(
+        &rt,
         alloc,
         "hook count\nrank 0\nr0 = r1\nw0 = -5\nr0 += 1\nr0 -= r2\nr0 *= 2\nw0 /= w3\nr0 s/= 4\nr0 |= 1\nr0 &= 255\nr0 <<= 3\nr0 >>= 3\nr0 %= 7\nw0 s%= w1\nr0 ^= r9\nr0 s>>= 1\n",
     )?;
-    assembles(
+    is_listing(
+        &rt,
         alloc,
         "hook tag\nrank 4294967295\nr0 = neg\nw1 = neg\nr2 = s8 r3\nw2 = s16 w3\nr2 = s32 r10\nr0 = le16\nr0 = be32\nr0 = swap64\ncall 3\ncall -1\nexit\n",
     )?;
-    assembles(
+    is_listing(
+        &rt,
         alloc,
         "hook veto\nrank 0\ngoto +0\ngoto -32768\ngotol +2147483647\ngotol -2147483648\nif r1 == r2 goto +1\nif r1 > 0 goto +1\nif r1 >= 0 goto +1\nif r1 & 1 goto +1\nif w1 != w2 goto +1\nif r1 s> 0 goto +1\nif r1 s>= 0 goto +1\nif r1 < 0 goto +1\nif r1 <= 0 goto +1\nif r1 s< 0 goto +1\nif r1 s<= 0 goto +1\n",
     )?;
-    assembles(
+    is_listing(
+        &rt,
         alloc,
         "hook veto\nrank 0\nr1 = *u8 r2 0\nr1 = *u16 r2 -32768\nr1 = *u32 r2 32767\nr1 = *u64 r2 8\nr1 = *s8 r2 0\nr1 = *s16 r2 0\nr1 = *s32 r2 0\n*u8 r1 0 = r2\n*u16 r1 0 = r2\n*u32 r1 0 = -1\n*u64 r1 0 = 7\nr1 = wide 18446744073709551615\nr1 = map 1 -8\n",
     )
 }
 
 #[test]
-fn each_statement_is_assembled(rt: HostRuntime) -> Result<(), Fail> {
+fn each_statement_is_listed(rt: HostRuntime) -> Result<(), Fail> {
     let alloc = rt.alloc();
-    assembles(
+    is_listing(
+        &rt,
         alloc,
         "hook count\nrank 0\nexit\nexit\nexit\nexit\nstate 0 rank 4294967295\nstate 1 rank 0 r9 * 4294967295\nwith r0 context 64\nwith r1 stack 512\nwith r2 map 1 0 8 7 0\nwith r9 number 5 5 255 5\nbytes 0 8\nbytes 16 512\nstate 2 rank 1 r0 * 0 r1 * 2\nwith r1 number 0 1 0 0\nstate 3 rank 1 r1 * 3 r1 * 2\nwith r1 number 0 1 0 0\n",
     )?;
-    same(
+    lists(
         &rt,
         alloc,
         "  hook   count\n\nrank 007\nE:\nexit\n\nF:\nstate E rank 0 r0 * 0 r0 * 0\nwith r3 map 0 0 0 0 0\nbytes 8 16\nbytes 0 8\nbytes 3 3\nwith r1 stack 0",
         "hook count\nrank 7\nexit\nstate 0 rank 0\nwith r1 stack 0\nwith r3 map 0 0 0 0 0\nbytes 0 16\n",
     )?;
-    same(
+    lists(
         &rt,
         alloc,
         "hook count\nrank 0\ngoto end\nr0 = wide 1\nend:\nexit\n",
         "hook count\nrank 0\ngoto +2\nr0 = wide 1\nexit\n",
     )
+}
+
+#[test]
+fn refuses_to_list(rt: HostRuntime) -> Result<(), Fail> {
+    let alloc = rt.alloc();
+    let mut code = Vec::new(alloc);
+    for _ in 0..8 {
+        code.push(0xff)?;
+    }
+    let object = Object::new(Hook::Count, 0, code, Vec::new(alloc));
+    assert!(rt; object.is_some());
+    if let Some(object) = object {
+        match listing(alloc, &object) {
+            Ok(text) => assert!(rt; false, "{text}"),
+            Err(ListError::Code) => {}
+            Err(ListError::Memory) => return Err(Fail::from(ListError::Memory)),
+        }
+    }
+    assert!(rt; ListError::Code.number() == 1 && AsmFault::Twice.number() == 4);
+    Ok(())
 }
 
 #[test]
