@@ -1,0 +1,114 @@
+-- Looking for a label line by line.
+use Rattle.std.proofs.Common.{Bool, false, take, ◌-◌, ◌∙◌, sym, subst, inl, inr, ◌≡◌, ℕ, zero, suc, ◌+◌, ◌<◌, List, [], ◌∷◌, ◌&&◌, length, get_or, drop, Option, Some, None, refl, ap, arith}
+use Rattle.std.specs.Prelude.{if◌then◌else◌, Result, Err, ◌⊎◌}
+use Rattle.std.specs.Str.{bytes_eq}
+use Rattle.std.proofs.lemmas.List.{get_or_default, take_rest}
+use denote.Ref.{Bor}
+use Rattle.asm_lines.specs.declared.line.Line.{Line}
+use Rattle.asm_lines.specs.Forms.{Word}
+use Rattle.asm_lines.specs.Views.{views}
+use Rattle.asm.specs.declared.error.AsmFault.TheVariants as faults
+use Rattle.asm.specs.declared.labels.Place.{Place}
+use Rattle.asm.specs.declared.error.AsmFault.{AsmFault}
+use Rattle.asm.specs.declared.error.AsmError.{AsmError}
+use Rattle.asm.specs.Assembling.{taken_all, Says, Refuses, gives_label, slots_in, place_from, Sketch, taken, line_step, blamed}
+
+-- the line `n` of those that are left
+pub place_here : (n at slot : ℕ) (lines : List (Option Line)) (names : List (Bor Word)) (word : Word) (d : Option Line) (e : Bor Word) → n < length lines → length lines ≡ length names
+    → place_from at slot (drop n lines) (views (drop n names)) word
+    ≡ (if gives_label (get_or lines n d) && bytes_eq (get_or names n e).now word then Some (record { line = at; slot = slot })
+    else place_from (at + 1) (slot + slots_in (get_or lines n d)) (drop (suc n) lines) (views (drop (suc n) names)) word)
+place_here n at slot [] names word d e h same = absurd (omega arith)
+place_here n at slot (l ∷ ls) [] word d e h same = absurd (omega arith)
+place_here zero at slot (l ∷ ls) (m ∷ ms) word d e h same = refl
+place_here (suc n) at slot (l ∷ ls) (m ∷ ms) word d e h same = place_here n at slot ls ms word d e (omega arith) (omega arith)
+
+-- nothing is left
+pub place_end : (n at slot : ℕ) (lines : List (Option Line)) (names : List Word) (word : Word) → n ≡ length lines → place_from at slot (drop n lines) names word ≡ None
+place_end n at slot [] names word h = rw h refl
+place_end zero at slot (l ∷ ls) names word h = absurd (omega arith)
+place_end (suc n) at slot (l ∷ ls) names word h = place_end n at slot ls names word (omega arith)
+
+-- the line `n` of those that are left spells nothing
+pub taken_bad : (places : Word → Option Place) (n at : ℕ) (lines : List (Option Line)) (names : List (Bor Word)) (s : Sketch) (d : Option Line) → n < length lines → length lines ≡ length names
+    → get_or lines n d ≡ None → taken places at (drop n lines) (views (drop n names)) s ≡ Err (at + 1, faults.Syntax)
+taken_bad places n at [] names s d h same e = absurd (omega arith)
+taken_bad places n at (l ∷ ls) [] s d h same e = absurd (omega arith)
+taken_bad places zero at (l ∷ ls) (m ∷ ms) s d h same e = rw e refl
+taken_bad places (suc n) at (l ∷ ls) (m ∷ ms) s d h same e = taken_bad places n at ls ms s d (omega arith) (omega arith) e
+
+-- or it spells a line
+pub taken_here : (places : Word → Option Place) (n at : ℕ) (lines : List (Option Line)) (names : List (Bor Word)) (s : Sketch) (line : Line) (d : Option Line) (b : Bor Word) → n < length lines → length lines ≡ length names
+    → get_or lines n d ≡ Some line → taken places at (drop n lines) (views (drop n names)) s
+    ≡ blamed at (line_step s line at (places (get_or names n b).now) (drop (suc n) lines)) (taken places (at + 1) (drop (suc n) lines) (views (drop (suc n) names)))
+taken_here places n at [] names s line d b h same e = absurd (omega arith)
+taken_here places n at (l ∷ ls) [] s line d b h same e = absurd (omega arith)
+taken_here places zero at (l ∷ ls) (m ∷ ms) s line d b h same e = rw e refl
+taken_here places (suc n) at (l ∷ ls) (m ∷ ms) s line d b h same e = taken_here places n at ls ms s line d b (omega arith) (omega arith) e
+
+not_chosen : {A : Type 0} (b : Bool) (x y : A) → false ≡ b → (if b then x else y) ≡ y
+not_chosen b x y e = rw (← e) refl
+
+-- the line gives another label or none
+pub looks_past : (at slot more : ℕ) (lines : List (Option Line)) (names : List (Bor Word)) (word : Word) (l m : Option Line) → at < length lines → length lines ≡ length names
+    → l ≡ get_or lines at l → m ≡ get_or lines at m → false ≡ (gives_label l && bytes_eq (get_or names at (record { ref_ptr = (0, 0); now = [] })).now word) → more ≡ slots_in m
+    → place_from at slot (drop at lines) (views (drop at names)) word ≡ place_from (at + 1) (slot + more) (drop (at + 1) lines) (views (drop (at + 1) names)) word
+looks_past at slot more lines names word l m h same el em no_label e =
+    let n : Bor Word = record { ref_ptr = (0, 0); now = [] } in
+    let next : suc at ≡ at + 1 = omega arith in
+    let same_line : l ≡ m = el ∙ get_or_default lines at l m h ∙ sym em in
+    let slots : slots_in (get_or lines at l) ≡ more = ap slots_in (sym el ∙ same_line) ∙ sym e in
+    place_here at at slot lines names word l n h same
+    ∙ not_chosen (gives_label (get_or lines at l) && bytes_eq (get_or names at n).now word) _ _ (no_label ∙ ap (λ (x : Option Line). gives_label x && bytes_eq (get_or names at n).now word) el)
+    ∙ ap (λ k. place_from (at + 1) (slot + slots_in (get_or lines at l)) (drop k lines) (views (drop k names)) word) next
+    ∙ ap (λ k. place_from (at + 1) (slot + k) (drop (at + 1) lines) (views (drop (at + 1) names)) word) slots
+
+-- ---- all lines
+
+rest_all : (xs : List (Option Line)) (k : ℕ) → take (length xs - k) (drop k xs) ≡ drop k xs
+rest_all xs k = take_rest xs k
+
+same_place : (lines la : List (Option Line)) (names na : List (Bor Word)) (n m : Bor Word) → la ≡ lines → na ≡ names → n ≡ m → place_from 0 0 la (views na) n.now ≡ place_from 0 0 lines (views names) m.now
+same_place lines la names na n m el en e =
+    ap (λ x. place_from 0 0 x (views na) n.now) el ∙ ap (λ (x : List (Bor Word)). place_from 0 0 lines (views x) n.now) en ∙ ap (λ (x : Bor Word). place_from 0 0 lines (views names) x.now) e
+
+same_step : (s : Sketch) (line : Line) (at : ℕ) (p q : Option Place) (r r2 : List (Option Line)) (x : Result Sketch AsmFault) → p ≡ q → r ≡ r2 → line_step s line at p r ≡ x → line_step s line at q r2 ≡ x
+same_step s line at p q r r2 x e f h = subst (λ (a : Option Place). line_step s line at a r2 ≡ x) e (subst (λ (b : List (Option Line)). line_step s line at p b ≡ x) f h)
+
+-- what the line at this place makes
+pub stepped : (lines : List (Option Line)) (names : List (Bor Word)) (at : ℕ) (s : Sketch) (l : Option Line) (line : Line) (n : Bor Word) (la lb : List (Option Line)) (na : List (Bor Word)) (p : Option Place) (x : Result Sketch AsmFault)
+    → at < length lines → length lines ≡ length names → l ≡ get_or lines at l → l ≡ Some line → n ≡ get_or names at n → la ≡ lines → na ≡ names → lb ≡ lines → p ≡ place_from 0 0 la (views na) n.now
+    → taken_all lines (views names) ≡ taken (place_from 0 0 lines (views names)) at (drop at lines) (views (drop at names)) s
+    → line_step s line at p (take (length lb - (at + 1)) (drop (at + 1) lb)) ≡ x
+    → taken_all lines (views names) ≡ blamed at x (taken (place_from 0 0 lines (views names)) (at + 1) (drop (at + 1) lines) (views (drop (at + 1) names)))
+stepped lines names at s l line n la lb na p x h same el e en ela ena elb ep inv given =
+    let next : at + 1 ≡ suc at = omega arith in
+    let places = place_from 0 0 lines (views names) in
+    let here = same_step s line at p (places (get_or names at n).now) (take (length lb - (at + 1)) (drop (at + 1) lb)) (drop (suc at) lines) x
+    (ep ∙ same_place lines la names na n (get_or names at n) ela ena en)
+    (rest_all lb (at + 1) ∙ ap (λ (ys : List (Option Line)). drop (at + 1) ys) elb ∙ ap (λ k. drop k lines) next) given in
+    inv ∙ taken_here places at at lines names s line l n h same (sym el ∙ e)
+    ∙ ap (λ (r : Result Sketch AsmFault). blamed at r (taken places (at + 1) (drop (suc at) lines) (views (drop (suc at) names)))) here
+    ∙ ap (λ k. blamed at x (taken places (at + 1) (drop k lines) (views (drop k names)))) (sym next)
+
+-- ---- refusals
+
+refuses_at : (text : List ℕ) (lines : List (Option Line)) (names : List (Bor Word)) (r : AsmError) (line : ℕ) (fault : AsmFault) → Says text lines names → r.kind ≡ fault → (r.kind ≡ faults.Memory) ⊎ (r.line ≡ line)
+    → taken_all lines (views names) ≡ Err (line, fault) → (r.kind ≡ faults.Memory) ⊎ Refuses text r.line r.kind
+refuses_at text lines names r line fault says k (inl m) e = inl m
+refuses_at text lines names r line fault says k (inr l) e =
+    inr (record { found = lines; names = names; says = says; blames = inl (e ∙ ap (λ (n : ℕ). Err (n, fault)) (sym l) ∙ ap (λ (f : AsmFault). Err (r.line, f)) (sym k)) })
+
+-- a line that spells nothing
+pub refused_bad : (text : List ℕ) (lines : List (Option Line)) (names : List (Bor Word)) (r : AsmError) (at : ℕ) (s : Sketch) (l : Option Line) → Says text lines names → at < length lines → l ≡ get_or lines at l → l ≡ None
+    → taken_all lines (views names) ≡ taken (place_from 0 0 lines (views names)) at (drop at lines) (views (drop at names)) s
+    → r.kind ≡ faults.Syntax → (r.kind ≡ faults.Memory) ⊎ (r.line ≡ at + 1) → (r.kind ≡ faults.Memory) ⊎ Refuses text r.line r.kind
+refused_bad text lines names r at s l says h el e inv k where_it =
+    refuses_at text lines names r (at + 1) faults.Syntax says k where_it (inv ∙ taken_bad (place_from 0 0 lines (views names)) at at lines names s l h says.same (sym el ∙ e))
+
+-- a line that is refused
+pub refused_line : (text : List ℕ) (lines : List (Option Line)) (names : List (Bor Word)) (r : AsmError) (at : ℕ) (fault : AsmFault) (step : Result Sketch AsmFault) → Says text lines names
+    → r.kind ≡ fault → (r.kind ≡ faults.Memory) ⊎ (r.line ≡ at + 1) → (fault ≡ faults.Memory) ⊎ (step ≡ Err fault)
+    → (step ≡ Err fault → taken_all lines (views names) ≡ Err (at + 1, fault)) → (r.kind ≡ faults.Memory) ⊎ Refuses text r.line r.kind
+refused_line text lines names r at fault step says k where_it (inl m) f = inl (k ∙ m)
+refused_line text lines names r at fault step says k where_it (inr e) f = refuses_at text lines names r (at + 1) fault says k where_it (f e)

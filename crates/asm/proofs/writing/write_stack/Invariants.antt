@@ -1,0 +1,19 @@
+use Rattle.std.proofs.Common.{◌≡◌, ℕ, List, length, ◌≤◌, ◌-◌, string_bytes}
+use Rattle.object.specs.declared.kind.Kind.{Kind}
+use Rattle.object.specs.declared.rank.Rank.{Rank}
+use Rattle.object.specs.Sets.{no_bytes}
+use Rattle.asm.specs.Listing.{Listed, Any, Front}
+use Rattle.asm.proofs.Ranges.{filling, bytes_up_to}
+use Rattle.asm.proofs.writing.write_stack.Given as goal
+
+-- the ranges so far are listed
+abbrev pub invariant-loop-start : goal.invariant-loop-start
+invariant-loop-start l = record {
+  within : l.start ≤ 512;
+  long : 1 ≤ l.start → length l.stack ≡ 512;
+  listed : (f : Front) (slot : ℕ) (rank : Rank) (kinds : List Kind) → Listed (string_bytes l.fn.text) (filling f slot rank kinds no_bytes) Any
+      → Listed (string_bytes l.text) (filling f slot rank kinds (bytes_up_to l.stack l.start)) Any;
+}
+
+abbrev pub decreases-loop-start : goal.decreases-loop-start
+decreases-loop-start l = 512 - l.start

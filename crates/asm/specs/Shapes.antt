@@ -1,0 +1,21 @@
+-- Which lines a part of the assembler takes.
+use Rattle.std.specs.Prelude.{Bool, true, false}
+use Rattle.asm_lines.specs.declared.line.Line.{Line}
+use Rattle.asm_lines.specs.declared.line.Line.TheVariants as lines
+
+-- a jump, a call or an exit
+abbrev pub is_jump : Line → Bool
+is_jump (lines.Jump target) = true
+is_jump (lines.LongJump target) = true
+is_jump (lines.Branch width test left right target) = true
+is_jump (lines.Call helper) = true
+is_jump lines.Exit = true
+is_jump other = false
+
+-- an assignment to a register
+abbrev pub is_register : Line → Bool
+is_register (lines.Arithmetic width operation target source) = true
+is_register (lines.Negate width target) = true
+is_register (lines.SignExtend extension target source) = true
+is_register (lines.Reorder order width target) = true
+is_register other = false

@@ -1,0 +1,301 @@
+//! From a text to the object that it spells.
+ghost use Rattle.std.specs.Prelude.{◌≡◌, ◌⊎◌, ℕ, Option, Some, None, Ok, Err, List, IfSome, MatchResult, length, map, option_map};
+ghost use Rattle.asm_lines.specs.Forms.{Word};
+ghost use Rattle.asm.specs.Assembling.{hook_step, rank_step, instruction_step, state_step, with_line_step, bytes_line_step, body_step, line_step, has_slot, order_fault, slot_at, all_of, nothing, Takes, IsMade, MakesNone, TextSpells, Refuses};
+ghost use Rattle.asm.specs.Views.{parts_of, sketch};
+ghost use Rattle.asm.specs.declared.error.AsmFault.{AsmFault};
+
+use crate::error::{AsmError, AsmFault};
+use crate::instructions::push_instruction;
+use crate::labels::{Place, place_of};
+use crate::numbers::natural_32;
+use crate::statements::{OpenStatement, push_open, rank_of, slot_of, statements_of};
+use asm_lines::{Content, Line, Numeral, Target, Terms, read_lines};
+use isa::laws::code_has_one_spelling;
+use isa::{CodeBuilder, Hook, Register, encode};
+use object::Object;
+use std::alloc::Global;
+
+/// What the lines so far say.
+#[derive(Drop)]
+struct Draft {
+    hook: Option<Hook>,
+    rank: Option<u32>,
+    code: CodeBuilder,
+    /// The statements before the last one.
+    before: Vec<OpenStatement>,
+    /// The last statement.
+    open: Option<OpenStatement>,
+}
+
+/// Whether one of the statements stands at the slot.
+fn has_slot(statements: &[OpenStatement], slot: u32) -> bool
+    ensures { result ≡ has_slot (map parts_of statements.now) slot }
+{
+    for statement in statements {
+        if statement.slot == slot {
+            return true;
+        }
+    }
+    false
+}
+
+/// What is wrong with a further statement at this slot, if anything is.
+fn order_fault(before: &[OpenStatement], last: Option<OpenStatement>, slot: u32) -> Option<AsmFault>
+    ensures { result ≡ order_fault (map parts_of before.now) (option_map parts_of last) slot }
+{
+    let last = last?;
+    if slot == last.slot || has_slot(before, slot) {
+        return Some(AsmFault::Twice);
+    }
+    if slot < last.slot {
+        return Some(AsmFault::Range);
+    }
+    None
+}
+
+/// The slot that a label names.
+fn slot_at(place: Option<Place>) -> Option<usize>
+    ensures { result ≡ slot_at place }
+{
+    match place {
+        Some(place) => Some(place.slot),
+        None => None,
+    }
+}
+
+impl Draft {
+    fn new(alloc: Global) -> Draft
+        ensures { sketch result ≡ nothing }
+    {
+        Draft {
+            hook: None,
+            rank: None,
+            code: CodeBuilder::new(alloc),
+            before: Vec::new(alloc),
+            open: None,
+        }
+    }
+
+    /// Takes the `hook` line, which comes first.
+    fn hook(&mut self, hook: Hook) -> Result<(), AsmFault>
+        ensures { Takes result (sketch self.new) (hook_step (sketch self.old) hook) }
+    {
+        if self.hook.is_some() {
+            return Err(AsmFault::Syntax);
+        }
+        self.hook = Some(hook);
+        Ok(())
+    }
+
+    /// Takes the `rank` line, which comes second.
+    fn rank(&mut self, rank: Numeral) -> Result<(), AsmFault>
+        ensures { Takes result (sketch self.new) (rank_step (sketch self.old) rank) }
+    {
+        if self.hook.is_none() || self.rank.is_some() {
+            return Err(AsmFault::Syntax);
+        }
+        match natural_32(rank) {
+            Some(rank) => {
+                self.rank = Some(rank);
+                Ok(())
+            }
+            None => Err(AsmFault::Range),
+        }
+    }
+
+    /// Takes an instruction's line, which comes before all statements.
+    fn instruction(&mut self, line: Line, place: Option<usize>) -> Result<(), AsmFault>
+        ensures { Takes result (sketch self.new) (instruction_step (sketch self.old) line place) }
+    {
+        if self.open.is_some() {
+            return Err(AsmFault::Syntax);
+        }
+        push_instruction(&mut self.code, line, place)
+    }
+
+    /// Puts the last statement, if there is one, behind those before it.
+    fn shift(&mut self) -> Result<(), AsmFault>
+        ensures kept { MatchResult result (λ _. sketch self.new ≡ record (sketch self.old) { before = all_of (sketch self.old).before (sketch self.old).last; last = (sketch self.new).last }) (λ fault. fault ≡ AsmFault.Memory) }
+    {
+        push_open(&mut self.before, self.open)
+    }
+
+    /// Takes a `state` line, which the lines `rest` follow.
+    fn state(
+        &mut self,
+        slot: Target,
+        constant: Numeral,
+        terms: Terms,
+        place: Option<usize>,
+        rest: &[Option<Line>],
+    ) -> Result<(), AsmFault>
+        ensures { Takes result (sketch self.new) (state_step (sketch self.old) slot constant terms place rest.now) }
+    {
+        let slot = slot_of(slot, place)?;
+        if slot >= self.code.len() as u64 {
+            return Err(AsmFault::Range);
+        }
+        let slot = slot as u32;
+        let Some(rank) = rank_of(constant, terms, rest) else {
+            return Err(AsmFault::Range);
+        };
+        if let Some(fault) = order_fault(&self.before, self.open, slot) {
+            return Err(fault);
+        }
+        self.shift()?;
+        self.open = Some(OpenStatement::new(slot, rank));
+        Ok(())
+    }
+
+    /// Takes a `with` line.
+    fn with(&mut self, register: Register, content: Content) -> Result<(), AsmFault>
+        ensures { Takes result (sketch self.new) (with_line_step (sketch self.old) register content) }
+    {
+        let Some(open) = self.open else {
+            return Err(AsmFault::Syntax);
+        };
+        let open = open.with(register, content)?;
+        self.open = Some(open);
+        Ok(())
+    }
+
+    /// Takes a `bytes` line.
+    fn bytes(&mut self, start: Numeral, end: Numeral) -> Result<(), AsmFault>
+        ensures { Takes result (sketch self.new) (bytes_line_step (sketch self.old) start end) }
+    {
+        let Some(open) = self.open else {
+            return Err(AsmFault::Syntax);
+        };
+        let open = open.bytes(start, end)?;
+        self.open = Some(open);
+        Ok(())
+    }
+
+    /// Takes the line `at`, counted from 0, which the lines `rest` follow. `place` is what the label that it gives or uses names.
+    fn line(
+        &mut self,
+        line: Line,
+        at: usize,
+        place: Option<Place>,
+        rest: &[Option<Line>],
+    ) -> Result<(), AsmFault>
+        ensures { Takes result (sketch self.new) (line_step (sketch self.old) line at place rest.now) }
+    {
+        match line {
+            Line::Empty => Ok(()),
+            Line::Hook(hook) => self.hook(hook),
+            Line::Rank(rank) => self.rank(rank),
+            other => {
+                if self.rank.is_none() {
+                    return Err(AsmFault::Syntax);
+                }
+                self.body(other, at, place, rest)
+            }
+        }
+    }
+
+    /// Takes a line behind the first two.
+    fn body(
+        &mut self,
+        line: Line,
+        at: usize,
+        place: Option<Place>,
+        rest: &[Option<Line>],
+    ) -> Result<(), AsmFault>
+        ensures { Takes result (sketch self.new) (body_step (sketch self.old) line at place rest.now) }
+    {
+        match line {
+            Line::Label => match place {
+                Some(place) => {
+                    if place.line < at {
+                        return Err(AsmFault::Twice);
+                    }
+                    Ok(())
+                }
+                None => Ok(()),
+            },
+            Line::State {
+                slot,
+                constant,
+                terms,
+            } => self.state(slot, constant, terms, slot_at(place), rest),
+            Line::With { register, content } => self.with(register, content),
+            Line::Bytes { start, end } => self.bytes(start, end),
+            other => self.instruction(other, slot_at(place)),
+        }
+    }
+
+    /// The object that the lines spell.
+    fn finish(self, alloc: Global) -> Result<Object, AsmFault>
+        ensures { MatchResult result (IsMade (sketch self)) (λ fault. (fault ≡ AsmFault.Memory) ⊎ ((fault ≡ AsmFault.Syntax) × MakesNone (sketch self))) }
+    {
+        let Draft {
+            hook,
+            rank,
+            code,
+            before,
+            open,
+        } = self;
+        let Some(hook) = hook else {
+            return Err(AsmFault::Syntax);
+        };
+        let Some(rank) = rank else {
+            return Err(AsmFault::Syntax);
+        };
+        let Some(code) = code.finish() else {
+            return Err(AsmFault::Syntax);
+        };
+        let Ok(bytes) = encode(alloc, &code) else {
+            return Err(AsmFault::Memory);
+        };
+        let Ok(statements) = statements_of(alloc, &before, open) else {
+            return Err(AsmFault::Memory);
+        };
+        let Some(statements) = statements else {
+            return Err(AsmFault::Syntax);
+        };
+        code_has_one_spelling();
+        match Object::new(hook, rank, bytes, statements) {
+            Some(object) => Ok(object),
+            None => Err(AsmFault::Syntax),
+        }
+    }
+}
+
+/// What is wrong with this line, counted from 1.
+fn at_line(line: usize, kind: AsmFault) -> AsmError
+    ensures kind { result.kind ≡ kind }
+    ensures line { result.kind ≡ AsmFault.Memory ⊎ (result.line ≡ line) }
+{
+    match kind {
+        AsmFault::Memory => AsmError { line: 0, kind },
+        _ => AsmError { line, kind },
+    }
+}
+
+/// The object that a text of assembly spells.
+///
+/// The refusal names the first bad line. A text without an instruction, and without another bad line, is `Syntax` at line 1.
+pub fn assemble(alloc: Global, text: &str) -> Result<Object, AsmError>
+    ensures { MatchResult result (TextSpells text.now) (λ error. (error.kind ≡ AsmFault.Memory) ⊎ Refuses text.now error.line error.kind) }
+{
+    let mut lines = Vec::new(alloc);
+    let mut names = Vec::new(alloc);
+    read_lines(alloc, text, &mut lines, &mut names)?;
+    let mut draft = Draft::new(alloc);
+    for at in 0..lines.len() {
+        let Some(line) = lines[at] else {
+            return Err(at_line(at + 1, AsmFault::Syntax));
+        };
+        let place = place_of(&lines, &names, names[at]);
+        let rest = &lines[at + 1..];
+        if let Err(kind) = draft.line(line, at, place, rest) {
+            return Err(at_line(at + 1, kind));
+        }
+    }
+    match draft.finish(alloc) {
+        Ok(object) => Ok(object),
+        Err(kind) => Err(at_line(1, kind)),
+    }
+}

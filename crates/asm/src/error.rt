@@ -1,0 +1,82 @@
+//! Why a text spells no object, and why an object has no listing.
+ghost use Rattle.std.specs.Prelude.{◌≡◌};
+ghost use Rattle.asm.specs.Faults.{fault_number, list_number};
+
+use std::alloc::AllocError;
+
+/// What is wrong with a line.
+#[derive(Clone, Copy, PartialEq, Eq, Debug)]
+pub enum AsmFault {
+    /// The line is none of the forms, or it stands where it may not.
+    Syntax,
+    /// No line gives the label that this one uses.
+    Label,
+    /// A number that its field can't hold, or what an object file may not say of a statement. Also the line that passes 4096 slots.
+    Range,
+    /// A label or a statement's slot is given again, or a register in two lines of one statement.
+    Twice,
+    /// Memory ran out.
+    Memory,
+}
+
+impl AsmFault {
+    /// The number that users see: 1 to 5, in the order of the variants.
+    pub fn number(self) -> u8
+        ensures { result ≡ fault_number self }
+    {
+        match self {
+            AsmFault::Syntax => 1,
+            AsmFault::Label => 2,
+            AsmFault::Range => 3,
+            AsmFault::Twice => 4,
+            AsmFault::Memory => 5,
+        }
+    }
+}
+
+/// The first bad line, counted from 1, and what is wrong with it. Where memory ran out the line is 0.
+#[derive(Clone, Copy, PartialEq, Eq, Debug)]
+pub struct AsmError {
+    pub line: usize,
+    pub kind: AsmFault,
+}
+
+impl From<AllocError> for AsmError {
+    ghost use Rattle.asm.specs.declared.error.AsmFault.TheVariants.{Memory};
+
+    ghost from_gives = { λ _ error. error.kind ≡ Memory };
+
+    fn from(_error: AllocError) -> AsmError {
+        AsmError {
+            line: 0,
+            kind: AsmFault::Memory,
+        }
+    }
+}
+
+/// Why an object has no listing.
+#[derive(Clone, Copy, PartialEq, Eq, Debug)]
+pub enum ListError {
+    /// Its code doesn't decode.
+    Code,
+    /// Memory ran out.
+    Memory,
+}
+
+impl ListError {
+    /// The number that users see: 1 and 2, in the order of the variants.
+    pub fn number(self) -> u8
+        ensures { result ≡ list_number self }
+    {
+        match self {
+            ListError::Code => 1,
+            ListError::Memory => 2,
+        }
+    }
+}
+
+impl From<AllocError> for ListError {
+    fn from(_error: AllocError) -> ListError {
+        ListError::Memory
+    }
+}

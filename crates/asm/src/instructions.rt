@@ -1,0 +1,340 @@
+//! The instruction of a line, both ways.
+ghost use Rattle.std.specs.Prelude.{◌≡◌, ◌⊎◌, ℕ, Option, true, false, Some, Ok, Err, MatchResult, OnErr};
+ghost use Rattle.asm.specs.Instructions.{ranged, source_of, distance_to, distance_of, instruction_of, code_step};
+ghost use Rattle.asm_lines.specs.Forms.{names_label};
+ghost use Rattle.asm.specs.declared.error.AsmFault.{AsmFault};
+ghost use Rattle.asm.specs.Shapes.{is_jump, is_register};
+
+use crate::error::AsmFault;
+use crate::numbers::{natural_64, signed_16, signed_32};
+use asm_lines::{Line, Numeral, Operand, Target};
+use isa::{BuildError, CodeBuilder, Instruction, Source};
+
+/// A number in its field, or `Range`.
+fn in_range<T: Drop>(number: Option<T>) -> Result<T, AsmFault>
+    ensures { result ≡ ranged number }
+{
+    match number {
+        Some(number) => Ok(number),
+        None => Err(AsmFault::Range),
+    }
+}
+
+/// The second operand, if its number is one of 32 bits.
+fn source_of(operand: Operand) -> Option<Source>
+    ensures { result ≡ source_of operand }
+{
+    match operand {
+        Operand::Register(register) => Some(Source::Register(register)),
+        Operand::Number(number) => {
+            let number = signed_32(number)?;
+            Some(Source::Immediate(number))
+        }
+    }
+}
+
+/// How far it is from the slot behind a jump to the place of a label, as a text would write it.
+fn distance_to(slot: usize, place: usize) -> Numeral
+    ensures { result ≡ distance_to slot place }
+{
+    if slot < place {
+        Numeral::Natural((place - slot - 1) as u64)
+    } else {
+        match u32::try_from(slot - place) {
+            Ok(less) => Numeral::Negative(less),
+            Err(_) => Numeral::Huge,
+        }
+    }
+}
+
+/// How far a jump at this slot goes: `Label` where its label is given nowhere.
+fn distance_of(target: Target, slot: usize, place: Option<usize>) -> Result<Numeral, AsmFault>
+    ensures { result ≡ distance_of target slot place }
+{
+    match target {
+        Target::Number(number) => Ok(number),
+        Target::Label => match place {
+            Some(place) => Ok(distance_to(slot, place)),
+            None => Err(AsmFault::Label),
+        },
+    }
+}
+
+/// The instruction of a line at this slot, where `place` is the slot that the line's label names: `Syntax` where the line has none.
+pub(crate) fn instruction_of(
+    line: Line,
+    slot: usize,
+    place: Option<usize>,
+) -> Result<Instruction, AsmFault>
+    ensures { result ≡ instruction_of line slot place }
+{
+    match line {
+        Line::Jump(target) => {
+            let distance = distance_of(target, slot, place)?;
+            let distance = in_range(signed_16(distance))?;
+            Ok(Instruction::Jump { distance })
+        }
+        Line::LongJump(target) => {
+            let distance = distance_of(target, slot, place)?;
+            let distance = in_range(signed_32(distance))?;
+            Ok(Instruction::LongJump { distance })
+        }
+        Line::Branch {
+            width,
+            test,
+            left,
+            right,
+            target,
+        } => {
+            let distance = distance_of(target, slot, place)?;
+            let distance = in_range(signed_16(distance))?;
+            let right = in_range(source_of(right))?;
+            Ok(Instruction::Branch {
+                width,
+                test,
+                left,
+                right,
+                distance,
+            })
+        }
+        Line::Call(helper) => {
+            let helper = in_range(signed_32(helper))?;
+            Ok(Instruction::Call { helper })
+        }
+        Line::Exit => Ok(Instruction::Exit),
+        other => data_instruction_of(other, slot, place),
+    }
+}
+
+/// The instruction of a line that assigns to a register, loads or stores.
+fn data_instruction_of(
+    line: Line,
+    slot: usize,
+    place: Option<usize>,
+) -> Result<Instruction, AsmFault>
+    requires { is_jump line ≡ false }
+    ensures { result ≡ instruction_of line slot place }
+{
+    match line {
+        Line::Arithmetic {
+            width,
+            operation,
+            target,
+            source,
+        } => {
+            let source = in_range(source_of(source))?;
+            Ok(Instruction::Arithmetic {
+                width,
+                operation,
+                target,
+                source,
+            })
+        }
+        Line::Negate { width, target } => Ok(Instruction::Negate { width, target }),
+        Line::SignExtend {
+            extension,
+            target,
+            source,
+        } => Ok(Instruction::SignExtend {
+            extension,
+            target,
+            source,
+        }),
+        Line::Reorder {
+            order,
+            width,
+            target,
+        } => Ok(Instruction::Reorder {
+            order,
+            width,
+            target,
+        }),
+        other => memory_instruction_of(other, slot, place),
+    }
+}
+
+/// The instruction of a line that loads or stores.
+fn memory_instruction_of(
+    line: Line,
+    slot: usize,
+    place: Option<usize>,
+) -> Result<Instruction, AsmFault>
+    requires jump { is_jump line ≡ false }
+    requires register { is_register line ≡ false }
+    ensures { result ≡ instruction_of line slot place }
+{
+    match line {
+        Line::Load {
+            size,
+            target,
+            base,
+            offset,
+        } => {
+            let offset = in_range(signed_16(offset))?;
+            Ok(Instruction::Load {
+                size,
+                target,
+                base,
+                offset,
+            })
+        }
+        Line::Store {
+            size,
+            base,
+            offset,
+            source,
+        } => {
+            let offset = in_range(signed_16(offset))?;
+            let source = in_range(source_of(source))?;
+            Ok(Instruction::Store {
+                size,
+                base,
+                offset,
+                source,
+            })
+        }
+        Line::LoadNumber { target, number } => {
+            let number = in_range(natural_64(number))?;
+            Ok(Instruction::LoadNumber { target, number })
+        }
+        Line::LoadMap {
+            target,
+            map,
+            offset,
+        } => {
+            let map = in_range(signed_32(map))?;
+            let offset = in_range(signed_32(offset))?;
+            Ok(Instruction::LoadMap {
+                target,
+                map,
+                offset,
+            })
+        }
+        _ => Err(AsmFault::Syntax),
+    }
+}
+
+/// Adds the instruction of a line behind the code so far. After a refusal the code is as before; `Range` comes also where there would be more than 4096 slots.
+pub(crate) fn push_instruction(
+    code: &mut CodeBuilder,
+    line: Line,
+    place: Option<usize>,
+) -> Result<(), AsmFault>
+    ensures taken { MatchResult result (λ _. code_step code.old line place ≡ Ok code.new) (λ fault. (fault ≡ AsmFault.Memory) ⊎ (code_step code.old line place ≡ Err fault)) }
+    ensures same { OnErr result (code.new ≡ code.old) }
+{
+    // Names the type of a part of the instruction, whose place the generated proof has to know.
+    let _none: Option<Source> = None;
+    let instruction = instruction_of(line, code.len(), place)?;
+    match code.push(instruction) {
+        Ok(()) => Ok(()),
+        Err(BuildError::TooLong) => Err(AsmFault::Range),
+        Err(BuildError::Memory) => Err(AsmFault::Memory),
+    }
+}
+
+fn operand_of(source: Source) -> Operand
+    ensures { source_of result ≡ Some source }
+{
+    source.check_ranges();
+    match source {
+        Source::Register(register) => Operand::Register(register),
+        Source::Immediate(number) => Operand::Number(Numeral::from_signed(number)),
+    }
+}
+
+/// The line of an instruction, with distances in place of labels.
+pub(crate) fn line_of(instruction: Instruction) -> Line
+    ensures plain { names_label result ≡ false }
+    ensures again { (slot : ℕ) (place : Option ℕ) → instruction_of result slot place ≡ Ok instruction }
+{
+    instruction.check_ranges();
+    match instruction {
+        Instruction::Jump { distance } => {
+            Line::Jump(Target::Number(Numeral::from_signed(i32::from(distance))))
+        }
+        Instruction::LongJump { distance } => {
+            Line::LongJump(Target::Number(Numeral::from_signed(distance)))
+        }
+        Instruction::Branch {
+            width,
+            test,
+            left,
+            right,
+            distance,
+        } => Line::Branch {
+            width,
+            test,
+            left,
+            right: operand_of(right),
+            target: Target::Number(Numeral::from_signed(i32::from(distance))),
+        },
+        Instruction::Call { helper } => Line::Call(Numeral::from_signed(helper)),
+        Instruction::Exit => Line::Exit,
+        Instruction::Arithmetic {
+            width,
+            operation,
+            target,
+            source,
+        } => Line::Arithmetic {
+            width,
+            operation,
+            target,
+            source: operand_of(source),
+        },
+        Instruction::Negate { width, target } => Line::Negate { width, target },
+        Instruction::SignExtend {
+            extension,
+            target,
+            source,
+        } => Line::SignExtend {
+            extension,
+            target,
+            source,
+        },
+        Instruction::Reorder {
+            order,
+            width,
+            target,
+        } => Line::Reorder {
+            order,
+            width,
+            target,
+        },
+        Instruction::Load {
+            size,
+            target,
+            base,
+            offset,
+        } => Line::Load {
+            size,
+            target,
+            base,
+            offset: Numeral::from_signed(i32::from(offset)),
+        },
+        Instruction::Store {
+            size,
+            base,
+            offset,
+            source,
+        } => Line::Store {
+            size,
+            base,
+            offset: Numeral::from_signed(i32::from(offset)),
+            source: operand_of(source),
+        },
+        Instruction::LoadNumber { target, number } => Line::LoadNumber {
+            target,
+            number: Numeral::Natural(number),
+        },
+        Instruction::LoadMap {
+            target,
+            map,
+            offset,
+        } => Line::LoadMap {
+            target,
+            map: Numeral::from_signed(map),
+            offset: Numeral::from_signed(offset),
+        },
+    }
+}

@@ -1,0 +1,17 @@
+//! Assembly text: from a text to the object that it spells, and from an object to a text that spells it.
+#![tactic(auto)]
+
+mod assembling;
+mod error;
+mod instructions;
+mod labels;
+mod numbers;
+mod statements;
+mod writing;
+
+pub use assembling::assemble;
+pub use error::{AsmError, AsmFault, ListError};
+pub use writing::listing;
+
+#[cfg(test)]
+mod tests;

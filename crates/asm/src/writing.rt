@@ -1,0 +1,227 @@
+//! From an object to a text that spells it.
+ghost use Rattle.std.specs.Prelude.{◌≡◌, ◌≤◌, ◌<◌, ◌↔◌, ◌-◌, ◌++◌, ℕ, List, [], length, take, replicate, Bool, true, false, Option, Some, None, IfOk, IfSome, IfErr, OnOk, MatchOption, string_bytes};
+ghost use Rattle.isa.specs.declared.hook.Hook.{Hook};
+ghost use Rattle.isa.specs.declared.code.Slot.{Slot};
+ghost use Rattle.isa.specs.Spelling.{Spells};
+ghost use Rattle.object.specs.declared.kind.Kind.{Kind};
+ghost use Rattle.object.specs.declared.rank.Rank.{Rank};
+ghost use Rattle.object.specs.Statements.{StatementParts};
+ghost use Rattle.object.specs.Objects.{AreStatements};
+ghost use Rattle.object.specs.Sets.{no_bytes, has_byte};
+ghost use Rattle.asm_lines.specs.declared.line.Line.{Line};
+ghost use Rattle.asm_lines.specs.declared.numeral.Numeral.{Numeral};
+ghost use Rattle.asm_lines.specs.Forms.{names_label};
+ghost use Rattle.asm.specs.Rules.{term_of, rank_of, numbers_of, kind_of};
+ghost use Rattle.asm.specs.Assembling.{all_of, bare, order_fault, TextSpells};
+ghost use Rattle.asm.specs.Listing.{AddsLine, Listed, ListedAll, Any, Front, sketch_of, coded, AreStated, is_stated, is_number, gives_number};
+ghost use Rattle.asm.specs.declared.error.ListError.{ListError};
+
+use crate::error::ListError;
+use crate::instructions::line_of;
+use asm_lines::{Content, Line, Numeral, Range, Target, Term, Terms, write_line};
+use isa::{Code, DecodeFault, Hook, Register, Slot, decode};
+use object::{Kind, Object, Rank, RankTerm, StackBytes, StatedNumber, Statement};
+use std::alloc::{AllocError, Global};
+
+/// Writes a line that neither gives nor uses a label.
+fn put(text: &mut String, line: Line) -> Result<(), AllocError>
+    requires { names_label line ≡ false }
+    ensures { OnOk result (AddsLine (string_bytes text.old) (string_bytes text.new) line) }
+{
+    write_line(text, line, "")
+}
+
+fn number(n: u32) -> Numeral
+    ensures { result ≡ Numeral.Natural n }
+{
+    Numeral::Natural(u64::from(n))
+}
+
+/// A term of a rank: `r0 * 0` where there is none.
+fn term_of(term: Option<RankTerm>) -> Term
+    ensures { (rest : List (Option Line)) → is_stated rest term ≡ true → term_of rest result ≡ Some term }
+{
+    let (register, coefficient) = match term {
+        Some(term) => (term.register(), term.coefficient()),
+        None => (0, 0),
+    };
+    match Register::new(register) {
+        Some(register) => Term {
+            register,
+            coefficient: number(coefficient),
+        },
+        None => unreachable!(),
+    }
+}
+
+/// The terms of a rank: `r0 * 0` stands for a first one that isn't there before a second.
+fn terms_of(rank: Rank) -> Terms
+    ensures { (rest : List (Option Line)) → is_stated rest rank.first ≡ true → is_stated rest rank.second ≡ true → rank_of (Numeral.Natural rank.constant) result rest ≡ Some rank }
+{
+    match rank.second {
+        None => match rank.first {
+            None => Terms::None,
+            first => Terms::One(term_of(first)),
+        },
+        second => Terms::Two(term_of(rank.first), term_of(second)),
+    }
+}
+
+fn range_of(numbers: StatedNumber) -> Range
+    ensures { numbers_of result ≡ Some numbers }
+{
+    Range {
+        low: Numeral::Natural(numbers.low()),
+        high: Numeral::Natural(numbers.high()),
+        mask: Numeral::Natural(numbers.mask()),
+        value: Numeral::Natural(numbers.value()),
+    }
+}
+
+/// What a `with` line says of a register that holds this; None for an empty one.
+fn content_of(kind: Kind) -> Option<Content>
+    ensures again { MatchOption result (kind ≡ Kind.Empty) (λ content. kind_of content ≡ Some kind) }
+    ensures numbers { is_number kind ≡ gives_number result }
+{
+    match kind {
+        Kind::Empty => None,
+        Kind::Number(numbers) => Some(Content::Number(range_of(numbers))),
+        Kind::Context(offset) => Some(Content::Context(number(offset.bytes()))),
+        Kind::Stack(offset) => Some(Content::Stack(number(offset.bytes()))),
+        Kind::MapValue(map, numbers) => Some(Content::Map {
+            map: number(u32::from(map.number())),
+            offset: range_of(numbers),
+        }),
+    }
+}
+
+/// The first two lines.
+fn write_head(alloc: Global, hook: Hook, entry_rank: u32) -> Result<String, AllocError>
+    ensures { IfOk result (λ text. Listed (string_bytes text) (coded hook entry_rank []) Any) }
+{
+    let mut text = String::new(alloc);
+    put(&mut text, Line::Hook(hook))?;
+    put(&mut text, Line::Rank(number(entry_rank)))?;
+    Ok(text)
+}
+
+/// The lines of the instructions, in their order.
+fn write_code(text: &mut String, code: &Code) -> Result<(), AllocError>
+    ensures { OnOk result ((hook : Hook) (rank : ℕ) → Listed (string_bytes text.old) (coded hook rank []) Any → Listed (string_bytes text.new) (coded hook rank code.now) Any) }
+{
+    for slot in code.slots() {
+        match *slot {
+            Slot::Start(instruction) => put(text, line_of(instruction))?,
+            Slot::SecondHalf => {}
+        }
+    }
+    Ok(())
+}
+
+/// A `with` line for each register that isn't empty, ascending.
+fn write_kinds(text: &mut String, kinds: &[Kind]) -> Result<(), AllocError>
+    requires { length kinds.now ≡ 10 }
+    ensures { OnOk result ((f : Front) (slot : ℕ) (rank : Rank) → Listed (string_bytes text.old) (sketch_of f (Some (bare slot rank))) (AreStated kinds.now 0) → Listed (string_bytes text.new) (sketch_of f (Some (record { slot = slot; rank = rank; kinds = kinds.now; stack = no_bytes }))) Any) }
+{
+    for index in 0..10u8 {
+        let Some(register) = Register::new(index) else {
+            unreachable!()
+        };
+        if let Some(content) = content_of(kinds[usize::from(index)]) {
+            put(text, Line::With { register, content })?;
+        }
+    }
+    Ok(())
+}
+
+/// Where the longest range of bytes ends that begins here.
+fn end_of_range(stack: &StackBytes, start: usize) -> usize
+    requires { start < 512 }
+    ensures further { start < result }
+    ensures within { result ≤ 512 }
+    ensures bytes { has_byte stack.now start ≡ true → take result stack.now ≡ take start stack.now ++ replicate (result - start) true }
+{
+    for end in start + 1..512 {
+        if !stack.contains(end) {
+            return end;
+        }
+    }
+    512
+}
+
+/// A `bytes` line for each longest range of bytes, ascending.
+fn write_stack(text: &mut String, stack: &StackBytes) -> Result<(), AllocError>
+    ensures { OnOk result ((f : Front) (slot : ℕ) (rank : Rank) (kinds : List Kind) → Listed (string_bytes text.old) (sketch_of f (Some (record { slot = slot; rank = rank; kinds = kinds; stack = no_bytes }))) Any → Listed (string_bytes text.new) (sketch_of f (Some (record { slot = slot; rank = rank; kinds = kinds; stack = stack.now }))) Any) }
+{
+    let mut start = 0;
+    while start < 512 {
+        if stack.contains(start) {
+            let end = end_of_range(stack, start);
+            let line = Line::Bytes {
+                start: Numeral::Natural(start as u64),
+                end: Numeral::Natural(end as u64),
+            };
+            put(text, line)?;
+            start = end;
+        } else {
+            start += 1;
+        }
+    }
+    Ok(())
+}
+
+/// The lines of a statement.
+fn write_statement(text: &mut String, statement: &Statement) -> Result<(), AllocError>
+    ensures { OnOk result ((f : Front) (last : Option StatementParts) → statement.now.slot < length f.code → order_fault f.before last statement.now.slot ≡ None → Listed (string_bytes text.old) (sketch_of f last) Any → Listed (string_bytes text.new) (sketch_of (record { hook = f.hook; rank = f.rank; code = f.code; before = all_of f.before last }) (Some statement.now)) Any) }
+{
+    let rank = statement.rank();
+    let line = Line::State {
+        slot: Target::Number(number(statement.slot())),
+        constant: number(rank.constant),
+        terms: terms_of(rank),
+    };
+    put(text, line)?;
+    write_kinds(text, statement.kinds())?;
+    write_stack(text, statement.stack())?;
+    Ok(())
+}
+
+/// The lines of the statements.
+fn write_statements(text: &mut String, statements: &[Statement]) -> Result<(), AllocError>
+    ensures { OnOk result ((hook : Hook) (rank : ℕ) (code : List Slot) → AreStatements 0 (length code) statements.now → Listed (string_bytes text.old) (coded hook rank code) Any → ListedAll (string_bytes text.new) hook rank code statements.now) }
+{
+    for statement in statements {
+        write_statement(text, statement)?;
+    }
+    Ok(())
+}
+
+/// The listing of an object whose code is this.
+fn write_object(alloc: Global, object: &Object, code: &Code) -> Result<String, AllocError>
+    requires { Spells object.now.code code.now }
+    ensures { IfOk result (λ text. TextSpells (string_bytes text) object.now) }
+{
+    let mut text = write_head(alloc, object.hook(), object.entry_rank())?;
+    write_code(&mut text, code)?;
+    write_statements(&mut text, object.statements())?;
+    Ok(text)
+}
+
+/// A text that spells the object: distances in place of labels, registers ascending, each longest range of stack bytes in one line.
+///
+/// `Code` comes where the object's code doesn't decode.
+pub fn listing(alloc: Global, object: &Object) -> Result<String, ListError>
+    ensures spells { IfOk result (λ text. TextSpells (string_bytes text) object.now) }
+    ensures code { IfErr result (λ error. error ≡ ListError.Code → (code : List Slot) → Spells object.now.code code → ⊥) }
+{
+    match decode(alloc, object.code()) {
+        Ok(code) => match write_object(alloc, object, &code) {
+            Ok(text) => Ok(text),
+            Err(_) => Err(ListError::Memory),
+        },
+        Err(error) => match error.kind {
+            DecodeFault::Memory => Err(ListError::Memory),
+            _ => Err(ListError::Code),
+        },
+    }
+}
