@@ -6,3 +6,4 @@ pub mod Registers
 pub mod Ranges
 pub mod States
 pub mod Texts
+pub mod Unique

@@ -5,6 +5,7 @@ mod assembling;
 mod error;
 mod instructions;
 mod labels;
+pub mod laws;
 mod numbers;
 mod statements;
 mod writing;

@@ -10,6 +10,10 @@ use Rattle.isa.specs.Refusals.{fault_number}
 use Rattle.object.specs.declared.error.ReadError.{ReadError}
 use Rattle.object.specs.declared.error.ReadError.TheVariants as reading
 use Rattle.object.specs.Refusals.{error_number}
+use Rattle.asm.specs.declared.error.AsmError.{AsmError}
+use Rattle.asm.specs.declared.error.AsmFault.{AsmFault}
+use Rattle.asm.specs.declared.error.AsmFault.TheVariants as texts
+use Rattle.asm.specs.Faults as asm_faults
 use Rattle.routerd.specs.declared.fault.Fault.{Fault}
 use Rattle.routerd.specs.declared.fault.Fault.TheVariants as faults
 
@@ -21,6 +25,8 @@ status_of_usage other = 2
 
 abbrev pub status_of : Fault → ℕ
 status_of (faults.Read path) = 3
+status_of (faults.Write path) = 3
+status_of (faults.Source number line) = 1
 status_of (faults.Code number slot) = 1
 status_of (faults.Object number) = 1
 status_of (faults.Usage error) = status_of_usage (kind_of error)
@@ -39,3 +45,11 @@ fault_of_refusal error = fault_of_kind error.kind error.slot
 abbrev pub fault_of_object : ReadError → Fault
 fault_of_object reading.Memory = faults.Memory
 fault_of_object error = faults.Object (error_number error)
+
+-- What is told of a text that spells no object: the number and line of the refusal, or want of memory.
+abbrev pub fault_of_line : AsmFault → ℕ → Fault
+fault_of_line texts.Memory line = faults.Memory
+fault_of_line kind line = faults.Source (asm_faults.fault_number kind) line
+
+abbrev pub fault_of_text : AsmError → Fault
+fault_of_text error = fault_of_line error.kind error.line

@@ -28,6 +28,15 @@ pub enum Request<'a> {
         context: [u8; 64],
         packet: Vec<u8>,
     },
+    /// Assemble a text into an object file.
+    Asm {
+        source: &'a str,
+        object: &'a str,
+    },
+    /// Print the text of an object file.
+    List {
+        object: &'a str,
+    },
 }
 
 const ABOUT: &str = "Runs and checks the programs of a router.";
@@ -41,6 +50,14 @@ const RUN: &str =
     "Runs the program of an object file once, on no table rows, and prints its answer and how many instructions it took";
 
 const RUN_EXAMPLE: &str = "Example: routerd run sum.o - -";
+
+const ASM: &str = "Assembles a text into an object file, and prints how many slots its code has";
+
+const ASM_EXAMPLE: &str = "Example: routerd asm sum.s sum.o";
+
+const LIST: &str = "Prints a text that assembles to the object file";
+
+const LIST_EXAMPLE: &str = "Example: routerd list sum.o";
 
 const STATUSES: &str = "Statuses: 0 done, 1 refused or stuck, 2 usage, 3 file or socket, 4 memory.";
 
@@ -89,6 +106,24 @@ fn run<'a>(alloc: Global) -> Result<Command<'a>, AllocError> {
         .arg(packet)
 }
 
+fn asm<'a>(alloc: Global) -> Result<Command<'a>, AllocError> {
+    let source = required(alloc, "SOURCE", "The text");
+    let object = required(alloc, "OBJECT", "The object file that is written");
+    Command::new(alloc, "asm")
+        .about(ASM)
+        .after_help(ASM_EXAMPLE)
+        .arg(source)?
+        .arg(object)
+}
+
+fn list<'a>(alloc: Global) -> Result<Command<'a>, AllocError> {
+    let object = required(alloc, "OBJECT", "The object file");
+    Command::new(alloc, "list")
+        .about(LIST)
+        .after_help(LIST_EXAMPLE)
+        .arg(object)
+}
+
 fn whole<'a>(alloc: Global) -> Result<Command<'a>, AllocError> {
     Command::new(alloc, "routerd")
         .about(ABOUT)
@@ -96,7 +131,9 @@ fn whole<'a>(alloc: Global) -> Result<Command<'a>, AllocError> {
         .subcommand_required(true)
         .arg_required_else_help(true)
         .subcommand(raw(alloc)?)?
-        .subcommand(run(alloc)?)
+        .subcommand(run(alloc)?)?
+        .subcommand(asm(alloc)?)?
+        .subcommand(list(alloc)?)
 }
 
 fn hook_named(name: &str) -> Option<Hook>
@@ -169,6 +206,17 @@ fn run_request<'a>(
     }
 }
 
+fn asm_request<'a>(matches: &ArgMatches<'a>) -> Option<Request<'a>> {
+    let source = matches.get_str("SOURCE")?;
+    let object = matches.get_str("OBJECT")?;
+    Some(Request::Asm { source, object })
+}
+
+fn list_request<'a>(matches: &ArgMatches<'a>) -> Option<Request<'a>> {
+    let object = matches.get_str("OBJECT")?;
+    Some(Request::List { object })
+}
+
 // What the words of a command ask for. None where no command is given.
 fn request_of<'a>(alloc: Global, matches: &ArgMatches<'a>) -> Result<Option<Request<'a>>, Error> {
     match matches.subcommand() {
@@ -184,6 +232,8 @@ fn request_of<'a>(alloc: Global, matches: &ArgMatches<'a>) -> Result<Option<Requ
                 _ => Ok(None),
             }
         }
+        Some(("asm", matches)) => Ok(asm_request(matches)),
+        Some(("list", matches)) => Ok(list_request(matches)),
         _ => Ok(None),
     }
 }

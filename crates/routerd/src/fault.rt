@@ -1,6 +1,7 @@
 ghost use Rattle.std.specs.Prelude.{◌≡◌, ◌≤◌};
-ghost use Rattle.routerd.specs.Statuses.{fault_of_object, fault_of_refusal, status_of};
+ghost use Rattle.routerd.specs.Statuses.{fault_of_object, fault_of_refusal, fault_of_text, status_of};
 
+use asm::{AsmError, AsmFault};
 use clap::error::ErrorKind;
 use isa::DecodeError;
 use maps::MapsError;
@@ -26,6 +27,12 @@ pub enum Fault<'a> {
     /// A file can't be opened or read.
     #[error("cannot read {path}")]
     Read { path: &'a str },
+    /// A file can't be written.
+    #[error("cannot write {path}")]
+    Write { path: &'a str },
+    /// A text that spells no object: the number of the refusal, and the first bad line.
+    #[error("source refusal {number} line {line}")]
+    Source { number: u8, line: u64 },
     /// Bytes that are no code: the number of the refusal, and the slot of the first bad instruction.
     #[error("code refusal {number} slot {slot}")]
     Code { number: u8, slot: u64 },
@@ -82,6 +89,20 @@ impl<'a> From<ReadError> for Fault<'a> {
     }
 }
 
+impl<'a> From<AsmError> for Fault<'a> {
+    ghost from_gives = { λ error fault. fault ≡ fault_of_text error };
+
+    fn from(error: AsmError) -> Fault<'a> {
+        match error.kind {
+            AsmFault::Memory => Fault::Memory,
+            kind => Fault::Source {
+                number: kind.number(),
+                line: error.line as u64,
+            },
+        }
+    }
+}
+
 impl<'a> From<MapsError> for Fault<'a> {
     // The number of seats was judged with the words.
     fn from(_error: MapsError) -> Fault<'a> {
@@ -105,8 +126,8 @@ impl<'a> Fault<'a> {
         ensures within { result ≤ 4 }
     {
         match self {
-            Fault::Read { .. } | Fault::Output => OUTSIDE,
-            Fault::Code { .. } | Fault::Object { .. } => REFUSED,
+            Fault::Read { .. } | Fault::Write { .. } | Fault::Output => OUTSIDE,
+            Fault::Source { .. } | Fault::Code { .. } | Fault::Object { .. } => REFUSED,
             Fault::Usage(error) if error.use_stderr() => USAGE,
             Fault::Usage(_) => DONE,
             Fault::Memory => MEMORY,

@@ -1,4 +1,4 @@
-//! Files, read whole.
+//! Files, read and written whole.
 
 ghost use Rattle.std.specs.Prelude.{◌≤◌, IfOk, vec_len};
 
@@ -24,5 +24,36 @@ pub fn read<'a, R: Files + AllocGlobal>(rt: &R, path: &'a str) -> Result<Vec<u8>
         Ok(_) => Err(Fault::Read { path }),
         Err(error) if matches!(error.kind(), ErrorKind::OutOfMemory) => Err(Fault::Memory),
         Err(_) => Err(Fault::Read { path }),
+    }
+}
+
+// Takes a file away that was begun. Where that fails too, nothing is left to do.
+fn give_up<'a, R: Files + AllocGlobal>(
+    rt: &R,
+    begun: &str,
+    path: &'a str,
+    error: ErrorKind,
+) -> Fault<'a> {
+    let _left = fs::remove_file(rt, begun);
+    match error {
+        ErrorKind::OutOfMemory => Fault::Memory,
+        _ => Fault::Write { path },
+    }
+}
+
+/// Makes the file at `path` one of these bytes. They are written beside it first and take its name once they are whole, so that after a
+/// fault it is as before. `Fault::Write` where that can't be done.
+pub fn write<'a, R: Files + AllocGlobal>(
+    rt: &R,
+    path: &'a str,
+    bytes: &[u8],
+) -> Result<(), Fault<'a>> {
+    let begun = format!(in rt.alloc(); "{path}.part")?;
+    if let Err(error) = fs::write(rt, begun.as_str(), bytes) {
+        return Err(give_up(rt, begun.as_str(), path, error.kind()));
+    }
+    match fs::rename(rt, begun.as_str(), path) {
+        Ok(()) => Ok(()),
+        Err(error) => Err(give_up(rt, begun.as_str(), path, error.kind())),
     }
 }

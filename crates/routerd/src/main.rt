@@ -1,6 +1,7 @@
 //! `routerd`: runs and checks programs, and routes.
 #![tactic(auto)]
 
+mod assembly;
 mod command;
 mod fault;
 mod files;

@@ -4,7 +4,7 @@ ghost use Rattle.std.specs.Prelude.{◌≤◌, IfOk};
 
 use crate::command::{self, Request};
 use crate::fault::{DONE, Fault, REFUSED};
-use crate::{raw, run};
+use crate::{assembly, raw, run};
 use std::io::{BufRead, Write};
 use std::rt::Files;
 use std::thread::Threads;
@@ -23,6 +23,8 @@ fn answer<'a, R: Files + AllocGlobal + Threads + Sync>(
             context,
             packet,
         } => run::run(rt, object, context, packet)?,
+        Request::Asm { source, object } => assembly::assemble_file(rt, source, object)?,
+        Request::List { object } => assembly::list(rt, object)?,
     };
     Ok((report.text, if report.is_stuck { REFUSED } else { DONE }))
 }

@@ -541,3 +541,67 @@ fn an_object_that_is_none_is_refused(rt: HostRuntime) -> Result<(), Fail> {
     );
     Ok(())
 }
+
+const SUM: &str =
+    "hook price\nrank 10\nr1 = 10\nr0 = 0\nL:\nr0 += r1\nr1 += -1\nif r1 != 0 goto L\nexit\nstate L rank 0 r1 * 1\nwith r0 number 0 18446744073709551615 0 0\nwith r1 number 1 10 0 0\n";
+
+const LISTED: &str =
+    "hook price\nrank 10\nr1 = 10\nr0 = 0\nr0 += r1\nr1 += -1\nif r1 != 0 goto -3\nexit\nstate 2 rank 0 r1 * 1\nwith r0 number 0 18446744073709551615 0 0\nwith r1 number 1 10 0 0\n";
+
+#[test]
+fn a_text_is_assembled_listed_and_run(rt: HostRuntime) -> Result<(), Fail> {
+    let id = process::id(rt.process());
+    let source = path_for(&rt, id, "sum.s")?;
+    let source = source.as_str();
+    let target = path_for(&rt, id, "sum.o")?;
+    let target = target.as_str();
+    fs::write(&rt, source, SUM)?;
+    let outcome = run(&rt, &["routerd", "asm", source, target])?;
+    assert!(rt; outcome.status == 0 && outcome.lines.as_str() == "ok 6\n");
+    let bytes = fs::read(&rt, target)?;
+    assert!(rt; bytes.as_slice() == counting().as_slice());
+    let outcome = run(&rt, &["routerd", "list", target])?;
+    assert!(rt; outcome.status == 0 && outcome.lines.as_str() == LISTED);
+    let outcome = run(&rt, &["routerd", "run", target, "-", "-"])?;
+    assert!(rt; outcome.status == 0 && outcome.lines.as_str() == "answer 55 used 33\n");
+    fs::write(&rt, source, "hook price\nrank 0\nr0 = 2147483648\nexit\n")?;
+    let outcome = run(&rt, &["routerd", "asm", source, target])?;
+    assert!(rt; outcome.status == 1 && outcome.lines.as_str() == "source refusal 3 line 3\n");
+    fs::write(&rt, source, [0xff, 0xfe].as_slice())?;
+    let outcome = run(&rt, &["routerd", "asm", source, target])?;
+    let line = format!(in rt.alloc(); "cannot read {source}\n")?;
+    assert!(rt; outcome.status == 3 && outcome.lines.as_str() == line.as_str());
+    let outcome = run(&rt, &["routerd", "list", source])?;
+    assert!(rt; outcome.status == 1 && outcome.lines.as_str() == "object refusal 1\n");
+    fs::remove_file(&rt, source)?;
+    fs::remove_file(&rt, target)?;
+    Ok(())
+}
+
+#[test]
+fn an_object_that_cant_be_written_is_told(rt: HostRuntime) -> Result<(), Fail> {
+    let id = process::id(rt.process());
+    let source = path_for(&rt, id, "seven.s")?;
+    let source = source.as_str();
+    fs::write(&rt, source, "hook price\nrank 0\nr0 = 7\nexit\n")?;
+    let target = path_for(&rt, id, "missing/seven.o")?;
+    let target = target.as_str();
+    let outcome = run(&rt, &["routerd", "asm", source, target])?;
+    fs::remove_file(&rt, source)?;
+    let line = format!(in rt.alloc(); "cannot write {target}\n")?;
+    assert!(rt; outcome.status == 3 && outcome.lines.as_str() == line.as_str());
+    let unlisted = small(0, EXIT_SLOT, [0xff, 0, 0, 0, 0, 0, 0, 0]);
+    let path = path_for(&rt, id, "unlisted.o")?;
+    fs::write(&rt, path.as_str(), unlisted.as_slice())?;
+    let outcome = run(&rt, &["routerd", "list", path.as_str()])?;
+    fs::remove_file(&rt, path.as_str())?;
+    assert!(rt; outcome.status == 1 && outcome.lines.as_str() == "code refusal 2 slot 1\n");
+    for (command, example) in [
+        ("asm", "Example: routerd asm sum.s sum.o"),
+        ("list", "Example: routerd list sum.o"),
+    ] {
+        let outcome = run(&rt, &["routerd", command, "--help"])?;
+        assert!(rt; outcome.status == 0 && outcome.usage.as_str().contains(example));
+    }
+    Ok(())
+}
