@@ -76,6 +76,10 @@ impl ListError {
 }
 
 impl From<AllocError> for ListError {
+    ghost use Rattle.asm.specs.declared.error.ListError.TheVariants.{Memory};
+
+    ghost from_gives = { λ _ error. error ≡ Memory };
+
     fn from(_error: AllocError) -> ListError {
         ListError::Memory
     }
