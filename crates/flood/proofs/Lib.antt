@@ -4,6 +4,7 @@ pub mod Greetings
 pub mod HelloPath
 pub mod Packings
 pub mod Rooms
+pub mod Taken
 pub mod Worlds
 pub mod Worked
 pub mod WorkedLinks

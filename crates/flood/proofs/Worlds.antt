@@ -9,7 +9,9 @@ use Rattle.packet.proofs.Whole.{one_packet}
 use Rattle.flood.specs.declared.model.Config.{Config}
 use Rattle.flood.specs.Events.{initial}
 use Rattle.flood.specs.Routers.{Occurrence, Router}
-use Rattle.flood.specs.Worlds.{AcknowledgedWasReceived, Brings, Datagram, IsHistory, IsKnown, IsLawfulOut, Joins, Knowledge, Lives, Name, Restarts, World, WorldStep, all_known, begun_with, known_as, knows, name_of, names_brought, names_held, names_told, sent_from}
+use Rattle.flood.specs.Names.{Name, names_brought, names_told}
+use Rattle.flood.specs.Worlds.{AcknowledgedWasReceived, Brings, Datagram, IsHistory, IsKnown, IsLawfulOut, Joins, Knowledge, Lives, Restarts, World, WorldStep, all_known, begun_with, known_as, knows, names_held, sent_from}
+use Rattle.flood.proofs.Taken.{taken_was_told}
 
 -- ---- lists
 
@@ -153,8 +155,8 @@ history_knows joins [] w last h knowing = subst IsKnowing h knowing
 history_knows joins (next ∷ rest) w last h knowing = history_knows joins rest next last h.1 (step_knows joins w next h.0 knowing)
 
 pub acknowledged_was_received : AcknowledgedWasReceived
-acknowledged_was_received joins configs steps w after apart lawful history place moment number bytes packet text l entry taken =
+acknowledged_was_received joins configs steps w after apart lawful history place moment number bytes packet text l name taken =
     let knowing : IsKnowing w = history_knows joins steps (begun_with configs) w history (knows_first configs) in
     let d : Datagram = l.may.0 in
     let its : PacketText d.bytes packet = subst (λ bs. PacketText bs packet) l.may.3 text in
-    knowing.told d l.may.1 packet its (name_of entry.header) (l.keeps.taken number bytes packet refl text entry taken)
+    knowing.told d l.may.1 packet its name (taken_was_told moment number packet l.old name taken)

@@ -12,6 +12,8 @@ pub mod Events
 pub mod Refusals
 pub mod Bare
 pub mod PackingLaws
+pub mod Names
+pub mod Taken
 pub mod Worlds
 pub mod Worked
 pub mod WorkedUpdates

@@ -1,62 +1,19 @@
 -- Routers joined by links: what they send may be lost, repeated, reordered and late, and routers may begin anew, but nothing is forged.
 -- What an acknowledgment takes off a retransmission list was received, or originated, by the neighbor.
-use Rattle.std.specs.Prelude.{◌≡◌, ℕ, ℤ, ◌==◌, Bool, true, not, ◌&&◌, if◌then◌else◌, List, [], ◌∷◌, ◌++◌, map, Option, None, Some, slice_get, slice_set}
-use Rattle.std.specs.List.{Contains, filter_map, flat_map, list_all, list_any}
+use Rattle.std.specs.Prelude.{◌≡◌, ℕ, ◌==◌, Bool, true, not, ◌&&◌, List, [], ◌∷◌, ◌++◌, map, Option, None, Some, slice_get, slice_set}
+use Rattle.std.specs.List.{Contains, flat_map, list_all, list_any}
 use Rattle.std.specs.FinMap as finite
-use Rattle.words.specs.declared.key.Key.{Key}
-use Rattle.lsa.specs.Reading.{lsa_in}
-use Rattle.lsdb.specs.Headers.{Header, Lsa, key_of}
 use Rattle.lsdb.specs.Instances.{Listed}
-use Rattle.packet.specs.declared.model.Body.{Body}
-use Rattle.packet.specs.declared.model.Body.TheVariants as body
 use Rattle.packet.specs.declared.model.Packet.{Packet}
 use Rattle.packet.specs.Text.{PacketText}
 use Rattle.adjacency.specs.Neighbors.{Neighbor}
-use Rattle.adjacency.specs.Retransmissions.{acknowledged, is_entry}
-use Rattle.received.specs.Cases.{Case}
-use Rattle.received.specs.Links.{Link, neighbor_at}
-use Rattle.received.specs.Updates.{goes_on}
+use Rattle.received.specs.Links.{Link}
 use Rattle.flood.specs.declared.model.Config.{Config}
 use Rattle.flood.specs.declared.model.Out.{Out}
-use Rattle.flood.specs.Endings.{begun}
 use Rattle.flood.specs.Events.{initial}
-use Rattle.flood.specs.Packets.{after_unread, case_in, is_heard, is_in_exchange}
-use Rattle.flood.specs.Progress.{Progress}
+use Rattle.flood.specs.Names.{Name, lsa_name, name_of, names_brought, names_told}
 use Rattle.flood.specs.Routers.{Occurrence, Router, in_profile}
-
--- ---- instances
-
--- an instance of an LSA, whatever its age
-pub record Name : Type 0 where
-  pub key : Key
-  pub sequence : ℤ
-  pub checksum : ℕ
-
-abbrev pub name_of : Header → Name
-name_of h = record { key = key_of h; sequence = h.sequence; checksum = h.checksum }
-
-abbrev pub lsa_name : Lsa → Name
-lsa_name lsa = name_of lsa.header
-
--- the readable LSAs of an Update
-abbrev pub names_in_update : List (List ℕ) → List Name
-names_in_update lsas = map lsa_name (filter_map lsa_in lsas)
-
--- the instances that an Update brings
-abbrev pub names_brought : Body → List Name
-names_brought (body.Hello h) = []
-names_brought (body.Description d) = []
-names_brought (body.Request keys) = []
-names_brought (body.Update lsas) = names_in_update lsas
-names_brought (body.Acknowledgment headers) = []
-
--- the instances that an Update or an Acknowledgment names
-abbrev pub names_told : Body → List Name
-names_told (body.Hello h) = []
-names_told (body.Description d) = []
-names_told (body.Request keys) = []
-names_told (body.Update lsas) = names_in_update lsas
-names_told (body.Acknowledgment headers) = map name_of headers
+use Rattle.flood.specs.Taken.{taken_by}
 
 -- ---- what a router holds
 
@@ -70,62 +27,6 @@ names_on_link link = names_owed link.neighbor ++ map name_of (finite.values link
 -- in its database, on its retransmission lists and among its delayed acknowledgments
 abbrev pub names_held : Router → List Name
 names_held r = map (λ c. lsa_name c.lsa) (finite.values r.area.database) ++ flat_map names_on_link r.area.links
-
--- ---- what an event takes off a retransmission list as acknowledged
-
-abbrev pub entry_of : Key → Option Neighbor → Option Listed
-entry_of key None = None
-entry_of key (Some n) = finite.get n.retransmissions key
-
-abbrev pub with_entry : Option Listed → List Listed → List Listed
-with_entry None ls = ls
-with_entry (Some l) ls = l ∷ ls
-
--- by the headers of an Acknowledgment, one after the other
-abbrev pub taken_by_headers : ℕ → List Header → Neighbor → List Listed
-taken_by_headers moment [] n = []
-taken_by_headers moment (h ∷ hs) n =
-    with_entry (if is_entry moment h (finite.get n.retransmissions (key_of h)) then finite.get n.retransmissions (key_of h) else None)
-    (taken_by_headers moment hs (acknowledged moment n h))
-
-abbrev pub taken_from : ℕ → List Header → Option Neighbor → List Listed
-taken_from moment headers None = []
-taken_from moment headers (Some n) = taken_by_headers moment headers n
-
--- by an LSA that is an implied acknowledgment
-abbrev pub taken_in_case : Case → ℕ → Option Lsa → Progress → Option Listed
-taken_in_case Case.ImpliedAcknowledgment number None p = None
-taken_in_case Case.ImpliedAcknowledgment number (Some lsa) p = entry_of (key_of lsa.header) (neighbor_at number p.router.area.links)
-taken_in_case Case.Unreadable number lsa p = None
-taken_in_case Case.NothingToFlush number lsa p = None
-taken_in_case Case.TooSoon number lsa p = None
-taken_in_case Case.Newer number lsa p = None
-taken_in_case Case.BadRequest number lsa p = None
-taken_in_case Case.Duplicate number lsa p = None
-taken_in_case Case.SequenceWraps number lsa p = None
-taken_in_case Case.SentJustNow number lsa p = None
-taken_in_case Case.Older number lsa p = None
-
--- those of an Update one after the other, up to a bad request
-abbrev pub taken_by_lsas : ℕ → ℕ → List (List ℕ) → Progress → List Listed
-taken_by_lsas moment number [] p = []
-taken_by_lsas moment number (bytes ∷ rest) p =
-    with_entry (taken_in_case (case_in moment number (lsa_in bytes) p) number (lsa_in bytes) p)
-    (if goes_on (case_in moment number (lsa_in bytes) p) then taken_by_lsas moment number rest (after_unread moment number (lsa_in bytes) p) else [])
-
-abbrev pub taken_by_body : ℕ → ℕ → Body → Progress → List Listed
-taken_by_body moment number (body.Hello h) p = []
-taken_by_body moment number (body.Description d) p = []
-taken_by_body moment number (body.Request keys) p = []
-taken_by_body moment number (body.Update lsas) p = taken_by_lsas moment number lsas p
-taken_by_body moment number (body.Acknowledgment headers) p = taken_from moment headers (neighbor_at number p.router.area.links)
-
--- by the packet that came in at the interface of this number
-abbrev pub taken_by : ℕ → ℕ → Packet → Router → List Listed
-taken_by moment number packet old =
-    let p : Progress = begun moment old in
-    let n : Option Neighbor = neighbor_at number p.router.area.links in
-    if is_heard old.id packet n then (if is_in_exchange n then taken_by_body moment number packet.body p else []) else []
 
 -- ---- what a router's step keeps
 
@@ -149,8 +50,6 @@ pub record Keeps (old : Router) (moment : ℕ) (event : Occurrence) (outs : List
   pub own : (name : Name) → Contains originated name → name.key.advertising_router ≡ old.id
   pub held : (name : Name) → Contains (names_held new) name → IsKnown old event originated name
   pub sent : (out : Out) → Contains outs out → IsLawfulOut old event originated out
-  pub taken : (number : ℕ) (bytes : List ℕ) (packet : Packet) → event ≡ Occurrence.Packet number bytes → PacketText bytes packet
-      → (l : Listed) → Contains (taken_by moment number packet old) l → Contains (names_told packet.body) (name_of l.header)
 
 -- ---- the world
 
@@ -261,4 +160,4 @@ AcknowledgedWasReceived = (joins : Joins) (configs : List Config) (steps : List 
     → have_names_apart configs ≡ true → list_all in_profile configs ≡ true → IsHistory joins (begun_with configs) steps w
     → (place moment number : ℕ) (bytes : List ℕ) (packet : Packet) → PacketText bytes packet
     → (lives : Lives joins w place moment (Occurrence.Packet number bytes) after)
-    → (l : Listed) → Contains (taken_by moment number packet lives.old) l → Contains w.known (knows packet.router (name_of l.header))
+    → (name : Name) → Contains (taken_by moment number packet lives.old) name → Contains w.known (knows packet.router name)

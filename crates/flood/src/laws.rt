@@ -1,6 +1,7 @@
 //! Laws of events, each carried by a function with an empty body.
 ghost use Rattle.flood.specs.Laws.{EventsAreDetermined, HellosAloneAreTheHelloProtocol};
 ghost use Rattle.flood.specs.PackingLaws.{OutsAreOrderedAndPacked};
+ghost use Rattle.flood.specs.Taken.{WhatIsTakenOffWasTold};
 ghost use Rattle.flood.specs.Worked.{WorkedEvents};
 ghost use Rattle.flood.specs.WorkedAdjacency.{AnAdjacencyBegins};
 ghost use Rattle.flood.specs.WorkedExchange.{AnExchangeAsSlave};
@@ -25,6 +26,12 @@ pub fn hellos_alone_are_the_hello_protocol()
 /// packet, a packet has at most 8,192 bytes, and the first of the next packet had no room in it.
 pub fn outs_are_ordered_and_packed()
     ensures { OutsAreOrderedAndPacked }
+{}
+
+/// What an Acknowledgment, or an LSA that is an implied acknowledgment, takes off the retransmission list of its sender is an instance that
+/// the packet tells, by key, sequence number and checksum (RFC 2328, sections 13 and 13.7).
+pub fn what_is_taken_off_was_told()
+    ensures { WhatIsTakenOffWasTold }
 {}
 
 /// Over every history of routers whose steps keep what `Keeps` says, whatever is lost, repeated or late and whoever begins anew: what a
