@@ -10,6 +10,7 @@ pub mod Worked
 pub mod WorkedLinks
 pub mod WorkedEnds
 pub mod WorkedUpdates
+pub mod WorkedAges
 pub mod WorkedOwn
 pub mod WorkedFlush
 pub mod WorkedTicks

@@ -1,5 +1,5 @@
 -- What a packet takes off a retransmission list as acknowledged, the packet tells.
-use Rattle.std.proofs.Common.{◌≡◌, ℕ, Bool, true, false, cond, not, ◌&&◌, ◌⊎◌, inl, inr, List, [], ◌∷◌, map, Option, None, Some, refl, sym, ◌∙◌, arith}
+use Rattle.std.proofs.Common.{◌≡◌, ℕ, Bool, true, false, cond, not, ◌&&◌, ◌⊎◌, inl, inr, List, [], ◌∷◌, map, Option, None, Some, refl, ◌∙◌, arith}
 use Rattle.std.specs.Prelude.{is_none, is_some}
 use Rattle.std.specs.declared.cmp.Ordering.{Ordering}
 use Rattle.std.specs.declared.cmp.Ordering.TheVariants.{Less, Equal, Greater}
@@ -15,19 +15,17 @@ use Rattle.lsdb.specs.Instances.{Listed, listed_now, same_as_listed}
 use Rattle.lsdb.specs.Order.{compare_ages, is_max_age}
 use Rattle.packet.specs.declared.model.Body.{Body}
 use Rattle.packet.specs.declared.model.Body.TheVariants as body
-use Rattle.packet.specs.declared.model.Packet.{Packet}
 use Rattle.adjacency.specs.Neighbors.{Neighbor}
 use Rattle.adjacency.specs.Retransmissions.{acknowledged, is_entry, released}
 use Rattle.received.specs.Cases.{Case, case_of_readable, first_case, is_wrapping, was_owed, was_requested}
 use Rattle.received.specs.Links.{anybody_synchronizes, neighbor_at}
 use Rattle.received.specs.Updates.{case_at, copy_of, goes_on}
-use Rattle.routes.proofs.Lists.{first_is, later_is, of_cons, of_empty}
+use Rattle.routes.proofs.Lists.{later_is, of_cons, of_empty}
 use Rattle.flood.specs.Endings.{begun}
 use Rattle.flood.specs.Names.{Name, lsa_name, name_of, names_in_update, names_told}
 use Rattle.flood.specs.Packets.{after_unread, case_in, is_heard, is_in_exchange}
 use Rattle.flood.specs.Progress.{Progress}
-use Rattle.flood.specs.Routers.{Router}
-use Rattle.flood.specs.Taken.{WhatIsTakenOffWasTold, entry_of, gone, taken_by, taken_by_body, taken_by_headers, taken_by_lsa, taken_by_lsas, taken_from, taken_in_case}
+use Rattle.flood.specs.Taken.{WhatIsTakenOffWasTold, entry_of, gone, taken_by_body, taken_by_headers, taken_by_lsa, taken_by_lsas, taken_from, taken_in_case}
 
 -- ---- one entry
 

@@ -17,6 +17,7 @@ pub mod Taken
 pub mod Worlds
 pub mod Worked
 pub mod WorkedUpdates
+pub mod WorkedAges
 pub mod WorkedOwn
 pub mod WorkedFlush
 pub mod WorkedTicks

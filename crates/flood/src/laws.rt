@@ -4,6 +4,7 @@ ghost use Rattle.flood.specs.PackingLaws.{OutsAreOrderedAndPacked};
 ghost use Rattle.flood.specs.Taken.{WhatIsTakenOffWasTold};
 ghost use Rattle.flood.specs.Worked.{WorkedEvents};
 ghost use Rattle.flood.specs.WorkedAdjacency.{AnAdjacencyBegins};
+ghost use Rattle.flood.specs.WorkedAges.{AnLsaAtMaxAgeIsFlooded, AnswersChangeNoDatabase, ThereIsNothingToFlush};
 ghost use Rattle.flood.specs.WorkedExchange.{AnExchangeAsSlave};
 ghost use Rattle.flood.specs.WorkedFlush.{TheNumbersEnd};
 ghost use Rattle.flood.specs.WorkedOwn.{ALastRequestIsMet};
@@ -50,6 +51,24 @@ pub fn worked_events()
 /// and the second leaves the router as the first left it.
 pub fn a_new_lsa_comes_twice()
     ensures { ANewLsaComesTwice }
+{}
+
+/// A worked event: an LSA at MaxAge comes from a Full neighbor, there is no copy, and nobody is in Exchange or Loading. It is acknowledged
+/// at once, and nothing is installed (RFC 2328, section 13, step 4).
+pub fn there_is_nothing_to_flush()
+    ensures { ThereIsNothingToFlush }
+{}
+
+/// The same LSA while another neighbor is in Loading: it is installed, goes on that neighbor's retransmission list, and its acknowledgment
+/// waits for a Tick.
+pub fn an_lsa_at_max_age_is_flooded()
+    ensures { AnLsaAtMaxAgeIsFlooded }
+{}
+
+/// The answers of the programs, a veto among them, change the table of routes alone: nothing is sent, and the neighbors and the copies that
+/// aren't at MaxAge stay as they were.
+pub fn answers_change_no_database()
+    ensures { AnswersChangeNoDatabase }
 {}
 
 /// Worked events of a router with one interface: an Update meets the last request of a neighbor in Loading, which becomes Full. The
