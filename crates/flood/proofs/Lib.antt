@@ -5,6 +5,8 @@ pub mod HelloPath
 pub mod Packings
 pub mod Rooms
 pub mod Worlds
+pub mod Invariants
+pub mod Always
 pub mod Worked
 pub mod WorkedLinks
 pub mod WorkedEnds
