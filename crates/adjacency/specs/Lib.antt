@@ -4,5 +4,6 @@ pub mod Adjacencies
 pub mod Descriptions
 pub mod Requests
 pub mod Retransmissions
+pub mod Lists
 pub mod Laws
 pub mod Worked

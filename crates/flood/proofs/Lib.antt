@@ -6,6 +6,8 @@ pub mod Packings
 pub mod Rooms
 pub mod Taken
 pub mod Worlds
+pub mod Invariants
+pub mod Always
 pub mod Worked
 pub mod WorkedLinks
 pub mod WorkedEnds

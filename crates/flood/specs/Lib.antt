@@ -23,6 +23,7 @@ pub mod WorkedFlush
 pub mod WorkedTicks
 pub mod WorkedAdjacency
 pub mod WorkedExchange
+pub mod NeighborLaws
 pub mod Laws
 pub mod Numbers
 pub mod Seen

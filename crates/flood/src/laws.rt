@@ -1,5 +1,6 @@
 //! Laws of events, each carried by a function with an empty body.
 ghost use Rattle.flood.specs.Laws.{EventsAreDetermined, HellosAloneAreTheHelloProtocol};
+ghost use Rattle.flood.specs.NeighborLaws.{FullNeighborsRequestNothing, ListsAreSound};
 ghost use Rattle.flood.specs.PackingLaws.{OutsAreOrderedAndPacked};
 ghost use Rattle.flood.specs.Taken.{WhatIsTakenOffWasTold};
 ghost use Rattle.flood.specs.Worked.{WorkedEvents};
@@ -21,6 +22,18 @@ pub fn events_are_determined()
 /// protocol says: a packet changes at most the link that it came in at, and a Tick takes inactive neighbors down and sends what is due.
 pub fn hellos_alone_are_the_hello_protocol()
     ensures { HellosAloneAreTheHelloProtocol }
+{}
+
+/// A neighbor that is Full has nothing to request: so it is at the start, each event keeps it so, also where the Hello protocol alone is
+/// run, and so it is after every run (RFC 2328, section 10.3).
+pub fn full_neighbors_request_nothing()
+    ensures { FullNeighborsRequestNothing }
+{}
+
+/// The lists of every neighbor are sound at the start, after each event and after every run: none before Exchange, what is outstanding
+/// is on the request list, and a neighbor that is Full has nothing to request and nothing outstanding (RFC 2328, sections 10.3 and 10.9).
+pub fn lists_are_sound()
+    ensures { ListsAreSound }
 {}
 
 /// What is sent stands in the order of the interfaces; LSAs and headers stand in key order, those of one key as they arose; each is in one

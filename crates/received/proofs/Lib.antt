@@ -1,2 +1,3 @@
 pub mod Flooded
 pub mod Firsts
+pub mod Holding
