@@ -1,4 +1,5 @@
 pub mod Places
+pub mod Tables
 pub mod Making
 pub mod Pushed
 pub mod Codes

@@ -1,7 +1,8 @@
 -- Looking for a label line by line.
-use Rattle.std.proofs.Common.{Bool, false, take, ◌-◌, ◌∙◌, sym, subst, inl, inr, ◌≡◌, ℕ, zero, suc, ◌+◌, ◌<◌, List, [], ◌∷◌, ◌&&◌, length, get_or, drop, Option, Some, None, refl, ap, arith}
-use Rattle.std.specs.Prelude.{if◌then◌else◌, Result, Err, ◌⊎◌}
+use Rattle.std.proofs.Common.{Bool, true, false, take, ◌-◌, ◌∙◌, sym, subst, inl, inr, ◌≡◌, ℕ, zero, suc, ◌+◌, ◌<◌, List, [], ◌∷◌, ◌&&◌, length, get_or, drop, Option, Some, None, refl, ap, arith}
+use Rattle.std.specs.Prelude.{if◌then◌else◌, Result, Ok, Err, ◌⊎◌}
 use Rattle.std.specs.Str.{bytes_eq}
+use Rattle.std.proofs.lemmas.Bool.{false≢true}
 use Rattle.std.proofs.lemmas.List.{get_or_default, take_rest}
 use denote.Ref.{Bor}
 use Rattle.asm_lines.specs.declared.line.Line.{Line}
@@ -11,7 +12,8 @@ use Rattle.asm.specs.declared.error.AsmFault.TheVariants as faults
 use Rattle.asm.specs.declared.labels.Place.{Place}
 use Rattle.asm.specs.declared.error.AsmFault.{AsmFault}
 use Rattle.asm.specs.declared.error.AsmError.{AsmError}
-use Rattle.asm.specs.Assembling.{taken_all, Says, Refuses, gives_label, slots_in, place_from, Sketch, taken, line_step, blamed}
+use Rattle.asm.specs.Labels.{◌or_else◌}
+use Rattle.asm.specs.Assembling.{taken_all, Says, Refuses, MakesNone, gives_label, slots_in, place_from, Sketch, taken, line_step, blamed}
 
 -- the line `n` of those that are left
 pub place_here : (n at slot : ℕ) (lines : List (Option Line)) (names : List (Bor Word)) (word : Word) (d : Option Line) (e : Bor Word) → n < length lines → length lines ≡ length names
@@ -24,10 +26,10 @@ place_here zero at slot (l ∷ ls) (m ∷ ms) word d e h same = refl
 place_here (suc n) at slot (l ∷ ls) (m ∷ ms) word d e h same = place_here n at slot ls ms word d e (omega arith) (omega arith)
 
 -- nothing is left
-pub place_end : (n at slot : ℕ) (lines : List (Option Line)) (names : List Word) (word : Word) → n ≡ length lines → place_from at slot (drop n lines) names word ≡ None
-place_end n at slot [] names word h = rw h refl
-place_end zero at slot (l ∷ ls) names word h = absurd (omega arith)
-place_end (suc n) at slot (l ∷ ls) names word h = place_end n at slot ls names word (omega arith)
+pub taken_end : (places : Word → Option Place) (n at : ℕ) (lines : List (Option Line)) (names : List Word) (s : Sketch) → n ≡ length lines → taken places at (drop n lines) names s ≡ Ok s
+taken_end places n at [] names s h = rw h refl
+taken_end places zero at (l ∷ ls) names s h = absurd (omega arith)
+taken_end places (suc n) at (l ∷ ls) names s h = taken_end places n at ls names s (omega arith)
 
 -- the line `n` of those that are left spells nothing
 pub taken_bad : (places : Word → Option Place) (n at : ℕ) (lines : List (Option Line)) (names : List (Bor Word)) (s : Sketch) (d : Option Line) → n < length lines → length lines ≡ length names
@@ -46,22 +48,64 @@ taken_here places n at (l ∷ ls) [] s line d b h same e = absurd (omega arith)
 taken_here places zero at (l ∷ ls) (m ∷ ms) s line d b h same e = rw e refl
 taken_here places (suc n) at (l ∷ ls) (m ∷ ms) s line d b h same e = taken_here places n at ls ms s line d b (omega arith) (omega arith) e
 
-not_chosen : {A : Type 0} (b : Bool) (x y : A) → false ≡ b → (if b then x else y) ≡ y
-not_chosen b x y e = rw (← e) refl
+-- what a line adds to the table
+abbrev pub here_if : Bool → ℕ → ℕ → Option Place
+here_if given at slot = if given then Some (record { line = at; slot = slot }) else None
 
--- the line gives another label or none
-pub looks_past : (at slot more : ℕ) (lines : List (Option Line)) (names : List (Bor Word)) (word : Word) (l m : Option Line) → at < length lines → length lines ≡ length names
-    → l ≡ get_or lines at l → m ≡ get_or lines at m → false ≡ (gives_label l && bytes_eq (get_or names at (record { ref_ptr = (0, 0); now = [] })).now word) → more ≡ slots_in m
-    → place_from at slot (drop at lines) (views (drop at names)) word ≡ place_from (at + 1) (slot + more) (drop (at + 1) lines) (views (drop (at + 1) names)) word
-looks_past at slot more lines names word l m h same el em no_label e =
+chosen_here : (given : Bool) (at slot : ℕ) (later : Option Place) → (if given then Some (record { line = at; slot = slot }) else later) ≡ here_if given at slot or_else later
+chosen_here true at slot later = refl
+chosen_here false at slot later = refl
+
+-- one line of the table: what it gives, before what the lines behind it give
+pub looks_on : (at slot more : ℕ) (lines : List (Option Line)) (names : List (Bor Word)) (word : Word) (m : Option Line) → at < length lines → length lines ≡ length names
+    → m ≡ get_or lines at m → more ≡ slots_in m
+    → place_from at slot (drop at lines) (views (drop at names)) word
+    ≡ here_if (gives_label m && bytes_eq (get_or names at (record { ref_ptr = (0, 0); now = [] })).now word) at slot or_else place_from (at + 1) (slot + more) (drop (at + 1) lines) (views (drop (at + 1) names)) word
+looks_on at slot more lines names word m h same em e =
     let n : Bor Word = record { ref_ptr = (0, 0); now = [] } in
     let next : suc at ≡ at + 1 = omega arith in
-    let same_line : l ≡ m = el ∙ get_or_default lines at l m h ∙ sym em in
-    let slots : slots_in (get_or lines at l) ≡ more = ap slots_in (sym el ∙ same_line) ∙ sym e in
-    place_here at at slot lines names word l n h same
-    ∙ not_chosen (gives_label (get_or lines at l) && bytes_eq (get_or names at n).now word) _ _ (no_label ∙ ap (λ (x : Option Line). gives_label x && bytes_eq (get_or names at n).now word) el)
-    ∙ ap (λ k. place_from (at + 1) (slot + slots_in (get_or lines at l)) (drop k lines) (views (drop k names)) word) next
-    ∙ ap (λ k. place_from (at + 1) (slot + k) (drop (at + 1) lines) (views (drop (at + 1) names)) word) slots
+    let slots : slots_in (get_or lines at m) ≡ more = ap slots_in (sym em) ∙ sym e in
+    place_here at at slot lines names word m n h same
+    ∙ ap (λ k. if gives_label (get_or lines at m) && bytes_eq (get_or names at n).now word then Some (record { line = at; slot = slot }) else place_from (at + 1) (slot + slots_in (get_or lines at m)) (drop k lines) (views (drop k names)) word) next
+    ∙ ap (λ k. if gives_label (get_or lines at m) && bytes_eq (get_or names at n).now word then Some (record { line = at; slot = slot }) else place_from (at + 1) (slot + k) (drop (at + 1) lines) (views (drop (at + 1) names)) word) slots
+    ∙ ap (λ (x : Option Line). if gives_label x && bytes_eq (get_or names at n).now word then Some (record { line = at; slot = slot }) else place_from (at + 1) (slot + more) (drop (at + 1) lines) (views (drop (at + 1) names)) word) (sym em)
+    ∙ chosen_here (gives_label m && bytes_eq (get_or names at n).now word) at slot (place_from (at + 1) (slot + more) (drop (at + 1) lines) (views (drop (at + 1) names)) word)
+
+or_else_assoc : (x y z : Option Place) → x or_else (y or_else z) ≡ (x or_else y) or_else z
+or_else_assoc None y z = refl
+or_else_assoc (Some p) y z = refl
+
+joined : (whole old new here ahead later : Option Place) → whole ≡ old or_else ahead → ahead ≡ here or_else later → new ≡ old or_else here → whole ≡ new or_else later
+joined whole old new here ahead later e f g =
+    e ∙ ap (λ (x : Option Place). old or_else x) f ∙ or_else_assoc old here later ∙ ap (λ (x : Option Place). x or_else later) (sym g)
+
+given_here : (g b : Bool) (at slot : ℕ) (later : Option Place) → g ≡ true → here_if (g && b) at slot or_else later ≡ (if b then Some (record { line = at; slot = slot }) else None) or_else later
+given_here true b at slot later e = refl
+given_here false b at slot later e = absurd (false≢true e)
+
+none_here : (g b : Bool) (at slot : ℕ) (later : Option Place) → g ≡ false → here_if (g && b) at slot or_else later ≡ None or_else later
+none_here true b at slot later e = absurd (false≢true (sym e))
+none_here false b at slot later e = refl
+
+-- a line that gives a label puts it into the table
+pub label_noted : (whole old new : Option Place) (at slot more : ℕ) (lines : List (Option Line)) (names : List (Bor Word)) (word : Word) (l m : Option Line) → at < length lines → length lines ≡ length names
+    → l ≡ get_or lines at l → m ≡ get_or lines at m → more ≡ slots_in m → gives_label l ≡ true → whole ≡ old or_else place_from at slot (drop at lines) (views (drop at names)) word
+    → new ≡ old or_else (if bytes_eq (get_or names at (record { ref_ptr = (0, 0); now = [] })).now word then Some (record { line = at; slot = slot }) else None)
+    → whole ≡ new or_else place_from (at + 1) (slot + more) (drop (at + 1) lines) (views (drop (at + 1) names)) word
+label_noted whole old new at slot more lines names word l m h same el em e given so_far put =
+    let later = place_from (at + 1) (slot + more) (drop (at + 1) lines) (views (drop (at + 1) names)) word in
+    let b = bytes_eq (get_or names at (record { ref_ptr = (0, 0); now = [] })).now word in
+    joined whole old new (if b then Some (record { line = at; slot = slot }) else None) (place_from at slot (drop at lines) (views (drop at names)) word) later so_far
+    (looks_on at slot more lines names word m h same em e ∙ given_here (gives_label m) b at slot later (ap gives_label (sym (el ∙ get_or_default lines at l m h ∙ sym em)) ∙ given)) put
+
+-- and another doesn't change it
+pub no_label_noted : (whole old new : Option Place) (at slot more : ℕ) (lines : List (Option Line)) (names : List (Bor Word)) (word : Word) (l m : Option Line) → at < length lines → length lines ≡ length names
+    → l ≡ get_or lines at l → m ≡ get_or lines at m → more ≡ slots_in m → gives_label l ≡ false → whole ≡ old or_else place_from at slot (drop at lines) (views (drop at names)) word → new ≡ old
+    → whole ≡ new or_else place_from (at + 1) (slot + more) (drop (at + 1) lines) (views (drop (at + 1) names)) word
+no_label_noted whole old new at slot more lines names word l m h same el em e given so_far put =
+    let later = place_from (at + 1) (slot + more) (drop (at + 1) lines) (views (drop (at + 1) names)) word in
+    let b = bytes_eq (get_or names at (record { ref_ptr = (0, 0); now = [] })).now word in
+    so_far ∙ ap (λ (x : Option Place). old or_else x) (looks_on at slot more lines names word m h same em e ∙ none_here (gives_label m) b at slot later (ap gives_label (sym (el ∙ get_or_default lines at l m h ∙ sym em)) ∙ given)) ∙ ap (λ (x : Option Place). x or_else later) (sym put)
 
 -- ---- all lines
 
@@ -112,3 +156,11 @@ pub refused_line : (text : List ℕ) (lines : List (Option Line)) (names : List 
     → (step ≡ Err fault → taken_all lines (views names) ≡ Err (at + 1, fault)) → (r.kind ≡ faults.Memory) ⊎ Refuses text r.line r.kind
 refused_line text lines names r at fault step says k where_it (inl m) f = inl (k ∙ m)
 refused_line text lines names r at fault step says k where_it (inr e) f = refuses_at text lines names r (at + 1) fault says k where_it (f e)
+
+-- no object of what the lines say
+pub refused_whole : (text : List ℕ) (lines : List (Option Line)) (names : List (Bor Word)) (r : AsmError) (fault : AsmFault) (s : Sketch) → Says text lines names → r.kind ≡ fault → (r.kind ≡ faults.Memory) ⊎ (r.line ≡ 1)
+    → (fault ≡ faults.Memory) ⊎ ((fault ≡ faults.Syntax) × MakesNone s) → taken_all lines (views names) ≡ Ok s → (r.kind ≡ faults.Memory) ⊎ Refuses text r.line r.kind
+refused_whole text lines names r fault s says k where_it (inl m) e = inl (k ∙ m)
+refused_whole text lines names r fault s says k (inl m) (inr n) e = inl m
+refused_whole text lines names r fault s says k (inr l) (inr n) e =
+    inr (record { found = lines; names = names; says = says; blames = inr (l, k ∙ n.0, (s, e, n.1)) })

@@ -4,5 +4,6 @@ pub mod Instructions
 pub mod Shapes
 pub mod Rules
 pub mod Assembling
+pub mod Labels
 pub mod Views
 pub mod Listing

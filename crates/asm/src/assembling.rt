@@ -7,7 +7,7 @@ ghost use Rattle.asm.specs.declared.error.AsmFault.{AsmFault};
 
 use crate::error::{AsmError, AsmFault};
 use crate::instructions::push_instruction;
-use crate::labels::{Place, place_of};
+use crate::labels::{Place, place_of, places_of};
 use crate::numbers::natural_32;
 use crate::statements::{OpenStatement, push_open, rank_of, slot_of, statements_of};
 use asm_lines::{Content, Line, Numeral, Target, Terms, read_lines};
@@ -283,12 +283,13 @@ pub fn assemble(alloc: Global, text: &str) -> Result<Object, AsmError>
     let mut lines = Vec::new(alloc);
     let mut names = Vec::new(alloc);
     read_lines(alloc, text, &mut lines, &mut names)?;
+    let places = places_of(alloc, &lines, &names)?;
     let mut draft = Draft::new(alloc);
     for at in 0..lines.len() {
         let Some(line) = lines[at] else {
             return Err(at_line(at + 1, AsmFault::Syntax));
         };
-        let place = place_of(&lines, &names, names[at]);
+        let place = place_of(&places, names[at]);
         let rest = &lines[at + 1..];
         if let Err(kind) = draft.line(line, at, place, rest) {
             return Err(at_line(at + 1, kind));

@@ -1,10 +1,14 @@
 //! What the labels of a text name.
-ghost use Rattle.std.specs.Prelude.{◌≡◌, ◌≤◌, ◌&&◌, length};
+ghost use Rattle.std.specs.Prelude.{◌≡◌, ◌≤◌, Some, None, length, IfOk, OnOk, if◌then◌else◌};
 ghost use Rattle.std.specs.Str.{bytes_eq};
+ghost use Rattle.asm_lines.specs.Forms.{Word};
 ghost use Rattle.asm_lines.specs.Views.{views};
 ghost use Rattle.asm.specs.Assembling.{gives_label, slots_in, place_from};
+ghost use Rattle.asm.specs.Labels.{place_in, ◌or_else◌};
 
 use asm_lines::Line;
+use indexmap::IndexMap;
+use std::alloc::{AllocError, Global};
 
 /// A label: the line that gives it first, counted from 0, and the slot that it names.
 #[derive(Clone, Copy, PartialEq, Eq, Debug)]
@@ -43,24 +47,43 @@ fn gives_label(line: &Option<Line>) -> bool
     matches!(*line, Some(Line::Label))
 }
 
-/// Whether the line, beside which `given` stands, gives the label of this name.
-fn is_place(line: &Option<Line>, given: &str, name: &str) -> bool
-    ensures { result ≡ (gives_label line.now && bytes_eq given.now name.now) }
+/// Notes where a label is given, unless an earlier line gives it.
+fn note_place<'a>(
+    places: &mut IndexMap<&'a str, Place>,
+    name: &'a str,
+    place: Place,
+) -> Result<(), AllocError>
+    ensures { OnOk result ((word : Word) → place_in places.new word ≡ place_in places.old word or_else (if bytes_eq name.now word then Some place else None)) }
 {
-    gives_label(line) && given == name
+    if !places.contains_key(name) {
+        places.insert(name, place)?;
+    }
+    Ok(())
 }
 
-/// Where the label of this name is given first, if the text of these lines, beside which these names stand, gives it.
-pub(crate) fn place_of(lines: &[Option<Line>], names: &[&str], name: &str) -> Option<Place>
+/// Where the text of these lines, beside which these names stand, gives each of its labels first.
+pub(crate) fn places_of<'a>(
+    alloc: Global,
+    lines: &[Option<Line>],
+    names: &[&'a str],
+) -> Result<IndexMap<&'a str, Place>, AllocError>
     requires { length lines.now ≡ length names.now }
-    ensures { result ≡ place_from 0 0 lines.now (views names.now) name.now }
+    ensures { IfOk result (λ places. (word : Word) → place_in places word ≡ place_from 0 0 lines.now (views names.now) word) }
 {
+    let mut places = IndexMap::new(alloc);
     let mut slot = 0;
     for at in 0..lines.len() {
-        if is_place(&lines[at], names[at], name) {
-            return Some(Place { line: at, slot });
+        if gives_label(&lines[at]) {
+            note_place(&mut places, names[at], Place { line: at, slot })?;
         }
         slot += slots_in(&lines[at]);
     }
-    None
+    Ok(places)
+}
+
+/// Where the label of this name is given first, if the text gives it.
+pub(crate) fn place_of(places: &IndexMap<&str, Place>, name: &str) -> Option<Place>
+    ensures { result ≡ place_in places.now name.now }
+{
+    places.get(name).copied()
 }

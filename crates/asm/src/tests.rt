@@ -325,3 +325,26 @@ fn passes_4096_slots(rt: HostRuntime) -> Result<(), Fail> {
     text.push_str("nonsense\n")?;
     refuses(&rt, alloc, &text, 4098, AsmFault::Range)
 }
+
+#[test]
+fn finds_each_of_many_labels(rt: HostRuntime) -> Result<(), Fail> {
+    let alloc = rt.alloc();
+    let mut text = String::from("hook price\nrank 0\n".to_string(alloc)?);
+    let mut listed = String::from("hook price\nrank 0\n".to_string(alloc)?);
+    for slot in 0..300u32 {
+        let place = slot * 7 % 300;
+        let line = format!(in alloc; "label_{slot}:\ngoto label_{place}\n")?;
+        text.push_str(&line)?;
+        let line = if slot < place {
+            format!(in alloc; "goto +{}\n", place - slot - 1)?
+        } else {
+            format!(in alloc; "goto -{}\n", slot + 1 - place)?
+        };
+        listed.push_str(&line)?;
+    }
+    lists(&rt, alloc, &text, &listed)?;
+    text.push_str("label_5:\n")?;
+    refuses(&rt, alloc, &text, 603, AsmFault::Twice)?;
+    text.push_str("label_299:\n")?;
+    refuses(&rt, alloc, &text, 603, AsmFault::Twice)
+}
