@@ -78,7 +78,7 @@ either_true : (a b : Bool) → (a || b) ≡ true → (a ≡ true) ⊎ (b ≡ tru
 either_true true b e = inl refl
 either_true false b e = inr e
 
-not_both : (b : Bool) → not b ≡ true → b ≡ true → ⊥
+pub not_both : (b : Bool) → not b ≡ true → b ≡ true → ⊥
 not_both true e f = cc
 not_both false e f = cc
 

@@ -9,6 +9,9 @@ pub mod Alone
 pub mod Made
 pub mod Square
 pub mod TwoRouters
+pub mod Parts
+pub mod Forwarding
+pub mod Externals
 pub mod Covers
 pub mod Exact
 pub mod Nearest

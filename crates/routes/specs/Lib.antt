@@ -5,6 +5,7 @@ pub mod Candidates
 pub mod Tables
 pub mod Laws
 pub mod Worked
+pub mod WorkedExternals
 pub mod Graphs
 pub mod Search
 pub mod Answers
