@@ -12,6 +12,8 @@ pub mod TwoRouters
 pub mod Parts
 pub mod Forwarding
 pub mod Externals
+pub mod Networks
+pub mod Transit
 pub mod Covers
 pub mod Exact
 pub mod Nearest

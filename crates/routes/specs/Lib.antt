@@ -6,6 +6,7 @@ pub mod Tables
 pub mod Laws
 pub mod Worked
 pub mod WorkedExternals
+pub mod WorkedTransit
 pub mod Graphs
 pub mod Search
 pub mod Answers
