@@ -74,15 +74,15 @@ abbrev pub exits_in : List ℕ → ℕ → ℕ → ℕ → Bool
 exits_in [] address n hops = true
 exits_in (a ∷ addresses) address n hops = (not (nat_eq a address) || has_interface hops (n + 1)) && exits_in addresses address (n + 1) hops
 
-either_true : (a b : Bool) → (a || b) ≡ true → (a ≡ true) ⊎ (b ≡ true)
+pub either_true : (a b : Bool) → (a || b) ≡ true → (a ≡ true) ⊎ (b ≡ true)
 either_true true b e = inl refl
 either_true false b e = inr e
 
-not_both : (b : Bool) → not b ≡ true → b ≡ true → ⊥
+pub not_both : (b : Bool) → not b ≡ true → b ≡ true → ⊥
 not_both true e f = cc
 not_both false e f = cc
 
-exit_of : (addresses : List ℕ) (address n hops k : ℕ) → exits_in addresses address n hops ≡ true → slice_get addresses k ≡ Some address → IsTrue (has_interface hops (n + k + 1))
+pub exit_of : (addresses : List ℕ) (address n hops k : ℕ) → exits_in addresses address n hops ≡ true → slice_get addresses k ≡ Some address → IsTrue (has_interface hops (n + k + 1))
 exit_of [] address n hops k e p = absurd (cc)
 exit_of (a ∷ addresses) address n hops zero e p =
     let same : a ≡ address = cc in
@@ -116,7 +116,7 @@ abbrev pub at_node : (ℕ → ℕ) → Node → ℕ
 at_node f (ARouter router) = f router
 at_node f (ANetwork id by) = 0
 
-subset : (a b i : ℕ) → bit_or a b ≡ b → IsTrue (has_interface a i) → IsTrue (has_interface b i)
+pub subset : (a b i : ℕ) → bit_or a b ≡ b → IsTrue (has_interface a i) → IsTrue (has_interface b i)
 subset a b i e t =
     let bit : bit_at b i ≡ max (bit_at a i) (bit_at b i) = ap (λ n. bit_at n i) (sym e) ∙ bit_at_or a b i in
     is_member b i (let one : bit_at a i ≡ 1 = bit_of_member a i t in let two : bit_at b i < 2 = bit_at-lt b i in omega (arith, bit, one, two))

@@ -9,6 +9,11 @@ pub mod Alone
 pub mod Made
 pub mod Square
 pub mod TwoRouters
+pub mod Parts
+pub mod Forwarding
+pub mod Externals
+pub mod Networks
+pub mod Transit
 pub mod Covers
 pub mod Exact
 pub mod Nearest

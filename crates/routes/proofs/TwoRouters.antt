@@ -30,35 +30,35 @@ use Rattle.routes.proofs.Labels.{AreChecked, at_node, checked, way_by}
 use Rattle.routes.proofs.Lists.{first_is, later_is, of_cons, of_empty}
 use Rattle.routes.proofs.Made.{back, from_root, linked, only_one, says}
 
-abbrev near : ℕ
+abbrev pub near : ℕ
 near = dotted 1 1 1 1
 
-abbrev far : ℕ
+abbrev pub far : ℕ
 far = dotted 2 2 2 2
 
-abbrev distance : ℕ → ℕ
+abbrev pub distance : ℕ → ℕ
 distance r = cond (nat_eq r far) 10 0
 
-abbrev hops : ℕ → ℕ
+abbrev pub hops : ℕ → ℕ
 hops r = cond (nat_eq r far) 2 0
 
-abbrev own_offer : Offer
+abbrev pub own_offer : Offer
 own_offer = intra (network_24 10 0 1) 10 1
 
-abbrev other_offer : Offer
+abbrev pub other_offer : Offer
 other_offer = intra (network_24 10 0 1) 20 2
 
-abbrev next_offer : Offer
+abbrev pub next_offer : Offer
 next_offer = intra (network_24 10 0 2) 15 2
 
-abbrev far_way : Way
+abbrev pub far_way : Way
 far_way = record { distance = 10; hops = 2 }
 
 abbrev abroad_offer : ExternalType → Offer
 abroad_offer t = external_offer t (network_24 203 0 113) (abroad_lsa t) far far_way
 
 -- one of the offers within the area
-abbrev IsWithin : Offer → Type 0
+abbrev pub IsWithin : Offer → Type 0
 IsWithin o = (own_offer ≡ o) ⊎ ((other_offer ≡ o) ⊎ (next_offer ≡ o))
 
 abbrev own_stub : Link
@@ -70,7 +70,7 @@ next_stub = stub (dotted 10 0 2 0) mask_24 5
 no_hop : (i : ℕ) → IsTrue (has_interface 0 i) → ⊥
 no_hop i t = omega (arith, bit_at-zero i, bit_of_member 0 i t)
 
-dearer : (a b : Offer) → rank a.kind ≡ rank b.kind → a.cost < b.cost → IsNoWorse b a → ⊥
+pub dearer : (a b : Offer) → rank a.kind ≡ rank b.kind → a.cost < b.cost → IsNoWorse b a → ⊥
 dearer a b e less (ByKind p) = omega (arith, p, e)
 dearer a b e less (ByCost p q) = omega (arith, q, less)
 dearer a b e less (ByDistance p q r) = omega (arith, q, less)
@@ -82,7 +82,7 @@ module _ (others : Entries) (labels : AreChecked near_router (sayings (two_route
   near_says : IsRouterLsa 0 (database (two_routers others)) near (router_lsa near_links)
   near_says = says (two_routers others) (key 1 near near) (body.Router (router_lsa near_links)) refl
 
-  far_says : IsRouterLsa 0 (database (two_routers others)) far (router_lsa far_links)
+  pub far_says : IsRouterLsa 0 (database (two_routers others)) far (router_lsa far_links)
   far_says = says (two_routers others) (key 1 far far) (body.Router (router_lsa far_links)) refl
 
   across_link : IsWalk (Leads 0 (database (two_routers others)) near_router) (ARouter near) (record { target = ARouter far; price = 10; exit = 1 } ∷ []) (ARouter far)
@@ -93,12 +93,12 @@ module _ (others : Entries) (labels : AreChecked near_router (sayings (two_route
       way_by (Leads 0 (database (two_routers others)) near_router) (ARouter near) (at_node distance) (at_node hops) (checked near_router 0 (two_routers others) distance hops labels) (ARouter near) [] refl refl
       (λ i t. absurd (no_hop i t))
 
-  far_is : IsWay (Leads 0 (database (two_routers others)) near_router) (ARouter near) (ARouter far) far_way
+  pub far_is : IsWay (Leads 0 (database (two_routers others)) near_router) (ARouter near) (ARouter far) far_way
   far_is =
       way_by (Leads 0 (database (two_routers others)) near_router) (ARouter near) (at_node distance) (at_node hops) (checked near_router 0 (two_routers others) distance hops labels) (ARouter far) (record { target = ARouter far; price = 10; exit = 1 } ∷ []) across_link refl
       (λ i t. (record { target = ARouter far; price = 10; exit = 1 }, [], across_link, refl, sym (only_one i t)))
 
-  known : (router : ℕ) (l : Link) → Contains {X = ℕ × Link} ((near, own_stub) ∷ (far, own_stub) ∷ (far, next_stub) ∷ []) (router, l) → Known 0 (two_routers others) near_router IsWithin router l
+  pub known : (router : ℕ) (l : Link) → Contains {X = ℕ × Link} ((near, own_stub) ∷ (far, own_stub) ∷ (far, next_stub) ∷ []) (router, l) → Known 0 (two_routers others) near_router IsWithin router l
   known router l t =
       let P : ℕ × Link → Type 0 = λ x. Known 0 (two_routers others) near_router IsWithin x.0 x.1 in
       elim (of_cons {X = ℕ × Link} (near, own_stub) ((far, own_stub) ∷ (far, next_stub) ∷ []) (router, l) t) [
@@ -114,7 +114,7 @@ module _ (others : Entries) (labels : AreChecked near_router (sayings (two_route
             ]
       ]
 
-  own_is_offered : OffersWithin 0 (database (two_routers others)) near_router own_offer
+  pub own_is_offered : OffersWithin 0 (database (two_routers others)) near_router own_offer
   own_is_offered = record {
     node = ARouter near;
     prefix = network_24 10 0 1;
@@ -128,7 +128,7 @@ module _ (others : Entries) (labels : AreChecked near_router (sayings (two_route
     is = refl;
   }
 
-  next_is_offered : OffersWithin 0 (database (two_routers others)) near_router next_offer
+  pub next_is_offered : OffersWithin 0 (database (two_routers others)) near_router next_offer
   next_is_offered = record {
     node = ARouter far;
     prefix = network_24 10 0 2;

@@ -5,6 +5,8 @@ pub mod Candidates
 pub mod Tables
 pub mod Laws
 pub mod Worked
+pub mod WorkedExternals
+pub mod WorkedTransit
 pub mod Graphs
 pub mod Search
 pub mod Answers

@@ -2,6 +2,8 @@
 ghost use Rattle.routes.specs.Answers.{GraphsCarryAnswers};
 ghost use Rattle.routes.specs.Laws.{AnswersToAllAreNotStale, CandidatesAreCheapestWalks, CandidatesAreDetermined, OneCandidateForEachPrefix, TablesAreDetermined, TablesArePartsOfCandidates, WaysAreDetermined};
 ghost use Rattle.routes.specs.Worked.{WorkedSquare, WorkedTwoRouters};
+ghost use Rattle.routes.specs.WorkedExternals.{WorkedExternals};
+ghost use Rattle.routes.specs.WorkedTransit.{WorkedTransit};
 
 /// A node has one distance and one set of next hops (RFC 2328, section 16.1).
 pub fn ways_are_determined()
@@ -48,6 +50,18 @@ pub fn worked_square()
 /// The candidates of one of two routers on a link, also with an external destination of type 1 and of type 2 at the other one.
 pub fn worked_two_routers()
     ensures { WorkedTwoRouters }
+{}
+
+/// The candidates where the other router announces external destinations of both types, by itself or by a forwarding address, and where other
+/// external LSAs offer nothing (RFC 2328, section 16.4).
+pub fn worked_externals()
+    ensures { WorkedExternals }
+{}
+
+/// The candidates over a transit network: ways of one cost over it and beside it, external destinations of two originators at one cost and of
+/// a forwarding address in two networks, and routers that don't count (RFC 2328, sections 16.1 and 16.4).
+pub fn worked_transit()
+    ensures { WorkedTransit }
 {}
 
 /// A graph whose links are those of a database gives, by `least_ways`, the distances and next hops of the database (RFC 2328, section 16.1).
