@@ -1,7 +1,11 @@
-//! Figures of speed, printed on demand: `bench run`, `bench decode`, `bench maps`, `bench texts`. With no words it prints nothing.
+//! Figures of speed, printed on demand: `bench run`, and so with the other names. With no words it prints nothing.
 #![tactic(auto)]
 
+mod asm_speed;
+mod code_speed;
+mod figures;
 mod maps_speed;
+mod object_speed;
 mod programs;
 mod run_speed;
 mod texts_speed;
@@ -12,14 +16,19 @@ use std::rt::Clock;
 use std::thread::Threads;
 use std::time::Instant;
 
-/// What a figure is measured with.
+const USAGE: &str = "usage: bench run | decode | encode | asm | objects | maps | texts";
+
+/// Prints the figures of this name. False where no figures have it.
 fn measure<R: Clock + Print + AllocGlobal + Threads + Sync>(
     rt: &R,
     name: &str,
 ) -> anyhow::Result<bool> {
     match name {
         "run" => run_speed::print(rt)?,
-        "decode" => run_speed::print_decode(rt)?,
+        "decode" => code_speed::print_decode(rt)?,
+        "encode" => code_speed::print_encode(rt)?,
+        "asm" => asm_speed::print(rt)?,
+        "objects" => object_speed::print(rt)?,
         "maps" => maps_speed::print(rt)?,
         "texts" => texts_speed::print(rt)?,
         _ => return Ok(false),
@@ -27,7 +36,7 @@ fn measure<R: Clock + Print + AllocGlobal + Threads + Sync>(
     Ok(true)
 }
 
-/// Nanoseconds since the start, at least 1.
+/// Nanoseconds since the start.
 pub fn nanoseconds_since<R: Clock>(rt: &R, start: Instant) -> anyhow::Result<u64> {
     let nanos = start.elapsed(rt)?.as_nanos();
     Ok((nanos % 18_446_744_073_709_551_616) as u64)
@@ -38,9 +47,13 @@ fn main(rt: HostRuntime) -> anyhow::Result<ExitCode> {
     let Some(name) = words.get(1) else {
         return Ok(ExitCode::SUCCESS);
     };
+    if name.as_str() == "--help" {
+        println!(rt; "{USAGE}")?;
+        return Ok(ExitCode::SUCCESS);
+    }
     if measure(&rt, name.as_str())? {
         return Ok(ExitCode::SUCCESS);
     }
-    eprintln!(rt; "usage: bench run | decode | maps | texts")?;
+    eprintln!(rt; "{USAGE}")?;
     Ok(ExitCode::from(2))
 }

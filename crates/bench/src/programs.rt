@@ -1,4 +1,6 @@
 //! Code to measure with, as bytes.
+ghost use Rattle.std.specs.Prelude.{◌≡◌, ◌+◌, ◌*◌, ◌≤◌, IfOk, OnOk, vec_len};
+
 use std::alloc::{AllocError, Global};
 
 fn push_slot(
@@ -7,16 +9,18 @@ fn push_slot(
     registers: u8,
     offset: u8,
     number: u8,
-) -> Result<(), AllocError> {
+) -> Result<(), AllocError>
+    ensures { OnOk result (vec_len bytes.new ≡ vec_len bytes.old + 8) }
+{
     let sign = if offset >= 128 { 255 } else { 0 };
-    for byte in [opcode, registers, offset, sign, number, 0, 0, 0] {
-        bytes.push(byte)?;
-    }
-    Ok(())
+    bytes.extend_from_slice(&[opcode, registers, offset, sign, number, 0, 0, 0])
 }
 
 /// `r0 = 0`, so many slots of arithmetic in all with the first and the last, `exit`.
-pub fn straight_line(alloc: Global, slots: usize) -> Result<Vec<u8>, AllocError> {
+pub fn straight_line(alloc: Global, slots: usize) -> Result<Vec<u8>, AllocError>
+    requires { 2 ≤ slots }
+    ensures { IfOk result (λ bytes. vec_len bytes ≡ 8 * slots) }
+{
     let mut bytes = Vec::new(alloc);
     push_slot(&mut bytes, 0xb7, 0, 0, 0)?;
     for slot in 2..slots {

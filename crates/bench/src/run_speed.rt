@@ -90,21 +90,3 @@ pub fn print<R: Clock + Print + AllocGlobal>(rt: &R) -> Result<()> {
     let loading = programs::loading_loop(alloc, true)?;
     measure(rt, "the same with cell loads", &loading, 2_000)
 }
-
-/// Prints how long decoding takes.
-pub fn print_decode<R: Clock + Print + AllocGlobal>(rt: &R) -> Result<()> {
-    let alloc = rt.alloc();
-    for slots in [1_024usize, 4_096] {
-        let bytes = programs::straight_line(alloc, slots)?;
-        let start = Instant::now(rt)?;
-        let mut decoded = 0u64;
-        for _round in 0..100u64 {
-            if decode(alloc, &bytes).is_ok() {
-                decoded = decoded.wrapping_add(1);
-            }
-        }
-        let micros = nanoseconds_since(rt, start)? / 100_000;
-        println!(rt; "decode of {slots} slots: {micros} microseconds ({decoded} times)")?;
-    }
-    Ok(())
-}

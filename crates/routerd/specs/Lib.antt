@@ -1,2 +1,5 @@
+pub mod Assembly
+pub mod Endings
+pub mod Runs
 pub mod Statuses
 pub mod Words

@@ -1,6 +1,7 @@
 -- The statuses that the program ends with, and the refusals that they stand for.
 use Rattle.std.specs.Prelude.{ℕ}
 use Rattle.clap.specs.Values.{kind_of}
+use Rattle.clap.specs.declared.error.Error.{Error}
 use Rattle.clap.specs.declared.error.ErrorKind.{ErrorKind}
 use Rattle.clap.specs.declared.error.ErrorKind.TheVariants as kinds
 use Rattle.isa.specs.declared.decoding.DecodeError.{DecodeError}
@@ -32,6 +33,14 @@ status_of (faults.Object number) = 1
 status_of (faults.Usage error) = status_of_usage (kind_of error)
 status_of faults.Output = 3
 status_of faults.Memory = 4
+
+-- What is told of words that ask for nothing that can be done: clap's own text, or want of memory.
+abbrev pub fault_of_kind_of_words : ErrorKind → Error → Fault
+fault_of_kind_of_words kinds.OutOfMemory error = faults.Memory
+fault_of_kind_of_words other error = faults.Usage error
+
+abbrev pub fault_of_words : Error → Fault
+fault_of_words error = fault_of_kind_of_words (kind_of error) error
 
 -- What is told of bytes that are no code: the number and slot of the refusal, or want of memory.
 abbrev pub fault_of_kind : DecodeFault → ℕ → Fault

@@ -1,11 +1,61 @@
 //! Texts of assembly, and the object files that they spell.
 
+ghost use Rattle.std.specs.Prelude.{◌≡◌, ◌++◌, ◌⊎◌, [], ◌∷◌, List, ℕ, false, codes, decimal, IfOk, IfErr, string_bytes};
+ghost use Rattle.asm.specs.Assembling.{TextSpells};
+ghost use Rattle.object.specs.Objects.{slots_of};
+ghost use Rattle.object.specs.Spelling.{Spells};
+ghost use Rattle.routerd.specs.Assembly.{IsAssembled, IsListFault, IsListing, IsTextFault};
+
 use crate::fault::Fault;
 use crate::files;
-use crate::raw::Report;
+use crate::report::Report;
 use asm::{ListError, assemble, listing};
 use isa::decode;
+use object::Object;
+use std::alloc::{AllocError, Global};
 use std::rt::Files;
+
+/// An object, and the bytes of its file.
+#[derive(Drop)]
+struct ObjectFile {
+    object: Object,
+    bytes: Vec<u8>,
+}
+
+/// The object file that a text spells.
+fn object_file<'a>(alloc: Global, text: &str) -> Result<ObjectFile, Fault<'a>>
+    ensures text { IfOk result (λ file. TextSpells text.now file.object) }
+    ensures bytes { IfOk result (λ file. Spells file.bytes.items file.object) }
+    ensures fault { IfErr result (IsTextFault text.now) }
+{
+    let object = assemble(alloc, text)?;
+    let bytes = object::write(alloc, &object)?;
+    Ok(ObjectFile { object, bytes })
+}
+
+/// Makes the file at `target` this object file.
+fn write_object<'a, R: Files + AllocGlobal>(
+    rt: &R,
+    target: &'a str,
+    file: &ObjectFile,
+) -> Result<(), Fault<'a>>
+    requires { Spells file.now.bytes.items file.now.object }
+    ensures { IfErr result (λ fault. (fault ≡ Fault.Write target.entry) ⊎ (fault ≡ Fault.Memory)) }
+{
+    files::write(rt, target, file.bytes.as_slice())
+}
+
+/// What is told of an object file that was written: how many slots its code has.
+fn written(alloc: Global, file: &ObjectFile) -> Result<Report, AllocError>
+    ensures text { IfOk result (λ report. string_bytes report.text ≡ codes "ok " ++ decimal (slots_of file.now.object) ++ 10 ∷ []) }
+    ensures done { IfOk result (λ report. report.is_stuck ≡ false) }
+{
+    let slots = file.object.slots();
+    Ok(Report {
+        text: format!(in alloc; "ok {slots}\n")?,
+        is_stuck: false,
+    })
+}
 
 /// Assembles the text of the file at `source` into the object file `target`, and tells how many slots the code has.
 ///
@@ -14,29 +64,27 @@ pub fn assemble_file<'a, R: Files + AllocGlobal>(
     rt: &R,
     source: &'a str,
     target: &'a str,
-) -> Result<Report, Fault<'a>> {
+) -> Result<Report, Fault<'a>>
+    // Where it is done, the text of the source was one that spells an object.
+    ensures done { IfOk result (λ report. (text : List ℕ) × IsAssembled text report) }
+    ensures fault { IfErr result (λ fault. (fault ≡ Fault.Read source.entry) ⊎ (fault ≡ Fault.Write target.entry) ⊎ ((text : List ℕ) × IsTextFault text fault)) }
+{
     let alloc = rt.alloc();
     let Ok(text) = String::from_utf8(files::read(rt, source)?) else {
         return Err(Fault::Read { path: source });
     };
-    let object = assemble(alloc, text.as_str())?;
-    let bytes = object::write(alloc, &object)?;
-    let slots = object.slots();
-    let line = format!(in alloc; "ok {slots}\n")?;
-    files::write(rt, target, bytes.as_slice())?;
-    Ok(Report {
-        text: line,
-        is_stuck: false,
-    })
+    let file = object_file(alloc, text.as_str())?;
+    let report = written(alloc, &file)?;
+    write_object(rt, target, &file)?;
+    Ok(report)
 }
 
-/// The listing of the object file at `path`.
-///
-/// A fault where the file can't be read, is no object file, holds no code, or memory is refused.
-pub fn list<'a, R: Files + AllocGlobal>(rt: &R, path: &'a str) -> Result<Report, Fault<'a>> {
-    let alloc = rt.alloc();
-    let bytes = files::read(rt, path)?;
-    let object = object::read(alloc, bytes.as_slice())?;
+/// The listing of the object file that these bytes are.
+fn listed<'a>(alloc: Global, bytes: &[u8]) -> Result<Report, Fault<'a>>
+    ensures listed { IfOk result (IsListing bytes.now) }
+    ensures fault { IfErr result (IsListFault bytes.now) }
+{
+    let object = object::read(alloc, bytes)?;
     match listing(alloc, &object) {
         Ok(text) => Ok(Report {
             text,
@@ -48,4 +96,15 @@ pub fn list<'a, R: Files + AllocGlobal>(rt: &R, path: &'a str) -> Result<Report,
             Err(error) => Err(Fault::from(error)),
         },
     }
+}
+
+/// The listing of the object file at `path`.
+///
+/// A fault where the file can't be read, is no object file, holds no code, or memory is refused.
+pub fn list<'a, R: Files + AllocGlobal>(rt: &R, path: &'a str) -> Result<Report, Fault<'a>>
+    ensures listed { IfOk result (λ report. (bytes : List ℕ) × IsListing bytes report) }
+    ensures fault { IfErr result (λ fault. (fault ≡ Fault.Read path.entry) ⊎ ((bytes : List ℕ) × IsListFault bytes fault)) }
+{
+    let bytes = files::read(rt, path)?;
+    listed(rt.alloc(), bytes.as_slice())
 }

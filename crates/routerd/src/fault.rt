@@ -1,5 +1,6 @@
 ghost use Rattle.std.specs.Prelude.{◌≡◌, ◌≤◌};
-ghost use Rattle.routerd.specs.Statuses.{fault_of_object, fault_of_refusal, fault_of_text, status_of};
+ghost use Rattle.routerd.specs.Statuses.{fault_of_object, fault_of_refusal, fault_of_text, fault_of_words, status_of};
+ghost use Rattle.routerd.specs.declared.fault.Fault.TheVariants.{Memory};
 
 use asm::{AsmError, AsmFault};
 use clap::error::ErrorKind;
@@ -51,12 +52,16 @@ pub enum Fault<'a> {
 }
 
 impl<'a> From<AllocError> for Fault<'a> {
+    ghost from_gives = { λ _ fault. fault ≡ Memory };
+
     fn from(_error: AllocError) -> Fault<'a> {
         Fault::Memory
     }
 }
 
 impl<'a, T: Drop> From<AllocFailed<T>> for Fault<'a> {
+    ghost from_gives = { λ _ fault. fault ≡ Memory };
+
     fn from(_error: AllocFailed<T>) -> Fault<'a> {
         Fault::Memory
     }
@@ -104,6 +109,8 @@ impl<'a> From<AsmError> for Fault<'a> {
 }
 
 impl<'a> From<MapsError> for Fault<'a> {
+    ghost from_gives = { λ _ fault. fault ≡ Memory };
+
     // The number of seats was judged with the words.
     fn from(_error: MapsError) -> Fault<'a> {
         Fault::Memory
@@ -111,6 +118,8 @@ impl<'a> From<MapsError> for Fault<'a> {
 }
 
 impl<'a> From<clap::Error> for Fault<'a> {
+    ghost from_gives = { λ error fault. fault ≡ fault_of_words error };
+
     fn from(error: clap::Error) -> Fault<'a> {
         match error.kind() {
             ErrorKind::OutOfMemory => Fault::Memory,

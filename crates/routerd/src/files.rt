@@ -1,6 +1,6 @@
 //! Files, read and written whole.
 
-ghost use Rattle.std.specs.Prelude.{◌≤◌, IfOk, vec_len};
+ghost use Rattle.std.specs.Prelude.{◌≡◌, ◌≤◌, ◌⊎◌, IfOk, IfErr, vec_len};
 
 use crate::fault::Fault;
 use std::alloc::Global;
@@ -13,7 +13,8 @@ const MOST_BYTES: u64 = 16_777_216;
 
 /// The bytes of the file at `path`. `Fault::Read` where it can't be opened or read, or is too long.
 pub fn read<'a, R: Files + AllocGlobal>(rt: &R, path: &'a str) -> Result<Vec<u8>, Fault<'a>>
-    ensures { IfOk result (λ bytes. vec_len bytes ≤ 16777216) }
+    ensures within { IfOk result (λ bytes. vec_len bytes ≤ 16777216) }
+    ensures fault { IfErr result (λ fault. (fault ≡ Fault.Read path.entry) ⊎ (fault ≡ Fault.Memory)) }
 {
     let Ok(file) = fs::open(rt, path) else {
         return Err(Fault::Read { path });
@@ -33,7 +34,9 @@ fn give_up<'a, R: Files + AllocGlobal>(
     begun: &str,
     path: &'a str,
     error: ErrorKind,
-) -> Fault<'a> {
+) -> Fault<'a>
+    ensures { (result ≡ Fault.Write path.entry) ⊎ (result ≡ Fault.Memory) }
+{
     let _left = fs::remove_file(rt, begun);
     match error {
         ErrorKind::OutOfMemory => Fault::Memory,
@@ -47,7 +50,9 @@ pub fn write<'a, R: Files + AllocGlobal>(
     rt: &R,
     path: &'a str,
     bytes: &[u8],
-) -> Result<(), Fault<'a>> {
+) -> Result<(), Fault<'a>>
+    ensures { IfErr result (λ fault. (fault ≡ Fault.Write path.entry) ⊎ (fault ≡ Fault.Memory)) }
+{
     let begun = format!(in rt.alloc(); "{path}.part")?;
     if let Err(error) = fs::write(rt, begun.as_str(), bytes) {
         return Err(give_up(rt, begun.as_str(), path, error.kind()));

@@ -7,6 +7,7 @@ mod fault;
 mod files;
 mod program;
 mod raw;
+mod report;
 mod run;
 #[cfg(test)]
 mod tests;

@@ -1,37 +1,49 @@
 //! The whole program, over readers and writers that are handed in.
 
-ghost use Rattle.std.specs.Prelude.{◌≤◌, IfOk};
+ghost use Rattle.std.specs.Prelude.{◌≡◌, ◌≤◌, Result};
+ghost use Rattle.routerd.specs.declared.fault.Fault.{Fault};
+ghost use Rattle.routerd.specs.declared.report.Report.{Report};
+ghost use Rattle.routerd.specs.Endings.{Ends, Prints, Tells};
 
 use crate::command::{self, Request};
 use crate::fault::{DONE, Fault, REFUSED};
+use crate::report::Report;
 use crate::{assembly, raw, run};
 use std::io::{BufRead, Write};
 use std::rt::Files;
 use std::thread::Threads;
 
-// What a command prints, and its status.
+// What the command that the words name prints.
 fn answer<'a, R: Files + AllocGlobal + Threads + Sync>(
     rt: &R,
     words: &'a [&'a str],
-) -> Result<(String, u8), Fault<'a>>
-    ensures { IfOk result (λ told. told.1 ≤ 1) }
-{
-    let report = match command::parse(rt.alloc(), words)? {
-        Request::Raw { hook, file, seats } => raw::raw(rt, hook, file, seats)?,
+) -> Result<Report, Fault<'a>> {
+    match command::parse(rt.alloc(), words)? {
+        Request::Raw { hook, file, seats } => raw::raw(rt, hook, file, seats),
         Request::Run {
             object,
             context,
             packet,
-        } => run::run(rt, object, context, packet)?,
-        Request::Asm { source, object } => assembly::assemble_file(rt, source, object)?,
-        Request::List { object } => assembly::list(rt, object)?,
-    };
-    Ok((report.text, if report.is_stuck { REFUSED } else { DONE }))
+        } => run::run(rt, object, context, packet),
+        Request::Asm { source, object } => assembly::assemble_file(rt, source, object),
+        Request::List { object } => assembly::list(rt, object),
+    }
+}
+
+// Prints what a command made, and answers the status.
+fn print<O: Write>(report: &Report, output: &mut O) -> u8
+    ensures { Prints report.now (O.contents output.old) (O.contents output.new) result }
+{
+    match output.write_all(report.text.as_bytes()) {
+        Ok(()) if report.is_stuck => REFUSED,
+        Ok(()) => DONE,
+        Err(_) => Fault::Output.status(),
+    }
 }
 
 // The text of a fault goes to the second writer where it is clap's, and else to the first.
 fn tell<O: Write, E: Write>(fault: &Fault<'_>, output: &mut O, errors: &mut E) -> u8
-    ensures { result ≤ 4 }
+    ensures { Tells fault.now result }
 {
     let written = match fault {
         Fault::Usage(error) => write!(errors, "{error}"),
@@ -40,6 +52,20 @@ fn tell<O: Write, E: Write>(fault: &Fault<'_>, output: &mut O, errors: &mut E) -
     match written {
         Ok(()) => fault.status(),
         Err(_) => Fault::Output.status(),
+    }
+}
+
+// Prints what a command made or what its fault is, and answers the status.
+fn end<O: Write, E: Write>(
+    outcome: &Result<Report, Fault<'_>>,
+    output: &mut O,
+    errors: &mut E,
+) -> u8
+    ensures { Ends outcome.now (O.contents output.old) (O.contents output.new) result }
+{
+    match outcome {
+        Ok(report) => print(report, output),
+        Err(fault) => tell(fault, output, errors),
     }
 }
 
@@ -54,13 +80,8 @@ pub fn program<R: Files + AllocGlobal + Threads + Sync, I: BufRead, O: Write, E:
     output: &mut O,
     errors: &mut E,
 ) -> u8
-    ensures { result ≤ 4 }
+    ensures ended { (outcome : Result Report Fault) × Ends outcome (O.contents output.old) (O.contents output.new) result }
 {
-    match answer(rt, words) {
-        Ok((text, status)) => match output.write_all(text.as_bytes()) {
-            Ok(()) => status,
-            Err(_) => Fault::Output.status(),
-        },
-        Err(fault) => tell(&fault, output, errors),
-    }
+    let outcome = answer(rt, words);
+    end(&outcome, output, errors)
 }

@@ -5,6 +5,7 @@ ghost use Rattle.std.specs.List.{All};
 
 use crate::fault::Fault;
 use crate::files;
+use crate::report::Report;
 use interp::{Run, Trap, run_checked};
 use isa::{Code, Hook, decode};
 use machine::Input;
@@ -69,13 +70,6 @@ fn seats_of(
             { one.seat },
         )
         .collect(alloc)
-}
-
-/// What `routerd raw` prints, and whether a run was stuck.
-#[derive(Drop)]
-pub struct Report {
-    pub text: String,
-    pub is_stuck: bool,
 }
 
 fn push_outcome(

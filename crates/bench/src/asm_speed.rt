@@ -1,0 +1,93 @@
+//! How long assembling and listing take.
+
+use crate::figures::report;
+use anyhow::{Result, anyhow, ensure};
+use asm::{assemble, listing};
+use object::Object;
+use std::alloc::{AllocError, Global};
+use std::rt::Clock;
+use std::time::Instant;
+
+/// How often each is done for a figure.
+const ROUNDS: u64 = 20;
+
+// The line of the instruction at a slot. Each fourth one jumps back to the slot three before it: by the label there, or by its distance.
+fn put_instruction(text: &mut String, slot: usize, has_labels: bool) -> Result<(), AllocError> {
+    match slot % 4 {
+        0 if has_labels => writeln!(text, "L{slot}:\nr0 += 3"),
+        0 => text.push_str("r0 += 3\n"),
+        1 => text.push_str("r1 ^= r0\n"),
+        2 => text.push_str("w2 = w1\n"),
+        _ if has_labels => {
+            let label = slot.saturating_sub(3);
+            writeln!(text, "if r0 != 0 goto L{label}")
+        }
+        _ => text.push_str("if r0 != 0 goto -4\n"),
+    }
+}
+
+// A text of so many slots, a label for each fourth one or none. Both texts spell the same object.
+fn text_of(alloc: Global, slots: usize, has_labels: bool) -> Result<String, AllocError> {
+    let mut text = String::new(alloc);
+    text.push_str("hook price\nrank 1\n")?;
+    for slot in 1..slots {
+        put_instruction(&mut text, slot - 1, has_labels)?;
+    }
+    text.push_str("exit\n")?;
+    Ok(text)
+}
+
+// How often the text was assembled.
+fn assemble_often(alloc: Global, text: &str) -> u64 {
+    let mut done = 0u64;
+    for _round in 0..ROUNDS {
+        if assemble(alloc, text).is_ok() {
+            done = done.wrapping_add(1);
+        }
+    }
+    done
+}
+
+// How often the object was listed.
+fn list_often(alloc: Global, object: &Object) -> u64 {
+    let mut done = 0u64;
+    for _round in 0..ROUNDS {
+        if listing(alloc, object).is_ok() {
+            done = done.wrapping_add(1);
+        }
+    }
+    done
+}
+
+fn measure<R: Clock + Print + AllocGlobal>(
+    rt: &R,
+    slots: usize,
+    has_labels: bool,
+    what: &str,
+) -> Result<()> {
+    let alloc = rt.alloc();
+    let text = text_of(alloc, slots, has_labels)?;
+    let object = assemble(alloc, text.as_str()).map_err(|_| anyhow!("the text isn't assembled"))?;
+    ensure!(
+        object.slots() == slots,
+        "a text of other than {slots} slots"
+    );
+    let start = Instant::now(rt)?;
+    let _done = assemble_often(alloc, text.as_str());
+    report(rt, what, slots, "slots", ROUNDS, start)?;
+    if has_labels {
+        return Ok(());
+    }
+    let start = Instant::now(rt)?;
+    let _done = list_often(alloc, &object);
+    report(rt, "listing", slots, "slots", ROUNDS, start)
+}
+
+/// Prints how long texts take to assemble, with labels and with none, and how long their objects take to list.
+pub fn print<R: Clock + Print + AllocGlobal>(rt: &R) -> Result<()> {
+    for slots in [1_024usize, 4_096] {
+        measure(rt, slots, false, "assembling, no labels")?;
+        measure(rt, slots, true, "assembling, a label for each four slots")?;
+    }
+    Ok(())
+}

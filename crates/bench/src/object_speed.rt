@@ -1,0 +1,102 @@
+//! How long object files take to read and to write.
+ghost use Rattle.std.specs.Prelude.{◌≡◌, ◌≤◌, IfOk, length};
+ghost use Rattle.object.specs.Objects.{slots_of};
+
+use crate::figures::report;
+use crate::programs;
+use anyhow::{Result, anyhow};
+use isa::{Hook, Map};
+use object::{
+    ContextOffset, Kind, Object, Rank, RankTerm, StackBytes, StackOffset, StatedNumber, Statement,
+};
+use std::alloc::Global;
+use std::rt::Clock;
+use std::time::Instant;
+
+/// How often each is done for a figure.
+const ROUNDS: u64 = 50;
+
+// A statement at a slot: a number in r0 and r1, a pointer in r2, r3 and r4, 64 stack bytes, and a rank over r1.
+fn statement_at(slot: u32) -> Option<Statement> {
+    let number = StatedNumber::new(1, 1_000, 0, 0)?;
+    let offset = StatedNumber::new(0, 2_040, 7, 0)?;
+    let mut kinds = [Kind::Empty; 10];
+    kinds[0] = Kind::Number(number);
+    kinds[1] = Kind::Number(number);
+    kinds[2] = Kind::Context(ContextOffset::new(8)?);
+    kinds[3] = Kind::Stack(StackOffset::new(512)?);
+    kinds[4] = Kind::MapValue(Map::Counters, offset);
+    let mut stack = StackBytes::new();
+    stack.insert_range(448, 512);
+    let rank = Rank {
+        constant: 1,
+        first: RankTerm::new(1, 4),
+        second: None,
+    };
+    Statement::new(slot, rank, kinds, stack)
+}
+
+// An object with so many slots, and so many statements: one at each fourth slot.
+fn object_of(alloc: Global, slots: usize, statements: u16) -> Result<Object>
+    requires { 2 ≤ slots }
+    ensures slots { IfOk result (λ object. slots_of object ≡ slots) }
+    ensures statements { IfOk result (λ object. length object.statements ≡ statements) }
+{
+    let code = programs::straight_line(alloc, slots)?;
+    let mut stated = Vec::new(alloc);
+    for index in 0..statements {
+        let Some(statement) = statement_at(u32::from(index) * 4) else {
+            return Err(anyhow!("a statement that isn't lawful"));
+        };
+        stated.push(statement)?;
+    }
+    match Object::new(Hook::Price, 1, code, stated) {
+        Some(object) => Ok(object),
+        None => Err(anyhow!("{statements} statements don't fit into {slots} slots")),
+    }
+}
+
+// How often the bytes were read.
+fn read_often(alloc: Global, bytes: &[u8]) -> u64 {
+    let mut done = 0u64;
+    for _round in 0..ROUNDS {
+        if object::read(alloc, bytes).is_ok() {
+            done = done.wrapping_add(1);
+        }
+    }
+    done
+}
+
+// How often the object was written.
+fn write_often(alloc: Global, object: &Object) -> u64 {
+    let mut done = 0u64;
+    for _round in 0..ROUNDS {
+        if object::write(alloc, object).is_ok() {
+            done = done.wrapping_add(1);
+        }
+    }
+    done
+}
+
+fn measure<R: Clock + Print + AllocGlobal>(rt: &R, slots: usize, statements: u16) -> Result<()>
+    requires { 2 ≤ slots }
+{
+    let alloc = rt.alloc();
+    let object = object_of(alloc, slots, statements)?;
+    let bytes = object::write(alloc, &object)?;
+    let size = bytes.len();
+    println!(rt; "an object of {slots} slots and {statements} statements")?;
+    let start = Instant::now(rt)?;
+    let _done = read_often(alloc, &bytes);
+    report(rt, "reading it", size, "bytes", ROUNDS, start)?;
+    let start = Instant::now(rt)?;
+    let _done = write_often(alloc, &object);
+    report(rt, "writing it", size, "bytes", ROUNDS, start)
+}
+
+/// Prints how long objects of up to 4,096 slots and 1,000 statements take to read and to write.
+pub fn print<R: Clock + Print + AllocGlobal>(rt: &R) -> Result<()> {
+    measure(rt, 1_024, 250)?;
+    measure(rt, 4_096, 0)?;
+    measure(rt, 4_096, 1_000)
+}

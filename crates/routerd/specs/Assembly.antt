@@ -1,0 +1,55 @@
+-- What is told of texts of assembly and of object files.
+use Rattle.std.specs.Prelude.{◌≡◌, ℕ, ◌⊎◌, List, [], ◌∷◌, ◌++◌, false, codes, decimal, string_bytes}
+use Rattle.isa.specs.declared.decoding.DecodeError.{DecodeError}
+use Rattle.isa.specs.Refusals as code
+use Rattle.object.specs.declared.error.ReadError.{ReadError}
+use Rattle.object.specs.Objects.{ObjectParts, slots_of}
+use Rattle.object.specs.Spelling.{Spells}
+use Rattle.object.specs.Refusals as objects
+use Rattle.asm.specs.declared.error.AsmError.{AsmError}
+use Rattle.asm.specs.Assembling.{TextSpells}
+use Rattle.asm.specs.Assembling as texts
+use Rattle.routerd.specs.declared.fault.Fault.{Fault}
+use Rattle.routerd.specs.declared.fault.Fault.TheVariants as faults
+use Rattle.routerd.specs.declared.report.Report.{Report}
+use Rattle.routerd.specs.Statuses.{fault_of_object, fault_of_refusal, fault_of_text}
+
+-- The text spells an object, and so many slots are told.
+pub record IsAssembled (text : List ℕ) (report : Report) : Type 0 where
+  pub object : ObjectParts
+  pub spells : TextSpells text object
+  pub told : string_bytes report.text ≡ codes "ok " ++ decimal (slots_of object) ++ 10 ∷ []
+  pub done : report.is_stuck ≡ false
+
+-- the refusal of a text
+pub record IsTextRefused (text : List ℕ) (fault : Fault) : Type 0 where
+  pub error : AsmError
+  pub refuses : texts.Refuses text error.line error.kind
+  pub told : fault ≡ fault_of_text error
+
+abbrev pub IsTextFault : List ℕ → Fault → Type 0
+IsTextFault text fault = (fault ≡ faults.Memory) ⊎ IsTextRefused text fault
+
+-- The bytes are an object file, and what is printed assembles to it again.
+pub record IsListing (bytes : List ℕ) (report : Report) : Type 0 where
+  pub object : ObjectParts
+  pub spells : Spells bytes object
+  pub listed : TextSpells (string_bytes report.text) object
+  pub done : report.is_stuck ≡ false
+
+-- the refusal of bytes that are no object file
+pub record IsObjectRefused (bytes : List ℕ) (fault : Fault) : Type 0 where
+  pub error : ReadError
+  pub refuses : objects.Refuses bytes error
+  pub told : fault ≡ fault_of_object error
+
+-- the refusal of an object file's code
+pub record IsCodeRefused (bytes : List ℕ) (fault : Fault) : Type 0 where
+  pub object : ObjectParts
+  pub spells : Spells bytes object
+  pub error : DecodeError
+  pub refuses : code.Refuses object.code error.slot error.kind
+  pub told : fault ≡ fault_of_refusal error
+
+abbrev pub IsListFault : List ℕ → Fault → Type 0
+IsListFault bytes fault = (fault ≡ faults.Memory) ⊎ IsObjectRefused bytes fault ⊎ IsCodeRefused bytes fault
