@@ -1,13 +1,10 @@
 -- A forwarding address has one way.
-use Rattle.std.proofs.Common.{◌≡◌, ℕ, ◌≤◌, arith, sym, ◌∙◌, ap}
+use Rattle.std.proofs.Common.{◌≡◌, ◌≤◌, arith, sym, ◌∙◌, ap}
 use Rattle.words.specs.Prefixes.{network_address}
-use Rattle.lsdb.specs.Copies.{Database}
-use Rattle.routes.specs.Candidates.{IsForwarded}
-use Rattle.routes.specs.Paths.{Way}
-use Rattle.routes.specs.declared.root.Root.{Root}
+use Rattle.routes.specs.Laws.{ForwardingIsDetermined}
 use Rattle.routes.proofs.Determined.{alike, same_hops}
 
-pub one_forward : (moment : ℕ) (db : Database) (root : Root) (address : ℕ) (a b : Way) → IsForwarded moment db root address a → IsForwarded moment db root address b → a ≡ b
+pub one_forward : ForwardingIsDetermined
 one_forward moment db root address a b p q =
     let longer : p.by.prefix.length ≤ q.by.prefix.length = q.longest p.by p.matches in
     let shorter : q.by.prefix.length ≤ p.by.prefix.length = p.longest q.by q.matches in

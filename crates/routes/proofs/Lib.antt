@@ -14,6 +14,7 @@ pub mod Forwarding
 pub mod Externals
 pub mod Networks
 pub mod Transit
+pub mod Uncounted
 pub mod Covers
 pub mod Exact
 pub mod Nearest

@@ -92,7 +92,7 @@ pub record AreRising (root : Root) (ss : Sayings) (dr hr : ℕ → ℕ) (dn hn :
   pub enters : list_all (λ m. list_all (enter_rises root dr hr dn hn m) (links_of ss)) (members_of ss) ≡ true
   pub leaves : list_all (λ m. list_all (leave_rises dr hr dn hn m) (links_of ss)) (members_of ss) ≡ true
 
-pass : (a b : Bool) → (not a || b) ≡ true → a ≡ true → b ≡ true
+pub pass : (a b : Bool) → (not a || b) ≡ true → a ≡ true → b ≡ true
 pass true b e t = e
 pass false b e t = absurd (cc)
 

@@ -6,7 +6,7 @@ use Rattle.words.specs.Prefixes.{Network}
 use Rattle.words.specs.declared.route.Route.{Route}
 use Rattle.words.specs.declared.route.RouteKind.TheVariants.{Intra}
 use Rattle.lsdb.specs.Copies.{Database}
-use Rattle.routes.specs.Candidates.{AreCandidates, IsCandidate}
+use Rattle.routes.specs.Candidates.{AreCandidates, IsCandidate, IsForwarded}
 use Rattle.routes.specs.Links.{Node, ARouter, Leads}
 use Rattle.routes.specs.Offers.{Attaches}
 use Rattle.routes.specs.Paths.{IsWalk, IsWay, Step, Way, price_of}
@@ -18,6 +18,10 @@ use Rattle.routes.specs.declared.root.Root.{Root}
 -- whatever links there are, a vertex has one way
 abbrev pub WaysAreDetermined : Type 0
 WaysAreDetermined = (moment : ℕ) (db : Database) (root : Root) (from to : Node) (a b : Way) → IsWay (Leads moment db root) from to a → IsWay (Leads moment db root) from to b → a ≡ b
+
+-- a forwarding address has one way
+abbrev pub ForwardingIsDetermined : Type 0
+ForwardingIsDetermined = (moment : ℕ) (db : Database) (root : Root) (address : ℕ) (a b : Way) → IsForwarded moment db root address a → IsForwarded moment db root address b → a ≡ b
 
 abbrev pub OneCandidateForEachPrefix : Type 0
 OneCandidateForEachPrefix = (moment : ℕ) (db : Database) (root : Root) (r s : Route) → IsCandidate moment db root r → IsCandidate moment db root s → r.prefix ≡ s.prefix → r ≡ s

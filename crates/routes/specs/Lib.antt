@@ -7,6 +7,7 @@ pub mod Laws
 pub mod Worked
 pub mod WorkedExternals
 pub mod WorkedTransit
+pub mod WorkedUncounted
 pub mod Graphs
 pub mod Search
 pub mod Answers

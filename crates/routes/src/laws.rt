@@ -1,13 +1,19 @@
 //! Laws of the candidates and of the routing table, each carried by a function with an empty body.
 ghost use Rattle.routes.specs.Answers.{GraphsCarryAnswers};
-ghost use Rattle.routes.specs.Laws.{AnswersToAllAreNotStale, CandidatesAreCheapestWalks, CandidatesAreDetermined, OneCandidateForEachPrefix, TablesAreDetermined, TablesArePartsOfCandidates, WaysAreDetermined};
+ghost use Rattle.routes.specs.Laws.{AnswersToAllAreNotStale, CandidatesAreCheapestWalks, CandidatesAreDetermined, ForwardingIsDetermined, OneCandidateForEachPrefix, TablesAreDetermined, TablesArePartsOfCandidates, WaysAreDetermined};
 ghost use Rattle.routes.specs.Worked.{WorkedSquare, WorkedTwoRouters};
 ghost use Rattle.routes.specs.WorkedExternals.{WorkedExternals};
 ghost use Rattle.routes.specs.WorkedTransit.{WorkedTransit};
+ghost use Rattle.routes.specs.WorkedUncounted.{WorkedUncounted};
 
 /// A node has one distance and one set of next hops (RFC 2328, section 16.1).
 pub fn ways_are_determined()
     ensures { WaysAreDetermined }
+{}
+
+/// A forwarding address has one distance and one set of next hops (RFC 2328, section 16.4).
+pub fn forwarding_is_determined()
+    ensures { ForwardingIsDetermined }
 {}
 
 /// A prefix has at most one candidate.
@@ -62,6 +68,12 @@ pub fn worked_externals()
 /// a forwarding address in two networks, and routers that don't count (RFC 2328, sections 16.1 and 16.4).
 pub fn worked_transit()
     ensures { WorkedTransit }
+{}
+
+/// The candidates where other routers are named by links that don't count: of metric 0, by no address of the router's own, virtual, or
+/// without one back (RFC 2328, section 16.1).
+pub fn worked_uncounted()
+    ensures { WorkedUncounted }
 {}
 
 /// A graph whose links are those of a database gives, by `least_ways`, the distances and next hops of the database (RFC 2328, section 16.1).
