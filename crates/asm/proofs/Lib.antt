@@ -6,5 +6,7 @@ pub mod Codes
 pub mod Registers
 pub mod Ranges
 pub mod States
+pub mod Keeping
+pub mod Whole
 pub mod Texts
 pub mod Unique

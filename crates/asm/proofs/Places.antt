@@ -13,7 +13,7 @@ use Rattle.asm.specs.declared.labels.Place.{Place}
 use Rattle.asm.specs.declared.error.AsmFault.{AsmFault}
 use Rattle.asm.specs.declared.error.AsmError.{AsmError}
 use Rattle.asm.specs.Labels.{◌or_else◌}
-use Rattle.asm.specs.Assembling.{taken_all, Says, Refuses, MakesNone, gives_label, slots_in, place_from, Sketch, taken, line_step, blamed}
+use Rattle.asm.specs.Assembling.{taken_all, Says, Refuses, gives_label, slots_in, place_from, Sketch, taken, line_step, blamed}
 
 -- the line `n` of those that are left
 pub place_here : (n at slot : ℕ) (lines : List (Option Line)) (names : List (Bor Word)) (word : Word) (d : Option Line) (e : Bor Word) → n < length lines → length lines ≡ length names
@@ -157,9 +157,9 @@ pub refused_line : (text : List ℕ) (lines : List (Option Line)) (names : List 
 refused_line text lines names r at fault step says k where_it (inl m) f = inl (k ∙ m)
 refused_line text lines names r at fault step says k where_it (inr e) f = refuses_at text lines names r (at + 1) fault says k where_it (f e)
 
--- no object of what the lines say
+-- no instruction
 pub refused_whole : (text : List ℕ) (lines : List (Option Line)) (names : List (Bor Word)) (r : AsmError) (fault : AsmFault) (s : Sketch) → Says text lines names → r.kind ≡ fault → (r.kind ≡ faults.Memory) ⊎ (r.line ≡ 1)
-    → (fault ≡ faults.Memory) ⊎ ((fault ≡ faults.Syntax) × MakesNone s) → taken_all lines (views names) ≡ Ok s → (r.kind ≡ faults.Memory) ⊎ Refuses text r.line r.kind
+    → (fault ≡ faults.Memory) ⊎ ((fault ≡ faults.Syntax) × (s.code ≡ [])) → taken_all lines (views names) ≡ Ok s → (r.kind ≡ faults.Memory) ⊎ Refuses text r.line r.kind
 refused_whole text lines names r fault s says k where_it (inl m) e = inl (k ∙ m)
 refused_whole text lines names r fault s says k (inl m) (inr n) e = inl m
 refused_whole text lines names r fault s says k (inr l) (inr n) e =

@@ -135,8 +135,12 @@ one_object one code text a b p q =
     let same : p.made ≡ q.made = ap (sketch_in p.made) (sym (same_verdict one text p.found q.found p.names q.names p.made p.says q.says p.taken) ∙ q.taken) in
     made_one code q.made a b (subst (λ (s : Sketch). IsMade s a) same p.is_made) q.is_made
 
+-- where there is no instruction
+none_made : (s : Sketch) (o : ObjectParts) → s.code ≡ [] → IsMade s o → ⊥
+none_made s o e m = omega (arith, m.code.code_is.some, ap length e)
+
 pub none_spelled : OneReading → (text : List ℕ) (line : ℕ) (fault : AsmFault) (o : ObjectParts) → Refuses text line fault → TextSpells text o → ⊥
 none_spelled one text line fault o r p =
     let here = same_verdict one text p.found r.found p.names r.names p.made p.says r.says p.taken in
     ⊎_elim (λ e. false≢true (ap is_ok (sym e ∙ here)))
-    (λ x. x.2.2 o (subst (λ (s : Sketch). IsMade s o) (ap (sketch_in p.made) (sym here ∙ x.2.1)) p.is_made)) r.blames
+    (λ x. none_made x.2.0 o x.2.2 (subst (λ (s : Sketch). IsMade s o) (ap (sketch_in p.made) (sym here ∙ x.2.1)) p.is_made)) r.blames

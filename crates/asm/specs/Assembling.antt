@@ -209,10 +209,6 @@ pub record IsMade (s : Sketch) (o : ObjectParts) : Type 0 where
 abbrev pub AreUnlawful : List StatementParts → Type 0
 AreUnlawful statements = (least slots : ℕ) → AreStatements least slots statements → ⊥
 
--- No object is what the lines say.
-abbrev pub MakesNone : Sketch → Type 0
-MakesNone s = (o : ObjectParts) → IsMade s o → ⊥
-
 -- ---- texts
 
 -- The lines of the text say these things, with these names beside them.
@@ -229,9 +225,9 @@ pub record TextSpells (text : List ℕ) (o : ObjectParts) : Type 0 where
   pub taken : taken_all found (views names) ≡ Ok made
   pub is_made : IsMade made o
 
--- The first bad line, and what is wrong with it. Where no line is bad and there is no object of what they say, as where no instruction stands, that is `Syntax` at line 1.
+-- The first bad line, and what is wrong with it. Where no line is bad and none is an instruction, that is `Syntax` at line 1.
 abbrev pub Blames : Verdict → ℕ → AsmFault → Type 0
-Blames verdict line fault = (verdict ≡ Err (line, fault)) ⊎ ((line ≡ 1) × (fault ≡ faults.Syntax) × ((made : Sketch) × (verdict ≡ Ok made) × MakesNone made))
+Blames verdict line fault = (verdict ≡ Err (line, fault)) ⊎ ((line ≡ 1) × (fault ≡ faults.Syntax) × ((made : Sketch) × (verdict ≡ Ok made) × (made.code ≡ [])))
 
 pub record Refuses (text : List ℕ) (line : ℕ) (fault : AsmFault) : Type 0 where
   pub found : List (Option Line)

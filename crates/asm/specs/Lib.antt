@@ -5,5 +5,6 @@ pub mod Shapes
 pub mod Rules
 pub mod Assembling
 pub mod Labels
+pub mod Lawful
 pub mod Views
 pub mod Listing

@@ -1,7 +1,8 @@
 //! From a text to the object that it spells.
-ghost use Rattle.std.specs.Prelude.{◌≡◌, ◌⊎◌, ℕ, Option, Some, None, Ok, Err, List, IfSome, MatchResult, length, map, option_map};
+ghost use Rattle.std.specs.Prelude.{◌≡◌, ◌⊎◌, ℕ, Option, Some, None, Ok, Err, List, [], IfSome, MatchResult, length, map, option_map};
 ghost use Rattle.asm_lines.specs.Forms.{Word};
-ghost use Rattle.asm.specs.Assembling.{hook_step, rank_step, instruction_step, state_step, with_line_step, bytes_line_step, body_step, line_step, has_slot, order_fault, slot_at, all_of, nothing, Takes, IsMade, MakesNone, TextSpells, Refuses};
+ghost use Rattle.asm.specs.Assembling.{hook_step, rank_step, instruction_step, state_step, with_line_step, bytes_line_step, body_step, line_step, has_slot, order_fault, slot_at, all_of, nothing, Takes, IsMade, TextSpells, Refuses};
+ghost use Rattle.asm.specs.Lawful.{AreAscending, IsLawful};
 ghost use Rattle.asm.specs.Views.{parts_of, sketch};
 ghost use Rattle.asm.specs.declared.error.AsmFault.{AsmFault};
 
@@ -42,16 +43,17 @@ fn has_slot(statements: &[OpenStatement], slot: u32) -> bool
 
 /// What is wrong with a further statement at this slot, if anything is.
 fn order_fault(before: &[OpenStatement], last: Option<OpenStatement>, slot: u32) -> Option<AsmFault>
+    requires { AreAscending (map parts_of before.now) (option_map parts_of last) }
     ensures { result ≡ order_fault (map parts_of before.now) (option_map parts_of last) slot }
 {
     let last = last?;
+    if slot > last.slot {
+        return None;
+    }
     if slot == last.slot || has_slot(before, slot) {
         return Some(AsmFault::Twice);
     }
-    if slot < last.slot {
-        return Some(AsmFault::Range);
-    }
-    None
+    Some(AsmFault::Range)
 }
 
 /// The slot that a label names.
@@ -130,6 +132,7 @@ impl Draft {
         place: Option<usize>,
         rest: &[Option<Line>],
     ) -> Result<(), AsmFault>
+        requires { AreAscending (sketch self.old).before (sketch self.old).last }
         ensures { Takes result (sketch self.new) (state_step (sketch self.old) slot constant terms place rest.now) }
     {
         let slot = slot_of(slot, place)?;
@@ -180,6 +183,7 @@ impl Draft {
         place: Option<Place>,
         rest: &[Option<Line>],
     ) -> Result<(), AsmFault>
+        requires { AreAscending (sketch self.old).before (sketch self.old).last }
         ensures { Takes result (sketch self.new) (line_step (sketch self.old) line at place rest.now) }
     {
         match line {
@@ -203,6 +207,7 @@ impl Draft {
         place: Option<Place>,
         rest: &[Option<Line>],
     ) -> Result<(), AsmFault>
+        requires { AreAscending (sketch self.old).before (sketch self.old).last }
         ensures { Takes result (sketch self.new) (body_step (sketch self.old) line at place rest.now) }
     {
         match line {
@@ -226,9 +231,10 @@ impl Draft {
         }
     }
 
-    /// The object that the lines spell.
+    /// The object that the lines spell, where there is an instruction among them.
     fn finish(self, alloc: Global) -> Result<Object, AsmFault>
-        ensures { MatchResult result (IsMade (sketch self)) (λ fault. (fault ≡ AsmFault.Memory) ⊎ ((fault ≡ AsmFault.Syntax) × MakesNone (sketch self))) }
+        requires { IsLawful [] (sketch self) }
+        ensures { MatchResult result (IsMade (sketch self)) (λ fault. (fault ≡ AsmFault.Memory) ⊎ ((fault ≡ AsmFault.Syntax) × ((sketch self).code ≡ []))) }
     {
         let Draft {
             hook,
@@ -276,7 +282,7 @@ fn at_line(line: usize, kind: AsmFault) -> AsmError
 
 /// The object that a text of assembly spells.
 ///
-/// The refusal names the first bad line. A text without an instruction, and without another bad line, is `Syntax` at line 1.
+/// The refusal names the first bad line. A text without a bad line and without an instruction is `Syntax` at line 1.
 pub fn assemble(alloc: Global, text: &str) -> Result<Object, AsmError>
     ensures { MatchResult result (TextSpells text.now) (λ error. (error.kind ≡ AsmFault.Memory) ⊎ Refuses text.now error.line error.kind) }
 {

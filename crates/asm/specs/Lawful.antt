@@ -1,0 +1,48 @@
+-- What the lines so far keep, so that an object can be made of them once there is an instruction.
+use Rattle.std.specs.Prelude.{◌⊎◌, ◌≡◌, ℕ, ◌≤◌, ◌<◌, ◌^◌, true, List, [], length, Option, Some, None}
+use Rattle.std.specs.List.{All}
+use Rattle.isa.specs.declared.hook.Hook.{Hook}
+use Rattle.isa.specs.declared.code.Slot.{Slot}
+use Rattle.object.specs.declared.kind.Kind.{Kind}
+use Rattle.object.specs.Numbers.{Term}
+use Rattle.object.specs.Statements.{StatementParts, IsKind, IsRank, IsNumberAt}
+use Rattle.object.specs.Objects.{AreStatements}
+use Rattle.object.specs.Sets.{IsStackBytes}
+use Rattle.asm_lines.specs.declared.line.Line.{Line}
+use Rattle.asm.specs.Rules.{is_stated_number}
+use Rattle.asm.specs.Assembling.{Sketch}
+
+-- The hook comes before the rank, and the rank before the code.
+abbrev pub IsFront : Option Hook → Option ℕ → List Slot → Type 0
+IsFront hook None code = code ≡ []
+IsFront None (Some rank) code = ⊥
+IsFront (Some hook) (Some rank) code = rank < 2 ^ 32
+
+-- A term's register is stated as a number, or a line of those that follow says so.
+abbrev pub IsTermSoon : List Kind → List (Option Line) → Option Term → Type 0
+IsTermSoon registers rest None = Unit {0}
+IsTermSoon registers rest (Some term) = IsNumberAt registers term.register ⊎ (is_stated_number rest term.register ≡ true)
+
+-- a statement which these lines follow
+pub record IsOpen (rest : List (Option Line)) (s : StatementParts) : Type 0 where
+  pub rank : IsRank s.rank
+  pub first : IsTermSoon s.kinds rest s.rank.first
+  pub second : IsTermSoon s.kinds rest s.rank.second
+  pub count : length s.kinds ≡ 10
+  pub kinds : All IsKind s.kinds
+  pub stack : IsStackBytes s.stack
+
+-- Slots ascend and are below the code's end, and the statements before the last one are whole.
+abbrev pub AreInOrder : ℕ → List (Option Line) → List StatementParts → Option StatementParts → Type 0
+AreInOrder slots rest before None = before ≡ []
+AreInOrder slots rest before (Some last) = AreStatements 0 last.slot before × (last.slot < slots) × IsOpen rest last
+
+pub record IsLawful (rest : List (Option Line)) (s : Sketch) : Type 0 where
+  pub front : IsFront s.hook s.rank s.code
+  pub most : length s.code ≤ 4096
+  pub statements : AreInOrder (length s.code) rest s.before s.last
+
+-- Slots ascend up to the last statement's.
+abbrev pub AreAscending : List StatementParts → Option StatementParts → Type 0
+AreAscending before None = Unit {0}
+AreAscending before (Some last) = AreStatements 0 last.slot before
