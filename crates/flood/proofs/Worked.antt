@@ -1,19 +1,19 @@
 -- Worked parts of events.
-use Rattle.std.proofs.Common.{◌≡◌, cond, ◌&&◌, None, Some, refl, ap, ◌∙◌}
+use Rattle.std.proofs.Common.{◌≡◌, cond, ◌&&◌, None, Some, refl, ap, ◌∙◌, []}
 use Rattle.std.specs.Prelude.{pos}
 use Rattle.std.specs.Ordering.{int_cmp, is_eq}
 use Rattle.flood.specs.declared.model.CoreError.TheVariants as error
-use Rattle.flood.specs.Commands.{after_withdraw, end_want, is_for}
+use Rattle.flood.specs.Commands.{after_install, after_withdraw, end_want, is_for}
 use Rattle.flood.specs.Endings.{finished}
 use Rattle.flood.specs.Packing.{outs_of}
 use Rattle.flood.proofs.Greetings.{no_outs_from}
-use Rattle.flood.proofs.WorkedEnds.{begins, ends}
+use Rattle.flood.proofs.WorkedEnds.{begins, ended, ends}
 use Rattle.flood.proofs.WorkedUpdates.{start}
 use Rattle.flood.specs.Originations.{external_key, flush, has_max_sequence, may_originate, originate, wait}
 use Rattle.flood.specs.Refusals.{is_taken, of_event}
-use Rattle.flood.specs.Routers.{Occurrence}
+use Rattle.flood.specs.Routers.{Occurrence, Router}
 use Rattle.flood.specs.Worked.{WorkedEvents, destination, ten}
-use Rattle.flood.specs.Progress.{on_router}
+use Rattle.flood.specs.Progress.{Progress, on_router}
 
 pub worked : WorkedEvents
 worked = record {
@@ -29,6 +29,16 @@ worked = record {
       event.sent
       ∙ ap (λ q. outs_of old.id old.area.links q.sends) (ap (finished old moment) own ∙ ends old moment (start old) refl rest.nobody)
       ∙ no_outs_from old.id 1 old.area.links;
+  vetoed = λ answers p. refl;
+  vetoed_event = λ old new moment answers outs rest event.
+      let p : Progress = record { router = record old { answers = answers }; sends = [] } in
+      let own : event.after ≡ p = event.own ∙ ap (after_install answers) (begins moment old rest.nothing_ages) in
+      let end : finished old moment event.after ≡ ended moment p = ap (finished old moment) own ∙ ends old moment p refl rest.nobody in
+      let is : new ≡ (ended moment p).router = event.router ∙ ap (λ (q : Progress). q.router) end in (
+        event.sent ∙ ap (λ (q : Progress). outs_of old.id old.area.links q.sends) end ∙ no_outs_from old.id 1 old.area.links,
+        ap (λ (r : Router). r.answers) is,
+        ap (λ (r : Router). r.area.links) is,
+      );
   withheld = λ moment tag e p. refl;
   announced = λ moment tag e p. refl;
   too_early = refl;

@@ -15,11 +15,13 @@ pub mod PackingLaws
 pub mod Worlds
 pub mod Worked
 pub mod WorkedUpdates
+pub mod WorkedAged
 pub mod WorkedOwn
 pub mod WorkedFlush
 pub mod WorkedTicks
 pub mod WorkedAdjacency
 pub mod WorkedExchange
+pub mod WorkedRun
 pub mod NeighborLaws
 pub mod Laws
 pub mod Numbers

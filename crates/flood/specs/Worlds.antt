@@ -12,7 +12,7 @@ use Rattle.packet.specs.declared.model.Body.TheVariants as body
 use Rattle.packet.specs.declared.model.Packet.{Packet}
 use Rattle.packet.specs.Text.{PacketText}
 use Rattle.adjacency.specs.Neighbors.{Neighbor}
-use Rattle.adjacency.specs.Retransmissions.{acknowledged, is_entry}
+use Rattle.adjacency.specs.Retransmissions.{acknowledged}
 use Rattle.received.specs.Cases.{Case}
 use Rattle.received.specs.Links.{Link, neighbor_at}
 use Rattle.received.specs.Updates.{goes_on}
@@ -81,12 +81,14 @@ abbrev pub with_entry : Option Listed → List Listed → List Listed
 with_entry None ls = ls
 with_entry (Some l) ls = l ∷ ls
 
+-- the entry of this key that is there before and is gone after
+abbrev pub gone : Key → Neighbor → Neighbor → Option Listed
+gone key before after = if finite.contains_key after.retransmissions key then None else finite.get before.retransmissions key
+
 -- by the headers of an Acknowledgment, one after the other
 abbrev pub taken_by_headers : ℕ → List Header → Neighbor → List Listed
 taken_by_headers moment [] n = []
-taken_by_headers moment (h ∷ hs) n =
-    with_entry (if is_entry moment h (finite.get n.retransmissions (key_of h)) then finite.get n.retransmissions (key_of h) else None)
-    (taken_by_headers moment hs (acknowledged moment n h))
+taken_by_headers moment (h ∷ hs) n = with_entry (gone (key_of h) n (acknowledged moment n h)) (taken_by_headers moment hs (acknowledged moment n h))
 
 abbrev pub taken_from : ℕ → List Header → Option Neighbor → List Listed
 taken_from moment headers None = []

@@ -4,9 +4,11 @@ ghost use Rattle.flood.specs.NeighborLaws.{FullNeighborsRequestNothing, ListsAre
 ghost use Rattle.flood.specs.PackingLaws.{OutsAreOrderedAndPacked};
 ghost use Rattle.flood.specs.Worked.{WorkedEvents};
 ghost use Rattle.flood.specs.WorkedAdjacency.{AnAdjacencyBegins};
+ghost use Rattle.flood.specs.WorkedAged.{AnAgedLsaComes};
 ghost use Rattle.flood.specs.WorkedExchange.{AnExchangeAsSlave};
 ghost use Rattle.flood.specs.WorkedFlush.{TheNumbersEnd};
 ghost use Rattle.flood.specs.WorkedOwn.{ALastRequestIsMet};
+ghost use Rattle.flood.specs.WorkedRun.{AnAdjacencyIsNegotiated};
 ghost use Rattle.flood.specs.WorkedTicks.{ATickOriginates};
 ghost use Rattle.flood.specs.WorkedUpdates.{ANewLsaComesTwice};
 ghost use Rattle.flood.specs.Worlds.{AcknowledgedWasReceived};
@@ -58,6 +60,12 @@ pub fn a_new_lsa_comes_twice()
     ensures { ANewLsaComesTwice }
 {}
 
+/// Worked events: an LSA at MaxAge, without a copy here, comes from a Full neighbor. Where nobody is in Exchange or Loading it is
+/// acknowledged at once and not installed; where another neighbor is in Loading it is installed, sent there, and acknowledged at a Tick.
+pub fn an_aged_lsa_comes()
+    ensures { AnAgedLsaComes }
+{}
+
 /// Worked events of a router with one interface: an Update meets the last request of a neighbor in Loading, which becomes Full. The
 /// router-LSA goes out at once where five seconds have passed since the last one, else it waits for a Tick.
 pub fn a_last_request_is_met()
@@ -86,4 +94,10 @@ pub fn an_adjacency_begins()
 /// headers, and the master's last one, with a header that is wanted, leads to Loading, a reply and a Request.
 pub fn an_exchange_as_slave()
     ensures { AnExchangeAsSlave }
+{}
+
+/// A worked run of a router with one interface: a Hello of a new neighbor with a larger Router ID begins an adjacency, and in the next
+/// event that neighbor's opening Description makes this router the slave of an exchange.
+pub fn an_adjacency_is_negotiated()
+    ensures { AnAdjacencyIsNegotiated }
 {}
