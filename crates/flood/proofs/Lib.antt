@@ -12,12 +12,14 @@ pub mod Worked
 pub mod WorkedLinks
 pub mod WorkedEnds
 pub mod WorkedUpdates
-pub mod WorkedAges
+pub mod WorkedAnswers
+pub mod WorkedAged
 pub mod WorkedOwn
 pub mod WorkedFlush
 pub mod WorkedTicks
 pub mod WorkedAdjacency
 pub mod WorkedExchange
+pub mod WorkedRun
 pub mod Links
 pub mod Distinct
 pub mod Whole

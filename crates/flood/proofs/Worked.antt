@@ -29,6 +29,7 @@ worked = record {
       event.sent
       ∙ ap (λ q. outs_of old.id old.area.links q.sends) (ap (finished old moment) own ∙ ends old moment (start old) refl rest.nobody)
       ∙ no_outs_from old.id 1 old.area.links;
+  vetoed = λ answers p. refl;
   withheld = λ moment tag e p. refl;
   announced = λ moment tag e p. refl;
   too_early = refl;

@@ -1,5 +1,5 @@
 -- An adjacency begins, is repeated and is begun again.
-use Rattle.std.proofs.Common.{◌≡◌, ℕ, ◌%◌, ◌^◌, ◌==◌, Bool, true, false, cond, not, ◌&&◌, ◌||◌, List, [], ◌∷◌, None, Some, refl, ap, ◌∙◌}
+use Rattle.std.proofs.Common.{◌≡◌, ℕ, ◌%◌, ◌^◌, ◌==◌, true, false, cond, not, ◌&&◌, ◌||◌, List, [], ◌∷◌, None, Some, refl, ap, ◌∙◌}
 use Rattle.std.specs.FinSet as set
 use Rattle.packet.specs.declared.model.Body.TheVariants as body
 use Rattle.packet.specs.declared.model.Description.{Description}
@@ -30,25 +30,31 @@ use Rattle.flood.proofs.WorkedUpdates.{itself, start}
 
 -- ---- a Hello that names this router
 
-abbrev heard : Router → Link → ℕ → ℕ → Progress
+abbrev pub heard : Router → Link → ℕ → ℕ → Progress
 heard r link moment from =
     record (start (beside r link (restart moment (fresh from None moment)).neighbor)) { sends = describes (opening (moment % 2 ^ 32)) }
 
-opens_it : (r new : Router) (link : Link) (moment from : ℕ) (bytes : List ℕ) (h : Hello) (outs : List Out)
-    → NothingAges r moment → IsNamingHello r link bytes from h → Happens (lonely r link) moment (Occurrence.Packet 1 bytes) outs new
-    → (shown_at new 1 ≡ Some (from, ExStart)) × (outs ≡ outs_of r.id (lonely r link).area.links (describes (opening (moment % 2 ^ 32))))
-opens_it r new link moment from bytes h outs nothing hello event =
+pub hello_ends : (r new : Router) (link : Link) (moment from : ℕ) (bytes : List ℕ) (h : Hello) (outs : List Out)
+    → NothingAges r moment → IsNamingHello r link bytes from h → (event : Happens (lonely r link) moment (Occurrence.Packet 1 bytes) outs new)
+    → finished (lonely r link) moment event.after ≡ ended moment (heard r link moment from)
+hello_ends r new link moment from bytes h outs nothing hello event =
     let old : Router = lonely r link in
     let packet : Packet = record { router = from; body = body.Hello h } in
     let p : Progress = heard r link moment from in
-    let hears : Bool → Progress = λ named_here. on_area (λ o. hear moment 1 (adjacencies.after_hello named moment from named_here None) o) (start old) in
     let own : event.after ≡ p =
     event.own.2
     ∙ ap (λ q. after_packet named moment 1 q (begun moment old)) (one_packet bytes event.own.0 packet event.own.1 hello.is_text)
     ∙ ap (after_packet named moment 1 packet) (begins moment old nothing)
     ∙ (λ i. cond (hello.is_other i && (true || false)) (on_area (after_hello named r.id moment 1 from h) (start old)) (start old))
     ∙ (λ i. on_area (λ o. cond (hello.is_accepted i) (hear moment 1 (adjacencies.after_hello named moment from (hello.is_naming i) None) o) o) (start old)) in
-    let end : finished old moment event.after ≡ ended moment p = ap (finished old moment) own ∙ ends_by old moment p refl refl in (
+    ap (finished old moment) own ∙ ends_by old moment p refl refl
+
+pub opens_it : (r new : Router) (link : Link) (moment from : ℕ) (bytes : List ℕ) (h : Hello) (outs : List Out)
+    → NothingAges r moment → IsNamingHello r link bytes from h → Happens (lonely r link) moment (Occurrence.Packet 1 bytes) outs new
+    → (shown_at new 1 ≡ Some (from, ExStart)) × (outs ≡ outs_of r.id (lonely r link).area.links (describes (opening (moment % 2 ^ 32))))
+opens_it r new link moment from bytes h outs nothing hello event =
+    let old : Router = lonely r link in
+    let end : finished old moment event.after ≡ ended moment (heard r link moment from) = hello_ends r new link moment from bytes h outs nothing hello event in (
       ap (λ s. shown_at s 1) (event.router ∙ ap (λ (q : Progress). q.router) end),
       event.sent ∙ ap (λ (q : Progress). outs_of r.id old.area.links q.sends) end,
     )

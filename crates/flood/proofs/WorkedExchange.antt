@@ -79,7 +79,7 @@ ending moment p s = at_moment moment (on_area (λ o. remove_aged moment (one_nei
 abbrev as_slave : ℕ → ℕ → Router → Neighbor → Neighbor
 as_slave moment sequence r n = record (negotiated false sequence moment r.area.database (opened n)) { received = Some (mark_of (opening sequence)); sequence = sequence }
 
-negotiates_it : (r new : Router) (link : Link) (n : Neighbor) (moment sequence : ℕ) (bytes : List ℕ) (outs : List Out)
+pub negotiates_it : (r new : Router) (link : Link) (n : Neighbor) (moment sequence : ℕ) (bytes : List ℕ) (outs : List Out)
     → NothingAges r moment → IsJudged r (opened n) bytes (opening sequence) Verdict.NegotiatedAsSlave → requests_nothing n ≡ true
     → Happens (beside r link (opened n)) moment (Occurrence.Packet 1 bytes) outs new
     → (shown_at new 1 ≡ Some (n.router, Exchange))

@@ -180,10 +180,10 @@ first_seen r moment number lsa =
     acknowledged_seen number lsa.header (stepped (flood_to moment (Some number) lsa) r.area.links)
     ∙ stepped_seen (flood_to moment (Some number) lsa) (flooding_keeps moment (Some number) lsa) r.area.links
 
-abbrev sender_after : Lsa → Link → Neighbor → Link
+abbrev pub sender_after : Lsa → Link → Neighbor → Link
 sender_after lsa link n = acknowledge_later lsa.header (record link { neighbor = Some (released (lsa_key lsa) n) })
 
-sender_there : (r : Router) (moment number : ℕ) (lsa : Lsa) (link : Link) (n : Neighbor) → HasFullNeighbor r number link n
+pub sender_there : (r : Router) (moment number : ℕ) (lsa : Lsa) (link : Link) (n : Neighbor) → HasFullNeighbor r number link n
     → link_at number (first r moment number lsa).area.links ≡ Some (sender_after lsa link n)
 sender_there r moment number lsa link n from =
     let f = flood_to moment (Some number) lsa in
@@ -196,7 +196,7 @@ sender_there r moment number lsa link n from =
     link_changed (λ (e : ℕ × Link). cond (e.0 == number) (acknowledge_later lsa.header e.1) e.1) number (stepped f r.area.links) stepped_link one
     ∙ (λ i. Some (cond (itself number i) (acknowledge_later lsa.header (record link { neighbor = two i })) (record link { neighbor = two i })))
 
-abbrev brought : Lsa → ℕ → Option ℕ → DatabaseCopy
+abbrev pub brought : Lsa → ℕ → Option ℕ → DatabaseCopy
 brought lsa moment sent = record { lsa = lsa; stored = moment; installed = Some moment; sent = sent }
 
 pub stays_young : (moment : ℕ) (w : Bool) (lsa : Lsa) (c : DatabaseCopy) → c.lsa ≡ lsa → c.stored ≡ moment → lsa.header.age < 3600 → stays_as moment w (Some c) ≡ true

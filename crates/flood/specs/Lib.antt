@@ -17,12 +17,14 @@ pub mod Taken
 pub mod Worlds
 pub mod Worked
 pub mod WorkedUpdates
-pub mod WorkedAges
+pub mod WorkedAnswers
+pub mod WorkedAged
 pub mod WorkedOwn
 pub mod WorkedFlush
 pub mod WorkedTicks
 pub mod WorkedAdjacency
 pub mod WorkedExchange
+pub mod WorkedRun
 pub mod NeighborLaws
 pub mod Laws
 pub mod Numbers

@@ -5,11 +5,12 @@ use Rattle.words.specs.Prefixes.{Network}
 use Rattle.words.specs.declared.key.Key.{Key}
 use Rattle.words.specs.declared.route.External.{External}
 use Rattle.words.specs.declared.route.ExternalType.TheVariants.{Type2}
+use Rattle.words.specs.declared.route.Route.{Route}
 use Rattle.lsa.specs.declared.body.Body.{Body}
 use Rattle.lsdb.specs.Copies.{DatabaseCopy}
 use Rattle.lsdb.specs.Headers.{Lsa, lsa_aged}
 use Rattle.flood.specs.declared.model.CoreError.TheVariants as error
-use Rattle.flood.specs.Commands.{after_redistribute, after_withdraw, announce_as, end_want}
+use Rattle.flood.specs.Commands.{after_install, after_redistribute, after_withdraw, announce_as, end_want}
 use Rattle.flood.specs.HelloPath.{is_clock_back}
 use Rattle.flood.specs.Originations.{external_key, flush, interval_is_over, is_stale, originate_body}
 use Rattle.flood.specs.Packing.{sent_lsa}
@@ -40,6 +41,8 @@ pub record WorkedEvents : Type 0 where
   -- the whole event of such a withdrawal, where nobody is in Exchange or Loading and no copy comes to MaxAge, sends nothing
   pub unknown_event : (old new : Router) (moment : ℕ) (prefix : Network) (outs : List Out) → IsAtRest old moment
       → finite.get old.announced (external_key old.id prefix) ≡ None → Happens old moment (Occurrence.Withdraw prefix) outs new → outs ≡ []
+  -- the answers for the routes that were offered are kept, and nothing else is changed or sent
+  pub vetoed : (answers : List (Route × ℕ)) (p : Progress) → after_install answers p ≡ record p { router = record p.router { answers = answers } }
   -- a metric of 16,777,215 withholds the destination, 16,777,214 is announced
   pub withheld : (moment tag : ℕ) (e : External) (p : Progress) → after_redistribute moment e tag 16777215 p ≡ end_want moment (external_key p.router.id e.prefix) p
   pub announced : (moment tag : ℕ) (e : External) (p : Progress)

@@ -5,10 +5,12 @@ ghost use Rattle.flood.specs.PackingLaws.{OutsAreOrderedAndPacked};
 ghost use Rattle.flood.specs.Taken.{WhatIsTakenOffWasTold};
 ghost use Rattle.flood.specs.Worked.{WorkedEvents};
 ghost use Rattle.flood.specs.WorkedAdjacency.{AnAdjacencyBegins};
-ghost use Rattle.flood.specs.WorkedAges.{AnLsaAtMaxAgeIsFlooded, AnswersChangeNoDatabase, ThereIsNothingToFlush};
+ghost use Rattle.flood.specs.WorkedAged.{AnAgedLsaComes};
+ghost use Rattle.flood.specs.WorkedAnswers.{AnswersChangeNoDatabase};
 ghost use Rattle.flood.specs.WorkedExchange.{AnExchangeAsSlave};
 ghost use Rattle.flood.specs.WorkedFlush.{TheNumbersEnd};
 ghost use Rattle.flood.specs.WorkedOwn.{ALastRequestIsMet};
+ghost use Rattle.flood.specs.WorkedRun.{AnAdjacencyIsNegotiated};
 ghost use Rattle.flood.specs.WorkedTicks.{ATickOriginates};
 ghost use Rattle.flood.specs.WorkedUpdates.{ANewLsaComesTwice};
 ghost use Rattle.flood.specs.Worlds.{AcknowledgedWasReceived};
@@ -66,16 +68,10 @@ pub fn a_new_lsa_comes_twice()
     ensures { ANewLsaComesTwice }
 {}
 
-/// A worked event: an LSA at MaxAge comes from a Full neighbor, there is no copy, and nobody is in Exchange or Loading. It is acknowledged
-/// at once, and nothing is installed (RFC 2328, section 13, step 4).
-pub fn there_is_nothing_to_flush()
-    ensures { ThereIsNothingToFlush }
-{}
-
-/// The same LSA while another neighbor is in Loading: it is installed, goes on that neighbor's retransmission list, and its acknowledgment
-/// waits for a Tick.
-pub fn an_lsa_at_max_age_is_flooded()
-    ensures { AnLsaAtMaxAgeIsFlooded }
+/// Worked events: an LSA at MaxAge, without a copy here, comes from a Full neighbor. Where nobody is in Exchange or Loading it is
+/// acknowledged at once and not installed; where another neighbor is in Loading it is installed, sent there, and acknowledged at a Tick.
+pub fn an_aged_lsa_comes()
+    ensures { AnAgedLsaComes }
 {}
 
 /// The answers of the programs, a veto among them, change the table of routes alone: nothing is sent, and the neighbors and the copies that
@@ -112,4 +108,10 @@ pub fn an_adjacency_begins()
 /// headers, and the master's last one, with a header that is wanted, leads to Loading, a reply and a Request.
 pub fn an_exchange_as_slave()
     ensures { AnExchangeAsSlave }
+{}
+
+/// A worked run of a router with one interface: a Hello of a new neighbor with a larger Router ID begins an adjacency, and in the next
+/// event that neighbor's opening Description makes this router the slave of an exchange.
+pub fn an_adjacency_is_negotiated()
+    ensures { AnAdjacencyIsNegotiated }
 {}

@@ -1,4 +1,4 @@
-use Rattle.flood.proofs.WorkedAges.{answers_change_no_database}
+use Rattle.flood.proofs.WorkedAnswers.{answers_change_no_database}
 use Rattle.flood.proofs.laws.answers_change_no_database.Goals as goal
 
 pub returns : goal.returns
