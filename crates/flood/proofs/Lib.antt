@@ -20,6 +20,7 @@ pub mod WorkedTicks
 pub mod WorkedAdjacency
 pub mod WorkedExchange
 pub mod WorkedRun
+pub mod WorkedHello
 pub mod Links
 pub mod Distinct
 pub mod Whole

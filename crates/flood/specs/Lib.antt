@@ -25,6 +25,7 @@ pub mod WorkedTicks
 pub mod WorkedAdjacency
 pub mod WorkedExchange
 pub mod WorkedRun
+pub mod WorkedHello
 pub mod NeighborLaws
 pub mod Laws
 pub mod Numbers

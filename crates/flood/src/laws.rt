@@ -9,6 +9,7 @@ ghost use Rattle.flood.specs.WorkedAged.{AnAgedLsaComes};
 ghost use Rattle.flood.specs.WorkedAnswers.{AnswersChangeNoDatabase};
 ghost use Rattle.flood.specs.WorkedExchange.{AnExchangeAsSlave};
 ghost use Rattle.flood.specs.WorkedFlush.{TheNumbersEnd};
+ghost use Rattle.flood.specs.WorkedHello.{ANeighborIsHeard};
 ghost use Rattle.flood.specs.WorkedOwn.{ALastRequestIsMet};
 ghost use Rattle.flood.specs.WorkedRun.{AnAdjacencyIsNegotiated};
 ghost use Rattle.flood.specs.WorkedTicks.{ATickOriginates};
@@ -114,4 +115,10 @@ pub fn an_exchange_as_slave()
 /// event that neighbor's opening Description makes this router the slave of an exchange.
 pub fn an_adjacency_is_negotiated()
     ensures { AnAdjacencyIsNegotiated }
+{}
+
+/// A worked event of a router with any number of interfaces, none of whose neighbors is in Exchange or Loading: an accepted Hello of a new
+/// neighbor that names this router leads to ExStart, and the opening Description is all that is sent.
+pub fn a_neighbor_is_heard()
+    ensures { ANeighborIsHeard }
 {}
