@@ -114,15 +114,15 @@ owed_where_implied : (moment : ℕ) (copy : Option DatabaseCopy) (sender : Optio
 owed_where_implied moment copy sender synchronizing lsa is =
     second (same_as_copy moment lsa.header copy) (was_owed moment sender lsa)
     (implied
-        (is_max_age lsa.header.age && is_none copy && not synchronizing)
-        (is_some copy && newer_than_copy moment lsa.header copy && installed_just_now moment copy)
-        (newer_than_copy moment lsa.header copy)
-        (was_requested sender lsa)
-        (same_as_copy moment lsa.header copy && was_owed moment sender lsa)
-        (same_as_copy moment lsa.header copy)
-        (is_wrapping moment copy)
-        (sent_just_now moment copy)
-        is)
+    (is_max_age lsa.header.age && is_none copy && not synchronizing)
+    (is_some copy && newer_than_copy moment lsa.header copy && installed_just_now moment copy)
+    (newer_than_copy moment lsa.header copy)
+    (was_requested sender lsa)
+    (same_as_copy moment lsa.header copy && was_owed moment sender lsa)
+    (same_as_copy moment lsa.header copy)
+    (is_wrapping moment copy)
+    (sent_just_now moment copy)
+    is)
 
 named_in_case : (c : Case) (moment number : ℕ) (lsa : Lsa) (p : Progress) → case_at moment number lsa p.router.area ≡ c
     → (name : Name) → taken_in_case c moment number lsa p ≡ Some name → lsa_name lsa ≡ name
