@@ -3,7 +3,23 @@ use Rattle.std.specs.Prelude.{◌≡◌, ℕ, ◌⊎◌, List, Bool, true, false
 use Rattle.std.specs.Io.KnownBytes.{Appends}
 use Rattle.routerd.specs.declared.fault.Fault.{Fault}
 use Rattle.routerd.specs.declared.report.Report.{Report}
+use Rattle.routerd.specs.declared.raw.Finished.{Finished}
 use Rattle.routerd.specs.Statuses.{status_of}
+use Rattle.routerd.specs.RawRuns.{IsRawReport}
+use Rattle.routerd.specs.Runs.{IsRun}
+use Rattle.routerd.specs.Assembly.{IsAssembled, IsListing}
+
+-- One of the commands tells this, of some file.
+abbrev pub IsMade : Report → Type 0
+IsMade report = ((finished : List Finished) × (sums : List ℕ) × IsRawReport finished sums report)
+    ⊎ ((bytes : List ℕ) × (context : List ℕ) × (packet : List ℕ) × IsRun bytes context packet report)
+    ⊎ ((text : List ℕ) × IsAssembled text report)
+    ⊎ ((bytes : List ℕ) × IsListing bytes report)
+
+-- what a command made, if it made something
+abbrev pub IsOutcome : Result Report Fault → Type 0
+IsOutcome (Ok report) = IsMade report
+IsOutcome (Err fault) = Unit {0}
 
 -- a stuck run has status 1
 abbrev pub status_of_stuck : Bool → ℕ

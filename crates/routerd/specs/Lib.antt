@@ -1,5 +1,6 @@
 pub mod Assembly
 pub mod Endings
+pub mod RawRuns
 pub mod Runs
 pub mod Statuses
 pub mod Words

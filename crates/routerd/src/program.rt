@@ -3,7 +3,7 @@
 ghost use Rattle.std.specs.Prelude.{◌≡◌, ◌≤◌, Result};
 ghost use Rattle.routerd.specs.declared.fault.Fault.{Fault};
 ghost use Rattle.routerd.specs.declared.report.Report.{Report};
-ghost use Rattle.routerd.specs.Endings.{Ends, Prints, Tells};
+ghost use Rattle.routerd.specs.Endings.{Ends, IsOutcome, Prints, Tells};
 
 use crate::command::{self, Request};
 use crate::fault::{DONE, Fault, REFUSED};
@@ -17,7 +17,9 @@ use std::thread::Threads;
 fn answer<'a, R: Files + AllocGlobal + Threads + Sync>(
     rt: &R,
     words: &'a [&'a str],
-) -> Result<Report, Fault<'a>> {
+) -> Result<Report, Fault<'a>>
+    ensures { IsOutcome result }
+{
     match command::parse(rt.alloc(), words)? {
         Request::Raw { hook, file, seats } => raw::raw(rt, hook, file, seats),
         Request::Run {
@@ -80,7 +82,7 @@ pub fn program<R: Files + AllocGlobal + Threads + Sync, I: BufRead, O: Write, E:
     output: &mut O,
     errors: &mut E,
 ) -> u8
-    ensures ended { (outcome : Result Report Fault) × Ends outcome (O.contents output.old) (O.contents output.new) result }
+    ensures ended { (outcome : Result Report Fault) × IsOutcome outcome × Ends outcome (O.contents output.old) (O.contents output.new) result }
 {
     let outcome = answer(rt, words);
     end(&outcome, output, errors)

@@ -1,7 +1,9 @@
 //! Bare code on seats, each on a thread of its own.
 
-ghost use Rattle.std.specs.Prelude.{◌≡◌, length, IfOk};
-ghost use Rattle.std.specs.List.{All};
+ghost use Rattle.std.specs.Prelude.{◌≡◌, ◌<◌, ◌≤◌, ◌^◌, ◌++◌, ℕ, List, length, IfOk, OnOk, string_bytes, is_err};
+ghost use Rattle.std.specs.List.{All, list_any};
+ghost use Rattle.routerd.specs.declared.raw.Finished.{Finished};
+ghost use Rattle.routerd.specs.RawRuns.{IsRawReport, counter_line, counter_lines, seat_line, seat_lines};
 
 use crate::fault::Fault;
 use crate::files;
@@ -9,7 +11,7 @@ use crate::report::Report;
 use interp::{Run, Trap, run_checked};
 use isa::{Code, Hook, decode};
 use machine::Input;
-use maps::{Seat, Shared, Totals};
+use maps::{Seat, Shared};
 use std::alloc::{AllocError, Global};
 use std::rt::Files;
 use std::thread::{Threads, map_vec};
@@ -72,11 +74,14 @@ fn seats_of(
         .collect(alloc)
 }
 
+// Adds the line of a seat.
 fn push_outcome(
     text: &mut String,
     number: usize,
     outcome: Result<Run, Trap>,
-) -> Result<(), AllocError> {
+) -> Result<(), AllocError>
+    ensures { OnOk result (string_bytes text.new ≡ string_bytes text.old ++ seat_line number outcome) }
+{
     match outcome {
         Ok(run) => {
             let answer = run.answer;
@@ -90,12 +95,38 @@ fn push_outcome(
     }
 }
 
-/// Adds a line for each counter above 0.
-pub fn push_counters(text: &mut String, totals: &Totals) -> Result<(), AllocError> {
-    for (index, sum) in totals.sums.iter().enumerate() {
-        if *sum > 0 {
-            writeln!(text, "counter {index} {sum}")?;
-        }
+// Adds the line of each seat, from 1 on.
+fn push_outcomes(text: &mut String, finished: &[Finished]) -> Result<(), AllocError>
+    ensures { OnOk result (string_bytes text.new ≡ string_bytes text.old ++ seat_lines 1 finished.now) }
+{
+    for (index, one) in finished.iter().enumerate() {
+        push_outcome(text, index + 1, one.outcome)?;
+    }
+    Ok(())
+}
+
+fn is_any_stuck(finished: &[Finished]) -> bool
+    ensures { result ≡ list_any (λ one. is_err one.outcome) finished.now }
+{
+    finished.iter().any(|one| one.outcome.is_err())
+}
+
+// Adds the line of a counter, if it is above 0.
+fn push_counter(text: &mut String, index: usize, sum: u64) -> Result<(), AllocError>
+    ensures { OnOk result (string_bytes text.new ≡ string_bytes text.old ++ counter_line index sum) }
+{
+    if sum > 0 {
+        writeln!(text, "counter {index} {sum}")?;
+    }
+    Ok(())
+}
+
+// Adds the line of each counter above 0.
+fn push_counters(text: &mut String, sums: &[u64]) -> Result<(), AllocError>
+    ensures { OnOk result (string_bytes text.new ≡ string_bytes text.old ++ counter_lines 0 sums.now) }
+{
+    for (index, sum) in sums.iter().enumerate() {
+        push_counter(text, index, *sum)?;
     }
     Ok(())
 }
@@ -108,7 +139,9 @@ pub fn raw<'a, R: Files + AllocGlobal + Threads + Sync>(
     hook: Hook,
     path: &'a str,
     seats: usize,
-) -> Result<Report, Fault<'a>> {
+) -> Result<Report, Fault<'a>>
+    ensures { IfOk result (λ report. (finished : List Finished) × (sums : List ℕ) × IsRawReport finished sums report) }
+{
     let alloc = rt.alloc();
     let bytes = files::read(rt, path)?;
     let code = decode(alloc, bytes.as_slice())?;
@@ -120,13 +153,10 @@ pub fn raw<'a, R: Files + AllocGlobal + Threads + Sync>(
     };
     let finished = run_each(rt, &code, hook, &input, &shared, seats)?;
     let mut text = String::new(alloc);
-    let mut is_stuck = false;
-    for (index, one) in finished.iter().enumerate() {
-        push_outcome(&mut text, index + 1, one.outcome)?;
-        is_stuck = is_stuck || one.outcome.is_err();
-    }
+    push_outcomes(&mut text, &finished)?;
+    let is_stuck = is_any_stuck(&finished);
     let seats = seats_of(alloc, &shared, finished)?;
     let totals = shared.close(seats);
-    push_counters(&mut text, &totals)?;
+    push_counters(&mut text, &totals.sums)?;
     Ok(Report { text, is_stuck })
 }

@@ -149,7 +149,12 @@ fn bare_code_at_the_limits(rt: HostRuntime) -> Result<(), Fail> {
         "1",
         1,
         "code refusal 6 slot 0\n",
-    )?;
+    )
+}
+
+#[test]
+fn bytes_that_are_no_code_are_refused(rt: HostRuntime) -> Result<(), Fail> {
+    let id = process::id(rt.process());
     expect_raw(
         &rt,
         id,
@@ -168,7 +173,12 @@ fn bare_code_at_the_limits(rt: HostRuntime) -> Result<(), Fail> {
         "1",
         1,
         "code refusal 2 slot 1\n",
-    )?;
+    )
+}
+
+#[test]
+fn runs_that_trap(rt: HostRuntime) -> Result<(), Fail> {
+    let id = process::id(rt.process());
     let frame = [0xb7, 10, 0, 0, 7, 0, 0, 0];
     expect_raw(
         &rt,
