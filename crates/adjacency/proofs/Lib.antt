@@ -1,3 +1,4 @@
 pub mod Tables
 pub mod Kept
 pub mod Facts
+pub mod Roomy
