@@ -1,5 +1,5 @@
 //! Laws of the neighbor's table, each carried by a function with an empty body.
-ghost use Rattle.adjacency.specs.Laws.{FullHasNothingToRequest, OnlyTheSameInstanceIsAcknowledged};
+ghost use Rattle.adjacency.specs.Laws.{FullHasNothingToRequest, OnlyTheSameInstanceIsAcknowledged, WhatIsOutstandingIsRequestedAgain};
 ghost use Rattle.adjacency.specs.Rooms.{StepsHaveRoom};
 ghost use Rattle.adjacency.specs.Worked.{AWorkedConversation};
 
@@ -11,6 +11,11 @@ pub fn full_has_nothing_to_request()
 /// An acknowledgment of another instance than the one on the retransmission list takes nothing off (RFC 2328, section 13.7).
 pub fn only_the_same_instance_is_acknowledged()
     ensures { OnlyTheSameInstanceIsAcknowledged }
+{}
+
+/// A Request that is sent again names all that is outstanding and nothing else (RFC 2328, section 10.9).
+pub fn what_is_outstanding_is_requested_again()
+    ensures { WhatIsOutstandingIsRequestedAgain }
 {}
 
 /// A conversation of 1.1.1.1 with 2.2.2.2: its attempts, who leads, and what is made of a Description that comes again.
