@@ -16,7 +16,7 @@ use Rattle.adjacency.specs.Adjacencies.{after_hello, filled, has_passed, heard_b
 use Rattle.adjacency.specs.Contents.{Requests, Step, Updates, quiet}
 use Rattle.adjacency.specs.Descriptions.{Verdict, accept, act, after_description, announced_more, changes_options, describe, exchange_done, exchange_over, exchanging, expected, in_state, is_duplicate, is_kept, is_over_for, is_wanted, judge, knows_types, mark_of, master_goes_on, negotiated, negotiating, opens, repeat, same_flag, slave_replies, with_requests, without_old_description}
 use Rattle.adjacency.specs.Neighbors.{Neighbor, is_synchronizing, takes_part}
-use Rattle.adjacency.specs.Requests.{may_request, next_request, request_next, without_request}
+use Rattle.adjacency.specs.Requests.{may_request, next_request, request_next, still_outstanding, without_request}
 use Rattle.adjacency.specs.Retransmissions.{acknowledged, after_acknowledgment, describe_again, is_entry, next_retransmissions, owed, released, repeats_description, request_again, send_again, update_again}
 
 -- ---- choices
@@ -247,7 +247,7 @@ module _ (Q : Fact) (kept : IsKept Q) where
       request_again_kept : (m : Neighbor) → Of Q m → Of Q (request_again moment interval m).neighbor
       request_again_kept m k =
           chosen (λ (s : Step). Of Q s.neighbor) (not (set.len m.outstanding == 0) && has_passed m.requested_at interval moment)
-          (record { neighbor = record m { requested_at = moment }; sends = Requests (set.items m.outstanding) ∷ [] }) (quiet m) (λ e. k) (λ e. k)
+          (record { neighbor = record m { requested_at = moment }; sends = Requests (still_outstanding m) ∷ [] }) (quiet m) (λ e. k) (λ e. k)
 
       update_kept : (m : Neighbor) → Of Q m → Of Q (update_again moment interval db m).neighbor
       update_kept m k =

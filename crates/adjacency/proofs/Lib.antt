@@ -1,3 +1,5 @@
 pub mod Tables
 pub mod Kept
 pub mod Facts
+pub mod Roomy
+pub mod Outstanding

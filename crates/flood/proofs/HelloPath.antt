@@ -21,6 +21,7 @@ use Rattle.adjacency.specs.Adjacencies as adjacencies
 use Rattle.adjacency.specs.Contents.{Content, Step, quiet, then_}
 use Rattle.adjacency.specs.Descriptions.{after_description}
 use Rattle.adjacency.specs.Neighbors.{Neighbor, fresh}
+use Rattle.adjacency.specs.Requests.{still_outstanding}
 use Rattle.adjacency.specs.Retransmissions.{next_retransmissions, request_again, send_again, update_again}
 use Rattle.received.specs.Links.{Link, change_link, neighbor_at, neighbor_on}
 use Rattle.received.specs.Outcomes.{Outcome, Send, marked, numbered, on_links, only_at}
@@ -278,7 +279,7 @@ all_acknowledged (x ∷ xs) = ap (λ rest. bare_link x ∷ rest) (all_acknowledg
 request_again_quiet : (moment interval router heard : ℕ) → request_again moment interval (fresh router None heard) ≡ quiet (fresh router None heard)
 request_again_quiet moment interval router heard =
     let n : Neighbor = fresh router None heard in
-    ap (λ l. cond (not (l == 0) && has_passed n.requested_at interval moment) (record { neighbor = record n { requested_at = moment }; sends = Content.Requests (keyset.items n.outstanding) ∷ [] }) (quiet n)) (keyset.len-empty key_cmp)
+    ap (λ l. cond (not (l == 0) && has_passed n.requested_at interval moment) (record { neighbor = record n { requested_at = moment }; sends = Content.Requests (still_outstanding n) ∷ [] }) (quiet n)) (keyset.len-empty key_cmp)
 
 update_again_quiet : (moment interval : ℕ) (db : Database) (router heard : ℕ) → update_again moment interval db (fresh router None heard) ≡ quiet (fresh router None heard)
 update_again_quiet moment interval db router heard =

@@ -4,6 +4,8 @@ pub mod Greetings
 pub mod HelloPath
 pub mod Packings
 pub mod Rooms
+pub mod Fitting
+pub mod Roomy
 pub mod Taken
 pub mod Worlds
 pub mod Invariants

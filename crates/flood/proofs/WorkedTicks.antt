@@ -14,6 +14,7 @@ use Rattle.adjacency.specs.Contents.{Content, Step, quiet}
 use Rattle.adjacency.specs.Contents as contents
 use Rattle.adjacency.specs.Descriptions.{is_over_for}
 use Rattle.adjacency.specs.Neighbors.{Neighbor}
+use Rattle.adjacency.specs.Requests.{still_outstanding}
 use Rattle.adjacency.specs.Retransmissions.{next_retransmissions, owed, request_again, send_again, update_again}
 use Rattle.received.specs.Links.{Link}
 use Rattle.received.specs.Outcomes.{Outcome, Send, on_links, stepping_sends}
@@ -88,7 +89,7 @@ alone_due r moment none due =
 request_keeps : (moment interval : ℕ) (n : Neighbor) → who (request_again moment interval n).neighbor ≡ who n
 request_keeps moment interval n =
     chosen_step (not (set.len n.outstanding == 0) && has_passed n.requested_at interval moment)
-    (record { neighbor = record n { requested_at = moment }; sends = contents.Requests (set.items n.outstanding) ∷ [] }) (quiet n) (who n) refl refl
+    (record { neighbor = record n { requested_at = moment }; sends = contents.Requests (still_outstanding n) ∷ [] }) (quiet n) (who n) refl refl
 
 update_keeps : (moment interval : ℕ) (db : Database) (n : Neighbor) → who (update_again moment interval db n).neighbor ≡ who n
 update_keeps moment interval db n =

@@ -12,6 +12,7 @@ pub mod Events
 pub mod Refusals
 pub mod Bare
 pub mod PackingLaws
+pub mod RoomLaws
 pub mod Names
 pub mod Taken
 pub mod Worlds

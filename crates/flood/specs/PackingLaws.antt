@@ -2,10 +2,9 @@
 use Rattle.std.specs.Prelude.{◌≡◌, ◌≤◌, ◌<◌, ℕ, ◌+◌, false, List, [], ◌∷◌, length}
 use Rattle.std.specs.List.{AllByRecursion, filter, flat_map}
 use Rattle.words.specs.declared.key.Key.{Key}
-use Rattle.lsa.specs.Text.{text}
 use Rattle.lsdb.specs.Headers.{Header, Lsa, key_of, lsa_key}
 use Rattle.lsdb.specs.Keys.{same_key}
-use Rattle.adjacency.specs.Contents.{Content}
+pub use Rattle.adjacency.specs.Rooms.{HasRoom}
 use Rattle.received.specs.Links.{Link}
 use Rattle.received.specs.Outcomes.{Send}
 use Rattle.flood.specs.declared.model.Out.{Out}
@@ -56,17 +55,6 @@ pub record IsPacking {X : Type 0} (size : X → ℕ) (start : ℕ) (xs : List X)
 abbrev pub AreByInterface : List Out → Type 0
 AreByInterface [] = Unit {0}
 AreByInterface (o ∷ outs) = AllByRecursion (λ (p : Out). o.interface ≤ p.interface) outs × AreByInterface outs
-
--- ---- in room
-
--- What has room in a packet: a Hello names one router at most, a Description has 408 headers, a Request 680 keys; an LSA's length is that of
--- its text, and an Update has room for it.
-abbrev pub HasRoom : Content → Type 0
-HasRoom (Content.Greets h) = length h.neighbors ≤ 1
-HasRoom (Content.Describes d) = length d.headers ≤ 408
-HasRoom (Content.Requests keys) = length keys ≤ 680
-HasRoom (Content.Updates lsa) = (length (text lsa) ≡ lsa_size lsa) × (28 + lsa_size lsa ≤ 8192)
-HasRoom (Content.Acknowledges h) = Unit {0}
 
 -- ---- the law
 

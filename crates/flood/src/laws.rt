@@ -2,6 +2,7 @@
 ghost use Rattle.flood.specs.Laws.{EventsAreDetermined, HellosAloneAreTheHelloProtocol};
 ghost use Rattle.flood.specs.NeighborLaws.{FullNeighborsRequestNothing, ListsAreSound};
 ghost use Rattle.flood.specs.PackingLaws.{OutsAreOrderedAndPacked};
+ghost use Rattle.flood.specs.RoomLaws.{EveryPacketHasRoom};
 ghost use Rattle.flood.specs.Taken.{WhatIsTakenOffWasTold};
 ghost use Rattle.flood.specs.Worked.{WorkedEvents};
 ghost use Rattle.flood.specs.WorkedAdjacency.{AnAdjacencyBegins};
@@ -43,6 +44,12 @@ pub fn lists_are_sound()
 /// packet, a packet has at most 8,192 bytes, and the first of the next packet had no room in it.
 pub fn outs_are_ordered_and_packed()
     ensures { OutsAreOrderedAndPacked }
+{}
+
+/// No packet that an event sends has more than 8,192 bytes: what holds of every router at the start and after each event leaves room for
+/// all that is sent, also where the Hello protocol alone is run, and so it is in every run.
+pub fn every_packet_has_room()
+    ensures { EveryPacketHasRoom }
 {}
 
 /// What an Acknowledgment, or an LSA that is an implied acknowledgment, takes off the retransmission list of its sender is an instance that

@@ -1,3 +1,4 @@
 pub mod Flooded
 pub mod Firsts
 pub mod Holding
+pub mod Roomy
