@@ -7,6 +7,8 @@ pub mod Rooms
 pub mod Fitting
 pub mod Roomy
 pub mod Taken
+pub mod Told
+pub mod Known
 pub mod Worlds
 pub mod Invariants
 pub mod Always

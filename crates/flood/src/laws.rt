@@ -1,5 +1,6 @@
 //! Laws of events, each carried by a function with an empty body.
 ghost use Rattle.flood.specs.Laws.{EventsAreDetermined, HellosAloneAreTheHelloProtocol};
+ghost use Rattle.flood.specs.Known.{EventsHoldOnlyWhatIsKnown};
 ghost use Rattle.flood.specs.NeighborLaws.{FullNeighborsRequestNothing, ListsAreSound};
 ghost use Rattle.flood.specs.PackingLaws.{OutsAreOrderedAndPacked};
 ghost use Rattle.flood.specs.RoomLaws.{EveryPacketHasRoom};
@@ -56,6 +57,13 @@ pub fn every_packet_has_room()
 /// the packet tells, by key, sequence number and checksum (RFC 2328, sections 13 and 13.7).
 pub fn what_is_taken_off_was_told()
     ensures { WhatIsTakenOffWasTold }
+{}
+
+/// Each event keeps the Router ID. Each instance in the database, on the retransmission lists and among the delayed acknowledgments that it
+/// leaves, and each that is in what it sends, was held before, came in the event's Update, or is a new one of the router's own LSAs; also
+/// where the Hello protocol alone is run. It asks that the router announces under its own Router ID alone, which holds in every run.
+pub fn events_hold_only_what_is_known()
+    ensures { EventsHoldOnlyWhatIsKnown }
 {}
 
 /// Over every history of routers whose steps keep what `Keeps` says, whatever is lost, repeated or late and whoever begins anew: what a

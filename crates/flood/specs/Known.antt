@@ -1,0 +1,68 @@
+-- What an event leaves in a router and what it sends: instances that were held before, came in the event's Update, or are new ones of the
+-- router's own LSAs.
+use Rattle.std.specs.Prelude.{◌≡◌, ℕ, List, [], ◌∷◌, Option, Some}
+use Rattle.std.specs.FinMap as finite
+use Rattle.std.specs.List.{AllByRecursion, Contains, flat_map}
+use Rattle.words.specs.declared.key.Key.{Key}
+use Rattle.words.specs.declared.route.External.{External}
+use Rattle.lsa.specs.declared.body.Body.{Body}
+use Rattle.lsdb.specs.Copies.{DatabaseCopy}
+use Rattle.adjacency.specs.Contents.{Content}
+use Rattle.received.specs.Outcomes.{Send}
+use Rattle.flood.specs.declared.model.Config.{Config}
+use Rattle.flood.specs.declared.model.Out.{Out}
+use Rattle.flood.specs.Events.{Happens, HappensBy, Run, Step, hellos_alone, initial}
+use Rattle.flood.specs.Names.{Name, lsa_name, name_of}
+use Rattle.flood.specs.Originations.{new_instance}
+use Rattle.flood.specs.Packing.{outs_of}
+use Rattle.flood.specs.Routers.{Occurrence, Router}
+use Rattle.flood.specs.Worlds.{IsKnown, names_held}
+
+-- a new instance of an LSA whose Advertising Router is this one
+pub record IsNewInstance (id : ℕ) (name : Name) : Type 0 where
+  pub key : Key
+  pub copy : Option DatabaseCopy
+  pub says : Body
+  pub own : key.advertising_router ≡ id
+  pub is : lsa_name (new_instance key copy says) ≡ name
+
+-- the instances that an Update or an Acknowledgment is to name
+abbrev pub names_in_content : Content → List Name
+names_in_content (Content.Greets hello) = []
+names_in_content (Content.Describes d) = []
+names_in_content (Content.Requests keys) = []
+names_in_content (Content.Updates lsa) = lsa_name lsa ∷ []
+names_in_content (Content.Acknowledges header) = name_of header ∷ []
+
+abbrev pub names_in_send : Send → List Name
+names_in_send s = names_in_content s.content
+
+abbrev pub names_in_sends : List Send → List Name
+names_in_sends sends = flat_map names_in_send sends
+
+-- a router announces under its own Router ID alone
+abbrev pub AnnouncesItsOwn : Router → Type 0
+AnnouncesItsOwn r = (key : Key) (e : External) → finite.get r.announced key ≡ Some e → key.advertising_router ≡ r.id
+
+pub record HoldsWhatIsKnown (old : Router) (event : Occurrence) (outs : List Out) (new : Router) : Type 0 where
+  -- what the event originates
+  pub originated : List Name
+  pub new_instances : AllByRecursion (IsNewInstance old.id) originated
+  pub same_router : new.id ≡ old.id
+  pub own : (name : Name) → Contains originated name → name.key.advertising_router ≡ old.id
+  pub held : (name : Name) → Contains (names_held new) name → IsKnown old event originated name
+  -- what is packed and sent
+  pub sends : List Send
+  pub packed : outs ≡ outs_of old.id old.area.links sends
+  pub told : (name : Name) → Contains (names_in_sends sends) name → IsKnown old event originated name
+
+pub record EventsHoldOnlyWhatIsKnown : Type 0 where
+  -- at the start
+  pub first : (c : Config) → AnnouncesItsOwn (initial c)
+  -- each event, also where the Hello protocol alone is run
+  pub event : (old : Router) (moment : ℕ) (event : Occurrence) (outs : List Out) (new : Router)
+      → Happens old moment event outs new → AnnouncesItsOwn old → AnnouncesItsOwn new × HoldsWhatIsKnown old event outs new
+  pub hello_event : (old : Router) (moment : ℕ) (event : Occurrence) (outs : List Out) (new : Router)
+      → HappensBy hellos_alone old moment event outs new → AnnouncesItsOwn old → AnnouncesItsOwn new × HoldsWhatIsKnown old event outs new
+  -- so after every run from the start, whatever happens in it
+  pub run : (c : Config) (steps : List Step) (new : Router) → Run (initial c) steps new → AnnouncesItsOwn new
