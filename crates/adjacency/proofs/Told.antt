@@ -8,7 +8,7 @@ use Rattle.std.specs.FinSet as set
 use Rattle.std.specs.List.{AllByRecursion, cons_option, filter, filter_map}
 use Rattle.words.specs.declared.key.Key.{Key}
 use Rattle.lsdb.specs.Copies.{Database, DatabaseCopy, age_now, is_aged_out, listed, lsa_now}
-use Rattle.lsdb.specs.Headers.{Header, Lsa, key_of, lsa_aged}
+use Rattle.lsdb.specs.Headers.{Header, Lsa, key_of, lsa_aged, lsa_key}
 use Rattle.lsdb.specs.Instances.{Listed}
 use Rattle.packet.specs.declared.model.Description.{Description}
 use Rattle.adjacency.specs.declared.state.State.{State}
@@ -22,12 +22,15 @@ use Rattle.adjacency.specs.Retransmissions.{acknowledged, after_acknowledgment, 
 use Rattle.adjacency.proofs.Kept.{chosen}
 use Rattle.adjacency.proofs.Maps.{AllIn, IfThere, OfEntry, entries_in, inserted_in, made_in, none_in, removed_in}
 
--- something that holds of LSAs and headers, and of an LSA at any age that an LSA may have
+-- something that holds of LSAs, headers and keys, and of an LSA at any age that an LSA may have; and the number of the links, which stays
 pub record Telling : Type 1 where
   pub of_lsa : Lsa → Type 0
   pub of_header : Header → Type 0
+  pub of_key : Key → Type 0
   pub aged : (age : ℕ) (l : Lsa) → age ≤ 3600 → of_lsa l → of_lsa (lsa_aged age l)
   pub header : (l : Lsa) → of_lsa l → of_header l.header
+  pub key : (l : Lsa) → of_lsa l → of_key (lsa_key l)
+  pub count : ℕ
 
 abbrev pub OfCopy : Telling → Key → DatabaseCopy → Type 0
 OfCopy t key c = t.of_lsa c.lsa

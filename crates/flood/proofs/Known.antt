@@ -28,12 +28,13 @@ use Rattle.flood.specs.declared.model.Config.{Config}
 use Rattle.flood.specs.declared.model.Out.{Out}
 use Rattle.flood.specs.Endings.{finished}
 use Rattle.flood.specs.Events.{HappensBy, Rules, Run, Step, hellos_alone, initial, whole}
-use Rattle.flood.specs.Known.{AnnouncesItsOwn, EventsHoldOnlyWhatIsKnown, HoldsWhatIsKnown, IsNewInstance, names_in_content, names_in_send, names_in_sends}
+use Rattle.flood.specs.Known.{AnnouncesItsOwn, EventsHoldOnlyWhatIsKnown, HoldsWhatIsKnown, IsNewInstance, IsOutOf, names_in_content, names_in_send, names_in_sends}
 use Rattle.flood.specs.Names.{Name, lsa_name, name_of, names_brought, names_in_update}
 use Rattle.flood.specs.Originations.{is_due, new_instance, router_key, wanted_keys}
 use Rattle.flood.specs.Progress.{Progress}
 use Rattle.flood.specs.Routers.{Occurrence, Router, silent, unannounced}
 use Rattle.flood.specs.Worlds.{IsKnown, names_held, names_on_link, names_owed}
+use Rattle.flood.proofs.Packed.{outs_bear}
 use Rattle.flood.proofs.Told.{IfRead, IsOwn, IsOwnKey, OfBrought, OfBytes, OfProgress, event_told, originate_or_wait_told}
 use Rattle.flood.proofs.Worlds.{one_more}
 
@@ -69,15 +70,22 @@ each_all : {X : Type 0} (P Q : X → Type 0) → ((x : X) → P x → Q x) → (
 each_all P Q so [] h = tt
 each_all P Q so (x ∷ xs) h = (so x h.0, each_all P Q so xs h.1)
 
+named_sends : (K : Name → Type 0) (sends : List Send) → AllByRecursion K (names_in_sends sends) → AllByRecursion (λ (s : Send). AllByRecursion K (names_in_content s.content)) sends
+named_sends K [] h = tt
+named_sends K (s ∷ sends) h = (left_all K (names_in_send s) (names_in_sends sends) h, named_sends K sends (right_all K (names_in_send s) (names_in_sends sends) h))
+
 -- ---- what is so of a name, of all that bears it
 
-module _ (K : Name → Type 0) where
+module _ (K : Name → Type 0) (count : ℕ) where
   abbrev pub named_by : Telling
   named_by = record {
     of_lsa = λ lsa. K (lsa_name lsa);
     of_header = λ h. K (name_of h);
+    of_key = λ key. Unit {0};
     aged = λ age l le h. h;
     header = λ l h. h;
+    key = λ l h. tt;
+    count = count;
   }
 
   values_named : {X : Type 0} (f : X → Name) (es : List (Key × X)) → AllByRecursion (OfEntry (λ k x. K (f x))) es → AllByRecursion K (map f (map (λ e. e.1) es))
@@ -136,12 +144,13 @@ module _ (K : Name → Type 0) where
       (links_named r.area.links h.links))
       (sends_named sends h.sent)
 
-  pub named_held : (r : Router) → AllByRecursion K (names_held r) → OfArea named_by r.area []
-  named_held r h = record {
+  pub named_held : (r : Router) → length r.area.links ≡ count → AllByRecursion K (names_held r) → OfArea named_by r.area []
+  named_held r few h = record {
     copies = of_entries (OfCopy named_by) r.area.database
         (named_values (λ (c : DatabaseCopy). lsa_name c.lsa) (finite.entries r.area.database)
         (left_all K (map (λ c. lsa_name c.lsa) (finite.values r.area.database)) (flat_map names_on_link r.area.links) h));
     links = named_links r.area.links (right_all K (map (λ c. lsa_name c.lsa) (finite.values r.area.database)) (flat_map names_on_link r.area.links) h);
+    few = few;
     sent = tt;
   }
 
@@ -164,7 +173,7 @@ module _ (K : Name → Type 0) where
 
 -- ---- why a name is known
 
-data IsExplained (old : Router) (event : Occurrence) (name : Name) : Type 0 where
+pub data IsExplained (old : Router) (event : Occurrence) (name : Name) : Type 0 where
   Held : Contains (names_held old) name → IsExplained old event name
   Brought : (number : ℕ) (bytes : List ℕ) (packet : Packet) → event ≡ Occurrence.Packet number bytes → PacketText bytes packet
       → Contains (names_brought packet.body) name → IsExplained old event name
@@ -222,60 +231,61 @@ module _ (old : Router) (event : Occurrence) where
 
 -- ---- what is announced
 
-all_own : (r : Router) → AnnouncesItsOwn r → AllIn (IsOwn r.id) r.announced
-all_own r own key = found (finite.get r.announced key) (own key)
+-- with what else holds of their keys
+pub all_own : (t : Telling) → ((key : Key) → t.of_key key) → (r : Router) → AnnouncesItsOwn r → AllIn (IsOwn t r.id) r.announced
+all_own t so r own key = found (finite.get r.announced key) (own key)
   where
-    found : (o : Option External) → ((e : External) → o ≡ Some e → key.advertising_router ≡ r.id) → IfThere (IsOwn r.id) key o
+    found : (o : Option External) → ((e : External) → o ≡ Some e → key.advertising_router ≡ r.id) → IfThere (IsOwn t r.id) key o
     found None each = tt
-    found (Some e) each = each e refl
+    found (Some e) each = (each e refl, so key)
 
-announces : (r : Router) → AllIn (IsOwn r.id) r.announced → AnnouncesItsOwn r
-announces r all key e is = subst (IfThere (IsOwn r.id) key) is (all key)
+pub announces : (t : Telling) (r : Router) → AllIn (IsOwn t r.id) r.announced → AnnouncesItsOwn r
+announces t r all key e is = (subst (IfThere (IsOwn t r.id) key) is (all key)).0
 
-entry_keys : (id : ℕ) (es : List (Key × External)) → AllByRecursion (OfEntry (IsOwn id)) es → AllByRecursion (IsOwnKey id) (map (λ e. e.0) es)
-entry_keys id [] h = tt
-entry_keys id (e ∷ es) h = (h.0, entry_keys id es h.1)
+entry_keys : (t : Telling) (id : ℕ) (es : List (Key × External)) → AllByRecursion (OfEntry (IsOwn t id)) es → AllByRecursion (IsOwnKey t id) (map (λ e. e.0) es)
+entry_keys t id [] h = tt
+entry_keys t id (e ∷ es) h = (h.0, entry_keys t id es h.1)
 
-due_of : (id moment : ℕ) (r : Router) (keys : List Key) → AllByRecursion (IsOwnKey id) keys → AllByRecursion (IsOwnKey id) (filter (is_due moment r) keys)
-due_of id moment r [] h = tt
-due_of id moment r (key ∷ keys) h =
-    chosen (AllByRecursion (IsOwnKey id)) (is_due moment r key) (key ∷ filter (is_due moment r) keys) (filter (is_due moment r) keys)
-    (λ is. (h.0, due_of id moment r keys h.1)) (λ is. due_of id moment r keys h.1)
+due_of : (t : Telling) (id moment : ℕ) (r : Router) (keys : List Key) → AllByRecursion (IsOwnKey t id) keys → AllByRecursion (IsOwnKey t id) (filter (is_due moment r) keys)
+due_of t id moment r [] h = tt
+due_of t id moment r (key ∷ keys) h =
+    chosen (AllByRecursion (IsOwnKey t id)) (is_due moment r key) (key ∷ filter (is_due moment r) keys) (filter (is_due moment r) keys)
+    (λ is. (h.0, due_of t id moment r keys h.1)) (λ is. due_of t id moment r keys h.1)
 
-IsDueOwn : Rules → Type 0
-IsDueOwn rules = (id moment : ℕ) (r : Router) → r.id ≡ id → AllIn (IsOwn id) r.announced → AllByRecursion (IsOwnKey id) (rules.due moment r)
+abbrev pub IsDueOwn : Rules → Type 1
+IsDueOwn rules = (t : Telling) (id : ℕ) → t.of_key (router_key id) → (moment : ℕ) (r : Router) → r.id ≡ id → AllIn (IsOwn t id) r.announced → AllByRecursion (IsOwnKey t id) (rules.due moment r)
 
-due_whole : IsDueOwn whole
-unfolding IsDueOwn
-due_whole id moment r same all = due_of id moment r (wanted_keys r) (same, entry_keys id (finite.entries r.announced) (entries_in (IsOwn id) r.announced all))
+pub due_whole : IsDueOwn whole
+due_whole t id so moment r same all =
+    due_of t id moment r (wanted_keys r)
+    ((same, subst (λ (i : ℕ). t.of_key (router_key i)) (sym same) so), entry_keys t id (finite.entries r.announced) (entries_in (IsOwn t id) r.announced all))
 
-due_none : IsDueOwn hellos_alone
-unfolding IsDueOwn
-due_none id moment r same all = tt
+pub due_none : IsDueOwn hellos_alone
+due_none t id so moment r same all = tt
 
 -- ---- an event
 
 module _ (rules : Rules) (two_way_told : (t : Telling) → OfTwoWay t rules.two_way) (due_own : IsDueOwn rules) where
   event_known : (old : Router) (moment : ℕ) (event : Occurrence) (outs : List Out) (new : Router) → HappensBy rules old moment event outs new
       → AnnouncesItsOwn old → AnnouncesItsOwn new × HoldsWhatIsKnown old event outs new
-  unfolding IsDueOwn
   event_known old moment event outs new happens own =
       let p : Progress = finished old moment happens.after in
       let held : AllByRecursion (IsExplained old event) (names_held old) = of_members (IsExplained old event) (names_held old) (λ name c. IsExplained.Held c) in
-      let end : OfProgress (named_by (IsExplained old event)) old.id p =
-      event_told (named_by (IsExplained old event)) old.id (λ key copy says its. IsExplained.New (record { key = key; copy = copy; says = says; own = its; is = refl }))
-      rules (two_way_told (named_by (IsExplained old event))) (due_own old.id) old moment event happens.after
+      let end : OfProgress (named_by (IsExplained old event) (length old.area.links)) old.id p =
+      event_told (named_by (IsExplained old event) (length old.area.links)) old.id (λ key copy says its wants. IsExplained.New (record { key = key; copy = copy; says = says; own = its.0; is = refl })) tt
+      rules (two_way_told (named_by (IsExplained old event) (length old.area.links))) (due_own (named_by (IsExplained old event) (length old.area.links)) old.id tt) old moment event happens.after
       (λ number bytes packet is text.
-      body_brought (IsExplained old event) packet.body
+      body_brought (IsExplained old event) (length old.area.links) packet.body
       (of_members (IsExplained old event) (names_brought packet.body) (λ name c. IsExplained.Brought number bytes packet is text c)))
-      happens.own (named_held (IsExplained old event) old held) refl (all_own old own) in
-      let all : AllByRecursion (IsExplained old event) (names_held p.router ++ names_in_sends p.sends) = held_named (IsExplained old event) p.router p.sends end.area in
+      (λ tagged tag priced price is. tt)
+      happens.own (named_held (IsExplained old event) (length old.area.links) old refl held) refl (all_own (named_by (IsExplained old event) (length old.area.links)) (λ key. tt) old own) in
+      let all : AllByRecursion (IsExplained old event) (names_held p.router ++ names_in_sends p.sends) = held_named (IsExplained old event) (length old.area.links) p.router p.sends end.area in
       let originated : List Name = new_ones old event (names_held p.router ++ names_in_sends p.sends) all in
       let known : AllByRecursion (IsKnown old event originated) (names_held p.router ++ names_in_sends p.sends) =
       all_known old event (names_held p.router ++ names_in_sends p.sends) all in
       let fresh : AllByRecursion (IsNewInstance old.id) originated = all_new old event (names_held p.router ++ names_in_sends p.sends) all in (
         subst AnnouncesItsOwn (sym happens.router)
-            (announces p.router (subst (λ id. AllIn (IsOwn id) p.router.announced) (sym end.same) end.announced)),
+            (announces (named_by (IsExplained old event) (length old.area.links)) p.router (subst (λ id. AllIn (IsOwn (named_by (IsExplained old event) (length old.area.links)) id) p.router.announced) (sym end.same) end.announced)),
         record {
           originated = originated;
           new_instances = fresh;
@@ -284,36 +294,35 @@ module _ (rules : Rules) (two_way_told : (t : Telling) → OfTwoWay t rules.two_
           held = λ name c.
               of_member (IsKnown old event originated) (names_held p.router) (left_all (IsKnown old event originated) (names_held p.router) (names_in_sends p.sends) known) name
               (subst (λ (r : Router). Contains (names_held r) name) happens.router c);
-          sends = p.sends;
-          packed = happens.sent;
-          told = λ name c.
-              of_member (IsKnown old event originated) (names_in_sends p.sends) (right_all (IsKnown old event originated) (names_held p.router) (names_in_sends p.sends) known) name c;
+          sent = λ out c.
+              of_member (IsOutOf (IsKnown old event originated) old.id) outs
+              (subst (λ os. AllByRecursion (IsOutOf (IsKnown old event originated) old.id) os) (sym happens.sent)
+              (outs_bear (IsKnown old event originated) old.id p.sends
+              (named_sends (IsKnown old event originated) p.sends (right_all (IsKnown old event originated) (names_held p.router) (names_in_sends p.sends) known)) 1
+              old.area.links))
+              out c;
         },
       )
 
 -- ---- the start, and every run
 
-nothing_so : (K : Name → Type 0) (c : Config) → AllByRecursion (OfLink (named_by K)) (map silent c.interfaces)
-nothing_so K c = on_each c.interfaces
-  where
-    on_each : (is : List Interface) → AllByRecursion (OfLink (named_by K)) (map silent is)
-    on_each [] = tt
-    on_each (i ∷ is) = (record { neighbor = tt; acknowledgments = none_in (OfWaiting (named_by K)) }, on_each is)
+pub none_on : (t : Telling) (is : List Interface) → OfLinks t (map silent is)
+none_on t [] = tt
+none_on t (i ∷ is) = (record { neighbor = tt; acknowledgments = none_in (OfWaiting t) }, none_on t is)
 
-Anything : Name → Type 0
-Anything name = Unit {0}
+abbrev anything : Config → Telling
+anything c = named_by (λ name. Unit {0}) (length (map silent c.interfaces))
 
 first_own : (c : Config) → AnnouncesItsOwn (initial c)
-unfolding Anything
 first_own c =
     let start : Progress = record { router = unannounced c; sends = [] } in
-    let at : OfProgress (named_by Anything) c.router start = record {
-      area = record { copies = none_in (OfCopy (named_by Anything)); links = nothing_so Anything c; sent = tt };
+    let at : OfProgress (anything c) c.router start = record {
+      area = record { copies = none_in (OfCopy (anything c)); links = none_on (anything c) c.interfaces; few = refl; sent = tt };
       same = refl;
-      announced = none_in (IsOwn c.router);
+      announced = none_in (IsOwn (anything c) c.router);
     } in
-    let end = originate_or_wait_told (named_by Anything) c.router (λ key copy says its. tt) c.start (router_key c.router) start refl at in
-    announces (initial c) (subst (λ id. AllIn (IsOwn id) (initial c).announced) (sym end.same) end.announced)
+    let end = originate_or_wait_told (anything c) c.router (λ key copy says its wants. tt) tt c.start (router_key c.router) start (refl, tt) at in
+    announces (anything c) (initial c) (subst (λ id. AllIn (IsOwn (anything c) id) (initial c).announced) (sym end.same) end.announced)
 
 named_anyhow : (t : Telling) → OfTwoWay t whole.two_way
 named_anyhow t = named_told t

@@ -8,6 +8,7 @@ pub mod Fitting
 pub mod Roomy
 pub mod Taken
 pub mod Told
+pub mod Packed
 pub mod Known
 pub mod Worlds
 pub mod Invariants

@@ -1,10 +1,11 @@
 -- What holds of all that is held and told, through whole events: where it holds of what is held before, of the LSAs that the event's packet
 -- brings, and of new instances of the router's own LSAs, it holds of all that is held after the event and of all that is sent.
-use Rattle.std.proofs.Common.{◌≡◌, ℕ, ◌+◌, ◌==◌, Bool, true, false, cond, not, ◌&&◌, List, [], ◌∷◌, map, Option, None, Some, refl, sym, subst, ◌∙◌, arith}
+use Rattle.std.proofs.Common.{◌≡◌, ℕ, ◌+◌, ◌==◌, Bool, true, false, cond, not, ◌&&◌, List, [], ◌∷◌, map, length, Option, None, Some, refl, sym, subst, ◌∙◌, arith}
 use Rattle.std.specs.Prelude.{nat_le}
 use Rattle.std.specs.FinMap as finite
 use Rattle.std.specs.List.{AllByRecursion, enumerate_from, flat_map, fold, list_all}
 use Rattle.std.proofs.lemmas.Bool.{eqb-true}
+use Rattle.std.proofs.lemmas.List.{length-map}
 use Rattle.words.specs.Prefixes.{Network}
 use Rattle.words.specs.declared.key.Key.{Key}
 use Rattle.words.specs.declared.route.External.{External}
@@ -57,19 +58,25 @@ OfBrought t (body.Request keys) = Unit {0}
 OfBrought t (body.Update lsas) = AllByRecursion (OfBytes t) lsas
 OfBrought t (body.Acknowledgment headers) = Unit {0}
 
-abbrev pub IsOwnKey : ℕ → Key → Type 0
-IsOwnKey id key = key.advertising_router ≡ id
+abbrev pub IsOwnKey : Telling → ℕ → Key → Type 0
+IsOwnKey t id key = (key.advertising_router ≡ id) × t.of_key key
 
-abbrev pub IsOwn : ℕ → Key → External → Type 0
-IsOwn id key e = IsOwnKey id key
+abbrev pub IsOwn : Telling → ℕ → Key → External → Type 0
+IsOwn t id key e = IsOwnKey t id key
 
 -- in the midst of an event of the router with this Router ID
 pub record OfProgress (t : Telling) (id : ℕ) (p : Progress) : Type 0 where
   pub area : OfArea t p.router.area p.sends
   pub same : p.router.id ≡ id
-  pub announced : AllIn (IsOwn id) p.router.announced
+  pub announced : AllIn (IsOwn t id) p.router.announced
 
-module _ (t : Telling) (id : ℕ) (news : (key : Key) (copy : Option DatabaseCopy) (says : LsaBody) → IsOwnKey id key → t.of_lsa (new_instance key copy says)) where
+-- an own LSA that is wanted of a router with so many links, past a copy whose number isn't the last one
+abbrev pub IsWanted : Telling → Key → Option DatabaseCopy → LsaBody → Type 0
+IsWanted t key copy says =
+    IfThere (OfCopy t) key copy × (has_max_sequence copy ≡ false) × ((r : Router) × (length r.area.links ≡ t.count) × (wanted_body r key ≡ Some says))
+
+module _ (t : Telling) (id : ℕ) (news : (key : Key) (copy : Option DatabaseCopy) (says : LsaBody) → IsOwnKey t id key → IsWanted t key copy says → t.of_lsa (new_instance key copy says))
+    (router_told : t.of_key (router_key id)) where
   abbrev pub InProgress : Progress → Type 0
   InProgress p = OfProgress t id p
 
@@ -87,7 +94,7 @@ module _ (t : Telling) (id : ℕ) (news : (key : Key) (copy : Option DatabaseCop
       (chosen (OfOutcome t) (has_just_aged_out before moment e.1) (flood_from_nobody moment (lsa_now moment e.1) o) o
       (λ is. flood_told t moment None (lsa_now moment e.1) o (lsa_now_told t moment e.1 so.0) h) (λ is. h))
 
-  pub begun_told : (moment : ℕ) (r : Router) → OfArea t r.area [] → r.id ≡ id → AllIn (IsOwn id) r.announced → InProgress (begun moment r)
+  pub begun_told : (moment : ℕ) (r : Router) → OfArea t r.area [] → r.id ≡ id → AllIn (IsOwn t id) r.announced → InProgress (begun moment r)
   begun_told moment r h same announced = record {
     area = ages_told r.moment moment (finite.entries r.area.database) (record { area = r.area; sends = [] }) (entries_in (OfCopy t) r.area.database h.copies) h;
     same = same;
@@ -109,10 +116,11 @@ module _ (t : Telling) (id : ℕ) (news : (key : Key) (copy : Option DatabaseCop
       on_area_told (flush_copy moment key (finite.get p.router.area.database key)) p
       (λ a. copy_flushed moment key (finite.get p.router.area.database key) (record { area = p.router.area; sends = p.sends }) (a.copies key) a) h
 
-  originate_told : (moment : ℕ) (key : Key) (says : LsaBody) (p : Progress) → IsOwnKey id key → InProgress p → InProgress (originate moment key says p)
-  originate_told moment key says p own h =
+  originate_told : (moment : ℕ) (key : Key) (says : LsaBody) (p : Progress) → IsOwnKey t id key → has_max_sequence (finite.get p.router.area.database key) ≡ false
+      → (r : Router) × (length r.area.links ≡ t.count) × (wanted_body r key ≡ Some says) → InProgress p → InProgress (originate moment key says p)
+  originate_told moment key says p own goes wants h =
       let lsa : Lsa = new_instance key (finite.get p.router.area.database key) says in
-      let so : t.of_lsa lsa = news key (finite.get p.router.area.database key) says own in
+      let so : t.of_lsa lsa = news key (finite.get p.router.area.database key) says own (h.area.copies key, goes, wants) in
       let o : Outcome = record { area = p.router.area; sends = p.sends } in
       record {
         area = flood_told t moment None lsa (on_database (install_originated moment lsa) o) so
@@ -126,50 +134,50 @@ module _ (t : Telling) (id : ℕ) (news : (key : Key) (copy : Option DatabaseCop
   waits_told : (key : Key) (p : Progress) → InProgress p → InProgress (on_router (wait key) p)
   waits_told key p h = record { area = h.area; same = h.same; announced = h.announced }
 
-  body_told : (may_now : Bool) (moment : ℕ) (key : Key) (says : Option LsaBody) (p : Progress) → IsOwnKey id key → InProgress p
-      → InProgress (originate_body may_now moment key says p)
-  body_told may_now moment key None p own h = h
-  body_told may_now moment key (Some says) p own h =
+  body_told : (may_now : Bool) (moment : ℕ) (key : Key) (says : Option LsaBody) (p : Progress) → IsOwnKey t id key
+      → (r : Router) × (length r.area.links ≡ t.count) × (wanted_body r key ≡ says) → InProgress p → InProgress (originate_body may_now moment key says p)
+  body_told may_now moment key None p own wants h = h
+  body_told may_now moment key (Some says) p own wants h =
       chosen InProgress (has_max_sequence (finite.get p.router.area.database key)) (flush moment key p)
       (cond (may_now && may_originate moment key p.router) (originate moment key says p) (on_router (wait key) p))
       (λ is. flush_told moment key p h)
       (λ is. chosen InProgress (may_now && may_originate moment key p.router) (originate moment key says p) (on_router (wait key) p)
-      (λ may. originate_told moment key says p own h) (λ may. waits_told key p h))
+      (λ may. originate_told moment key says p own is wants h) (λ may. waits_told key p h))
 
-  pub originate_or_wait_told : (moment : ℕ) (key : Key) (p : Progress) → IsOwnKey id key → InProgress p → InProgress (originate_or_wait moment key p)
-  originate_or_wait_told moment key p own h = body_told (has_room key p.router) moment key (wanted_body p.router key) p own h
+  pub originate_or_wait_told : (moment : ℕ) (key : Key) (p : Progress) → IsOwnKey t id key → InProgress p → InProgress (originate_or_wait moment key p)
+  originate_or_wait_told moment key p own h = body_told (has_room key p.router) moment key (wanted_body p.router key) p own (p.router, h.area.few, refl) h
 
-  due_told : (moment : ℕ) (keys : List Key) (p : Progress) → AllByRecursion (IsOwnKey id) keys → InProgress p → InProgress (originate_due moment keys p)
+  due_told : (moment : ℕ) (keys : List Key) (p : Progress) → AllByRecursion (IsOwnKey t id) keys → InProgress p → InProgress (originate_due moment keys p)
   due_told moment [] p own h = h
   due_told moment (key ∷ keys) p own h = due_told moment keys (originate_or_wait moment key p) own.1 (originate_or_wait_told moment key p own.0 h)
 
-  wanted_settled : (b : Bool) (moment : ℕ) (key : Key) (p : Progress) → IsOwnKey id key → InProgress p → InProgress (settle_wanted b moment key p)
+  wanted_settled : (b : Bool) (moment : ℕ) (key : Key) (p : Progress) → IsOwnKey t id key → InProgress p → InProgress (settle_wanted b moment key p)
   wanted_settled true moment key p own h = originate_or_wait_told moment key p own h
   wanted_settled false moment key p own h = flush_told moment key p h
 
-  own_settled : (moment : ℕ) (lsa : Lsa) (p : Progress) → InProgress p → InProgress (settle_own moment lsa p)
-  own_settled moment lsa p h =
+  own_settled : (moment : ℕ) (lsa : Lsa) (p : Progress) → t.of_lsa lsa → InProgress p → InProgress (settle_own moment lsa p)
+  own_settled moment lsa p so h =
       let wanted : Bool = is_wanted (wanted_body p.router (lsa_key lsa)) in
       chosen InProgress (lsa.header.advertising_router == p.router.id) (settle_wanted wanted moment (lsa_key lsa) p) p
-      (λ is. wanted_settled wanted moment (lsa_key lsa) p (eqb-true lsa.header.advertising_router p.router.id is ∙ h.same) h) (λ is. h)
+      (λ is. wanted_settled wanted moment (lsa_key lsa) p (eqb-true lsa.header.advertising_router p.router.id is ∙ h.same, t.key lsa so) h) (λ is. h)
 
   -- ---- packets
 
-  settled : (case : Case) (moment : ℕ) (lsa : Lsa) (p : Progress) → InProgress p → InProgress (settle case moment lsa p)
-  settled Case.Unreadable moment lsa p h = h
-  settled Case.NothingToFlush moment lsa p h = h
-  settled Case.TooSoon moment lsa p h = h
-  settled Case.Newer moment lsa p h = own_settled moment lsa p h
-  settled Case.BadRequest moment lsa p h = h
-  settled Case.ImpliedAcknowledgment moment lsa p h = h
-  settled Case.Duplicate moment lsa p h = h
-  settled Case.SequenceWraps moment lsa p h = h
-  settled Case.SentJustNow moment lsa p h = h
-  settled Case.Older moment lsa p h = h
+  settled : (case : Case) (moment : ℕ) (lsa : Lsa) (p : Progress) → t.of_lsa lsa → InProgress p → InProgress (settle case moment lsa p)
+  settled Case.Unreadable moment lsa p so h = h
+  settled Case.NothingToFlush moment lsa p so h = h
+  settled Case.TooSoon moment lsa p so h = h
+  settled Case.Newer moment lsa p so h = own_settled moment lsa p so h
+  settled Case.BadRequest moment lsa p so h = h
+  settled Case.ImpliedAcknowledgment moment lsa p so h = h
+  settled Case.Duplicate moment lsa p so h = h
+  settled Case.SequenceWraps moment lsa p so h = h
+  settled Case.SentJustNow moment lsa p so h = h
+  settled Case.Older moment lsa p so h = h
 
   lsa_told : (case : Case) (moment number : ℕ) (lsa : Lsa) (p : Progress) → t.of_lsa lsa → InProgress p → InProgress (after_lsa case moment number lsa p)
   lsa_told case moment number lsa p so h =
-      settled case moment lsa (on_area (after_case case moment number lsa) p)
+      settled case moment lsa (on_area (after_case case moment number lsa) p) so
       (on_area_told (after_case case moment number lsa) p (λ a. case_told t case moment number lsa (record { area = p.router.area; sends = p.sends }) so a) h)
 
   unread_told : (moment number : ℕ) (o : Option Lsa) (p : Progress) → IfRead t o → InProgress p → InProgress (after_unread moment number o p)
@@ -194,7 +202,7 @@ module _ (t : Telling) (id : ℕ) (news : (key : Key) (copy : Option DatabaseCop
       (λ is. one_neighbor_told t moment number (adjacencies.mismatched moment) (mismatched_told t moment) o h)
 
   module _ (rules : Rules) (two_way_told : OfTwoWay t rules.two_way)
-      (due_own : (moment : ℕ) (r : Router) → r.id ≡ id → AllIn (IsOwn id) r.announced → AllByRecursion (IsOwnKey id) (rules.due moment r)) where
+      (due_own : (moment : ℕ) (r : Router) → r.id ≡ id → AllIn (IsOwn t id) r.announced → AllByRecursion (IsOwnKey t id) (rules.due moment r)) where
     hello_heard : (own moment number from : ℕ) (hello : Hello) (link : Option Link) (o : Outcome) → OfOwedIfAny t (neighbor_on link) → OfOutcome t o
         → OfOutcome t (heard_on rules.two_way own moment number from hello link o)
     hello_heard own moment number from hello None o here h = h
@@ -247,7 +255,7 @@ module _ (t : Telling) (id : ℕ) (news : (key : Key) (copy : Option DatabaseCop
     exchange_settled moment dead (Some n) h = old_description_told t moment dead n h
 
     each_link : (change : Link → Link) → ((link : Link) → OfLink t link → OfLink t (change link)) → (o : Outcome) → OfOutcome t o → OfOutcome t (on_links (map change) o)
-    each_link change keeps o h = on_links_told t (map change) o (each_link_told t change keeps o.area.links h.links) h
+    each_link change keeps o h = on_links_told t (map change) o (each_link_told t change keeps o.area.links h.links) (length-map o.area.links change) h
 
     run_out_told : (moment : ℕ) (o : Outcome) → OfOutcome t o → OfOutcome t (on_links (map (run_out moment)) o)
     run_out_told moment o h =
@@ -313,20 +321,20 @@ module _ (t : Telling) (id : ℕ) (news : (key : Key) (copy : Option DatabaseCop
     want_ended : (moment : ℕ) (key : Key) (p : Progress) → InProgress p → InProgress (end_want moment key p)
     want_ended moment key p h =
         flush_told moment key (on_router (unannounce key) p)
-        (record { area = h.area; same = h.same; announced = removed_in (IsOwn id) p.router.announced key h.announced })
+        (record { area = h.area; same = h.same; announced = removed_in (IsOwn t id) p.router.announced key h.announced })
 
-    announced_told : (moment : ℕ) (key : Key) (e : External) (p : Progress) → IsOwnKey id key → InProgress p → InProgress (announce_as moment key e p)
+    announced_told : (moment : ℕ) (key : Key) (e : External) (p : Progress) → IsOwnKey t id key → InProgress p → InProgress (announce_as moment key e p)
     announced_told moment key e p own h =
         let q : Progress = on_router (announce key e) p in
-        let so : InProgress q = record { area = h.area; same = h.same; announced = inserted_in (IsOwn id) p.router.announced key e h.announced own } in
+        let so : InProgress q = record { area = h.area; same = h.same; announced = inserted_in (IsOwn t id) p.router.announced key e h.announced own } in
         chosen InProgress (is_announced_as e (finite.get p.router.announced key)) p (originate_anyway moment key q) (λ is. h)
-        (λ is. body_told true moment key (wanted_body q.router key) q own so)
+        (λ is. body_told true moment key (wanted_body q.router key) q own (q.router, so.area.few, refl) so)
 
-    redistributed : (moment : ℕ) (e : External) (tag price : ℕ) (p : Progress) → InProgress p → InProgress (after_redistribute moment e tag price p)
-    redistributed moment e tag price p h =
+    redistributed : (moment : ℕ) (e : External) (tag price : ℕ) (p : Progress) → t.of_key (external_key id e.prefix) → InProgress p → InProgress (after_redistribute moment e tag price p)
+    redistributed moment e tag price p so h =
         let key : Key = external_key p.router.id e.prefix in
         chosen InProgress (nat_le infinity price) (end_want moment key p) (announce_as moment key (answered e tag price) p)
-        (λ is. want_ended moment key p h) (λ is. announced_told moment key (answered e tag price) p h.same h)
+        (λ is. want_ended moment key p h) (λ is. announced_told moment key (answered e tag price) p (h.same, subst (λ (i : ℕ). t.of_key (external_key i e.prefix)) (sym h.same) so) h)
 
     withdrawn : (moment : ℕ) (prefix : Network) (p : Progress) → InProgress p → InProgress (after_withdraw moment prefix p)
     withdrawn moment prefix p h =
@@ -336,14 +344,15 @@ module _ (t : Telling) (id : ℕ) (news : (key : Key) (copy : Option DatabaseCop
     -- what a text brings is so
     own_told : (moment : ℕ) (event : Occurrence) (before after : Progress)
         → ((number : ℕ) (bytes : List ℕ) (packet : Packet) → event ≡ Occurrence.Packet number bytes → PacketText bytes packet → OfBrought t packet.body)
+        → ((tagged : External) (tag : ℕ) (priced : External) (price : ℕ) → event ≡ Occurrence.Redistribute tagged tag priced price → t.of_key (external_key id priced.prefix))
         → OwnPart rules moment event before after → InProgress before → InProgress after
-    own_told moment (Occurrence.Packet number bytes) before after brought is h =
+    own_told moment (Occurrence.Packet number bytes) before after brought redistributes is h =
         subst InProgress (sym is.2) (packet_told moment number is.0 before (brought number bytes is.0 refl is.1) h)
-    own_told moment Occurrence.Tick before after brought is h = subst InProgress (sym is) (tick_told moment before h)
-    own_told moment (Occurrence.Redistribute tagged tag priced price) before after brought is h = subst InProgress (sym is) (redistributed moment priced tag price before h)
-    own_told moment (Occurrence.Withdraw prefix) before after brought is h = subst InProgress (sym is) (withdrawn moment prefix before h)
-    own_told moment (Occurrence.Install answers) before after brought is h = subst InProgress (sym is) (record { area = h.area; same = h.same; announced = h.announced })
-    own_told moment (Occurrence.LinkDown number) before after brought is h =
+    own_told moment Occurrence.Tick before after brought redistributes is h = subst InProgress (sym is) (tick_told moment before h)
+    own_told moment (Occurrence.Redistribute tagged tag priced price) before after brought redistributes is h = subst InProgress (sym is) (redistributed moment priced tag price before (redistributes tagged tag priced price refl) h)
+    own_told moment (Occurrence.Withdraw prefix) before after brought redistributes is h = subst InProgress (sym is) (withdrawn moment prefix before h)
+    own_told moment (Occurrence.Install answers) before after brought redistributes is h = subst InProgress (sym is) (record { area = h.area; same = h.same; announced = h.announced })
+    own_told moment (Occurrence.LinkDown number) before after brought redistributes is h =
         subst InProgress (sym is) (record {
           area = change_told t number taken_down (λ link at. record { neighbor = tt; acknowledgments = at.acknowledgments }) (record { area = before.router.area; sends = before.sends }) h.area;
           same = h.same;
@@ -367,7 +376,7 @@ module _ (t : Telling) (id : ℕ) (news : (key : Key) (copy : Option DatabaseCop
     described : (before : List Link) (moment : ℕ) (p : Progress) → InProgress p → InProgress (describe_router before moment p)
     described before moment p h =
         chosen InProgress (links_differ before p.router.area.links && not (is_said moment p.router)) (originate_or_wait moment (router_key p.router.id) p) p
-        (λ is. originate_or_wait_told moment (router_key p.router.id) p h.same h) (λ is. h)
+        (λ is. originate_or_wait_told moment (router_key p.router.id) p (h.same, subst (λ (i : ℕ). t.of_key (router_key i)) (sym h.same) router_told) h) (λ is. h)
 
     described_later : (before : List Link) (p : Progress) → InProgress p → InProgress (describe_router_later before p)
     described_later before p h =
@@ -398,6 +407,7 @@ module _ (t : Telling) (id : ℕ) (news : (key : Key) (copy : Option DatabaseCop
 
     pub event_told : (old : Router) (moment : ℕ) (event : Occurrence) (after : Progress)
         → ((number : ℕ) (bytes : List ℕ) (packet : Packet) → event ≡ Occurrence.Packet number bytes → PacketText bytes packet → OfBrought t packet.body)
-        → OwnPart rules moment event (begun moment old) after → OfArea t old.area [] → old.id ≡ id → AllIn (IsOwn id) old.announced → InProgress (finished old moment after)
-    event_told old moment event after brought own held same announced =
-        finished_told old moment after (own_told moment event (begun moment old) after brought own (begun_told moment old held same announced))
+        → ((tagged : External) (tag : ℕ) (priced : External) (price : ℕ) → event ≡ Occurrence.Redistribute tagged tag priced price → t.of_key (external_key id priced.prefix))
+        → OwnPart rules moment event (begun moment old) after → OfArea t old.area [] → old.id ≡ id → AllIn (IsOwn t id) old.announced → InProgress (finished old moment after)
+    event_told old moment event after brought redistributes own held same announced =
+        finished_told old moment after (own_told moment event (begun moment old) after brought redistributes own (begun_told moment old held same announced))

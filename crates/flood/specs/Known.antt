@@ -5,8 +5,12 @@ use Rattle.std.specs.FinMap as finite
 use Rattle.std.specs.List.{AllByRecursion, Contains, flat_map}
 use Rattle.words.specs.declared.key.Key.{Key}
 use Rattle.words.specs.declared.route.External.{External}
-use Rattle.lsa.specs.declared.body.Body.{Body}
+use Rattle.lsa.specs.Text.{text}
+use Rattle.lsa.specs.declared.body.Body.{Body as LsaBody}
 use Rattle.lsdb.specs.Copies.{DatabaseCopy}
+use Rattle.lsdb.specs.Headers.{Lsa}
+use Rattle.packet.specs.declared.model.Body.{Body}
+use Rattle.packet.specs.declared.model.Body.TheVariants as packets
 use Rattle.adjacency.specs.Contents.{Content}
 use Rattle.received.specs.Outcomes.{Send}
 use Rattle.flood.specs.declared.model.Config.{Config}
@@ -14,7 +18,7 @@ use Rattle.flood.specs.declared.model.Out.{Out}
 use Rattle.flood.specs.Events.{Happens, HappensBy, Run, Step, hellos_alone, initial}
 use Rattle.flood.specs.Names.{Name, lsa_name, name_of}
 use Rattle.flood.specs.Originations.{new_instance}
-use Rattle.flood.specs.Packing.{outs_of}
+use Rattle.flood.specs.Packing.{out_of}
 use Rattle.flood.specs.Routers.{Occurrence, Router}
 use Rattle.flood.specs.Worlds.{IsKnown, names_held}
 
@@ -22,7 +26,7 @@ use Rattle.flood.specs.Worlds.{IsKnown, names_held}
 pub record IsNewInstance (id : ℕ) (name : Name) : Type 0 where
   pub key : Key
   pub copy : Option DatabaseCopy
-  pub says : Body
+  pub says : LsaBody
   pub own : key.advertising_router ≡ id
   pub is : lsa_name (new_instance key copy says) ≡ name
 
@@ -40,6 +44,27 @@ names_in_send s = names_in_content s.content
 abbrev pub names_in_sends : List Send → List Name
 names_in_sends sends = flat_map names_in_send sends
 
+-- an LSA's text, its name one of which this holds
+pub record IsTextOf (K : Name → Type 0) (bytes : List ℕ) : Type 0 where
+  pub lsa : Lsa
+  pub is : bytes ≡ text lsa
+  pub known : K (lsa_name lsa)
+
+-- what an Update or an Acknowledgment bears
+abbrev pub Bears : (Name → Type 0) → Body → Type 0
+Bears K (packets.Hello h) = Unit {0}
+Bears K (packets.Description d) = Unit {0}
+Bears K (packets.Request keys) = Unit {0}
+Bears K (packets.Update lsas) = AllByRecursion (IsTextOf K) lsas
+Bears K (packets.Acknowledgment headers) = AllByRecursion (λ h. K (name_of h)) headers
+
+-- the canonical text of a packet of this router
+pub record IsOutOf (K : Name → Type 0) (own : ℕ) (out : Out) : Type 0 where
+  pub number : ℕ
+  pub says : Body
+  pub is : out ≡ out_of own number says
+  pub bears : Bears K says
+
 -- a router announces under its own Router ID alone
 abbrev pub AnnouncesItsOwn : Router → Type 0
 AnnouncesItsOwn r = (key : Key) (e : External) → finite.get r.announced key ≡ Some e → key.advertising_router ≡ r.id
@@ -51,10 +76,7 @@ pub record HoldsWhatIsKnown (old : Router) (event : Occurrence) (outs : List Out
   pub same_router : new.id ≡ old.id
   pub own : (name : Name) → Contains originated name → name.key.advertising_router ≡ old.id
   pub held : (name : Name) → Contains (names_held new) name → IsKnown old event originated name
-  -- what is packed and sent
-  pub sends : List Send
-  pub packed : outs ≡ outs_of old.id old.area.links sends
-  pub told : (name : Name) → Contains (names_in_sends sends) name → IsKnown old event originated name
+  pub sent : (out : Out) → Contains outs out → IsOutOf (IsKnown old event originated) old.id out
 
 pub record EventsHoldOnlyWhatIsKnown : Type 0 where
   -- at the start

@@ -60,8 +60,9 @@ pub fn what_is_taken_off_was_told()
 {}
 
 /// Each event keeps the Router ID. Each instance in the database, on the retransmission lists and among the delayed acknowledgments that it
-/// leaves, and each that is in what it sends, was held before, came in the event's Update, or is a new one of the router's own LSAs; also
-/// where the Hello protocol alone is run. It asks that the router announces under its own Router ID alone, which holds in every run.
+/// leaves, and each that an Update or an Acknowledgment bears that it sends, was held before, came in the event's Update, or is a new one of
+/// the router's own LSAs; also where the Hello protocol alone is run. It asks that the router announces under its own Router ID alone, which
+/// holds in every run.
 pub fn events_hold_only_what_is_known()
     ensures { EventsHoldOnlyWhatIsKnown }
 {}

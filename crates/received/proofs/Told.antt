@@ -1,6 +1,6 @@
 -- What holds of all that is held and told, through what is sent, steps of the neighbors, flooding and a received LSA: of the copies of the
 -- database, of what each neighbor is still to acknowledge, of the acknowledgments that wait, and of what is sent.
-use Rattle.std.proofs.Common.{ℕ, zero, suc, ◌+◌, ◌==◌, cond, List, [], ◌∷◌, ◌++◌, map, Option, None, Some}
+use Rattle.std.proofs.Common.{◌≡◌, ℕ, zero, suc, ◌+◌, ◌==◌, cond, List, [], ◌∷◌, ◌++◌, map, length, Option, None, Some, ◌∙◌}
 use Rattle.std.specs.Prelude.{slice_get}
 use Rattle.std.specs.FinMap as finite
 use Rattle.std.specs.List.{AllByRecursion, enumerate_from, flat_map, fold}
@@ -20,6 +20,7 @@ use Rattle.received.specs.Flooding.{flood, flood_to, gets, meets, request_of, wi
 use Rattle.received.specs.Links.{Area, Link, acknowledge_later, change_link, link_at, neighbor_on}
 use Rattle.received.specs.Outcomes.{Outcome, Send, Stepping, each_neighbor, marked, numbered, on_database, on_links, one_neighbor, only_at, sending, sent_on, step_on, stepped}
 use Rattle.received.specs.Updates.{acknowledge_at_once, after_case, copy_of, install, send_copy}
+use Rattle.received.proofs.Roomy.{same_number}
 
 -- ---- of what is held and told
 
@@ -40,6 +41,7 @@ OfLinks t links = AllByRecursion (OfLink t) links
 pub record OfArea (t : Telling) (a : Area) (sends : List Send) : Type 0 where
   pub copies : OfCopies t a.database
   pub links : OfLinks t a.links
+  pub few : length a.links ≡ t.count
   pub sent : AllByRecursion (OfSend t) sends
 
 abbrev pub OfOutcome : Telling → Outcome → Type 0
@@ -86,16 +88,18 @@ module _ (t : Telling) where
   sending_told moment more o so h = record {
     copies = all_marked moment more o.area.database h.copies;
     links = h.links;
+    few = h.few;
     sent = joined (OfSend t) o.sends more h.sent so;
   }
 
   -- ---- links and the database
 
-  pub on_links_told : (f : List Link → List Link) (o : Outcome) → OfLinks t (f o.area.links) → OfOutcome t o → OfOutcome t (on_links f o)
-  on_links_told f o links h = record { copies = h.copies; links = links; sent = h.sent }
+  pub on_links_told : (f : List Link → List Link) (o : Outcome) → OfLinks t (f o.area.links) → length (f o.area.links) ≡ length o.area.links
+      → OfOutcome t o → OfOutcome t (on_links f o)
+  on_links_told f o links same h = record { copies = h.copies; links = links; few = same ∙ h.few; sent = h.sent }
 
   pub on_database_told : (f : Database → Database) (o : Outcome) → OfCopies t (f o.area.database) → OfOutcome t o → OfOutcome t (on_database f o)
-  on_database_told f o copies h = record { copies = copies; links = h.links; sent = h.sent }
+  on_database_told f o copies h = record { copies = copies; links = h.links; few = h.few; sent = h.sent }
 
   -- a change of every link, by its number
   links_told : (g : (ℕ × Link) → Link) → ((number : ℕ) (link : Link) → OfLink t link → OfLink t (g (number, link)))
@@ -112,7 +116,8 @@ module _ (t : Telling) where
   change_told number change keeps o h =
       on_links_told (change_link number change) o
       (links_told (λ (e : ℕ × Link). cond (e.0 == number) (change e.1) e.1)
-      (λ k link at. chosen (OfLink t) (k == number) (change link) link (λ is. keeps link at) (λ is. at)) 1 o.area.links h.links) h
+      (λ k link at. chosen (OfLink t) (k == number) (change link) link (λ is. keeps link at) (λ is. at)) 1 o.area.links h.links)
+      (same_number (λ (e : ℕ × Link). cond (e.0 == number) (change e.1) e.1) o.area.links) h
 
   place_told : (xs : List Link) (i : ℕ) → OfLinks t xs → OfOwedIfAny t (neighbor_on (slice_get xs i))
   place_told [] i h = tt
@@ -150,7 +155,8 @@ module _ (t : Telling) where
       sending_told moment _ (on_links (stepped f) o) (steps_told f keeps 1 o.area.links h.links)
       (on_links_told (stepped f) o
       (links_told (λ (e : ℕ × Link). record e.1 { neighbor = step_on (f e.0 e.1) e.1.neighbor })
-      (λ k link at. record { neighbor = step_told (f k link) (keeps k link) link.neighbor at.neighbor; acknowledgments = at.acknowledgments }) 1 o.area.links h.links) h)
+      (λ k link at. record { neighbor = step_told (f k link) (keeps k link) link.neighbor at.neighbor; acknowledgments = at.acknowledgments }) 1 o.area.links h.links)
+      (same_number (λ (e : ℕ × Link). record e.1 { neighbor = step_on (f e.0 e.1) e.1.neighbor }) o.area.links) h)
 
   pub one_neighbor_told : (moment number : ℕ) (f : Neighbor → Step) → ((n : Neighbor) → OfOwed t n → OfStep t (f n))
       → (o : Outcome) → OfOutcome t o → OfOutcome t (one_neighbor moment number f o)
