@@ -10,6 +10,8 @@ pub mod Taken
 pub mod Told
 pub mod Packed
 pub mod Known
+pub mod Read
+pub mod Lawful
 pub mod Worlds
 pub mod Invariants
 pub mod Always

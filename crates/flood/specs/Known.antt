@@ -1,10 +1,11 @@
 -- What an event leaves in a router and what it sends: instances that were held before, came in the event's Update, or are new ones of the
 -- router's own LSAs.
-use Rattle.std.specs.Prelude.{◌≡◌, ℕ, List, [], ◌∷◌, Option, Some}
+use Rattle.std.specs.Prelude.{◌≡◌, ℕ, List, [], ◌∷◌, map, Option, Some}
 use Rattle.std.specs.FinMap as finite
 use Rattle.std.specs.List.{AllByRecursion, Contains, flat_map}
 use Rattle.words.specs.declared.key.Key.{Key}
 use Rattle.words.specs.declared.route.External.{External}
+use Rattle.lsa.specs.Headers.{IsHeader}
 use Rattle.lsa.specs.Text.{text}
 use Rattle.lsa.specs.declared.body.Body.{Body as LsaBody}
 use Rattle.lsdb.specs.Copies.{DatabaseCopy}
@@ -16,7 +17,7 @@ use Rattle.received.specs.Outcomes.{Send}
 use Rattle.flood.specs.declared.model.Config.{Config}
 use Rattle.flood.specs.declared.model.Out.{Out}
 use Rattle.flood.specs.Events.{Happens, HappensBy, Run, Step, hellos_alone, initial}
-use Rattle.flood.specs.Names.{Name, lsa_name, name_of}
+use Rattle.flood.specs.Names.{Name, lsa_name, name_of, names_in_update}
 use Rattle.flood.specs.Originations.{new_instance}
 use Rattle.flood.specs.Packing.{out_of}
 use Rattle.flood.specs.Routers.{Occurrence, Router}
@@ -88,3 +89,8 @@ pub record EventsHoldOnlyWhatIsKnown : Type 0 where
       → HappensBy hellos_alone old moment event outs new → AnnouncesItsOwn old → AnnouncesItsOwn new × HoldsWhatIsKnown old event outs new
   -- so after every run from the start, whatever happens in it
   pub run : (c : Config) (steps : List Step) (new : Router) → Run (initial c) steps new → AnnouncesItsOwn new
+
+-- an Update of the texts of LSAs whose headers' numbers are in their ranges names none but those LSAs
+abbrev pub UpdatesTellWhatTheyBear : Type 0
+UpdatesTellWhatTheyBear = (lsas : List Lsa) → AllByRecursion (λ l. IsHeader l.header) lsas
+    → (name : Name) → Contains (names_in_update (map (λ l. text l) lsas)) name → Contains (map lsa_name lsas) name

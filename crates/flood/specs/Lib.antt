@@ -17,6 +17,7 @@ pub mod Names
 pub mod Taken
 pub mod Worlds
 pub mod Known
+pub mod Lawful
 pub mod Worked
 pub mod WorkedUpdates
 pub mod WorkedAnswers
