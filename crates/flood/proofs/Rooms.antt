@@ -26,15 +26,15 @@ use Rattle.flood.proofs.Packings.{by_interface, headers_fit, ordered, packs, put
 
 -- ---- lists
 
-both : {X : Type 0} (P : X → Type 0) (xs ys : List X) → AllByRecursion P xs → AllByRecursion P ys → AllByRecursion P (xs ++ ys)
+pub both : {X : Type 0} (P : X → Type 0) (xs ys : List X) → AllByRecursion P xs → AllByRecursion P ys → AllByRecursion P (xs ++ ys)
 both P [] ys p q = q
 both P (x ∷ xs) ys p q = (p.0, both P xs ys p.1 q)
 
-order_all : {X : Type 0} (key : X → Key) (P : X → Type 0) (xs : List X) → AllByRecursion P xs → AllByRecursion P (in_key_order key xs)
+pub order_all : {X : Type 0} (key : X → Key) (P : X → Type 0) (xs : List X) → AllByRecursion P xs → AllByRecursion P (in_key_order key xs)
 order_all key P [] p = tt
 order_all key P (x ∷ xs) p = put_all key P x (in_key_order key xs) p.0 (order_all key P xs p.1)
 
-mapped_all : {X Y : Type 0} (f : X → Y) (P : X → Type 0) (Q : Y → Type 0) → ((x : X) → P x → Q (f x)) → (xs : List X) → AllByRecursion P xs → AllByRecursion Q (map f xs)
+pub mapped_all : {X Y : Type 0} (f : X → Y) (P : X → Type 0) (Q : Y → Type 0) → ((x : X) → P x → Q (f x)) → (xs : List X) → AllByRecursion P xs → AllByRecursion Q (map f xs)
 mapped_all f P Q each [] p = tt
 mapped_all f P Q each (x ∷ xs) p = (each x p.0, mapped_all f P Q each xs p.1)
 
@@ -57,7 +57,7 @@ filled_all size start P (x ∷ xs) taken used t p =
     by_test true one other = one
     by_test false one other = (t, other)
 
-packed_all : {X : Type 0} (size : X → ℕ) (start : ℕ) (P : X → Type 0) (xs : List X) → AllByRecursion P xs → AllByRecursion (λ p. AllByRecursion P p) (packed size start xs)
+pub packed_all : {X : Type 0} (size : X → ℕ) (start : ℕ) (P : X → Type 0) (xs : List X) → AllByRecursion P xs → AllByRecursion (λ p. AllByRecursion P p) (packed size start xs)
 packed_all size start P [] p = tt
 packed_all size start P (x ∷ xs) p = filled_all size start P xs (x ∷ []) (start + size x) (p.0, tt) p.1
 

@@ -18,7 +18,7 @@ use Rattle.flood.proofs.Taken.{taken_was_told}
 nowhere : {X : Type 0} (x : X) {A : Type 0} → Contains [] x → A
 nowhere x c = absurd (omega (arith, c.1))
 
-one_more : {X : Type 0} (y : X) (ys : List X) (x : X) → Contains ys x → Contains (y ∷ ys) x
+pub one_more : {X : Type 0} (y : X) (ys : List X) (x : X) → Contains ys x → Contains (y ∷ ys) x
 one_more y ys x c =
     let lt : suc c.0 < suc (length ys) = omega (arith, c.1) in
     (suc c.0, lt, c.2)

@@ -16,6 +16,8 @@ pub mod RoomLaws
 pub mod Names
 pub mod Taken
 pub mod Worlds
+pub mod Known
+pub mod Lawful
 pub mod Worked
 pub mod WorkedUpdates
 pub mod WorkedAnswers

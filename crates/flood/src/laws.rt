@@ -1,5 +1,7 @@
 //! Laws of events, each carried by a function with an empty body.
 ghost use Rattle.flood.specs.Laws.{EventsAreDetermined, HellosAloneAreTheHelloProtocol};
+ghost use Rattle.flood.specs.Known.{EventsHoldOnlyWhatIsKnown, UpdatesTellWhatTheyBear};
+ghost use Rattle.flood.specs.Lawful.{TextsAreLawful};
 ghost use Rattle.flood.specs.NeighborLaws.{FullNeighborsRequestNothing, ListsAreSound};
 ghost use Rattle.flood.specs.PackingLaws.{OutsAreOrderedAndPacked};
 ghost use Rattle.flood.specs.RoomLaws.{EveryPacketHasRoom};
@@ -56,6 +58,26 @@ pub fn every_packet_has_room()
 /// the packet tells, by key, sequence number and checksum (RFC 2328, sections 13 and 13.7).
 pub fn what_is_taken_off_was_told()
     ensures { WhatIsTakenOffWasTold }
+{}
+
+/// Each event keeps the Router ID. Each instance in the database, on the retransmission lists and among the delayed acknowledgments that it
+/// leaves, and each that an Update or an Acknowledgment bears that it sends, was held before, came in the event's Update, or is a new one of
+/// the router's own LSAs; also where the Hello protocol alone is run. It asks that the router announces under its own Router ID alone, which
+/// holds in every run.
+pub fn events_hold_only_what_is_known()
+    ensures { EventsHoldOnlyWhatIsKnown }
+{}
+
+/// An Update of the texts of LSAs whose headers' numbers are in their ranges names none but those LSAs: a text that is read is read with the
+/// key, the sequence number and the checksum that were written.
+pub fn updates_tell_what_they_bear()
+    ensures { UpdatesTellWhatTheyBear }
+{}
+
+/// The canonical text of an Update of LSAs' texts, and of an Acknowledgment, is a text of that packet, where the headers' numbers are in
+/// their ranges, each LSA's length is that of its text, and there are at most 8,192 bytes.
+pub fn texts_are_lawful()
+    ensures { TextsAreLawful }
 {}
 
 /// Over every history of routers whose steps keep what `Keeps` says, whatever is lost, repeated or late and whoever begins anew: what a

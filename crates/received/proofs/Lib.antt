@@ -2,3 +2,4 @@ pub mod Flooded
 pub mod Firsts
 pub mod Holding
 pub mod Roomy
+pub mod Told

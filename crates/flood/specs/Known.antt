@@ -1,0 +1,96 @@
+-- What an event leaves in a router and what it sends: instances that were held before, came in the event's Update, or are new ones of the
+-- router's own LSAs.
+use Rattle.std.specs.Prelude.{◌≡◌, ℕ, List, [], ◌∷◌, map, Option, Some}
+use Rattle.std.specs.FinMap as finite
+use Rattle.std.specs.List.{AllByRecursion, Contains, flat_map}
+use Rattle.words.specs.declared.key.Key.{Key}
+use Rattle.words.specs.declared.route.External.{External}
+use Rattle.lsa.specs.Headers.{IsHeader}
+use Rattle.lsa.specs.Text.{text}
+use Rattle.lsa.specs.declared.body.Body.{Body as LsaBody}
+use Rattle.lsdb.specs.Copies.{DatabaseCopy}
+use Rattle.lsdb.specs.Headers.{Lsa}
+use Rattle.packet.specs.declared.model.Body.{Body}
+use Rattle.packet.specs.declared.model.Body.TheVariants as packets
+use Rattle.adjacency.specs.Contents.{Content}
+use Rattle.received.specs.Outcomes.{Send}
+use Rattle.flood.specs.declared.model.Config.{Config}
+use Rattle.flood.specs.declared.model.Out.{Out}
+use Rattle.flood.specs.Events.{Happens, HappensBy, Run, Step, hellos_alone, initial}
+use Rattle.flood.specs.Names.{Name, lsa_name, name_of, names_in_update}
+use Rattle.flood.specs.Originations.{new_instance}
+use Rattle.flood.specs.Packing.{out_of}
+use Rattle.flood.specs.Routers.{Occurrence, Router}
+use Rattle.flood.specs.Worlds.{IsKnown, names_held}
+
+-- a new instance of an LSA whose Advertising Router is this one
+pub record IsNewInstance (id : ℕ) (name : Name) : Type 0 where
+  pub key : Key
+  pub copy : Option DatabaseCopy
+  pub says : LsaBody
+  pub own : key.advertising_router ≡ id
+  pub is : lsa_name (new_instance key copy says) ≡ name
+
+-- the instances that an Update or an Acknowledgment is to name
+abbrev pub names_in_content : Content → List Name
+names_in_content (Content.Greets hello) = []
+names_in_content (Content.Describes d) = []
+names_in_content (Content.Requests keys) = []
+names_in_content (Content.Updates lsa) = lsa_name lsa ∷ []
+names_in_content (Content.Acknowledges header) = name_of header ∷ []
+
+abbrev pub names_in_send : Send → List Name
+names_in_send s = names_in_content s.content
+
+abbrev pub names_in_sends : List Send → List Name
+names_in_sends sends = flat_map names_in_send sends
+
+-- an LSA's text, its name one of which this holds
+pub record IsTextOf (K : Name → Type 0) (bytes : List ℕ) : Type 0 where
+  pub lsa : Lsa
+  pub is : bytes ≡ text lsa
+  pub known : K (lsa_name lsa)
+
+-- what an Update or an Acknowledgment bears
+abbrev pub Bears : (Name → Type 0) → Body → Type 0
+Bears K (packets.Hello h) = Unit {0}
+Bears K (packets.Description d) = Unit {0}
+Bears K (packets.Request keys) = Unit {0}
+Bears K (packets.Update lsas) = AllByRecursion (IsTextOf K) lsas
+Bears K (packets.Acknowledgment headers) = AllByRecursion (λ h. K (name_of h)) headers
+
+-- the canonical text of a packet of this router
+pub record IsOutOf (K : Name → Type 0) (own : ℕ) (out : Out) : Type 0 where
+  pub number : ℕ
+  pub says : Body
+  pub is : out ≡ out_of own number says
+  pub bears : Bears K says
+
+-- a router announces under its own Router ID alone
+abbrev pub AnnouncesItsOwn : Router → Type 0
+AnnouncesItsOwn r = (key : Key) (e : External) → finite.get r.announced key ≡ Some e → key.advertising_router ≡ r.id
+
+pub record HoldsWhatIsKnown (old : Router) (event : Occurrence) (outs : List Out) (new : Router) : Type 0 where
+  -- what the event originates
+  pub originated : List Name
+  pub new_instances : AllByRecursion (IsNewInstance old.id) originated
+  pub same_router : new.id ≡ old.id
+  pub own : (name : Name) → Contains originated name → name.key.advertising_router ≡ old.id
+  pub held : (name : Name) → Contains (names_held new) name → IsKnown old event originated name
+  pub sent : (out : Out) → Contains outs out → IsOutOf (IsKnown old event originated) old.id out
+
+pub record EventsHoldOnlyWhatIsKnown : Type 0 where
+  -- at the start
+  pub first : (c : Config) → AnnouncesItsOwn (initial c)
+  -- each event, also where the Hello protocol alone is run
+  pub event : (old : Router) (moment : ℕ) (event : Occurrence) (outs : List Out) (new : Router)
+      → Happens old moment event outs new → AnnouncesItsOwn old → AnnouncesItsOwn new × HoldsWhatIsKnown old event outs new
+  pub hello_event : (old : Router) (moment : ℕ) (event : Occurrence) (outs : List Out) (new : Router)
+      → HappensBy hellos_alone old moment event outs new → AnnouncesItsOwn old → AnnouncesItsOwn new × HoldsWhatIsKnown old event outs new
+  -- so after every run from the start, whatever happens in it
+  pub run : (c : Config) (steps : List Step) (new : Router) → Run (initial c) steps new → AnnouncesItsOwn new
+
+-- an Update of the texts of LSAs whose headers' numbers are in their ranges names none but those LSAs
+abbrev pub UpdatesTellWhatTheyBear : Type 0
+UpdatesTellWhatTheyBear = (lsas : List Lsa) → AllByRecursion (λ l. IsHeader l.header) lsas
+    → (name : Name) → Contains (names_in_update (map (λ l. text l) lsas)) name → Contains (map lsa_name lsas) name

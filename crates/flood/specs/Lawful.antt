@@ -1,0 +1,19 @@
+-- Which canonical texts are texts of packets.
+use Rattle.std.specs.Prelude.{◌≤◌, ◌<◌, ◌^◌, ℕ, List, length, map}
+use Rattle.std.specs.List.{AllByRecursion}
+use Rattle.lsa.specs.Headers.{IsHeader}
+use Rattle.lsa.specs.Text.{text}
+use Rattle.lsdb.specs.Headers.{Header, Lsa}
+use Rattle.packet.specs.declared.model.Body.TheVariants as body
+use Rattle.packet.specs.Text.{PacketText, canonical}
+use Rattle.adjacency.specs.Rooms.{Fits}
+use Rattle.flood.specs.Packing.{packet_of}
+
+-- of so few bytes, with the headers' numbers in their ranges and each LSA's length that of its text
+pub record TextsAreLawful : Type 0 where
+  pub update : (own : ℕ) (lsas : List Lsa) → own < 2 ^ 32 → AllByRecursion (λ l. IsHeader l.header × Fits l) lsas
+      → length (canonical (packet_of own (body.Update (map (λ l. text l) lsas)))) ≤ 8192
+      → PacketText (canonical (packet_of own (body.Update (map (λ l. text l) lsas)))) (packet_of own (body.Update (map (λ l. text l) lsas)))
+  pub acknowledgment : (own : ℕ) (headers : List Header) → own < 2 ^ 32 → AllByRecursion IsHeader headers
+      → length (canonical (packet_of own (body.Acknowledgment headers))) ≤ 8192
+      → PacketText (canonical (packet_of own (body.Acknowledgment headers))) (packet_of own (body.Acknowledgment headers))
