@@ -1,4 +1,5 @@
 pub mod Label
+pub mod Stacks
 pub mod State
 pub mod Memory
 pub mod Input

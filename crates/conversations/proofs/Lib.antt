@@ -1,0 +1,9 @@
+pub mod Worked
+pub mod WorkedAged
+pub mod WorkedOwn
+pub mod WorkedFlush
+pub mod WorkedTicks
+pub mod WorkedAdjacency
+pub mod WorkedExchange
+pub mod WorkedRun
+pub mod WorkedHello

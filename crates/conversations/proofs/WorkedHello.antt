@@ -1,0 +1,103 @@
+-- A Hello of a new neighbor begins an adjacency, at any of the interfaces.
+use Rattle.std.proofs.Common.{◌≡◌, ℕ, zero, suc, ◌+◌, ◌%◌, ◌^◌, ◌==◌, Bool, true, false, cond, ◌&&◌, ◌||◌, List, [], ◌∷◌, ◌++◌, map, None, Some, refl, sym, ap, subst, ◌∙◌, arith, slice_get}
+use Rattle.std.specs.List.{enumerate_from, flat_map}
+use Rattle.std.proofs.lemmas.Bool.{eqb-true}
+use Rattle.lsa.specs.declared.body.Body.TheVariants as lsa
+use Rattle.lsa.specs.declared.body.Link.{Link as RouterLink}
+use Rattle.lsa.specs.declared.body.LinkKind.TheVariants.{PointToPoint}
+use Rattle.packet.specs.declared.model.Body.TheVariants as body
+use Rattle.packet.specs.declared.model.Packet.{Packet}
+use Rattle.packet.proofs.Whole.{one_packet}
+use Rattle.adjacency.specs.Adjacencies as adjacencies
+use Rattle.adjacency.specs.Adjacencies.{named, opening, restart}
+use Rattle.adjacency.specs.Contents.{Content}
+use Rattle.adjacency.specs.Neighbors.{Neighbor, fresh, is_full, is_synchronizing}
+use Rattle.received.specs.Links.{Link, anybody_synchronizes, change_link, link_at, neighbor_at, neighbor_on, synchronizes}
+use Rattle.flood.specs.Endings.{begun, finished}
+use Rattle.flood.specs.Originations.{links_of, point_to_point, router_body, stub}
+use Rattle.flood.specs.Packets.{after_hello, after_packet, hear, heard_on, is_from, with_neighbor}
+use Rattle.flood.specs.Packing.{outs_of}
+use Rattle.flood.specs.Progress.{Progress, on_area}
+use Rattle.flood.specs.Routers.{shown, shown_at}
+use Rattle.conversations.specs.WorkedHello.{ANeighborIsHeard}
+use Rattle.flood.proofs.WorkedEnds.{begins, ended, ends_by}
+use Rattle.flood.proofs.WorkedLinks.{link_changed}
+use Rattle.flood.proofs.WorkedUpdates.{itself, start}
+
+-- a neighbor that is neither Full nor in Exchange or Loading comes to a link where nobody was
+module _ (number : ℕ) (n : Neighbor) (not_full : is_full n.state ≡ false) (not_busy : is_synchronizing n.state ≡ false) where
+  abbrev changed : (ℕ × Link) → Link
+  changed e = cond (e.0 == number) (with_neighbor n e.1) e.1
+
+  -- nobody is at the link of this number
+  IsFree : ℕ → List Link → Type 0
+  IsFree k xs = (i : ℕ) (x : Link) → slice_get xs i ≡ Some x → (k + i == number) ≡ true → x.neighbor ≡ None
+
+  free_on : (k : ℕ) (x : Link) (xs : List Link) → IsFree k (x ∷ xs) → IsFree (k + 1) xs
+  unfolding IsFree
+  free_on k x xs free i y e is =
+      let place : k + 1 + i ≡ k + suc i = omega arith in
+      free (suc i) y e (subst (λ j. (j == number) ≡ true) place is)
+
+  free_here : (k : ℕ) (x : Link) (xs : List Link) → IsFree k (x ∷ xs) → (k == number) ≡ true → x.neighbor ≡ None
+  unfolding IsFree
+  free_here k x xs free is =
+      let place : k ≡ k + 0 = omega arith in
+      free zero x refl (subst (λ j. (j == number) ≡ true) place is)
+
+  same_links : (b : Bool) (x : Link) → (b ≡ true → x.neighbor ≡ None) → links_of (cond b (with_neighbor n x) x) ≡ links_of x
+  same_links true x none =
+      let told : List RouterLink = record { link_id = n.router; link_data = x.interface.address; kind = PointToPoint; metric = x.interface.cost; tos = [] } ∷ [] in
+      ap (λ b. cond b told [] ++ stub x.interface ∷ []) not_full ∙ ap (λ o. point_to_point x.interface o ++ stub x.interface ∷ []) (sym (none refl))
+  same_links false x none = refl
+
+  same_busy : (b : Bool) (x : Link) → (b ≡ true → x.neighbor ≡ None) → synchronizes (cond b (with_neighbor n x) x).neighbor ≡ synchronizes x.neighbor
+  same_busy true x none = not_busy ∙ ap synchronizes (sym (none refl))
+  same_busy false x none = refl
+
+  all_links : (k : ℕ) (xs : List Link) → IsFree k xs → flat_map links_of (map changed (enumerate_from k xs)) ≡ flat_map links_of xs
+  all_links k [] free = refl
+  all_links k (x ∷ xs) free = λ i. same_links (k == number) x (free_here k x xs free) i ++ all_links (k + 1) xs (free_on k x xs free) i
+
+  all_busy : (k : ℕ) (xs : List Link) → IsFree k xs → anybody_synchronizes (map changed (enumerate_from k xs)) ≡ anybody_synchronizes xs
+  all_busy k [] free = refl
+  all_busy k (x ∷ xs) free = λ i. same_busy (k == number) x (free_here k x xs free) i || all_busy (k + 1) xs (free_on k x xs free) i
+
+  free_from : (xs : List Link) (link : Link) → link_at number xs ≡ Some link → link.neighbor ≡ None → IsFree 1 xs
+  unfolding IsFree
+  free_from xs link there none i x e is =
+      let place : number ≡ suc i = omega (arith, eqb-true (1 + i) number is) in
+      let found : link_at (suc i) xs ≡ Some link = subst (λ j. link_at j xs ≡ Some link) place there in
+      let same : Some x ≡ Some link = sym e ∙ found in
+      ap neighbor_on same ∙ none
+
+abbrev opener : ℕ → ℕ → Neighbor
+opener moment from = (restart moment (fresh from None moment)).neighbor
+
+pub is_heard_of : ANeighborIsHeard
+is_heard_of old new number link moment from bytes h outs rest there none hello event =
+    let packet : Packet = record { router = from; body = body.Hello h } in
+    let n : Neighbor = opener moment from in
+    let xs : List Link = change_link number (with_neighbor n) old.area.links in
+    let p : Progress = record {
+      router = record old { area = record old.area { links = xs } };
+      sends = record { number = number; content = Content.Describes (opening (moment % 2 ^ 32)) } ∷ [];
+    } in
+    let own : event.after ≡ p =
+    event.own.2
+    ∙ ap (λ q. after_packet named moment number q (begun moment old)) (one_packet bytes event.own.0 packet event.own.1 hello.is_text)
+    ∙ ap (after_packet named moment number packet) (begins moment old rest.nothing_ages)
+    ∙ (λ i. cond (hello.is_other i && (true || is_from from (neighbor_at number old.area.links))) (on_area (after_hello named old.id moment number from h) (start old)) (start old))
+    ∙ ap (λ o. on_area (heard_on named old.id moment number from h o) (start old)) there
+    ∙ (λ i. on_area (heard_on named old.id moment number from h (Some (record link { neighbor = none i }))) (start old))
+    ∙ (λ i. on_area (λ o. cond (hello.is_accepted i) (hear moment number (adjacencies.after_hello named moment from (hello.is_naming i) None) o) o) (start old)) in
+    let free : IsFree number n refl refl 1 old.area.links = free_from number n refl refl old.area.links link there none in
+    let links : flat_map links_of old.area.links ≡ flat_map links_of xs = sym (all_links number n refl refl 1 old.area.links free) in
+    let body_same : router_body old.area.links ≡ router_body xs = λ i. lsa.Router (record { flags = 2; links = links i }) in
+    let still : anybody_synchronizes xs ≡ false = all_busy number n refl refl 1 old.area.links free ∙ rest.nobody in
+    let end : finished old moment event.after ≡ ended moment p = ap (finished old moment) own ∙ ends_by old moment p body_same still in
+    let here : link_at number xs ≡ Some (cond (number == number) (with_neighbor n link) link) =
+    link_changed (λ (e : ℕ × Link). cond (e.0 == number) (with_neighbor n e.1) e.1) number old.area.links link there in (
+      ap (λ s. shown_at s number) (event.router ∙ ap (λ (q : Progress). q.router) end) ∙ ap (λ o. shown (neighbor_on o)) here ∙ (λ i. shown (cond (itself number i) (with_neighbor n link) link).neighbor),
+      event.sent ∙ ap (λ (q : Progress). outs_of old.id old.area.links q.sends) end,
+    )

@@ -1,0 +1,73 @@
+-- Worked events of a router with one interface: the exchange of Database Descriptions as the slave (RFC 2328, sections 10.6, 10.8 and 10.9).
+use Rattle.std.specs.Prelude.{◌≡◌, ℕ, ◌==◌, true, false, nat_lt, List, [], ◌∷◌, map, take, Some}
+use Rattle.std.specs.FinMap as finite
+use Rattle.std.specs.FinSet as set
+use Rattle.words.specs.declared.key.Key.{Key}
+use Rattle.lsdb.specs.Headers.{Header, key_of}
+use Rattle.lsdb.specs.Instances.{Listed, header_now}
+use Rattle.lsdb.specs.Keys.{ByKey}
+use Rattle.packet.specs.declared.model.Body.TheVariants as body
+use Rattle.packet.specs.declared.model.Description.{Description}
+use Rattle.packet.specs.Text.{PacketText}
+use Rattle.adjacency.specs.Adjacencies.{opening, requests_nothing}
+use Rattle.adjacency.specs.Contents.{Content}
+use Rattle.adjacency.specs.Descriptions.{Verdict, is_known_type, is_wanted, verdict, young_copies}
+use Rattle.adjacency.specs.declared.state.State.TheVariants.{Exchange, ExStart, Loading}
+use Rattle.adjacency.specs.Neighbors.{Neighbor}
+use Rattle.received.specs.Links.{Link}
+use Rattle.flood.specs.declared.model.Out.{Out}
+use Rattle.flood.specs.Events.{Happens}
+use Rattle.flood.specs.Hellos.{is_foreign}
+use Rattle.flood.specs.Packing.{outs_of}
+use Rattle.flood.specs.Routers.{Occurrence, Router, shown_at}
+use Rattle.conversations.specs.WorkedAdjacency.{NothingAges, describes}
+use Rattle.conversations.specs.WorkedOwn.{beside}
+
+abbrev pub opened : Neighbor → Neighbor
+opened n = record n { state = ExStart }
+
+abbrev pub slave : Neighbor → Neighbor
+slave n = record n { state = Exchange; is_master = false }
+
+-- the slave's Description of this number, with the first of these headers
+abbrev pub reply : ℕ → ℕ → ByKey Listed → Description
+reply moment sequence summary = record {
+  mtu = 8192;
+  options = 2;
+  init = false;
+  more = nat_lt 408 (finite.len summary);
+  master = false;
+  sequence = sequence;
+  headers = map (λ (e : Key × Listed). header_now moment e.1) (take 408 (finite.entries summary));
+}
+
+-- the master's last Description, with one header
+abbrev pub last_with : Header → Description → Description
+last_with h d = record d { more = false; headers = h ∷ [] }
+
+-- a Description of this neighbor, with this verdict
+pub record IsJudged (r : Router) (n : Neighbor) (bytes : List ℕ) (d : Description) (v : Verdict) : Type 0 where
+  pub is_text : PacketText bytes (record { router = n.router; body = body.Description d })
+  pub is_other : is_foreign r.id n.router ≡ true
+  pub fits : nat_lt 8192 d.mtu ≡ false
+  pub is_judged : verdict r.id n d ≡ v
+
+pub record AnExchangeAsSlave : Type 0 where
+  -- in ExStart, an opening Description from the larger Router ID: Exchange, and what is sent is one Description of its number, with the
+  -- headers of the database, as many as fit
+  pub negotiates : (r new : Router) (link : Link) (n : Neighbor) (moment sequence : ℕ) (bytes : List ℕ) (outs : List Out)
+      → NothingAges r moment → IsJudged r (opened n) bytes (opening sequence) Verdict.NegotiatedAsSlave → requests_nothing n ≡ true
+      → Happens (beside r link (opened n)) moment (Occurrence.Packet 1 bytes) outs new
+      → (shown_at new 1 ≡ Some (n.router, Exchange))
+      × (outs ≡ outs_of r.id (beside r link (opened n)).area.links (describes (reply moment sequence (young_copies moment r.area.database))))
+  -- in Exchange, with room for all that is left to describe, the master's last Description, with one header that is wanted: Loading, and
+  -- what is sent is the reply of its number and then a Request for that one LSA
+  pub loads : (r new : Router) (link : Link) (n : Neighbor) (moment : ℕ) (bytes : List ℕ) (d : Description) (h : Header) (outs : List Out)
+      → NothingAges r moment → IsJudged r (slave n) bytes (last_with h d) Verdict.Accepted
+      → is_known_type h.ls_type ≡ true → is_wanted moment r.area.database h ≡ true
+      → nat_lt 408 (finite.len n.summary) ≡ false → finite.entries n.requests ≡ [] → (set.len n.outstanding == 0) ≡ true
+      → Happens (beside r link (slave n)) moment (Occurrence.Packet 1 bytes) outs new
+      → (shown_at new 1 ≡ Some (n.router, Loading))
+      × (outs ≡ outs_of r.id (beside r link (slave n)).area.links
+      (record { number = 1; content = Content.Describes (reply moment d.sequence n.summary) }
+      ∷ record { number = 1; content = Content.Requests (key_of h ∷ []) } ∷ []))

@@ -1,0 +1,67 @@
+//! Worked conversations between routers, as theorems of the rules (RFC 2328, sections 9 to 13), each carried by a function with an empty
+//! body: each holds for every router that meets the named conditions.
+#![tactic(auto)]
+
+ghost use Rattle.conversations.specs.Worked.{WorkedEvents};
+ghost use Rattle.conversations.specs.WorkedAdjacency.{AnAdjacencyBegins};
+ghost use Rattle.conversations.specs.WorkedAged.{AnAgedLsaComes};
+ghost use Rattle.conversations.specs.WorkedExchange.{AnExchangeAsSlave};
+ghost use Rattle.conversations.specs.WorkedFlush.{TheNumbersEnd};
+ghost use Rattle.conversations.specs.WorkedHello.{ANeighborIsHeard};
+ghost use Rattle.conversations.specs.WorkedOwn.{ALastRequestIsMet};
+ghost use Rattle.conversations.specs.WorkedRun.{AnAdjacencyIsNegotiated};
+ghost use Rattle.conversations.specs.WorkedTicks.{ATickOriginates};
+
+/// Worked parts of events: a clash of two destinations, a withdrawal of nothing, a metric that withholds, five seconds between instances,
+/// renewal, the end of the sequence numbers, and ages of what is sent.
+pub fn worked_events()
+    ensures { WorkedEvents }
+{}
+
+/// Worked events: an LSA at MaxAge, without a copy here, comes from a Full neighbor. Where nobody is in Exchange or Loading it is
+/// acknowledged at once and not installed; where another neighbor is in Loading it is installed, sent there, and acknowledged at a Tick.
+pub fn an_aged_lsa_comes()
+    ensures { AnAgedLsaComes }
+{}
+
+/// Worked events of a router with one interface: an Update meets the last request of a neighbor in Loading, which becomes Full. The
+/// router-LSA goes out at once where five seconds have passed since the last one, else it waits for a Tick.
+pub fn a_last_request_is_met()
+    ensures { ALastRequestIsMet }
+{}
+
+/// Worked events of a router with one interface: its router-LSA comes back with MaxSequenceNumber, and is flushed; once that is
+/// acknowledged, it leaves the database.
+pub fn the_numbers_end()
+    ensures { TheNumbersEnd }
+{}
+
+/// A worked Tick of a router with one interface: its router-LSA, which waits or has left the database, is originated, and the
+/// acknowledgments that wait go out.
+pub fn a_tick_originates()
+    ensures { ATickOriginates }
+{}
+
+/// Worked events of a router with one interface: a Hello that names it begins an adjacency; in Loading, the last Description again is
+/// answered again, and a mismatch begins the adjacency anew.
+pub fn an_adjacency_begins()
+    ensures { AnAdjacencyBegins }
+{}
+
+/// Worked events of a router with one interface, the slave of an exchange: an opening Description is answered with the database's
+/// headers, and the master's last one, with a header that is wanted, leads to Loading, a reply and a Request.
+pub fn an_exchange_as_slave()
+    ensures { AnExchangeAsSlave }
+{}
+
+/// A worked run of a router with one interface: a Hello of a new neighbor with a larger Router ID begins an adjacency, and in the next
+/// event that neighbor's opening Description makes this router the slave of an exchange.
+pub fn an_adjacency_is_negotiated()
+    ensures { AnAdjacencyIsNegotiated }
+{}
+
+/// A worked event of a router with any number of interfaces, none of whose neighbors is in Exchange or Loading: an accepted Hello of a new
+/// neighbor that names this router leads to ExStart, and the opening Description is all that is sent.
+pub fn a_neighbor_is_heard()
+    ensures { ANeighborIsHeard }
+{}

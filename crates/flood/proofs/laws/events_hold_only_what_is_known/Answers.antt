@@ -1,5 +1,0 @@
-use Rattle.flood.proofs.Known.{only_what_is_known}
-use Rattle.flood.proofs.laws.events_hold_only_what_is_known.Goals as goal
-
-pub returns : goal.returns
-returns c = only_what_is_known

@@ -1,5 +1,0 @@
-use Rattle.flood.proofs.Always.{full_request_nothing}
-use Rattle.flood.proofs.laws.full_neighbors_request_nothing.Goals as goal
-
-pub returns : goal.returns
-returns c = full_request_nothing

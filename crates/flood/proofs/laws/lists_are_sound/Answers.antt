@@ -1,5 +1,0 @@
-use Rattle.flood.proofs.Always.{lists_are_sound as all_sound}
-use Rattle.flood.proofs.laws.lists_are_sound.Goals as goal
-
-pub returns : goal.returns
-returns c = all_sound

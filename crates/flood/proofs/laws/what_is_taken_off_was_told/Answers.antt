@@ -1,5 +1,0 @@
-use Rattle.flood.proofs.Taken.{taken_was_told}
-use Rattle.flood.proofs.laws.what_is_taken_off_was_told.Goals as goal
-
-pub returns : goal.returns
-returns c = taken_was_told

@@ -1,0 +1,13 @@
+pub mod Packings
+pub mod Rooms
+pub mod Fitting
+pub mod Roomy
+pub mod Taken
+pub mod Told
+pub mod Packed
+pub mod Known
+pub mod Read
+pub mod Lawful
+pub mod Worlds
+pub mod Invariants
+pub mod Always

@@ -1,0 +1,5 @@
+pub mod PackingLaws
+pub mod RoomLaws
+pub mod Known
+pub mod Lawful
+pub mod NeighborLaws

@@ -1,0 +1,32 @@
+-- Every packet that is sent has room: what holds of a router at the start, is kept by each event, and bounds what an event sends.
+use Rattle.std.specs.Prelude.{◌≡◌, ◌≤◌, ℕ, true, List, length}
+use Rattle.std.specs.List.{AllByRecursion}
+use Rattle.adjacency.specs.Rooms.{AllFit, HasRoomyLists}
+use Rattle.flood.specs.declared.model.Config.{Config}
+use Rattle.flood.specs.declared.model.Out.{Out}
+use Rattle.flood.specs.Events.{Happens, HappensBy, Run, Step, hellos_alone, initial}
+use Rattle.flood_laws.specs.NeighborLaws.{OfEachNeighbor}
+use Rattle.flood.specs.Routers.{Occurrence, Router, in_profile}
+
+-- each copy fits into an Update; what was last described and asked for fits into a packet; of so few links the router-LSA fits too
+pub record IsRoomy (r : Router) : Type 0 where
+  pub fit : AllFit r.area.database
+  pub lists : OfEachNeighbor HasRoomyLists r
+  pub few : length r.area.links ≤ 63
+
+-- no packet has more than 8,192 bytes
+abbrev pub HaveRoom : List Out → Type 0
+HaveRoom outs = AllByRecursion (λ (o : Out). length o.bytes ≤ 8192) outs
+
+pub record EveryPacketHasRoom : Type 0 where
+  -- at the start
+  pub first : (c : Config) → in_profile c ≡ true → IsRoomy (initial c)
+  -- after each event, where it held before it; and what the event sends has room
+  pub event : (old : Router) (moment : ℕ) (event : Occurrence) (outs : List Out) (new : Router)
+      → Happens old moment event outs new → IsRoomy old → IsRoomy new × HaveRoom outs
+  -- also where the Hello protocol alone is run
+  pub hello_event : (old : Router) (moment : ℕ) (event : Occurrence) (outs : List Out) (new : Router)
+      → HappensBy hellos_alone old moment event outs new → IsRoomy old → IsRoomy new × HaveRoom outs
+  -- so in every run from the start, whatever happens in it
+  pub run : (c : Config) (steps : List Step) (new : Router) → in_profile c ≡ true → Run (initial c) steps new
+      → IsRoomy new × AllByRecursion (λ (s : Step). HaveRoom s.outs) steps

@@ -1,0 +1,67 @@
+//! Laws of events and of runs of the router, each carried by a function with an empty body: what holds at every point of a run, what is
+//! sent, and what is known and acknowledged.
+#![tactic(auto)]
+
+ghost use Rattle.flood_laws.specs.Known.{EventsHoldOnlyWhatIsKnown, UpdatesTellWhatTheyBear};
+ghost use Rattle.flood_laws.specs.Lawful.{TextsAreLawful};
+ghost use Rattle.flood_laws.specs.NeighborLaws.{FullNeighborsRequestNothing, ListsAreSound};
+ghost use Rattle.flood_laws.specs.PackingLaws.{OutsAreOrderedAndPacked};
+ghost use Rattle.flood_laws.specs.RoomLaws.{EveryPacketHasRoom};
+ghost use Rattle.flood.specs.Taken.{WhatIsTakenOffWasTold};
+ghost use Rattle.flood.specs.Worlds.{AcknowledgedWasReceived};
+
+/// A neighbor that is Full has nothing to request: so it is at the start, each event keeps it so, also where the Hello protocol alone is
+/// run, and so it is after every run (RFC 2328, section 10.3).
+pub fn full_neighbors_request_nothing()
+    ensures { FullNeighborsRequestNothing }
+{}
+
+/// The lists of every neighbor are sound at the start, after each event and after every run: none before Exchange, what is outstanding
+/// is on the request list, and a neighbor that is Full has nothing to request and nothing outstanding (RFC 2328, sections 10.3 and 10.9).
+pub fn lists_are_sound()
+    ensures { ListsAreSound }
+{}
+
+/// What is sent stands in the order of the interfaces; LSAs and headers stand in key order, those of one key as they arose; each is in one
+/// packet, a packet has at most 8,192 bytes, and the first of the next packet had no room in it.
+pub fn outs_are_ordered_and_packed()
+    ensures { OutsAreOrderedAndPacked }
+{}
+
+/// No packet that an event sends has more than 8,192 bytes: what holds of every router at the start and after each event leaves room for
+/// all that is sent, also where the Hello protocol alone is run, and so it is in every run.
+pub fn every_packet_has_room()
+    ensures { EveryPacketHasRoom }
+{}
+
+/// What an Acknowledgment, or an LSA that is an implied acknowledgment, takes off the retransmission list of its sender is an instance that
+/// the packet tells, by key, sequence number and checksum (RFC 2328, sections 13 and 13.7).
+pub fn what_is_taken_off_was_told()
+    ensures { WhatIsTakenOffWasTold }
+{}
+
+/// Each event keeps the Router ID. Each instance in the database, on the retransmission lists and among the delayed acknowledgments that it
+/// leaves, and each that an Update or an Acknowledgment bears that it sends, was held before, came in the event's Update, or is a new one of
+/// the router's own LSAs; also where the Hello protocol alone is run. It asks that the router announces under its own Router ID alone, which
+/// holds in every run.
+pub fn events_hold_only_what_is_known()
+    ensures { EventsHoldOnlyWhatIsKnown }
+{}
+
+/// An Update of the texts of LSAs whose headers' numbers are in their ranges names none but those LSAs: a text that is read is read with the
+/// key, the sequence number and the checksum that were written.
+pub fn updates_tell_what_they_bear()
+    ensures { UpdatesTellWhatTheyBear }
+{}
+
+/// The canonical text of an Update of LSAs' texts, and of an Acknowledgment, is a text of that packet, where the headers' numbers are in
+/// their ranges, each LSA's length is that of its text, and there are at most 8,192 bytes.
+pub fn texts_are_lawful()
+    ensures { TextsAreLawful }
+{}
+
+/// Over every history of routers whose steps keep what `Keeps` says, whatever is lost, repeated or late and whoever begins anew: what a
+/// packet takes off a retransmission list as acknowledged, the router that it is from had received or originated.
+pub fn acknowledged_was_received()
+    ensures { AcknowledgedWasReceived }
+{}
