@@ -48,19 +48,20 @@ fn empty_input(alloc: Global) -> Input {
     }
 }
 
-/// Decodes the bytes, runs the code so many times and prints how long an instruction took.
+/// Decodes the bytes, runs the code so many times and prints how long an instruction took. The answer is how long a run took, in
+/// hundredths of a nanosecond.
 pub fn measure<R: Clock + Print + AllocGlobal>(
     rt: &R,
     what: &str,
     bytes: &[u8],
     rounds: u64,
-) -> Result<()> {
+) -> Result<u128> {
     let alloc = rt.alloc();
     let code = decode(alloc, bytes).map_err(|_| anyhow!("the code of {what} isn't decoded"))?;
     let input = empty_input(alloc);
     let (shared, mut seats) = Shared::new(alloc, 1)?;
     let Some(mut seat) = seats.pop() else {
-        return Ok(());
+        return Ok(0);
     };
     let start = Instant::now(rt)?;
     let used = repeat(&code, &input, &shared, &mut seat, rounds);
@@ -69,14 +70,28 @@ pub fn measure<R: Clock + Print + AllocGlobal>(
     let whole = each / 100;
     let part = each % 100;
     println!(rt; "{what}: {used} instructions, {whole}.{part:02} ns each")?;
+    Ok((nanos as u128) * 100 / (rounds.max(1) as u128))
+}
+
+/// Prints how long short straight-line code takes: what a run costs before its first instruction counts in there, and in the
+/// difference of two lengths it doesn't.
+fn print_short<R: Clock + Print + AllocGlobal>(rt: &R) -> Result<()> {
+    let alloc = rt.alloc();
+    let shortest = programs::straight_line(alloc, 2)?;
+    let two = measure(rt, "straight-line arithmetic, 2 slots", &shortest, 400_000)?;
+    let short = programs::straight_line(alloc, 10)?;
+    let ten = measure(rt, "straight-line arithmetic, 10 slots", &short, 400_000)?;
+    let each = ten.saturating_sub(two) / 8;
+    let whole = each / 100;
+    let part = each % 100;
+    println!(rt; "each instruction from the third to the tenth: {whole}.{part:02} ns")?;
     Ok(())
 }
 
 /// Prints how long straight-line code, a loop, and programs with accesses of the maps take.
 pub fn print<R: Clock + Print + AllocGlobal>(rt: &R) -> Result<()> {
+    print_short(rt)?;
     let alloc = rt.alloc();
-    let short = programs::straight_line(alloc, 10)?;
-    measure(rt, "straight-line arithmetic, 10 slots", &short, 400_000)?;
     let long = programs::straight_line(alloc, 4_000)?;
     measure(rt, "straight-line arithmetic, 4,000 slots", &long, 1_000)?;
     let counting = programs::counting_loop(alloc)?;
@@ -88,5 +103,6 @@ pub fn print<R: Clock + Print + AllocGlobal>(rt: &R) -> Result<()> {
     let plain = programs::loading_loop(alloc, false)?;
     measure(rt, "loop of 255 turns without cell loads", &plain, 2_000)?;
     let loading = programs::loading_loop(alloc, true)?;
-    measure(rt, "the same with cell loads", &loading, 2_000)
+    measure(rt, "the same with cell loads", &loading, 2_000)?;
+    Ok(())
 }

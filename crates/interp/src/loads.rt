@@ -52,7 +52,7 @@ fn stack_content(state: &State, size: LoadSize, at: u64) -> Result<Content, Faul
         return Err(Fault::Bounds);
     }
     let start = at as usize;
-    let found = &state.stack.bytes()[start..start + length];
+    let found = &state.stack[start..start + length];
     if let Some(number) = pieces::number_in(found) {
         return Ok(Content::Number(pieces::loaded(size, number)));
     }

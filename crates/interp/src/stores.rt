@@ -25,7 +25,7 @@ fn store_bytes(state: &mut State, size: StoreSize, at: u64, number: u64) -> Resu
         return Err(Fault::Bounds);
     }
     let bytes = pieces::bytes_of(number);
-    state.stack.write(at as usize, &bytes[..length]);
+    pieces::overwrite(&mut state.stack, at as usize, &bytes[..length]);
     registers::move_on(state);
     Ok(())
 }
@@ -43,7 +43,7 @@ fn store_pointer(state: &mut State, size: StoreSize, at: u64, pointer: Pointer) 
         return Err(Fault::Bounds);
     }
     let bytes = pieces::pieces_of(pointer);
-    state.stack.write(at as usize, &bytes);
+    pieces::overwrite(&mut state.stack, at as usize, &bytes);
     registers::move_on(state);
     Ok(())
 }

@@ -1,5 +1,4 @@
 pub mod Label
-pub mod Stacks
 pub mod State
 pub mod Memory
 pub mod Input

@@ -5,13 +5,11 @@ mod fault;
 mod helper;
 mod input;
 pub mod laws;
-mod stack;
 mod state;
 
 pub use fault::Fault;
 pub use helper::Helper;
 pub use input::Input;
 pub use isa::{Hook, Map};
-pub use stack::Stack;
 pub use state::{Content, Pointer, StackByte, State};
 pub use words::TableRow;

@@ -1,5 +1,4 @@
 //! What the machine's registers and stack hold.
-use crate::stack::Stack;
 use isa::Map;
 
 /// A region and an offset in it in bytes, which may lie outside: only a load or store is checked.
@@ -36,12 +35,12 @@ pub enum StackByte {
 }
 
 /// The machine between two instructions.
-#[derive(Drop, Debug)]
+#[derive(Clone, Copy, Debug)]
 pub struct State {
     /// The slot of the next instruction.
     pub slot: u64,
     /// r0 to r10.
     pub registers: [Content; 11],
-    /// The stack.
-    pub stack: Stack,
+    /// The stack, the lowest byte first.
+    pub stack: [StackByte; 512],
 }
