@@ -3,19 +3,25 @@ ghost use Rattle.std.specs.Prelude.{◌≡◌};
 ghost use Rattle.asm.specs.Faults.{fault_number, list_number};
 
 use std::alloc::AllocError;
+use thiserror::Error;
 
 /// What is wrong with a line.
-#[derive(Clone, Copy, PartialEq, Eq, Debug)]
+#[derive(Clone, Copy, PartialEq, Eq, Debug, Error)]
 pub enum AsmFault {
     /// The line is none of the forms, or it stands where it may not.
+    #[error("the line is none of the forms, or stands where it may not")]
     Syntax,
     /// No line gives the label that this one uses.
+    #[error("no line gives this label")]
     Label,
     /// A number that its field can't hold, or what an object file may not say of a statement. Also the line that passes 4096 slots.
+    #[error("a number is out of its range, or the code is too long")]
     Range,
     /// A label or a statement's slot is given again, or a register in two lines of one statement.
+    #[error("a label, a slot or a register is given twice")]
     Twice,
     /// Memory ran out.
+    #[error("out of memory")]
     Memory,
 }
 
@@ -35,7 +41,8 @@ impl AsmFault {
 }
 
 /// The first bad line, counted from 1, and what is wrong with it. Where memory ran out the line is 0.
-#[derive(Clone, Copy, PartialEq, Eq, Debug)]
+#[derive(Clone, Copy, PartialEq, Eq, Debug, Error)]
+#[error("line {line}: {kind}")]
 pub struct AsmError {
     pub line: usize,
     pub kind: AsmFault,
@@ -55,11 +62,13 @@ impl From<AllocError> for AsmError {
 }
 
 /// Why an object has no listing.
-#[derive(Clone, Copy, PartialEq, Eq, Debug)]
+#[derive(Clone, Copy, PartialEq, Eq, Debug, Error)]
 pub enum ListError {
     /// Its code doesn't decode.
+    #[error("the code does not decode")]
     Code,
     /// Memory ran out.
+    #[error("out of memory")]
     Memory,
 }
 

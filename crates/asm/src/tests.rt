@@ -121,6 +121,69 @@ fn each_instruction_is_listed(rt: HostRuntime) -> Result<(), Fail> {
 }
 
 #[test]
+fn each_operation_is_listed(rt: HostRuntime) -> Result<(), Fail> {
+    let alloc = rt.alloc();
+    let words = [
+        "=", "+=", "-=", "*=", "/=", "s/=", "|=", "&=", "<<=", ">>=", "%=", "s%=", "^=", "s>>=",
+    ];
+    for word in words {
+        let text = format!(in alloc;
+            "hook tag\nrank 0\nr0 {word} r10\nr9 {word} -5\nw0 {word} w1\nw10 {word} 2147483647\n"
+        )?;
+        is_listing(&rt, alloc, &text)?;
+    }
+    Ok(())
+}
+
+#[test]
+fn each_test_is_listed(rt: HostRuntime) -> Result<(), Fail> {
+    let alloc = rt.alloc();
+    let words = [
+        "==", ">", ">=", "&", "!=", "s>", "s>=", "<", "<=", "s<", "s<=",
+    ];
+    for word in words {
+        let text = format!(in alloc;
+            "hook tag\nrank 0\nif r0 {word} r10 goto +1\nif r9 {word} -5 goto -32768\nif w0 {word} w1 goto +32767\nif w1 {word} -1 goto -2\n"
+        )?;
+        is_listing(&rt, alloc, &text)?;
+        let text = format!(in alloc;
+            "hook tag\nrank 0\nL:\nif r0 {word} r1 goto L\nif w0 {word} 7 goto M\nexit\nM:\n"
+        )?;
+        let listed = format!(in alloc;
+            "hook tag\nrank 0\nif r0 {word} r1 goto -1\nif w0 {word} 7 goto +1\nexit\n"
+        )?;
+        lists(&rt, alloc, &text, &listed)?;
+    }
+    Ok(())
+}
+
+#[test]
+fn each_register_form_is_listed(rt: HostRuntime) -> Result<(), Fail> {
+    let alloc = rt.alloc();
+    is_listing(
+        &rt,
+        alloc,
+        "hook price\nrank 1\nr0 = le16\nr0 = le32\nr0 = le64\nr1 = be16\nr1 = be32\nr1 = be64\nr10 = swap16\nr10 = swap32\nr10 = swap64\n",
+    )?;
+    is_listing(
+        &rt,
+        alloc,
+        "hook price\nrank 1\nr0 = neg\nw0 = neg\nr2 = s8 r3\nr2 = s16 r3\nr2 = s32 r3\nw2 = s8 w3\nw2 = s16 w3\nw0 = w1\n",
+    )?;
+    is_listing(
+        &rt,
+        alloc,
+        "hook price\nrank 1\n*u8 r1 0 = 1\n*u16 r1 -32768 = 2147483647\n*u32 r1 32767 = -2147483648\n*u64 r1 8 = -1\n*u8 r1 0 = r2\n*u16 r1 -1 = r2\n*u32 r1 1 = r2\n*u64 r10 -8 = r1\n",
+    )?;
+    lists(
+        &rt,
+        alloc,
+        "hook price\nrank 1\ngotol end\nback:\nr0 = wide 0\ngotol back\ngoto back\nend:\nexit\n",
+        "hook price\nrank 1\ngotol +4\nr0 = wide 0\ngotol -3\ngoto -4\nexit\n",
+    )
+}
+
+#[test]
 fn each_statement_is_listed(rt: HostRuntime) -> Result<(), Fail> {
     let alloc = rt.alloc();
     is_listing(
@@ -237,21 +300,30 @@ fn refuses_numbers(rt: HostRuntime) -> Result<(), Fail> {
         "r0 = 2147483648",
         "r0 = -2147483649",
         "w0 = 2147483648",
+        "w0 = -2147483649",
+        "r0 += 2147483648",
+        "w0 s>>= -2147483649",
         "goto +32768",
         "goto -32769",
         "gotol +2147483648",
         "gotol -2147483649",
         "if r0 == 2147483648 goto +1",
+        "if r0 == -2147483649 goto +1",
         "if r0 == 0 goto +32768",
+        "if r0 == 0 goto -32769",
         "call 2147483648",
         "call -2147483649",
         "r0 = *u8 r1 32768",
         "r0 = *u8 r1 -32769",
         "*u8 r1 32768 = 0",
+        "*u8 r1 -32769 = 0",
         "*u8 r1 0 = 2147483648",
+        "*u8 r1 0 = -2147483649",
         "r0 = wide 18446744073709551616",
         "r0 = wide -1",
         "r0 = map 2147483648 0",
+        "r0 = map -2147483649 0",
+        "r0 = map 0 2147483648",
         "r0 = map 0 -2147483649",
     ];
     for line in lines {
@@ -262,45 +334,34 @@ fn refuses_numbers(rt: HostRuntime) -> Result<(), Fail> {
 }
 
 #[test]
-fn refuses_statements(rt: HostRuntime) -> Result<(), Fail> {
+fn refuses_states(rt: HostRuntime) -> Result<(), Fail> {
     let alloc = rt.alloc();
     let lines = [
         "state 2 rank 0",
         "state -1 rank 0",
         "state 4294967296 rank 0",
+        "state 18446744073709551616 rank 0",
+        "state 0 rank -1",
         "state 0 rank 4294967296",
         "state 0 rank 0 r1 * 1",
         "state 0 rank 0 r1 * 0",
+        "state 0 rank 0 r0 * -1",
         "state 0 rank 0 r0 * 4294967296",
+        "state 0 rank 0 r0 * 0 r0 * -1",
+        "state 0 rank 0 r0 * 0 r0 * 4294967296",
         "state 0 rank 0 r10 * 1",
         "state 0 rank 0 r1 * 1\nwith r1 stack 0",
         "state 0 rank 0 r1 * 1\nstate 1 rank 0\nwith r1 number 0 0 0 0",
         "state 0 rank 0 r1 * 1\nwith r2 number 5 4 0 0",
+        "state 0 rank 0 r1 * -1\nwith r1 number 0 0 0 0",
+        "state 0 rank 0 r1 * 4294967296\nwith r1 number 0 0 0 0",
+        "state 0 rank 0 r1 * 1 r1 * -1\nwith r1 number 0 0 0 0",
+        "state 0 rank 0 r1 * 1 r1 * 4294967296\nwith r1 number 0 0 0 0",
+        "state 0 rank 0 r10 * 1\nwith r10 number 0 0 0 0",
     ];
     for line in lines {
         let text = format!(in alloc; "hook price\nrank 0\nexit\nexit\n{line}\n")?;
         refuses(&rt, alloc, &text, 5, AsmFault::Range)?;
-    }
-    let lines = [
-        "with r10 stack 0",
-        "with r1 number 5 4 0 0",
-        "with r1 number 0 1 1 2",
-        "with r1 number 0 18446744073709551616 0 0",
-        "with r1 number -1 0 0 0",
-        "with r1 context 65",
-        "with r1 stack 513",
-        "with r1 map 2 0 0 0 0",
-        "with r1 map 0 1 0 0 0",
-        "bytes 0 513",
-        "bytes 513 513",
-        "bytes 2 1",
-        "bytes -1 1",
-    ];
-    for line in lines {
-        let text = format!(in alloc;
-            "hook price\nrank 0\nexit\nexit\nstate 0 rank 0 r2 * 1\nwith r2 number 0 0 0 0\n{line}\n"
-        )?;
-        refuses(&rt, alloc, &text, 7, AsmFault::Range)?;
     }
     refuses(
         &rt,
@@ -309,6 +370,76 @@ fn refuses_statements(rt: HostRuntime) -> Result<(), Fail> {
         6,
         AsmFault::Range,
     )
+}
+
+/// This line, behind a statement with a rank over r2, is out of range.
+fn refuses_register(rt: &impl Abort, alloc: Global, line: &str) -> Result<(), Fail> {
+    let text = format!(in alloc;
+        "hook price\nrank 0\nexit\nexit\nstate 0 rank 0 r2 * 1\nwith r2 number 0 0 0 0\n{line}\n"
+    )?;
+    refuses(rt, alloc, &text, 7, AsmFault::Range)
+}
+
+#[test]
+fn refuses_registers(rt: HostRuntime) -> Result<(), Fail> {
+    let alloc = rt.alloc();
+    let lines = [
+        "with r10 stack 0",
+        "with r1 number 5 4 0 0",
+        "with r1 number 0 1 1 2",
+        "with r1 context -1",
+        "with r1 context 65",
+        "with r1 stack -1",
+        "with r1 stack 513",
+        "with r1 map -1 0 0 0 0",
+        "with r1 map 2 0 0 0 0",
+        "with r1 map 0 1 0 0 0",
+        "with r1 map 1 0 1 1 2",
+        "bytes 0 513",
+        "bytes 513 513",
+        "bytes 2 1",
+        "bytes -1 1",
+        "bytes 0 -1",
+    ];
+    for line in lines {
+        refuses_register(&rt, alloc, line)?;
+    }
+    Ok(())
+}
+
+#[test]
+fn refuses_numbers_of_registers(rt: HostRuntime) -> Result<(), Fail> {
+    let alloc = rt.alloc();
+    let fields = [
+        "-1 0 0 0",
+        "18446744073709551616 18446744073709551615 0 0",
+        "0 -1 0 0",
+        "0 18446744073709551616 0 0",
+        "0 0 -1 0",
+        "0 0 18446744073709551616 0",
+        "0 0 0 -1",
+        "0 0 0 18446744073709551616",
+    ];
+    for numbers in fields {
+        let line = format!(in alloc; "with r1 number {numbers}")?;
+        refuses_register(&rt, alloc, &line)?;
+        let line = format!(in alloc; "with r1 map 0 {numbers}")?;
+        refuses_register(&rt, alloc, &line)?;
+    }
+    Ok(())
+}
+
+#[test]
+fn takes_4096_slots(rt: HostRuntime) -> Result<(), Fail> {
+    let alloc = rt.alloc();
+    let mut text = String::from("hook price\nrank 0\n".to_string(alloc)?);
+    for _ in 0..4096 {
+        text.push_str("exit\n")?;
+    }
+    let object = assemble(alloc, &text)?;
+    assert!(rt; object.slots() == 4096);
+    text.push_str("exit\n")?;
+    refuses(&rt, alloc, &text, 4099, AsmFault::Range)
 }
 
 #[test]
