@@ -5,7 +5,7 @@ use Rattle.isa.specs.Spelling as code
 use Rattle.object.specs.Objects.{ObjectParts, slots_of}
 use Rattle.object.specs.Spelling.{Spells}
 use Rattle.machine.specs.declared.input.Input.{Input}
-use Rattle.maps.specs.Words.{SeatView}
+use Rattle.maps.specs.Words.{SeatView, fresh}
 use Rattle.interp.specs.declared.run.Run.{Run}
 use Rattle.interp.specs.declared.trap.Trap.{Trap}
 use Rattle.interp.specs.Outcome.{Outcome, trap_number}
@@ -27,14 +27,15 @@ outcome_line (Err trap) = codes "trap " ++ decimal (trap_number trap) ++ 10 ∷ 
 abbrev pub input_of : List ℕ → List ℕ → Input
 input_of context packet = record { context = context; packet = packet; rows = [] }
 
--- The bytes are an object file, whose code was run once at its hook on this context and packet, for as many steps as it may take, and what
--- came of it is told.
+-- The bytes are an object file, whose code was run once at its hook on this context and packet, for as many steps as it may take, on a seat
+-- of a table of one seat that had done nothing, and what came of it is told.
 pub record IsRun (bytes context packet : List ℕ) (report : Report) : Type 0 where
   pub object : ObjectParts
   pub spells : Spells bytes object
   pub slots : List Slot
   pub decoded : code.Spells object.code slots
   pub seat : SeatView
+  pub unused : seat ≡ fresh seat.table 0
   pub seat_after : SeatView
   pub outcome : Result Run Trap
   pub ran : Outcome (record { code = slots; hook = object.hook; input = input_of context packet }) (steps_allowed object) seat outcome seat_after

@@ -1,7 +1,9 @@
 //! The command line: its words, and what they ask for.
 
-ghost use Rattle.std.specs.Prelude.{◌≡◌, ◌≢◌, ◌⊎◌, [], codes, replicate, IfSome, MatchResult, Err, Ok, Some};
+ghost use Rattle.std.specs.Prelude.{◌≡◌, ◌≢◌, ◌⊎◌, [], codes, replicate, IfOk, IfSome, MatchResult, Err, Ok, Some};
+ghost use Rattle.std.specs.IoError.{error_kind};
 ghost use Rattle.std.specs.Result.{result_ok};
+ghost use Rattle.clap.specs.Values.{kind_of};
 ghost use Rattle.hex.specs.declared.error.FromHexError.TheVariants.{OutOfMemory};
 ghost use Rattle.hex.specs.Hex.{decode_of, decode_sized};
 ghost use Rattle.isa.specs.declared.hook.Hook.{Hook};
@@ -12,6 +14,7 @@ use clap::{Arg, ArgMatches, Command, Error, value_parser};
 use hex::{FromHex, FromHexError};
 use isa::Hook;
 use std::alloc::{AllocError, Global};
+use std::io::{self, ErrorKind as IoKind};
 
 /// What the words of a command line ask for.
 #[derive(Debug, Drop)]
@@ -39,7 +42,7 @@ pub enum Request<'a> {
     },
 }
 
-const ABOUT: &str = "Runs and checks the programs of a router.";
+const ABOUT: &str = "Assembles, lists and runs the programs of a router.";
 
 const RAW: &str =
     "Runs bare code (slots of 8 bytes) once on each of SEATS threads, all on the same counters, and prints each answer and each counter above 0";
@@ -59,7 +62,9 @@ const LIST: &str = "Prints a text that assembles to the object file";
 
 const LIST_EXAMPLE: &str = "Example: routerd list sum.o";
 
-const STATUSES: &str = "Statuses: 0 done, 1 refused or stuck, 2 usage, 3 file or socket, 4 memory.";
+// What is written behind the top help: a line for each command and what it prints, and the statuses.
+const WORKED: &str =
+    "Examples:\n  routerd raw count adds.bin 2  prints seat 1 answer 0 used 4, seat 2 answer 0 used 4, counter 5 6\n  routerd asm sum.s sum.o       prints ok 6\n  routerd list sum.o            prints hook price, rank 10, r1 = 10 and the other lines of the text\n  routerd run sum.o - -         prints answer 55 used 33\n\nStatuses: 0 done, 1 refused or stuck, 2 usage, 3 file or stream, 4 memory.";
 
 const HOOKS: [&str; 4] = ["count", "tag", "price", "veto"];
 
@@ -127,7 +132,7 @@ fn list<'a>(alloc: Global) -> Result<Command<'a>, AllocError> {
 fn whole<'a>(alloc: Global) -> Result<Command<'a>, AllocError> {
     Command::new(alloc, "routerd")
         .about(ABOUT)
-        .after_help(STATUSES)
+        .after_help(WORKED)
         .subcommand_required(true)
         .arg_required_else_help(true)
         .subcommand(raw(alloc)?)?
@@ -182,7 +187,9 @@ fn packet_of(alloc: Global, word: &str) -> Result<Vec<u8>, FromHexError>
     hex::decode(alloc, word)
 }
 
-fn wrong_value(alloc: Global, text: &str) -> Result<Error, AllocError> {
+fn wrong_value(alloc: Global, text: &str) -> Result<Error, AllocError>
+    ensures { IfOk result (λ error. kind_of error ≡ ErrorKind.InvalidValue) }
+{
     whole(alloc)?.error(ErrorKind::InvalidValue, text)
 }
 
@@ -215,6 +222,20 @@ fn asm_request<'a>(matches: &ArgMatches<'a>) -> Option<Request<'a>> {
 fn list_request<'a>(matches: &ArgMatches<'a>) -> Option<Request<'a>> {
     let object = matches.get_str("OBJECT")?;
     Some(Request::List { object })
+}
+
+/// The text for words that can't be read: memory was refused, or a word isn't UTF-8.
+pub fn unread(alloc: Global, error: &io::Error) -> Error
+    ensures memory { error_kind error.now ≡ IoKind.OutOfMemory → kind_of result ≡ ErrorKind.OutOfMemory }
+    ensures value { (kind_of result ≡ ErrorKind.OutOfMemory) ⊎ (kind_of result ≡ ErrorKind.InvalidValue) }
+{
+    match error.kind() {
+        IoKind::OutOfMemory => Error::from(AllocError),
+        _ => match wrong_value(alloc, "a word isn't UTF-8") {
+            Ok(error) => error,
+            Err(error) => Error::from(error),
+        },
+    }
 }
 
 // What the words of a command ask for. None where no command is given.

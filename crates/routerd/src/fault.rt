@@ -8,7 +8,6 @@ use isa::DecodeError;
 use maps::MapsError;
 use object::ReadError;
 use std::alloc::{AllocError, AllocFailed};
-use std::io;
 use thiserror::Error;
 
 /// The statuses that the program ends with.
@@ -17,7 +16,7 @@ pub const DONE: u8 = 0;
 pub const REFUSED: u8 = 1;
 /// The words of the command line are wrong.
 pub const USAGE: u8 = 2;
-/// A file or a socket can't be used.
+/// A file or a stream can't be used.
 pub const OUTSIDE: u8 = 3;
 /// Memory was refused.
 pub const MEMORY: u8 = 4;
@@ -141,13 +140,5 @@ impl<'a> Fault<'a> {
             Fault::Usage(_) => DONE,
             Fault::Memory => MEMORY,
         }
-    }
-}
-
-/// The status for arguments that the system didn't give.
-pub fn status_of(error: &io::Error) -> u8 {
-    match error.kind() {
-        io::ErrorKind::OutOfMemory => MEMORY,
-        _ => USAGE,
     }
 }

@@ -1,4 +1,4 @@
-//! `routerd`: runs and checks programs, and routes.
+//! `routerd`: assembles, lists and runs the programs of a router.
 #![tactic(auto)]
 
 mod assembly;
@@ -12,33 +12,33 @@ mod run;
 #[cfg(test)]
 mod tests;
 
+use std::alloc::{AllocError, Global};
 use std::process::ExitCode;
 use std::{env, io};
 
 /// Hands the arguments and the standard streams to the program, and ends with its status.
 fn main(rt: HostRuntime) -> ExitCode {
-    let words = match arguments(&rt) {
-        Ok(words) => words,
-        Err(error) => return ExitCode::from(fault::status_of(&error)),
-    };
-    let mut texts = Vec::new(rt.alloc());
-    for word in &words {
-        if texts.push(word.as_str()).is_err() {
-            return ExitCode::from(fault::MEMORY);
-        }
-    }
     let mut output = io::writer(&rt);
     let mut errors = rt.stderr();
-    let status = program::program(
-        &rt,
-        texts.as_slice(),
-        &mut rt.reader(),
-        &mut output,
-        &mut errors,
-    );
+    let status = match arguments(&rt) {
+        Ok(words) => match texts_of(rt.alloc(), &words) {
+            Ok(texts) => program::program(&rt, &texts, &mut rt.reader(), &mut output, &mut errors),
+            Err(error) => program::end_without_words(
+                rt.alloc(),
+                &io::Error::from(error),
+                &mut output,
+                &mut errors,
+            ),
+        },
+        Err(error) => { program::end_without_words(rt.alloc(), &error, &mut output, &mut errors) }
+    };
     ExitCode::from(status)
 }
 
 fn arguments(rt: &HostRuntime) -> io::Result<Vec<String>> {
     Ok(env::args(rt)?.collect(rt.alloc())?)
+}
+
+fn texts_of<'a>(alloc: Global, words: &'a [String]) -> Result<Vec<&'a str>, AllocError> {
+    words.iter().map(|word| word.as_str()).collect(alloc)
 }

@@ -1,6 +1,7 @@
 //! The whole program, over readers and writers that are handed in.
 
-ghost use Rattle.std.specs.Prelude.{◌≡◌, ◌≤◌, Result};
+ghost use Rattle.std.specs.Prelude.{◌≡◌, ◌≤◌, ◌⊎◌, Result};
+ghost use Rattle.std.specs.IoError.{error_kind};
 ghost use Rattle.routerd.specs.declared.fault.Fault.{Fault};
 ghost use Rattle.routerd.specs.declared.report.Report.{Report};
 ghost use Rattle.routerd.specs.Endings.{Ends, IsOutcome, Prints, Tells};
@@ -9,7 +10,8 @@ use crate::command::{self, Request};
 use crate::fault::{DONE, Fault, REFUSED};
 use crate::report::Report;
 use crate::{assembly, raw, run};
-use std::io::{BufRead, Write};
+use std::alloc::Global;
+use std::io::{self, BufRead, ErrorKind, Write};
 use std::rt::Files;
 use std::thread::Threads;
 
@@ -69,6 +71,21 @@ fn end<O: Write, E: Write>(
         Ok(report) => print(report, output),
         Err(fault) => tell(fault, output, errors),
     }
+}
+
+/// Tells that the words can't be read, and answers the status: 4 where memory was refused, 2 where a word isn't UTF-8, and 3 where that
+/// can't be told.
+pub fn end_without_words<O: Write, E: Write>(
+    alloc: Global,
+    error: &io::Error,
+    output: &mut O,
+    errors: &mut E,
+) -> u8
+    ensures memory { error_kind error.now ≡ ErrorKind.OutOfMemory → (result ≡ 3) ⊎ (result ≡ 4) }
+    ensures told { (result ≡ 2) ⊎ (result ≡ 3) ⊎ (result ≡ 4) }
+{
+    let fault = Fault::from(command::unread(alloc, error));
+    tell(&fault, output, errors)
 }
 
 /// Carries out what the words ask for (the first is the program's name), and answers the status: 0

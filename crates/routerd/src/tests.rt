@@ -1,5 +1,8 @@
 //! Command lines with what they print, where, and their statuses. Files stand in a folder of the test's own.
 
+mod objects;
+mod streams;
+
 use crate::program::program;
 use std::process::Abort;
 use std::rt::{Env, Files};
@@ -374,7 +377,7 @@ fn sixty_four_seats_print_in_seat_order(rt: HostRuntime) -> Result<(), Fail> {
 
 #[test]
 fn wrong_words_are_a_matter_of_usage(rt: HostRuntime) -> Result<(), Fail> {
-    let wrong: [&[&str]; 9] = [
+    let wrong: [&[&str]; 17] = [
         &["routerd"],
         &["routerd", "fly"],
         &["routerd", "raw"],
@@ -384,6 +387,14 @@ fn wrong_words_are_a_matter_of_usage(rt: HostRuntime) -> Result<(), Fail> {
         &["routerd", "raw", "count", "adds.bin", "two"],
         &["routerd", "raw", "counts", "adds.bin", "2"],
         &["routerd", "raw", "count", "adds.bin", "2", "3"],
+        &["routerd", "asm"],
+        &["routerd", "asm", "a"],
+        &["routerd", "asm", "a", "b", "c"],
+        &["routerd", "list"],
+        &["routerd", "list", "a", "b"],
+        &["routerd", "run"],
+        &["routerd", "run", "o", "-"],
+        &["routerd", "run", "o", "-", "-", "-"],
     ];
     for words in wrong {
         let outcome = run(&rt, words)?;
@@ -399,19 +410,27 @@ fn help_names_each_command(rt: HostRuntime) -> Result<(), Fail> {
     let outcome = run(&rt, &["routerd", "--help"])?;
     assert_eq!(rt; outcome.status, 0);
     assert!(rt; outcome.lines.as_str() == "");
-    assert!(rt; outcome.usage.as_str().contains("raw"));
-    assert!(rt; outcome.usage.as_str().contains("Runs bare code"));
-    assert!(rt; outcome.usage.as_str().contains("Statuses: 0 done"));
+    let help = outcome.usage.as_str();
+    for part in [
+        "Assembles, lists and runs the programs of a router.",
+        "\n  raw   Runs bare code",
+        "\n  run   Runs the program of an object file",
+        "\n  asm   Assembles a text into an object file",
+        "\n  list  Prints a text that assembles to the object file",
+        "\n  routerd raw count adds.bin 2  prints seat 1 answer 0 used 4, seat 2 answer 0 used 4, counter 5 6\n",
+        "\n  routerd asm sum.s sum.o       prints ok 6\n",
+        "\n  routerd list sum.o            prints hook price, rank 10, r1 = 10",
+        "\n  routerd run sum.o - -         prints answer 55 used 33\n",
+        "\nStatuses: 0 done, 1 refused or stuck, 2 usage, 3 file or stream, 4 memory.",
+    ] {
+        assert!(rt; help.contains(part), "{help}");
+    }
     let outcome = run(&rt, &["routerd", "raw", "--help"])?;
     assert_eq!(rt; outcome.status, 0);
     assert!(rt; outcome.lines.as_str() == "");
-    assert!(rt; outcome.usage.as_str().contains("Runs bare code"));
-    assert!(rt;
-        outcome
-            .usage
-            .as_str()
-            .contains("Example: routerd raw count adds.bin 2")
-    );
+    let help = outcome.usage.as_str();
+    assert!(rt; help.contains("Runs bare code"));
+    assert!(rt; help.contains("Example: routerd raw count adds.bin 2"));
     Ok(())
 }
 
