@@ -8,3 +8,4 @@ pub mod SlotBytes
 pub mod Parts
 pub mod Recovered
 pub mod Unique
+pub mod Refused

@@ -1,5 +1,5 @@
 -- Bytes spell at most one code, and a code has one spelling.
-use Rattle.std.proofs.Common.{◌≡◌, ℕ, ◌*◌, List, [], ◌∷◌, ◌++◌, length, take, drop, refl, sym, ap, subst, ◌∙◌, arith, length-append}
+use Rattle.std.proofs.Common.{◌≡◌, ℕ, ◌*◌, List, [], ◌∷◌, ◌++◌, length, take, drop, refl, sym, ap, ◌∙◌, arith, length-append}
 use Rattle.std.specs.Prelude.{if◌then◌else◌}
 use Rattle.std.specs.List.{flat_map, AllByRecursion}
 use Rattle.std.proofs.Math.Seq.{take-append_seam, drop-append_seam}
@@ -13,11 +13,11 @@ use Rattle.isa.proofs.Recovered.{instruction_from, number_of_half, recovered, sa
 use Rattle.isa.proofs.Fronts.{length-bytes_of}
 use Rattle.isa.proofs.SlotBytes.{bytes_at, bytes_at-all}
 
-small : (i : Instruction) → IsInstruction i → AreSmall (fields_of i)
+pub small : (i : Instruction) → IsInstruction i → AreSmall (fields_of i)
 small i is = let r = ranged i is in record { target = omega (arith, r.target); source = omega (arith, r.source); offset = r.offset; immediate = r.immediate }
 
 -- instructions of the same first slot are both wide or both short
-wide_alike : (i j : Instruction) → IsInstruction i → IsInstruction j → fields_of i ≡ fields_of j → is_wide i ≡ is_wide j
+pub wide_alike : (i j : Instruction) → IsInstruction i → IsInstruction j → fields_of i ≡ fields_of j → is_wide i ≡ is_wide j
 wide_alike i j is js e =
     ap is_wide (sym (recovered i is))
     ∙ ap (λ f. is_wide (instruction_from f (number_of_half (second_half i)))) e
@@ -29,7 +29,7 @@ length_alike i j e =
     length-bytes_of i ∙ ap (λ b. 8 * length (Start i ∷ (if b then SecondHalf ∷ [] else []))) e ∙ sym (length-bytes_of j)
 
 -- where two instructions are spelled at the front of the same bytes, they are one
-same_front : (i j : Instruction) (xs ys : List ℕ) → IsInstruction i → IsInstruction j → bytes_of i ++ xs ≡ bytes_of j ++ ys → (i ≡ j) × (xs ≡ ys)
+pub same_front : (i j : Instruction) (xs ys : List ℕ) → IsInstruction i → IsInstruction j → bytes_of i ++ xs ≡ bytes_of j ++ ys → (i ≡ j) × (xs ≡ ys)
 same_front i j xs ys is js e =
     let first : bytes_of_fields (fields_of i) ≡ bytes_of_fields (fields_of j) = ap (λ zs. take 8 zs) e in
     let fields = same_fields (fields_of i) (fields_of j) (small i is) (small j js) first in

@@ -53,7 +53,7 @@ pub record AreSlots (bytes : List ℕ) : Type 0 where
   pub some : 1 ≤ length bytes / 8
   pub most : length bytes / 8 ≤ 4096
 
--- The slots before this one are spelled, and what follows begins with no instruction.
+-- The slots before this one are spelled, and some bytes follow, which begin with no instruction.
 pub record FailsAt (bytes : List ℕ) (slot : ℕ) (fault : DecodeFault) : Type 0 where
   pub front : List ℕ
   pub rest : List ℕ
@@ -61,6 +61,7 @@ pub record FailsAt (bytes : List ℕ) (slot : ℕ) (fault : DecodeFault) : Type 
   pub parts : bytes ≡ front ++ rest
   pub spelled : SpellsSlots front slots
   pub here : length slots ≡ slot
+  pub some : 1 ≤ length rest
   pub fails : Fails rest fault
 
 -- why bytes aren't code, and at which slot

@@ -1,5 +1,5 @@
-use Rattle.std.proofs.Common.{◌≡◌, ◌+◌, ◌≤◌, length, sym, ap, ◌∙◌, arith}
-use Rattle.isa.specs.Code.{IsPart, is_wide, slots_of}
+use Rattle.std.proofs.Common.{◌≡◌, ◌+◌, ◌≤◌, length, sym, ◌∙◌, arith}
+use Rattle.isa.specs.Code.{slots_of}
 use Rattle.isa.proofs.Parts.{taken_wide, taken_short, part_pushed}
 use Rattle.isa.proofs.builder.CodeBuilder.push.Goals as goal
 use Rattle.isa.proofs.builder.CodeBuilder.push.Goals.{then-is_wide, else-is_wide, in-Ok, in-Err}
