@@ -6,6 +6,7 @@ mod accesses;
 mod arithmetic;
 mod calls;
 mod jumps;
+mod pointers;
 mod runs;
 
 use super::*;

@@ -3,13 +3,16 @@ ghost use Rattle.std.specs.Prelude.{◌≡◌};
 ghost use Rattle.interp.specs.Outcome.{trap_number};
 
 use machine::Fault;
+use thiserror::Error;
 
 /// Why a run gave no answer.
-#[derive(Clone, Copy, PartialEq, Eq, Debug)]
+#[derive(Clone, Copy, PartialEq, Eq, Debug, Error)]
 pub enum Trap {
     /// The machine is stuck, for this reason.
+    #[error("the machine is stuck")]
     Stuck(Fault),
     /// The stated number of instructions passed without EXIT.
+    #[error("the instructions were used up without EXIT")]
     Limit,
 }
 

@@ -89,9 +89,11 @@ const OPERATIONS: &[(u64, u64, u64, u64)] = &[
     (LEAST64, 63, 0x21cf, u64::MAX),
     (LEAST64, 64, 0x21cf, LEAST64),
     (LEAST64, 0, 0x0000_0041_0000_01c7, 0xc000_0000_0000_0000),
+    (0x4000_0000_0000_0000, 62, 0x21cf, 1),
     (LEAST32, 31, 0x21cc, 0xffff_ffff),
     (0x1_8000_0000, 32, 0x21cc, LEAST32),
     (LEAST32, 0, 0x0000_0021_0000_01c4, 0xc000_0000),
+    (0x4000_0000, 30, 0x21cc, 1),
     // moves
     (1, LEAST64 | 7, 0x21bf, LEAST64 | 7),
     (1, 0, 0xffff_fffe_0000_01b7, u64::MAX - 1),
