@@ -6,13 +6,16 @@ use crate::code::{Code, MOST_SLOTS, Slot};
 use crate::instruction::Instruction;
 use std::alloc::{AllocError, Global};
 use std::marker::Model;
+use thiserror::Error;
 
 /// Why an instruction was not added.
-#[derive(Clone, Copy, PartialEq, Eq, Debug)]
+#[derive(Clone, Copy, PartialEq, Eq, Debug, Error)]
 pub enum BuildError {
     /// The code would have more than 4096 slots.
+    #[error("the code would be longer than 4096 slots")]
     TooLong,
     /// Memory ran out.
+    #[error("out of memory")]
     Memory,
 }
 

@@ -16,23 +16,31 @@ use crate::register::Register;
 use crate::shape::{self, Shape};
 use crate::slot;
 use std::alloc::Global;
+use thiserror::Error;
 
 /// Why bytes aren't code.
-#[derive(Clone, Copy, PartialEq, Eq, Debug)]
+#[derive(Clone, Copy, PartialEq, Eq, Debug, Error)]
 pub enum DecodeFault {
     /// There are no bytes, or not whole slots of them.
+    #[error("the code is not of whole slots")]
     Length,
     /// The opcode isn't listed.
+    #[error("the opcode is unknown")]
     Opcode,
     /// A register's number is above 10.
+    #[error("a register is above 10")]
     Register,
     /// A field that isn't used isn't zero, or one holds what isn't listed.
+    #[error("a field holds what is not listed")]
     Reserved,
     /// The code ends inside a wide instruction.
+    #[error("a wide instruction is cut off")]
     HalfWide,
     /// There are more than 4096 slots.
+    #[error("the code is longer than 4096 slots")]
     TooLong,
     /// Memory ran out.
+    #[error("out of memory")]
     Memory,
 }
 
@@ -57,7 +65,8 @@ impl DecodeFault {
 }
 
 /// The first fault, and the slot that it is in. A fault of a wide instruction's second slot is in its first one; `Length`, `TooLong` and `Memory` are in slot 0.
-#[derive(Clone, Copy, PartialEq, Eq, Debug)]
+#[derive(Clone, Copy, PartialEq, Eq, Debug, Error)]
+#[error("slot {slot}: {kind}")]
 pub struct DecodeError {
     pub slot: usize,
     pub kind: DecodeFault,

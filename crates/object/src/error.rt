@@ -4,26 +4,35 @@ ghost use Rattle.object.specs.declared.error.ReadError.TheVariants.{Memory};
 ghost use Rattle.object.specs.Refusals.{error_number};
 
 use std::alloc::{AllocError, AllocFailed};
+use thiserror::Error;
 
 /// Why bytes are no object file: the first that holds, in the order of the tests. These are: `Short` for the header, `Magic`, `Version`,
 /// `Hook`, `Field` for the number of slots, `Short` for the rest, `Trailing`, and then for each statement in turn `Order` and `Field`.
-#[derive(Clone, Copy, Debug, PartialEq, Eq)]
+#[derive(Clone, Copy, Debug, PartialEq, Eq, Error)]
 pub enum ReadError {
     /// Fewer than 16 bytes, or fewer than the header announces.
+    #[error("the file is too short")]
     Short,
     /// The first four bytes aren't BPFH.
+    #[error("the file does not begin with BPFH")]
     Magic,
     /// The version isn't 1.
+    #[error("the version is not 1")]
     Version,
     /// No hook has this number.
+    #[error("the hook is unknown")]
     Hook,
     /// A statement's slot isn't above the one before, or not in the code.
+    #[error("a statement's slot is out of order")]
     Order,
     /// The number of slots is 0 or above 4096, or a statement has a field that isn't lawful.
+    #[error("a field is not lawful")]
     Field,
     /// More bytes than the header announces.
+    #[error("the file is too long")]
     Trailing,
     /// Memory ran out.
+    #[error("out of memory")]
     Memory,
 }
 

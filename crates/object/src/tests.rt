@@ -167,6 +167,48 @@ fn refuses_each_fault_of_one_byte(rt: HostRuntime) -> Result<(), Fail> {
     Ok(())
 }
 
+/// The register and the low byte of the coefficient of the second rank term, and the refusal of the counting program's object with these,
+/// or 0.
+const SECOND_TERMS: [(u8, u8, u8); 5] = [(0, 0, 0), (1, 1, 0), (1, 0, 6), (2, 1, 6), (10, 1, 6)];
+
+#[test]
+fn refuses_a_second_term_of_no_number(rt: HostRuntime) -> Result<(), Fail> {
+    for (register, coefficient, want) in SECOND_TERMS {
+        let mut bytes = counting();
+        bytes[73] = register;
+        bytes[80] = coefficient;
+        let found = refusal(rt.alloc(), &bytes)?;
+        assert!(rt; found == want, "r{register} * {coefficient}: {found}");
+    }
+    Ok(())
+}
+
+/// The low two bytes of the number of slots, how many bytes of code follow, all zero, and the refusal, or 0. The code itself isn't looked at.
+const SLOTS: [(u8, u8, usize, u8); 6] = [
+    (0, 0, 0, 6),
+    (1, 0, 8, 0),
+    (0, 0x10, 32_768, 0),
+    (0, 0x10, 32_767, 1),
+    (1, 0x10, 32_776, 6),
+    (1, 0x10, 0, 6),
+];
+
+#[test]
+fn looks_at_the_number_of_slots_before_the_length(rt: HostRuntime) -> Result<(), Fail> {
+    for (low, high, count, want) in SLOTS {
+        let header = [
+            0x42, 0x50, 0x46, 0x48, 1, 3, 0, 0, 0, 0, 0, 0, low, high, 0, 0,
+        ];
+        let mut bytes = Vec::from_slice(rt.alloc(), &header)?;
+        for _ in 0..count {
+            bytes.push(0)?;
+        }
+        let found = refusal(rt.alloc(), &bytes)?;
+        assert!(rt; found == want, "{high} {low} with {count} bytes: {found}");
+    }
+    Ok(())
+}
+
 /// The kind of r2, its map, its offset's two low bytes, the low byte of its highest number, its mask's and its value's, and the refusal of
 /// the counting program's object with these in it, or 0.
 const REGISTERS: [([u8; 7], u8); 16] = [
