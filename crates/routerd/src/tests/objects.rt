@@ -37,15 +37,12 @@ fn a_text_becomes_its_object_byte_by_byte(rt: HostRuntime) -> Result<(), Fail> {
     let target = path_for(&rt, id, "bytes.o")?;
     let target = target.as_str();
     fs::write(&rt, source, SEVEN)?;
-    expect_line(&rt, &["routerd", "asm", source, target], 0, "ok 2")?;
+    let outcome = run(&rt, &["routerd", "asm", source, target])?;
+    assert!(rt; outcome.status == 0 && outcome.lines.as_str() == "ok 2\n");
     let bytes = fs::read(&rt, target)?;
     assert!(rt; bytes.as_slice() == SEVEN_OBJECT.as_slice());
-    expect_line(
-        &rt,
-        &["routerd", "run", target, "-", "-"],
-        0,
-        "answer 7 used 2",
-    )?;
+    let outcome = run(&rt, &["routerd", "run", target, "-", "-"])?;
+    assert!(rt; outcome.status == 0 && outcome.lines.as_str() == "answer 7 used 2\n");
     fs::remove_file(&rt, source)?;
     fs::remove_file(&rt, target)?;
     Ok(())
