@@ -79,7 +79,7 @@ fn a_fault_that_cant_be_told_ends_with_3(rt: HostRuntime) -> Result<(), Fail> {
 fn usage_that_cant_be_told_ends_with_3(rt: HostRuntime) -> Result<(), Fail> {
     for (words, status) in [(["routerd", "fly"], 2), (["routerd", "--help"], 0)] {
         let whole = run(&rt, &words)?.usage.len();
-        for taken in [0, 1, whole / 2, whole - 1] {
+        for taken in [0, 1, whole / 2, whole.saturating_sub(1)] {
             assert_eq!(rt; status_with(&rt, &words, 0, taken), 3, "{taken}");
         }
         assert_eq!(rt; status_with(&rt, &words, 0, whole), status);
