@@ -3,7 +3,7 @@ use Rattle.std.specs.Prelude.{◌≡◌, ℕ, ◌⊎◌, List, Bool, true, false
 use Rattle.std.specs.Io.KnownBytes.{Appends}
 use Rattle.routerd.specs.declared.fault.Fault.{Fault}
 use Rattle.routerd.specs.declared.report.Report.{Report}
-use Rattle.routerd.specs.declared.raw.Finished.{Finished}
+use Rattle.isa.specs.declared.hook.Hook.{Hook}
 use Rattle.routerd.specs.Statuses.{status_of}
 use Rattle.routerd.specs.RawRuns.{IsRawReport}
 use Rattle.routerd.specs.Runs.{IsRun}
@@ -11,7 +11,7 @@ use Rattle.routerd.specs.Assembly.{IsAssembled, IsListing}
 
 -- One of the commands tells this, of some file.
 abbrev pub IsMade : Report → Type 0
-IsMade report = ((finished : List Finished) × (sums : List ℕ) × IsRawReport finished sums report)
+IsMade report = ((hook : Hook) × (seats : ℕ) × IsRawReport hook seats report)
     ⊎ ((bytes : List ℕ) × (context : List ℕ) × (packet : List ℕ) × IsRun bytes context packet report)
     ⊎ ((text : List ℕ) × IsAssembled text report)
     ⊎ ((bytes : List ℕ) × IsListing bytes report)

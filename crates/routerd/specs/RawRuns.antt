@@ -1,11 +1,21 @@
 -- What is told of runs of bare code.
-use Rattle.std.specs.Prelude.{◌≡◌, ℕ, ◌+◌, List, [], ◌∷◌, ◌++◌, codes, decimal, string_bytes, Result, Ok, Err, is_err, if◌then◌else◌, nat_lt}
-use Rattle.std.specs.List.{list_any}
+use Rattle.std.specs.Prelude.{◌≡◌, ℕ, ◌+◌, ◌<◌, List, [], ◌∷◌, ◌++◌, length, map, replicate, slice_index, slice_index_or, codes, decimal, string_bytes, Result, Ok, Err, is_err, if◌then◌else◌, nat_lt}
+use Rattle.std.specs.List.{list_any, sum_by}
+use Rattle.isa.specs.declared.code.Slot.{Slot}
+use Rattle.isa.specs.declared.hook.Hook.{Hook}
+use Rattle.isa.specs.declared.decoding.DecodeError.{DecodeError}
+use Rattle.isa.specs.Refusals as refusals
+use Rattle.isa.specs.Spelling as code
+use Rattle.machine.specs.State.{Setting}
+use Rattle.maps.specs.Access.{adds_to}
+use Rattle.maps.specs.Words.{SeatView, SharedWords, fresh}
 use Rattle.interp.specs.declared.run.Run.{Run}
 use Rattle.interp.specs.declared.trap.Trap.{Trap}
-use Rattle.interp.specs.Outcome.{trap_number}
+use Rattle.interp.specs.Outcome.{Outcome, trap_number}
+use Rattle.routerd.specs.declared.fault.Fault.{Fault}
 use Rattle.routerd.specs.declared.raw.Finished.{Finished}
 use Rattle.routerd.specs.declared.report.Report.{Report}
+use Rattle.routerd.specs.Statuses.{fault_of_refusal}
 
 -- how the seat of this number ended
 abbrev pub seat_line : ℕ → Result Run Trap → List ℕ
@@ -24,7 +34,37 @@ abbrev pub counter_lines : ℕ → List ℕ → List ℕ
 counter_lines index [] = []
 counter_lines index (sum ∷ rest) = counter_line index sum ++ counter_lines (index + 1) rest
 
--- Each seat's end is told in their order, and then the counters above 0.
-pub record IsRawReport (finished : List Finished) (sums : List ℕ) (report : Report) : Type 0 where
+-- what each seat runs: the code at the hook, on a context of 64 zeros, no packet and no rows
+abbrev pub setting_of : List Slot → Hook → Setting
+setting_of slots hook = record { code = slots; hook = hook; input = record { context = replicate 64 0; packet = []; rows = [] } }
+
+-- the seat ran that once, for at most 1,000,000 instructions
+abbrev pub Ran : Setting → SeatView → Finished → Type 0
+Ran setting seat one = Outcome setting 1000000 seat one.outcome one.seat
+
+-- and so did each of these seats, in their order
+abbrev pub EachRan : Setting → List SeatView → List Finished → Type 0
+EachRan setting seats finished = (i : ℕ) (s : SeatView) (d : Finished) → i < length seats → Ran setting (slice_index_or seats i s) (slice_index_or finished i d)
+
+-- The bytes spell code, which each of the seats of one table, that had done nothing, ran once at the hook. Each seat's end is told in
+-- their order, and then the counters above 0, which are the sums of all that the seats added.
+pub record IsRawReport (hook : Hook) (seats : ℕ) (report : Report) : Type 0 where
+  pub bytes : List ℕ
+  pub slots : List Slot
+  pub decoded : code.Spells bytes slots
+  pub shared : SharedWords
+  pub dealt : shared.seats ≡ seats
+  pub finished : List Finished
+  pub each : length finished ≡ seats
+  pub ran : (i : ℕ) (d : Finished) → i < seats → Ran (setting_of slots hook) (fresh shared.table i) (slice_index_or finished i d)
+  pub sums : List ℕ
+  pub counters : length sums ≡ 256
+  pub exact : (k : ℕ) → k < 256 → slice_index sums k ≡ sum_by (λ s. adds_to k s.accesses) (map (λ one. one.seat) finished)
   pub told : string_bytes report.text ≡ seat_lines 1 finished ++ counter_lines 0 sums
   pub stuck : report.is_stuck ≡ list_any (λ one. is_err one.outcome) finished
+
+-- the refusal of bytes that are no code
+pub record IsBareRefused (bytes : List ℕ) (fault : Fault) : Type 0 where
+  pub error : DecodeError
+  pub refuses : refusals.Refuses bytes error.slot error.kind
+  pub told : fault ≡ fault_of_refusal error

@@ -1,9 +1,8 @@
 //! Bare code on seats, each on a thread of its own.
 
-ghost use Rattle.std.specs.Prelude.{◌≡◌, ◌<◌, ◌≤◌, ◌^◌, ◌++◌, ℕ, List, length, IfOk, OnOk, string_bytes, is_err};
+ghost use Rattle.std.specs.Prelude.{◌≡◌, ◌++◌, ◌⊎◌, ℕ, List, length, map, IfOk, IfErr, OnOk, string_bytes, is_err};
 ghost use Rattle.std.specs.List.{All, list_any};
-ghost use Rattle.routerd.specs.declared.raw.Finished.{Finished};
-ghost use Rattle.routerd.specs.RawRuns.{IsRawReport, counter_line, counter_lines, seat_line, seat_lines};
+ghost use Rattle.routerd.specs.RawRuns.{EachRan, IsBareRefused, IsRawReport, Ran, counter_line, counter_lines, seat_line, seat_lines};
 
 use crate::fault::Fault;
 use crate::files;
@@ -39,13 +38,15 @@ fn run_each<R: Threads + Sync>(
     requires { All (λ s. s.table ≡ shared.now.table) seats.items }
     ensures len { IfOk result (λ v. length v.items ≡ length seats.items) }
     ensures table { IfOk result (λ v. All (λ f. f.seat.table ≡ shared.now.table) v.items) }
+    ensures ran { IfOk result (λ v. EachRan (record { code = code.now; hook = hook; input = input.now }) seats.items v.items) }
 {
     map_vec(
         rt,
         seats,
         &|seat: Seat| -> Finished
             requires { seat.table ≡ shared.now.table }
-            ensures { result.seat.table ≡ shared.entry.now.table }
+            ensures table { result.seat.table ≡ shared.entry.now.table }
+            ensures ran { Ran (record { code = code.entry.now; hook = hook; input = input.entry.now }) seat result }
         {
             let mut seat = seat;
             let outcome = run_checked(code, hook, LIMIT, input, shared, &mut seat);
@@ -61,6 +62,7 @@ fn seats_of(
     finished: Vec<Finished>,
 ) -> Result<Vec<Seat>, AllocError>
     requires { All (λ f. f.seat.table ≡ shared.now.table) finished.items }
+    ensures same { IfOk result (λ v. v.items ≡ map (λ one. one.seat) finished.items) }
     ensures len { IfOk result (λ v. length v.items ≡ length finished.items) }
     ensures table { IfOk result (λ v. All (λ s. s.table ≡ shared.now.table) v.items) }
 {
@@ -140,7 +142,8 @@ pub fn raw<'a, R: Files + AllocGlobal + Threads + Sync>(
     path: &'a str,
     seats: usize,
 ) -> Result<Report, Fault<'a>>
-    ensures { IfOk result (λ report. (finished : List Finished) × (sums : List ℕ) × IsRawReport finished sums report) }
+    ensures runs { IfOk result (λ report. IsRawReport hook seats report) }
+    ensures fault { IfErr result (λ fault. (fault ≡ Fault.Read path.entry) ⊎ (fault ≡ Fault.Memory) ⊎ ((bytes : List ℕ) × IsBareRefused bytes fault)) }
 {
     let alloc = rt.alloc();
     let bytes = files::read(rt, path)?;
