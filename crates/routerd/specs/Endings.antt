@@ -3,23 +3,36 @@ use Rattle.std.specs.Prelude.{◌≡◌, ℕ, ◌⊎◌, List, Bool, true, false
 use Rattle.std.specs.Io.KnownBytes.{Appends}
 use Rattle.routerd.specs.declared.fault.Fault.{Fault}
 use Rattle.routerd.specs.declared.report.Report.{Report}
-use Rattle.isa.specs.declared.hook.Hook.{Hook}
+use Rattle.routerd.specs.declared.fault.Fault.TheVariants as faults
+use Rattle.clap.specs.Simple.{App}
+use Rattle.clap.specs.declared.error.Error.{Error}
+use Rattle.command_line.specs.Requests.{Asks, IsMistake}
+use Rattle.command_line.specs.declared.requests.Request.{Request}
+use Rattle.command_line.specs.declared.requests.Request.TheVariants as requests
 use Rattle.routerd.specs.Statuses.{status_of}
-use Rattle.routerd.specs.RawRuns.{IsRawReport}
-use Rattle.routerd.specs.Runs.{IsRun}
-use Rattle.routerd.specs.Assembly.{IsAssembled, IsListing}
+use Rattle.routerd.specs.RawRuns.{IsBareRefused, IsRawReport}
+use Rattle.routerd.specs.Runs.{IsRun, IsRunFault}
+use Rattle.routerd.specs.Assembly.{IsAssembled, IsListFault, IsListing, IsTextFault}
 
--- One of the commands tells this, of some file.
-abbrev pub IsMade : Report → Type 0
-IsMade report = ((hook : Hook) × (seats : ℕ) × IsRawReport hook seats report)
-    ⊎ ((bytes : List ℕ) × (context : List ℕ) × (packet : List ℕ) × IsRun bytes context packet report)
-    ⊎ ((text : List ℕ) × IsAssembled text report)
-    ⊎ ((bytes : List ℕ) × IsListing bytes report)
+-- The request was carried out, and this is told: of some file, since no contract says what a file gives.
+abbrev pub IsMadeOf : Request → Report → Type 0
+IsMadeOf (requests.Raw hook file seats) report = IsRawReport hook seats report
+IsMadeOf (requests.Run object context packet) report = (bytes : List ℕ) × IsRun bytes context packet.items report
+IsMadeOf (requests.Asm source object) report = (text : List ℕ) × IsAssembled text report
+IsMadeOf (requests.List object) report = (bytes : List ℕ) × IsListing bytes report
 
--- what a command made, if it made something
-abbrev pub IsOutcome : Result Report Fault → Type 0
-IsOutcome (Ok report) = IsMade report
-IsOutcome (Err fault) = Unit {0}
+-- The request can't be carried out, for this fault.
+abbrev pub IsFaultOf : Request → Fault → Type 0
+IsFaultOf (requests.Raw hook file seats) fault = (fault ≡ faults.Read file) ⊎ (fault ≡ faults.Memory) ⊎ ((bytes : List ℕ) × IsBareRefused bytes fault)
+IsFaultOf (requests.Run object context packet) fault = (fault ≡ faults.Read object) ⊎ ((bytes : List ℕ) × IsRunFault bytes fault)
+IsFaultOf (requests.Asm source object) fault = (fault ≡ faults.Read source) ⊎ (fault ≡ faults.Write object) ⊎ ((text : List ℕ) × IsTextFault text fault)
+IsFaultOf (requests.List object) fault = (fault ≡ faults.Read object) ⊎ ((bytes : List ℕ) × IsListFault bytes fault)
+
+-- What the words ask for was carried out. Else memory was refused, or the words ask for nothing, or what they ask for can't be carried out.
+abbrev pub IsOutcome : App → List (List ℕ) → Result Report Fault → Type 0
+IsOutcome line words (Ok report) = (request : Request) × Asks line words request × IsMadeOf request report
+IsOutcome line words (Err fault) = (fault ≡ faults.Memory) ⊎ ((error : Error) × IsMistake line words error × (fault ≡ faults.Usage error))
+    ⊎ ((request : Request) × Asks line words request × IsFaultOf request fault)
 
 -- a stuck run has status 1
 abbrev pub status_of_stuck : Bool → ℕ

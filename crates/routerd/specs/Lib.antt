@@ -3,4 +3,3 @@ pub mod Endings
 pub mod RawRuns
 pub mod Runs
 pub mod Statuses
-pub mod Words

@@ -2,7 +2,6 @@
 #![tactic(auto)]
 
 mod assembly;
-mod command;
 mod fault;
 mod files;
 mod program;

@@ -1,28 +1,31 @@
 //! The whole program, over readers and writers that are handed in.
 
-ghost use Rattle.std.specs.Prelude.{◌≡◌, ◌≤◌, ◌⊎◌, Result};
+ghost use Rattle.std.specs.Prelude.{◌≡◌, ◌≤◌, ◌⊎◌, IfErr, IfOk, Result, map};
 ghost use Rattle.std.specs.IoError.{error_kind};
 ghost use Rattle.routerd.specs.declared.fault.Fault.{Fault};
 ghost use Rattle.routerd.specs.declared.report.Report.{Report};
-ghost use Rattle.routerd.specs.Endings.{Ends, IsOutcome, Prints, Tells};
+ghost use Rattle.clap.specs.Simple.{App};
+ghost use Rattle.command_line.specs.CommandLine.{IsCommandLine};
+ghost use Rattle.routerd.specs.Endings.{Ends, IsFaultOf, IsMadeOf, IsOutcome, Prints, Tells};
 
-use crate::command::{self, Request};
 use crate::fault::{DONE, Fault, REFUSED};
 use crate::report::Report;
 use crate::{assembly, raw, run};
+use command_line::Request;
 use std::alloc::Global;
 use std::io::{self, BufRead, ErrorKind, Write};
 use std::rt::Files;
 use std::thread::Threads;
 
-// What the command that the words name prints.
-fn answer<'a, R: Files + AllocGlobal + Threads + Sync>(
+// Carries out a request, and tells what is to be printed of it.
+fn carry_out<'a, R: Files + AllocGlobal + Threads + Sync>(
     rt: &R,
-    words: &'a [&'a str],
+    request: Request<'a>,
 ) -> Result<Report, Fault<'a>>
-    ensures { IsOutcome result }
+    ensures made { IfOk result (IsMadeOf request.entry) }
+    ensures fault { IfErr result (IsFaultOf request.entry) }
 {
-    match command::parse(rt.alloc(), words)? {
+    match request {
         Request::Raw { hook, file, seats } => raw::raw(rt, hook, file, seats),
         Request::Run {
             object,
@@ -31,6 +34,19 @@ fn answer<'a, R: Files + AllocGlobal + Threads + Sync>(
         } => run::run(rt, object, context, packet),
         Request::Asm { source, object } => assembly::assemble_file(rt, source, object),
         Request::List { object } => assembly::list(rt, object),
+    }
+}
+
+// What the words ask for, carried out.
+fn answer<'a, R: Files + AllocGlobal + Threads + Sync>(
+    rt: &R,
+    words: &'a [&'a str],
+) -> Result<Report, Fault<'a>>
+    ensures { (line : App) × IsCommandLine line × IsOutcome line (map (λ word. word.now) words.entry.now) result }
+{
+    match command_line::parse(rt.alloc(), words) {
+        Ok(request) => carry_out(rt, request),
+        Err(error) => Err(Fault::from(error)),
     }
 }
 
@@ -84,7 +100,7 @@ pub fn end_without_words<O: Write, E: Write>(
     ensures memory { error_kind error.now ≡ ErrorKind.OutOfMemory → (result ≡ 3) ⊎ (result ≡ 4) }
     ensures told { (result ≡ 2) ⊎ (result ≡ 3) ⊎ (result ≡ 4) }
 {
-    let fault = Fault::from(command::unread(alloc, error));
+    let fault = Fault::from(command_line::unread(alloc, error));
     tell(&fault, output, errors)
 }
 
@@ -99,7 +115,8 @@ pub fn program<R: Files + AllocGlobal + Threads + Sync, I: BufRead, O: Write, E:
     output: &mut O,
     errors: &mut E,
 ) -> u8
-    ensures ended { (outcome : Result Report Fault) × IsOutcome outcome × Ends outcome (O.contents output.old) (O.contents output.new) result }
+    ensures ended { (line : App) × IsCommandLine line × (outcome : Result Report Fault) × IsOutcome line (map (λ word. word.now) words.now) outcome
+        × Ends outcome (O.contents output.old) (O.contents output.new) result }
 {
     let outcome = answer(rt, words);
     end(&outcome, output, errors)

@@ -1,0 +1,5 @@
+use Rattle.command_line.proofs.Worked.{asked, flag, help, missing, more, none, other_command, raw_asks, run_asks, too_many, unknown}
+use Rattle.command_line.proofs.laws.worked_words.Goals as goal
+
+pub returns : goal.returns
+returns c = (help, too_many, none, unknown, other_command, missing, more, flag, asked, raw_asks, run_asks)

@@ -1,0 +1,51 @@
+-- The command line: its commands, and the words that each has to have.
+use Rattle.std.specs.Prelude.{◌≡◌, ℕ, true, false, List, [], ◌∷◌, Some, codes, pos}
+use Rattle.std.specs.Borrow.{Bor}
+use Rattle.clap.specs.Simple.{App, Shape, new_rule, new_shape}
+use Rattle.clap.specs.Walk.{Rule, Text}
+use Rattle.clap.specs.declared.builder.value_parser.ValueParser.{ValueParser}
+use Rattle.clap.specs.declared.builder.value_parser.ValueParser.TheVariants as parsers
+
+-- a word that has to be there
+abbrev pub required : Text → Rule
+required id = record (new_rule id) { value_names = 1; required = true }
+
+-- and has to pass this
+abbrev pub checked : Text → ValueParser → Rule
+checked id parser = record (required id) { parser = Some parser }
+
+abbrev pub command : Text → List Rule → Shape
+command name rules = record (new_shape name) { rules = rules }
+
+-- the names of the hooks, wherever they lie
+abbrev pub hook_names : ℕ × ℕ → ℕ × ℕ → ℕ × ℕ → ℕ × ℕ → List (Bor Text)
+hook_names a b c d = record { ref_ptr = a; now = codes "count" } ∷ record { ref_ptr = b; now = codes "tag" }
+    ∷ record { ref_ptr = c; now = codes "price" } ∷ record { ref_ptr = d; now = codes "veto" } ∷ []
+
+-- raw HOOK FILE SEATS
+abbrev pub raw : Bor (List (Bor Text)) → Shape
+raw hooks = command (codes "raw")
+    (checked (codes "HOOK") (parsers.Names hooks) ∷ required (codes "FILE") ∷ checked (codes "SEATS") (parsers.Signed (pos 1) (pos 64)) ∷ [])
+
+-- run OBJECT CONTEXT PACKET
+abbrev pub run : Shape
+run = command (codes "run") (required (codes "OBJECT") ∷ required (codes "CONTEXT") ∷ required (codes "PACKET") ∷ [])
+
+-- asm SOURCE OBJECT
+abbrev pub asm : Shape
+asm = command (codes "asm") (required (codes "SOURCE") ∷ required (codes "OBJECT") ∷ [])
+
+-- list OBJECT
+abbrev pub list : Shape
+list = command (codes "list") (required (codes "OBJECT") ∷ [])
+
+-- One of these commands has to be named, and without any word the answer is help.
+abbrev pub line_with : Bor (List (Bor Text)) → App
+line_with hooks = record {
+  top = record (new_shape (codes "routerd")) { is_leaf = false; subcommand_required = true; arg_required_else_help = true };
+  subs = raw hooks ∷ run ∷ asm ∷ list ∷ [];
+}
+
+-- the command line, wherever the names of the hooks lie
+abbrev pub IsCommandLine : App → Type 0
+IsCommandLine line = (hooks : Bor (List (Bor Text))) × (a b c d : ℕ × ℕ) × (hooks.now ≡ hook_names a b c d) × (line ≡ line_with hooks)

@@ -1,0 +1,58 @@
+-- Laws of command lines.
+use Rattle.std.specs.Prelude.{◌≡◌, ◌≢◌, ◌⊎◌, ⊤, ℕ, List, [], ◌∷◌, codes}
+use Rattle.std.specs.Borrow.{Bor}
+use Rattle.std.specs.Global.{Vec}
+use Rattle.clap.specs.Simple.{App}
+use Rattle.clap.specs.Walk.{Text}
+use Rattle.clap.specs.declared.error.Error.{Error}
+use Rattle.command_line.specs.CommandLine.{IsCommandLine}
+use Rattle.command_line.specs.Requests.{Asks, IsMistake, IsSeats}
+use Rattle.command_line.specs.Words.{IsContext, IsPacket, hook_name}
+use Rattle.command_line.specs.declared.requests.Request.{Request}
+use Rattle.command_line.specs.declared.requests.Request.TheVariants as requests
+use Rattle.isa.specs.declared.hook.Hook.{Hook}
+
+-- The same command, with the same texts, numbers and bytes, wherever they lie.
+abbrev pub SameRequest : Request → Request → Type 0
+SameRequest (requests.Raw hook file seats) (requests.Raw hook_2 file_2 seats_2) =
+    (hook ≡ hook_2) × (file.now ≡ file_2.now) × (seats ≡ seats_2)
+SameRequest (requests.Run object context packet) (requests.Run object_2 context_2 packet_2) =
+    (object.now ≡ object_2.now) × (context ≡ context_2) × (packet.items ≡ packet_2.items)
+SameRequest (requests.Asm source object) (requests.Asm source_2 object_2) = (source.now ≡ source_2.now) × (object.now ≡ object_2.now)
+SameRequest (requests.List object) (requests.List object_2) = object.now ≡ object_2.now
+SameRequest _ _ = ⊥
+
+abbrev pub WordsMakeOneRequest : Type 0
+WordsMakeOneRequest = (line : App) (words : List Text) (request other : Request) → IsCommandLine line
+    → Asks line words request → Asks line words other → SameRequest request other
+
+abbrev pub MistakenWordsAskForNothing : Type 0
+MistakenWordsAskForNothing = (line : App) (words : List Text) (error : Error) (request : Request)
+    → IsMistake line words error → Asks line words request → ⊥
+
+-- A word that is no flag: it doesn't begin with a hyphen (45), or is one.
+abbrev pub IsPlain : Text → Type 0
+IsPlain [] = ⊤
+IsPlain (first ∷ rest) = (first ≢ 45) ⊎ (rest ≡ [])
+
+-- Whatever the program is called, and whatever the file: these words ask for this request.
+abbrev pub RawIsTaken : Type 0
+RawIsTaken = (line : App) (program seats_word : Text) (hook : Hook) (file : Bor Text) (seats : ℕ) → IsCommandLine line
+    → IsPlain file.now → IsSeats seats_word seats
+    → Asks line (program ∷ codes "raw" ∷ hook_name hook ∷ file.now ∷ seats_word ∷ []) (requests.Raw hook file seats)
+
+abbrev pub RunIsTaken : Type 0
+RunIsTaken = (line : App) (program context_word packet_word : Text) (object : Bor Text) (context : List ℕ) (packet : Vec ℕ) → IsCommandLine line
+    → IsPlain object.now → IsPlain context_word → IsPlain packet_word → IsContext context_word context → IsPacket packet_word packet.items
+    → Asks line (program ∷ codes "run" ∷ object.now ∷ context_word ∷ packet_word ∷ []) (requests.Run object context packet)
+
+abbrev pub AsmIsTaken : Type 0
+AsmIsTaken = (line : App) (program : Text) (source object : Bor Text) → IsCommandLine line → IsPlain source.now → IsPlain object.now
+    → Asks line (program ∷ codes "asm" ∷ source.now ∷ object.now ∷ []) (requests.Asm source object)
+
+abbrev pub ListIsTaken : Type 0
+ListIsTaken = (line : App) (program : Text) (object : Bor Text) → IsCommandLine line → IsPlain object.now
+    → Asks line (program ∷ codes "list" ∷ object.now ∷ []) (requests.List object)
+
+abbrev pub PlainWordsAreTaken : Type 0
+PlainWordsAreTaken = RawIsTaken × RunIsTaken × AsmIsTaken × ListIsTaken

@@ -1,0 +1,5 @@
+pub mod CommandLine
+pub mod Laws
+pub mod Requests
+pub mod Words
+pub mod Worked

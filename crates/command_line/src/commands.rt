@@ -1,0 +1,161 @@
+//! The commands, the words that each has to have, and their help.
+
+ghost use Rattle.std.specs.Prelude.{◌≡◌, ◌⊎◌, [], ◌∷◌, ◌++◌, ℕ, List, Some, false, codes, pos, IfOk};
+ghost use Rattle.std.specs.Borrow.{Bor};
+ghost use Rattle.clap.specs.Simple.{app_of, new_app};
+ghost use Rattle.clap.specs.Values.{kind_of};
+ghost use Rattle.clap.specs.Walk.{rule_of};
+ghost use Rattle.clap.specs.Simple.{shape_of};
+ghost use Rattle.clap.specs.declared.builder.command.Command.TheViews.{out-Command as fields_of};
+ghost use Rattle.clap.specs.declared.builder.value_parser.ValueParser.TheVariants.{Names, Signed};
+ghost use Rattle.command_line.specs.CommandLine.{IsCommandLine, hook_names};
+ghost use Rattle.command_line.specs.CommandLine as line;
+
+use clap::error::ErrorKind;
+use clap::{Arg, Command, Error, value_parser};
+use std::alloc::{AllocError, Global};
+
+const ABOUT: &str = "Assembles, lists and runs the programs of a router.";
+
+const RAW: &str =
+    "Runs bare code (slots of 8 bytes) once on each of SEATS threads, all on the same counters, and prints each answer and each counter above 0";
+
+const RAW_EXAMPLE: &str = "Example: routerd raw count adds.bin 2";
+
+const RUN: &str =
+    "Runs the program of an object file once, on no table rows, and prints its answer and how many instructions it took";
+
+const RUN_EXAMPLE: &str = "Example: routerd run sum.o - -";
+
+const ASM: &str = "Assembles a text into an object file, and prints how many slots its code has";
+
+const ASM_EXAMPLE: &str = "Example: routerd asm sum.s sum.o";
+
+const LIST: &str = "Prints a text that assembles to the object file";
+
+const LIST_EXAMPLE: &str = "Example: routerd list sum.o";
+
+// What is written behind the top help: a line for each command and what it prints, and the statuses.
+const WORKED: &str =
+    "Examples:\n  routerd raw count adds.bin 2  prints seat 1 answer 0 used 4, seat 2 answer 0 used 4, counter 5 6\n  routerd asm sum.s sum.o       prints ok 6\n  routerd list sum.o            prints hook price, rank 10, r1 = 10 and the other lines of the text\n  routerd run sum.o - -         prints answer 55 used 33\n\nStatuses: 0 done, 1 refused or stuck, 2 usage, 3 file or stream, 4 memory.";
+
+static HOOKS: [&str; 4] = ["count", "tag", "price", "veto"];
+
+fn required<'a>(alloc: Global, name: &'a str, help: &'a str) -> Arg<'a>
+    ensures rule { rule_of result ≡ line.required name.entry.now }
+    ensures local { result.global ≡ false }
+{
+    Arg::new(alloc, name)
+        .value_name(name)
+        .help(help)
+        .required(true)
+}
+
+fn hook<'a>(alloc: Global) -> Arg<'a>
+    ensures rule { (hooks : Bor (List (Bor (List ℕ)))) × (a b c d : ℕ × ℕ) × (hooks.now ≡ hook_names a b c d)
+        × (rule_of result ≡ line.checked (codes "HOOK") (Names hooks)) }
+    ensures local { result.global ≡ false }
+{
+    required(alloc, "HOOK", "The hook that the code is run at").value_parser(HOOKS.as_slice())
+}
+
+fn seats<'a>(alloc: Global) -> Arg<'a>
+    ensures rule { rule_of result ≡ line.checked (codes "SEATS") (Signed (pos 1) (pos 64)) }
+    ensures local { result.global ≡ false }
+{
+    required(alloc, "SEATS", "How many threads run it, 1 to 64").value_parser(value_parser!(
+        u8
+    ).range(1..=64))
+}
+
+fn raw<'a>(alloc: Global) -> Result<Command<'a>, AllocError>
+    ensures app { IfOk result (λ command. (hooks : Bor (List (Bor (List ℕ)))) × (a b c d : ℕ × ℕ) × (hooks.now ≡ hook_names a b c d)
+        × (shape_of command ≡ line.raw hooks)) }
+    ensures local { IfOk result (λ c. (fields_of c).has_globals ≡ false) }
+{
+    Command::new(alloc, "raw")
+        .about(RAW)
+        .after_help(RAW_EXAMPLE)
+        .arg(hook(alloc))?
+        .arg(required(alloc, "FILE", "The file that holds the code"))?
+        .arg(seats(alloc))
+}
+
+fn run<'a>(alloc: Global) -> Result<Command<'a>, AllocError>
+    ensures app { IfOk result (λ c. shape_of c ≡ line.run) }
+    ensures local { IfOk result (λ c. (fields_of c).has_globals ≡ false) }
+{
+    let object = required(alloc, "OBJECT", "The object file");
+    let context = required(
+        alloc,
+        "CONTEXT",
+        "The 64 bytes of the context as 128 hex digits, or - for zeros",
+    );
+    let packet = required(
+        alloc,
+        "PACKET",
+        "The bytes of the packet in hex digits, or - for none",
+    );
+    Command::new(alloc, "run")
+        .about(RUN)
+        .after_help(RUN_EXAMPLE)
+        .arg(object)?
+        .arg(context)?
+        .arg(packet)
+}
+
+fn asm<'a>(alloc: Global) -> Result<Command<'a>, AllocError>
+    ensures app { IfOk result (λ c. shape_of c ≡ line.asm) }
+    ensures local { IfOk result (λ c. (fields_of c).has_globals ≡ false) }
+{
+    let source = required(alloc, "SOURCE", "The text");
+    let object = required(alloc, "OBJECT", "The object file that is written");
+    Command::new(alloc, "asm")
+        .about(ASM)
+        .after_help(ASM_EXAMPLE)
+        .arg(source)?
+        .arg(object)
+}
+
+fn list<'a>(alloc: Global) -> Result<Command<'a>, AllocError>
+    ensures app { IfOk result (λ c. shape_of c ≡ line.list) }
+    ensures local { IfOk result (λ c. (fields_of c).has_globals ≡ false) }
+{
+    let object = required(alloc, "OBJECT", "The object file");
+    Command::new(alloc, "list")
+        .about(LIST)
+        .after_help(LIST_EXAMPLE)
+        .arg(object)
+}
+
+/// The whole command line.
+pub(crate) fn whole<'a>(alloc: Global) -> Result<Command<'a>, AllocError>
+    ensures { IfOk result (λ c. IsCommandLine (app_of c)) }
+{
+    Command::new(alloc, "routerd")
+        .about(ABOUT)
+        .after_help(WORKED)
+        .subcommand_required(true)
+        .arg_required_else_help(true)
+        .subcommand(raw(alloc)?)?
+        .subcommand(run(alloc)?)?
+        .subcommand(asm(alloc)?)?
+        .subcommand(list(alloc)?)
+}
+
+/// An error about the words of a command line.
+pub(crate) fn error(alloc: Global, kind: ErrorKind, text: &str) -> Result<Error, AllocError>
+    ensures { IfOk result (λ error. kind_of error ≡ kind) }
+{
+    whole(alloc)?.error(kind, text)
+}
+
+/// An error about a wrong word, or want of memory.
+pub(crate) fn wrong_value(alloc: Global, text: &str) -> Error
+    ensures { (kind_of result ≡ ErrorKind.OutOfMemory) ⊎ (kind_of result ≡ ErrorKind.InvalidValue) }
+{
+    match error(alloc, ErrorKind::InvalidValue, text) {
+        Ok(error) => error,
+        Err(error) => Error::from(error),
+    }
+}
