@@ -1,5 +1,5 @@
 -- Words that are no flags go to the names of a command in turn.
-use Rattle.std.proofs.Common.{◌≡◌, ◌∙◌, ap, sym, subst, refl, arith, ℕ, List, [], ◌∷◌, Option, Some, None, inl, inr, codes, false}
+use Rattle.std.proofs.Common.{◌≡◌, sym, subst, refl, arith, List, [], ◌∷◌, Option, Some, None, inl, inr, codes, false}
 use Rattle.std.specs.Prelude.{◌==◌, Bool, true}
 use Rattle.std.specs.Borrow.{Bor}
 use Rattle.std.specs.Str.{bytes_eq}
@@ -7,9 +7,9 @@ use Rattle.clap.proofs.OnLiterals.{clap_on_literals}
 use Rattle.clap.specs.Faults.{fault_of}
 use Rattle.clap.specs.Lexer.{long_of, short_of}
 use Rattle.clap.specs.Simple.{App, subcommand_of}
-use Rattle.clap.specs.Walk.{Row, Text, first_of, one_of}
-use Rattle.command_line.specs.CommandLine.{IsCommandLine, hook_names, line_with}
-use Rattle.command_line.specs.Laws.{IsPlain, ListIsTaken, RawIsTaken, AsmIsTaken, RunIsTaken}
+use Rattle.clap.specs.Walk.{Row, Text}
+use Rattle.command_line.specs.CommandLine.{IsCommandLine, line_with}
+use Rattle.command_line.specs.Laws.{IsPlain, ListIsTaken, AsmIsTaken, RunIsTaken}
 use Rattle.command_line.specs.Requests.{Asks, HasWord}
 use Rattle.command_line.specs.declared.requests.Request.{Request}
 use Rattle.command_line.specs.declared.requests.Request.TheVariants as requests

@@ -1,16 +1,15 @@
 -- A number of seats is a word that is no flag, and clap takes it.
-use Rattle.std.proofs.Common.{◌≡◌, ◌≢◌, ◌∙◌, ◌≤◌, ap, sym, subst, refl, arith, rules, ℕ, List, [], ◌∷◌, Option, Some, None, inl, inr, codes, false, true}
+use Rattle.std.proofs.Common.{◌≡◌, ◌≢◌, ◌≤◌, refl, arith, ℕ, [], ◌∷◌, inl, false, true}
 use Rattle.std.proofs.lemmas.Int.{ints}
 use Rattle.std.specs.Prelude.{◌==◌, ◌≤ℤ◌, FitsSigned, pos}
 use mir.Syntax.{w64}
-use Rattle.std.specs.Str.Parse.{AllDigits, IsNumeral, digits_value, signed_digits_value, without_leading_plus, without_leading_sign}
+use Rattle.std.specs.Str.Parse.{IsNumeral, signed_digits_value, without_leading_plus, without_leading_sign}
 use Rattle.clap.proofs.ValueTestLemmas.{Accepts-accepts}
 use Rattle.clap.specs.Lexer.{without_minus}
 use Rattle.clap.specs.ValueTests.{accepts}
 use Rattle.clap.specs.Walk.{Text}
 use Rattle.clap.specs.declared.builder.value_parser.ValueParser.TheVariants.{Signed}
 use Rattle.command_line.proofs.Plain.{NoFlag, no_flag}
-use Rattle.command_line.specs.Laws.{IsPlain}
 use Rattle.command_line.specs.Requests.{IsSeats}
 
 pub record TakenSeats (word : Text) : Type 0 where
