@@ -1,5 +1,9 @@
 pub mod Made
 pub mod OneRequest
+pub mod Places
+pub mod PlacesFaults
+pub mod PlacesLine
+pub mod PlacesRaw
 pub mod Plain
 pub mod PlainRaw
 pub mod PlainSeats

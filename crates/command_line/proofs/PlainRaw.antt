@@ -34,7 +34,7 @@ taken_hook names a b c d e hooks.Price = record { plain = record { not_end = ref
 taken_hook names a b c d e hooks.Veto = record { plain = record { not_end = refl; not_long = refl; not_short = refl }; taken = rw e refl }
 
 -- the command line, with any parsers for the hook and the seats, so that nothing of them computes
-abbrev line_by : ValueParser → ValueParser → App
+abbrev pub line_by : ValueParser → ValueParser → App
 line_by hook seats = record (line_with (record { ref_ptr = (0, 0); now = [] })) {
   subs = command (codes "raw") (checked (codes "HOOK") hook ∷ required (codes "FILE") ∷ checked (codes "SEATS") seats ∷ [])
       ∷ run ∷ asm ∷ list ∷ [];

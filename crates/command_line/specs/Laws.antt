@@ -2,7 +2,8 @@
 use Rattle.std.specs.Prelude.{◌≡◌, ◌≢◌, ◌⊎◌, ⊤, ℕ, List, [], ◌∷◌, codes}
 use Rattle.std.specs.Borrow.{Bor}
 use Rattle.std.specs.Global.{Vec}
-use Rattle.clap.specs.Simple.{App}
+use Rattle.clap.specs.Faults.{fault_of}
+use Rattle.clap.specs.Simple.{App, subcommand_of}
 use Rattle.clap.specs.Walk.{Text}
 use Rattle.clap.specs.declared.error.Error.{Error}
 use Rattle.command_line.specs.CommandLine.{IsCommandLine}
@@ -56,3 +57,8 @@ ListIsTaken = (line : App) (program : Text) (object : Bor Text) → IsCommandLin
 
 abbrev pub PlainWordsAreTaken : Type 0
 PlainWordsAreTaken = RawIsTaken × RunIsTaken × AsmIsTaken × ListIsTaken
+
+-- What a line makes of its words, and what it finds wrong with them, is the same wherever the names of the hooks lie.
+abbrev pub WhereTheNamesLieChangesNothing : Type 0
+WhereTheNamesLieChangesNothing = (line other : App) (words : List Text) → IsCommandLine line → IsCommandLine other
+    → (fault_of line words ≡ fault_of other words) × (subcommand_of line words ≡ subcommand_of other words)
