@@ -1,8 +1,8 @@
 //! The commands, the words that each has to have, and their help.
 
-ghost use Rattle.std.specs.Prelude.{◌≡◌, ◌⊎◌, [], ◌∷◌, ◌++◌, ℕ, List, Some, false, codes, pos, IfOk};
+ghost use Rattle.std.specs.Prelude.{◌≡◌, ◌⊎◌, ℕ, List, false, codes, pos, IfOk};
 ghost use Rattle.std.specs.Borrow.{Bor};
-ghost use Rattle.clap.specs.Simple.{app_of, new_app};
+ghost use Rattle.clap.specs.Simple.{app_of};
 ghost use Rattle.clap.specs.Values.{kind_of};
 ghost use Rattle.clap.specs.Walk.{rule_of};
 ghost use Rattle.clap.specs.Simple.{shape_of};

@@ -1,6 +1,6 @@
 //! What a command and its words ask for.
 
-ghost use Rattle.std.specs.Prelude.{◌≡◌, ◌≢◌, ◌⊎◌, [], ℕ, codes, replicate, option_map, IfOk, IfErr, IfSome, MatchResult, MatchOption, Err, Ok, Some, None};
+ghost use Rattle.std.specs.Prelude.{◌≡◌, ◌≢◌, ◌⊎◌, [], ℕ, codes, replicate, option_map, IfOk, IfErr, IfSome, MatchResult, Err, Ok, Some, None};
 ghost use Rattle.std.specs.Result.{result_ok};
 ghost use Rattle.clap.specs.Matches.{found_of};
 ghost use Rattle.clap.specs.Simple.{subcommand_rows_of};
@@ -11,7 +11,7 @@ ghost use Rattle.hex.specs.declared.error.FromHexError.TheVariants.{OutOfMemory}
 ghost use Rattle.hex.specs.Hex.{decode_of, decode_sized};
 ghost use Rattle.isa.specs.declared.hook.Hook.{Hook};
 ghost use Rattle.command_line.specs.Requests.{HasSeats, IsWrong, MadeBy, Makes, MakesNone};
-ghost use Rattle.command_line.specs.Words.{IsContext, IsPacket, hook_name};
+ghost use Rattle.command_line.specs.Words.{hook_name};
 
 use crate::commands::wrong_value;
 use clap::{ArgMatches, Error};
