@@ -2,9 +2,10 @@
 use Rattle.std.proofs.Common.{◌≡◌, ℕ, zero, suc, ◌+◌, ◌-◌, ◌*◌, ◌/◌, ◌%◌, ◌<◌, ◌≤◌, ◌^◌, min, max, arith, refl, sym, ap, ◌∙◌}
 use Rattle.std.specs.Prelude.{bit_and, bit_or, bit_xor}
 use Rattle.std.specs.Int.{bit_at, bit_not, w64}
+use Rattle.std.specs.Int.Bits.{and_self, or_add_and}
 use Rattle.std.proofs.Common.{◌⊎◌, ⊎_elim, inl, inr, pow_mono}
 use Rattle.std.proofs.lemmas.Bool.{cases_lt}
-use Rattle.std.proofs.lemmas.Nat.{and_le_l, and_le_r, or_lt, xor_lt, pow_pos, shr-shr, div-add-mod', and_mask, and_comm, and_assoc}
+use Rattle.std.proofs.lemmas.Nat.{and_le_l, and_le_r, or_lt, xor_lt, pow_pos, shr-shr, div-add-mod', and_mask, and_comm, and_assoc, or_disjoint}
 use Rattle.std.proofs.Math.Nat.{mod-eq_of_lt, mod-lt, div-le_self, add-mod, add-mul-mod_self_right}
 use Rattle.std.proofs.lemmas.Nat.Bits.{bit_at_and, bit_at_or, bit_at_xor, bit_at_not, bit_at-lt, bit_at-zero, bit_at_ones, bit_at_ones_above, bit_at_mask_below, bit_at_cat_low, bit_at_cat_high, bit_at_above, same_from_bits, same_from_bits_below}
 
@@ -284,3 +285,53 @@ shared_bits a b m same =
 
 pub zero_seen : (m v i : ℕ) → v < 2 ^ 64 → i < 64 → bit_at m i ≡ 1 → bit_at v i ≡ 0 → bit_at (bit_and m (bit_not w64 v)) i ≡ 1
 zero_seen m v i small below known low = both_known m (bit_not w64 v) i known (not_bit v i small below low)
+
+-- ---- the numbers between the least and the greatest
+
+apart_bit : (v m : ℕ) → v < 2 → m < 2 → min v m ≡ v → min v (1 - m) ≡ 0
+apart_bit v m p q r = omega arith
+
+-- what lies under a mask doesn't lie beside it
+apart : (v m : ℕ) → m < 2 ^ 64 → bit_and v m ≡ v → bit_and v (bit_not w64 m) ≡ 0
+apart v m small within =
+    same_from_bits_below 64 _ _ (omega (arith, and_le_l v (bit_not w64 m), and_le_r v m, within)) (omega arith)
+    (λ i below.
+    let here : min (bit_at v i) (bit_at m i) ≡ bit_at v i = sym (bit_at_and v m i) ∙ ap (λ n. bit_at n i) within in
+    bit_at_and v (bit_not w64 m) i ∙ ap (λ z. min (bit_at v i) z) (bit_at_not w64 m i small below) ∙ apart_bit (bit_at v i) (bit_at m i) (bit_at-lt v i) (bit_at-lt m i) here ∙ sym (bit_at-zero i))
+
+pub greatest : (v m : ℕ) → m < 2 ^ 64 → bit_and v m ≡ v → bit_or v (bit_not w64 m) ≡ v + (18446744073709551615 - m)
+greatest v m small within = or_disjoint v (bit_not w64 m) (apart v m small within)
+
+-- a number's bits lie under a mask or beside it
+two_parts : (n m : ℕ) → n < 2 ^ 64 → m < 2 ^ 64 → bit_or (bit_and n m) (bit_and n (bit_not w64 m)) ≡ n
+two_parts n m small small' =
+    same_from_bits_below 64 _ _ (or_lt 64 _ _ (and_below n m small) (and_below n _ small)) small
+    (λ i below. bit_at_or (bit_and n m) (bit_and n (bit_not w64 m)) i
+    ∙ omega (arith, bit_at_and n m i, bit_at_and n (bit_not w64 m) i, bit_at_not w64 m i small' below, bit_at-lt n i, bit_at-lt m i))
+
+pub at_most : (n m v : ℕ) → n < 2 ^ 64 → m < 2 ^ 64 → bit_and n m ≡ v → n ≤ bit_or v (bit_not w64 m)
+at_most n m v small small' known =
+    let under : bit_and v m ≡ v = sym (ap (λ z. bit_and z m) known) ∙ and_assoc m n m ∙ ap (bit_and n) (and_self m) ∙ known in
+    omega (arith, two_parts n m small small', or_add_and (bit_and n m) (bit_and n (bit_not w64 m)), and_le_r n (bit_not w64 m), known, greatest v m small' under)
+
+-- ---- what one side knows, the other knows
+
+-- each bit of the one mask is in the other
+pub mask_within : (s o : ℕ) → o < 2 ^ 64 → ((i : ℕ) → i < 64 → bit_at o i ≡ 1 → bit_at s i ≡ 1) → bit_and s o ≡ o
+mask_within s o small knows =
+    same_from_bits_below 64 _ _ (omega (arith, and_le_r s o)) small
+    (λ i below. bit_at_and s o i ∙ ⊎_elim
+    (λ (none : bit_at o i < 1). omega (arith, none))
+    (λ (one : 1 ≤ bit_at o i). let there : bit_at o i ≡ 1 = omega (arith, one, bit_at-lt o i) in omega (arith, there, knows i below there))
+    (cases_lt (bit_at o i) 1))
+
+-- where each bit under the mask is the same
+pub value_within : (v m w : ℕ) → m < 2 ^ 64 → bit_and w m ≡ w → ((i : ℕ) → i < 64 → bit_at m i ≡ 1 → bit_at v i ≡ bit_at w i) → bit_and v m ≡ w
+value_within v m w small within knows =
+    same_from_bits_below 64 _ _ (omega (arith, and_le_r v m)) (omega (arith, and_le_r w m, within))
+    (λ i below.
+    let here : min (bit_at w i) (bit_at m i) ≡ bit_at w i = sym (bit_at_and w m i) ∙ ap (λ n. bit_at n i) within in
+    bit_at_and v m i ∙ ⊎_elim
+    (λ (none : bit_at m i < 1). omega (arith, none, here))
+    (λ (one : 1 ≤ bit_at m i). let there : bit_at m i ≡ 1 = omega (arith, one, bit_at-lt m i) in omega (arith, there, here, bit_at-lt w i, knows i below there))
+    (cases_lt (bit_at m i) 1))

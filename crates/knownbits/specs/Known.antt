@@ -1,5 +1,5 @@
 -- Which bits of a result are known. What they are follows: the value has every result.
-use Rattle.std.specs.Prelude.{◌≡◌, ℕ, ◌+◌, ◌%◌, ◌<◌, ◌≤◌, ◌^◌, ◌⊎◌, Option, Some, None, IfSome, bit_and, bit_or}
+use Rattle.std.specs.Prelude.{◌≡◌, ℕ, ◌+◌, ◌%◌, ◌<◌, ◌≤◌, ◌^◌, ◌⊎◌, ◌-◌, Bool, IsTrue, Option, Some, None, IfSome, bit_and, bit_or}
 use Rattle.std.specs.Int.{bit_at}
 use Rattle.isa.specs.declared.instruction.Width.{Width}
 use Rattle.isa.specs.declared.instruction.Operation.{Operation}
@@ -13,7 +13,7 @@ use Rattle.isa.specs.Arithmetic.{bits, operate}
 use Rattle.absdom.specs.declared.unary.UnaryOperation.{UnaryOperation}
 use Rattle.absdom.specs.declared.unary.UnaryOperation.TheVariants.{Negate, Extend, Reorder}
 use Rattle.knownbits.specs.declared.value.KnownBits.{KnownBits}
-use Rattle.knownbits.specs.Masks.{HasBits, Knows, KnowsBelow}
+use Rattle.knownbits.specs.Masks.{HasBits, IsWithinMask, Knows, KnowsBelow}
 
 -- a bit that is known to be 0, or to be 1
 abbrev pub KnowsZero : KnownBits → ℕ → Type 0
@@ -101,3 +101,15 @@ IsPreciseTest other w left right answer = answer ≡ Some (left, right)
 -- No run of low bits that are known to be 0 is longer.
 abbrev pub KnowsZerosTo : KnownBits → ℕ → Type 0
 KnowsZerosTo known most = (count : ℕ) → count ≤ 64 → ((i : ℕ) → i < count → KnowsZero known i) → count ≤ most
+
+-- The least number has 0 for each bit that isn't known, the greatest 1.
+abbrev pub IsPreciseRange : KnownBits → ℕ × ℕ → Type 0
+IsPreciseRange known answer = IsWithinMask known → (answer.0 ≡ known.value) × (answer.1 ≡ known.value + (18446744073709551615 - known.mask))
+
+-- each bit that the other knows is known, and is the same
+abbrev pub KnowsAllOf : KnownBits → KnownBits → Type 0
+KnowsAllOf other known = (i : ℕ) → i < 64 → Knows other i → Knows known i × (bit_at known.value i ≡ bit_at other.value i)
+
+-- What knows all of the other is within it.
+abbrev pub IsPreciseWithin : KnownBits → KnownBits → Bool → Type 0
+IsPreciseWithin known other answer = IsWithinMask other → KnowsAllOf other known → IsTrue answer

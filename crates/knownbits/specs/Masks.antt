@@ -15,3 +15,7 @@ Knows known i = bit_at known.mask i ≡ 1
 -- the low bits are known, so many of them
 abbrev pub KnowsBelow : KnownBits → ℕ → Type 0
 KnowsBelow known count = (i : ℕ) → i < count → Knows known i
+
+-- no bit of the value lies outside the mask
+abbrev pub IsWithinMask : KnownBits → Type 0
+IsWithinMask known = bit_and known.value known.mask ≡ known.value

@@ -4,7 +4,7 @@ ghost use Rattle.isa.specs.declared.instruction.Operation.TheVariants.{Add, Subt
 ghost use Rattle.isa.specs.Arithmetic.{bits, operate};
 ghost use Rattle.absdom.specs.Unary.{unary_result};
 ghost use Rattle.knownbits.specs.Masks.{HasBits, KnowsBelow};
-ghost use Rattle.knownbits.specs.Known.{IsPrecise, IsPreciseResult, IsPreciseOf, IsPreciseUnary, IsPreciseTest, HasResults, KnowsUpper, KnowsZerosTo, unary_width};
+ghost use Rattle.knownbits.specs.Known.{IsPrecise, IsPreciseResult, IsPreciseOf, IsPreciseRange, IsPreciseUnary, IsPreciseTest, IsPreciseWithin, HasResults, KnowsUpper, KnowsZerosTo, unary_width};
 
 use crate::bits::{and, cut, every, is_single, join, low_zeros, or, shared, single, xor};
 use crate::shift::{left_shift, right_shift, shift_count};
@@ -98,7 +98,7 @@ impl Domain for KnownBits {
 
     ghost stated_gives = { λ low high mask value k. (k.mask ≡ mask) × (k.value ≡ value) };
 
-    ghost within_gives = { λ k other answer. Unit {0} };
+    ghost within_gives = { IsPreciseWithin };
 
     ghost alu_gives = { IsPreciseOf };
 
@@ -106,7 +106,7 @@ impl Domain for KnownBits {
 
     ghost assume_gives = { IsPreciseTest };
 
-    ghost range_gives = { λ k answer. Unit {0} };
+    ghost range_gives = { IsPreciseRange };
 
     ghost multiple_gives = { KnowsZerosTo };
 
@@ -157,10 +157,7 @@ impl Domain for KnownBits {
     }
 
     fn range(self) -> (u64, u64) {
-        if is_single(self) {
-            return (self.value, self.value);
-        }
-        (self.value, u64::MAX)
+        (self.value, self.value | !self.mask)
     }
 
     fn multiple(self) -> u32 {

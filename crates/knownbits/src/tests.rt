@@ -147,7 +147,7 @@ fn equal_numbers_share_what_is_known(rt: HostRuntime) {
 #[test]
 fn what_is_known_has_a_range_and_a_place(rt: HostRuntime) {
     assert!(rt; KnownBits::constant(7).range() == (7, 7));
-    assert!(rt; known(0xf0, 0x30).range() == (0x30, u64::MAX));
+    assert!(rt; known(0xf0, 0x30).range() == (0x30, 0xffff_ffff_ffff_ff3f));
     assert!(rt; KnownBits::constant(7).within(known(1, 1)));
     assert!(rt; !known(1, 1).within(KnownBits::constant(7)));
     assert!(rt; known(1, 0).within(KnownBits::top()));
