@@ -1,3 +1,4 @@
+pub mod Lists
 pub mod Packings
 pub mod Rooms
 pub mod Fitting

@@ -4,10 +4,6 @@ pub mod Offers
 pub mod Candidates
 pub mod Tables
 pub mod Laws
-pub mod Worked
-pub mod WorkedExternals
-pub mod WorkedTransit
-pub mod WorkedUncounted
 pub mod Graphs
 pub mod Search
 pub mod Answers

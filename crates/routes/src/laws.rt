@@ -1,19 +1,10 @@
-//! Laws of the candidates and of the routing table, each carried by a function with an empty body.
+//! Laws that code leans on, each carried by a function with an empty body: there is one way, and one list of candidates.
 ghost use Rattle.routes.specs.Answers.{GraphsCarryAnswers};
-ghost use Rattle.routes.specs.Laws.{AnswersToAllAreNotStale, CandidatesAreCheapestWalks, CandidatesAreDetermined, ForwardingIsDetermined, OneCandidateForEachPrefix, TablesAreDetermined, TablesArePartsOfCandidates, WaysAreDetermined};
-ghost use Rattle.routes.specs.Worked.{WorkedSquare, WorkedTwoRouters};
-ghost use Rattle.routes.specs.WorkedExternals.{WorkedExternals};
-ghost use Rattle.routes.specs.WorkedTransit.{WorkedTransit};
-ghost use Rattle.routes.specs.WorkedUncounted.{WorkedUncounted};
+ghost use Rattle.routes.specs.Laws.{CandidatesAreDetermined, OneCandidateForEachPrefix, WaysAreDetermined};
 
 /// A node has one distance and one set of next hops (RFC 2328, section 16.1).
 pub fn ways_are_determined()
     ensures { WaysAreDetermined }
-{}
-
-/// A forwarding address has one distance and one set of next hops (RFC 2328, section 16.4).
-pub fn forwarding_is_determined()
-    ensures { ForwardingIsDetermined }
 {}
 
 /// A prefix has at most one candidate.
@@ -24,56 +15,6 @@ pub fn one_candidate_for_each_prefix()
 /// A database has one list of candidates, by the address of the prefix and then its length.
 pub fn candidates_are_determined()
     ensures { CandidatesAreDetermined }
-{}
-
-/// A network that a walk reaches has a candidate within the area only; that candidate's cost is the least of any walk, and its next hops
-/// are exactly the first interfaces of all walks of that cost (RFC 2328, section 16.1).
-pub fn candidates_are_cheapest_walks()
-    ensures { CandidatesAreCheapestWalks }
-{}
-
-/// A database and answers have one table.
-pub fn tables_are_determined()
-    ensures { TablesAreDetermined }
-{}
-
-/// The table is what the answers let in of the candidates, and empty before any answers.
-pub fn tables_are_parts_of_candidates()
-    ensures { TablesArePartsOfCandidates }
-{}
-
-/// Right after answers to all candidates nothing is stale.
-pub fn answers_to_all_are_not_stale()
-    ensures { AnswersToAllAreNotStale }
-{}
-
-/// A stub network of metric 10 behind two neighbors, all links of cost 5: one route of cost 20 by both interfaces, in the table where the
-/// answer of it is 0, and not where it is 1.
-pub fn worked_square()
-    ensures { WorkedSquare }
-{}
-
-/// The candidates of one of two routers on a link, also with an external destination of type 1 and of type 2 at the other one.
-pub fn worked_two_routers()
-    ensures { WorkedTwoRouters }
-{}
-
-/// The candidates where the other router announces external destinations of both types, by itself or by a forwarding address, and where other
-/// external LSAs offer nothing (RFC 2328, section 16.4).
-pub fn worked_externals()
-    ensures { WorkedExternals }
-{}
-
-/// The candidates over a transit network: ways of one cost over it and beside it, external destinations of two originators at one cost and of
-/// a forwarding address in two networks, and routers that don't count (RFC 2328, sections 16.1 and 16.4).
-pub fn worked_transit()
-    ensures { WorkedTransit }
-{}
-
-/// The candidates where other routers are named by links that don't count: of metric 0, by no address of the router's own, virtual, or
-/// without one back (RFC 2328, section 16.1).
-pub fn worked_uncounted()
-    ensures { WorkedUncounted }
 {}
 
 /// A graph whose links are those of a database gives, by `least_ways`, the distances and next hops of the database (RFC 2328, section 16.1).

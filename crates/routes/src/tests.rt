@@ -42,6 +42,17 @@ fn network(alloc: Global) -> Result<Vec<Vertex>, AllocError> {
     Ok(graph)
 }
 
+// A router with a dear link of its own and a cheaper walk over two others, and one behind it.
+fn detour(alloc: Global) -> Result<Vec<Vertex>, AllocError> {
+    let mut graph = Vec::new(alloc);
+    graph.push(vertex(alloc, Kind::Router, &[link(1, 30, 1), link(2, 10, 2)])?)?;
+    graph.push(vertex(alloc, Kind::Router, &[link(4, 1, 0)])?)?;
+    graph.push(vertex(alloc, Kind::Router, &[link(1, 15, 0), link(3, 5, 0)])?)?;
+    graph.push(vertex(alloc, Kind::Router, &[link(1, 5, 0)])?)?;
+    graph.push(vertex(alloc, Kind::Router, &[])?)?;
+    Ok(graph)
+}
+
 // A link to a vertex that isn't there, or one of cost 0 between routers.
 fn single(alloc: Global, only: Link) -> Result<Vec<Vertex>, AllocError> {
     let mut graph = Vec::new(alloc);
@@ -76,6 +87,16 @@ fn walks_of_one_cost_join_their_next_hops(rt: HostRuntime) -> Result<(), AllocEr
 fn networks_come_before_routers_at_the_same_distance(rt: HostRuntime) -> Result<(), AllocError> {
     let graph = network(rt.alloc())?;
     for (to, distance, hops) in [(1, 10, 6), (2, 11, 6), (3, 10, 2)] {
+        let way = way_to(rt.alloc(), &graph, to)?;
+        assert_eq!(rt; way, Some(Way { distance, hops }));
+    }
+    Ok(())
+}
+
+#[test]
+fn a_router_comes_nearer_while_it_waits(rt: HostRuntime) -> Result<(), AllocError> {
+    let graph = detour(rt.alloc())?;
+    for (to, distance, hops) in [(1, 20, 4), (2, 10, 4), (3, 15, 4), (4, 21, 4)] {
         let way = way_to(rt.alloc(), &graph, to)?;
         assert_eq!(rt; way, Some(Way { distance, hops }));
     }

@@ -1,0 +1,166 @@
+-- Candidates where each prefix has one best offer, and the offers of a database that is given as a list of copies.
+use Rattle.std.proofs.Common.{◌≡◌, ℕ, ◌+◌, ◌-◌, ◌^◌, ◌<◌, ◌≤◌, ◌⊎◌, inl, inr, Bool, true, false, IsTrue, List, filter, arith, refl, sym, ◌∙◌, ap, subst}
+use Rattle.std.specs.List.{AllPairs, Contains, list_all}
+use Rattle.std.proofs.lemmas.Bool.{cases_eq, cases_lt}
+use Rattle.std.proofs.lemmas.Nat.{pow_below}
+use Rattle.words.specs.Interfaces.{has_interface}
+use Rattle.words.specs.Prefixes.{Network, block, mask_of, network_address}
+use Rattle.words.specs.declared.route.Route.{Route}
+use Rattle.lsa.specs.declared.body.Body.TheVariants as body
+use Rattle.lsa.specs.declared.body.Link.{Link}
+use Rattle.lsa.specs.declared.body.LinkKind.{LinkKind}
+use Rattle.lsa.specs.declared.body.LinkKind.TheVariants.{PointToPoint, Stub, Transit, Virtual}
+use Rattle.lsdb.specs.Copies.{Database}
+use Rattle.routes.specs.Candidates.{AreCandidates, IsBefore, IsBest, IsCandidate, IsNoLater, Offers}
+use Rattle.routes.specs.Candidates.IsNoLater.{ByTag}
+use Rattle.routes.specs.Links.{Leads, Node}
+use Rattle.routes.specs.Links.Node.{ANetwork, ARouter}
+use Rattle.routes.specs.Offers.{Attaches, IsNoWorse, IsPrefix, Offer, OffersWithin, intra}
+use Rattle.routes.specs.Offers.IsNoWorse.{ByDistance}
+use Rattle.routes.specs.Paths.{IsWay, Way}
+use Rattle.route_laws.specs.Worked.{Entries, database}
+use Rattle.routes.specs.declared.root.Root.{Root}
+use Rattle.routes.proofs.Determined.{one_candidate, one_way}
+use Rattle.route_laws.proofs.Entries.{all_pass, has_link, is_no_network, kept, links_of, said, sayings}
+
+-- ---- candidates
+
+abbrev pub route_of : Offer → Route
+route_of o = record { prefix = o.prefix; kind = o.kind; cost = o.cost; distance = o.distance; hops = o.hops; tag = o.tag }
+
+pub no_worse_itself : (o : Offer) → IsNoWorse o o
+no_worse_itself o = ByDistance refl refl (omega arith)
+
+-- another offer of its prefix is the same one, or is worse
+abbrev pub IsAlone : ℕ → Database → Root → Offer → Type 0
+IsAlone moment db root o = (other : Offer) → Offers moment db root other → other.prefix ≡ o.prefix → (other ≡ o) ⊎ (IsNoWorse o other × (IsNoWorse other o → ⊥))
+
+pub alone : (moment : ℕ) (db : Database) (root : Root) (o : Offer) → Offers moment db root o → IsAlone moment db root o → IsCandidate moment db root (route_of o)
+alone moment db root o offered only =
+    let best : IsBest moment db root o.prefix o = record {
+      offered = offered;
+      is_for = refl;
+      best = λ other offers for.
+          elim (only other offers for) [
+            | inl e ↦ let P : Offer → Type 0 = λ x. IsNoWorse o x in subst P (sym e) (no_worse_itself o)
+            | inr worse ↦ worse.0
+          ];
+    } in
+    let no_other : (other : Offer) → IsBest moment db root o.prefix other → other ≡ o = λ other is.
+    elim (only other is.offered is.is_for) [
+      | inl e ↦ e
+      | inr worse ↦ absurd (worse.1 (is.best o offered refl))
+    ] in
+    record {
+      first = o;
+      is_best = best;
+      earliest = λ other is. let P : Offer → Type 0 = λ x. IsNoLater o x in let itself : IsNoLater o o = ByTag refl (omega arith) in subst P (sym (no_other other is)) itself;
+      kind = refl;
+      cost = refl;
+      distance = refl;
+      tag = refl;
+      hops = λ i. (
+        (λ t. (o, best, t)),
+        (λ h. let P : Offer → Type 0 = λ x. IsTrue (has_interface x.hops i) in subst P (no_other h.0 h.1) h.2),
+      );
+    }
+
+-- routes that are candidates, one for each prefix that is offered
+pub all_candidates : (moment : ℕ) (db : Database) (root : Root) (routes : List Route) → ((r : Route) → Contains routes r → IsCandidate moment db root r)
+    → ((o : Offer) → Offers moment db root o → (s : Route) × Contains routes s × (s.prefix ≡ o.prefix))
+    → AllPairs (λ (a : Route) (b : Route). IsBefore a.prefix b.prefix) routes → AreCandidates moment db root routes
+all_candidates moment db root routes sound offered ascending = record {
+  each = λ r. (
+    sound r,
+    (λ k.
+        let s = offered k.first k.is_best.offered in
+        let same : s.0 ≡ r = one_candidate moment db root s.0 r (sound s.0 s.1) k (s.2 ∙ k.is_best.is_for) in
+        let P : Route → Type 0 = λ x. Contains routes x in
+        subst P same s.1),
+  );
+  ascending = ascending;
+}
+
+-- ---- prefixes
+
+block_within : (n : ℕ) → block n ≤ 2 ^ 32
+block_within n =
+    elim (cases_lt (32 - n) 32) [
+      | inl less ↦ let below : 2 ^ (32 - n) < 2 ^ 32 = pow_below (32 - n) 32 less in omega (arith, below)
+      | inr more ↦ let same : 32 - n ≡ 32 = omega (arith, more) in let e : 2 ^ (32 - n) ≡ 2 ^ 32 = ap (λ k. 2 ^ k) same in omega (arith, e)
+    ]
+
+no_mask_before : (a b : ℕ) → a < b → b ≤ 32 → mask_of a ≡ mask_of b → ⊥
+no_mask_before a b less within e =
+    let order : 32 - b < 32 - a = omega (arith, less, within) in
+    let below : 2 ^ (32 - b) < 2 ^ (32 - a) = pow_below (32 - b) (32 - a) order in
+    omega (arith, below, e, block_within a, block_within b)
+
+same_length : (a b : ℕ) → a ≤ 32 → b ≤ 32 → mask_of a ≡ mask_of b → a ≡ b
+same_length a b p q e =
+    elim (cases_lt a b) [
+      | inl less ↦ absurd (no_mask_before a b less q e)
+      | inr more ↦
+          elim (cases_lt b a) [
+            | inl less ↦ absurd (no_mask_before b a less p (sym e))
+            | inr also ↦ omega (arith, more, also)
+          ]
+    ]
+
+-- a mask gives one prefix
+pub one_prefix : (address mask length : ℕ) (p : Network) → length ≤ 32 → mask ≡ mask_of length → IsPrefix address mask p → record { address = network_address length address; length = length } ≡ p
+one_prefix address mask length p within is k =
+    let e : length ≡ p.length = same_length length p.length within k.0 (sym is ∙ k.1) in
+    let f : network_address length address ≡ p.address = ap (λ n. network_address n address) e ∙ sym k.2 in
+    λ i. record { address = f i; length = e i }
+
+-- ---- the offers within the area
+
+abbrev pub kind_is_stub : LinkKind → Bool
+kind_is_stub Stub = true
+kind_is_stub PointToPoint = false
+kind_is_stub Transit = false
+kind_is_stub Virtual = false
+
+abbrev pub is_stub : ℕ × Link → Bool
+is_stub x = kind_is_stub x.1.kind
+
+-- a stub link of a router whose way is known
+pub record StubOffer (moment : ℕ) (db : Database) (root : Root) (router : ℕ) (l : Link) (length : ℕ) (o : Offer) : Type 0 where
+  pub way : Way
+  pub reached : IsWay (Leads moment db root) (ARouter root.router) (ARouter router) way
+  pub within : length ≤ 32
+  pub mask : l.link_data ≡ mask_of length
+  pub hops : ℕ
+  pub by_root : router ≡ root.router → hops ≡ 1
+  pub by_others : (router ≡ root.router → ⊥) → hops ≡ way.hops
+  pub is : intra (record { address = network_address length l.link_id; length = length }) (way.distance + l.metric) hops ≡ o
+
+module _ (moment : ℕ) (es : Entries) (root : Root) (P : Offer → Type 0) where
+  -- where each stub link has an offer of which P holds, P holds of all offers within the area
+  abbrev pub Known : ℕ → Link → Type 0
+  Known router l = (length : ℕ) × (o : Offer) × StubOffer moment (database es) root router l length o × P o
+
+  by_node : list_all is_no_network (sayings es) ≡ true → ((router : ℕ) (l : Link) → Contains (filter is_stub (links_of (sayings es))) (router, l) → Known router l)
+      → (node : Node) (prefix : Network) (more : ℕ) → Attaches moment (database es) node prefix more → (way : Way) → IsWay (Leads moment (database es) root) (ARouter root.router) node way
+      → (hops : ℕ) → (node ≡ ARouter root.router → hops ≡ 1) → ((node ≡ ARouter root.router → ⊥) → hops ≡ way.hops) → P (intra prefix (way.distance + more) hops)
+  by_node routers known (ANetwork id by) prefix more a way reached hops by_root by_others =
+      absurd (let e : false ≡ true = all_pass is_no_network (sayings es) routers (record { ls_type = 2; link_state_id = id; advertising_router = by }, body.Network a.0) (said moment es _ (body.Network a.0) a.1) in cc)
+  by_node routers known (ARouter router) prefix more a way reached hops by_root by_others =
+      let l : Link = a.0 in
+      let k = known router l (kept is_stub (links_of (sayings es)) (router, l) (has_link moment es router l a.1) (ap kind_is_stub a.2)) in
+      let p : record { address = network_address k.0 l.link_id; length = k.0 } ≡ prefix = one_prefix l.link_id l.link_data k.0 prefix k.2.within k.2.mask a.3 in
+      let w : k.2.way ≡ way = one_way (Leads moment (database es) root) (ARouter root.router) (ARouter router) k.2.way way k.2.reached reached in
+      let m : l.metric ≡ more = sym a.4 in
+      let h : k.2.hops ≡ hops =
+      elim (cases_eq router root.router) [
+        | inl e ↦ k.2.by_root e ∙ sym (by_root (ap (λ n. ARouter n) e))
+        | inr other ↦ k.2.by_others other ∙ ap (λ (x : Way). x.hops) w ∙ sym (by_others (λ e. let same : router ≡ root.router = cc in other same))
+      ] in
+      let same : k.1 ≡ intra prefix (way.distance + more) hops = sym k.2.is ∙ (λ i. intra (p i) ((w i).distance + m i) (h i)) in
+      subst P same k.3
+
+  pub each_within : list_all is_no_network (sayings es) ≡ true → ((router : ℕ) (l : Link) → Contains (filter is_stub (links_of (sayings es))) (router, l) → Known router l)
+      → (o : Offer) → OffersWithin moment (database es) root o → P o
+  each_within routers known o x =
+      subst P (sym x.is) (by_node routers known x.node x.prefix x.more x.attached x.way x.reached x.hops x.by_root x.by_others)

@@ -1,0 +1,16 @@
+mod TableLaws
+mod Least
+mod Reached
+mod Offered
+mod Forwarding
+mod Entries
+mod Labels
+mod Alone
+mod Made
+mod Square
+mod TwoRouters
+mod Parts
+mod Externals
+mod Networks
+mod Transit
+mod Uncounted

@@ -1,0 +1,588 @@
+-- The worked transit network: its ways, the offers, and the candidates.
+use Rattle.std.proofs.Common.{◌≡◌, ◌≢◌, ℕ, ◌≤◌, ◌⊎◌, inl, inr, Bool, true, cond, not, ◌||◌, IsTrue, nat_eq, eqb-true, List, [], ◌∷◌, filter, bit_and, arith, refl, sym, ◌∙◌, subst}
+use Rattle.std.specs.List.{AllByRecursion, AllPairs, Contains}
+use Rattle.words.specs.Interfaces.{has_interface}
+use Rattle.words.specs.Prefixes.{Network, network_address}
+use Rattle.words.specs.declared.key.Key.{Key}
+use Rattle.words.specs.declared.route.ExternalType.TheVariants.{Type1}
+use Rattle.words.specs.declared.route.Route.{Route}
+use Rattle.lsa.specs.declared.body.Body.{Body}
+use Rattle.lsa.specs.declared.body.Body.TheVariants as body
+use Rattle.lsa.specs.declared.body.ExternalLsa.{ExternalLsa}
+use Rattle.lsa.specs.declared.body.Link.{Link}
+use Rattle.lsdb.specs.Copies.{Database}
+use Rattle.routes.specs.Candidates.{IsBefore, IsBest, IsCandidate, IsExternalWay, IsForwarded, IsNoLater, Offers, external_offer}
+use Rattle.routes.specs.Candidates.IsBefore.{ByAddress}
+use Rattle.routes.specs.Candidates.IsNoLater.{ByOriginator, ByTag}
+use Rattle.routes.specs.Candidates.Offers.{External, Within}
+use Rattle.routes.specs.Links.{IsRouterLsa, Leads, ListsRouter, Node}
+use Rattle.routes.specs.Links.Node.{ANetwork, ARouter}
+use Rattle.routes.specs.Offers.{IsNoWorse, IsPrefix, MatchesWithin, Offer, OffersWithin, intra}
+use Rattle.routes.specs.Paths.{IsWay, Step, Way}
+use Rattle.route_laws.specs.Worked.{database, dotted, key, mask_24, network_24, router_lsa, stub}
+use Rattle.route_laws.specs.WorkedExternals.{external}
+use Rattle.route_laws.specs.WorkedTransit.{WorkedTransit, behind_route, designated_links, inner_lsa, longest_route, network_8, network_lsa, other_links, root_links, shared_route, transit, transit_entries, transit_root, transit_route, wide_route}
+use Rattle.route_laws.proofs.Alone.{IsAlone, all_candidates, alone, is_stub, no_worse_itself, one_prefix}
+use Rattle.routes.proofs.Determined.{one_way}
+use Rattle.route_laws.proofs.Entries.{all_pass, links_of, said, sayings}
+use Rattle.route_laws.proofs.Forwarding.{one_forward}
+use Rattle.route_laws.proofs.Labels.{AreLabels, subset, way_by}
+use Rattle.route_laws.proofs.Made.{back, from_root, linked, one_or_two, only_one, says}
+use Rattle.route_laws.proofs.Networks.{AreRising, IsNetworkKnown, IsStubKnown, at, each_offer, rising, unreached}
+use Rattle.route_laws.proofs.Parts.{apart, in_front, nobody, one_of}
+
+abbrev db : Database
+db = database transit_entries
+
+abbrev root : ℕ
+root = dotted 1 1 1 1
+
+abbrev designated : ℕ
+designated = dotted 2 2 2 2
+
+abbrev other : ℕ
+other = dotted 3 3 3 3
+
+abbrev unlinked : ℕ
+unlinked = dotted 4 4 4 4
+
+abbrev inner : ℕ
+inner = dotted 5 5 5 5
+
+abbrev network : ℕ
+network = dotted 10 1 0 2
+
+abbrev dr : ℕ → ℕ
+dr r = cond (nat_eq r designated) 10 (cond (nat_eq r other || nat_eq r inner) 15 0)
+
+abbrev hr : ℕ → ℕ
+hr r = cond (nat_eq r designated) 2 (cond (nat_eq r other) 6 (cond (nat_eq r inner) 2 0))
+
+abbrev dn : ℕ → ℕ → ℕ
+dn id by = 15
+
+abbrev hn : ℕ → ℕ → ℕ
+hn id by = 2
+
+labels : AreRising transit_root (sayings transit_entries) dr hr dn hn
+labels = record { start = refl; points = refl; enters = refl; leaves = refl }
+
+abbrev leads : Node → Step Node → Type 0
+leads = Leads 0 db transit_root
+
+-- ---- links
+
+root_says : IsRouterLsa 0 db root (router_lsa root_links)
+root_says = says transit_entries (key 1 root root) (body.Router (router_lsa root_links)) refl
+
+designated_says : IsRouterLsa 0 db designated (router_lsa designated_links)
+designated_says = says transit_entries (key 1 designated designated) (body.Router (router_lsa designated_links)) refl
+
+other_says : IsRouterLsa 0 db other (router_lsa other_links)
+other_says = says transit_entries (key 1 other other) (body.Router (router_lsa other_links)) refl
+
+inner_says : IsRouterLsa 0 db inner inner_lsa
+inner_says = says transit_entries (key 1 inner inner) (body.Router inner_lsa) refl
+
+lists : (n router : ℕ) → Contains network_lsa.attached router → ListsRouter 0 db network designated router
+lists n router among = record { lsa = network_lsa; its = says transit_entries (key 2 network designated) (body.Network network_lsa) refl; among = among }
+
+abbrev to_designated : Step Node
+to_designated = record { target = ARouter designated; price = 10; exit = 1 }
+
+abbrev to_other : Step Node
+to_other = record { target = ARouter other; price = 15; exit = 2 }
+
+abbrev to_network : Step Node
+to_network = record { target = ANetwork network designated; price = 5; exit = 0 }
+
+abbrev over_network : ℕ → Step Node
+over_network router = record { target = ARouter router; price = 0; exit = 0 }
+
+first_link : leads (ARouter root) to_designated
+first_link = (from_root transit_entries transit_root root_links root_says designated (dotted 10 0 1 1) 10 0 (0, omega arith, refl) (omega arith) refl, back transit_entries designated designated_links designated_says root (dotted 10 0 1 2) 10 (0, omega arith, refl))
+
+second_link : leads (ARouter root) to_other
+second_link = (from_root transit_entries transit_root root_links root_says other (dotted 10 0 2 1) 15 1 (1, omega arith, refl) (omega arith) refl, back transit_entries other other_links other_says root (dotted 10 0 2 2) 15 (0, omega arith, refl))
+
+abbrev designated_link : Link
+designated_link = transit network (dotted 10 1 0 2) 5
+
+abbrev other_link : Link
+other_link = transit network (dotted 10 1 0 3) 1
+
+abbrev inner_link : Link
+inner_link = transit network (dotted 10 1 0 5) 1
+
+network_link : leads (ARouter designated) to_network
+network_link = (
+  record {
+    link = designated_link;
+    its = linked transit_entries designated designated_links designated_says designated_link (1, omega arith, refl);
+    is_kind = refl;
+    is_id = refl;
+    costs = refl;
+    not_free = omega arith;
+    by_interface = λ e. absurd (let same : designated ≡ root = e in omega (arith, same));
+    elsewhere = λ _. refl;
+  },
+  lists 0 designated (0, omega arith, refl),
+)
+
+other_member : leads (ANetwork network designated) (over_network other)
+other_member = (lists 1 other (1, omega arith, refl), (other_link, linked transit_entries other other_links other_says other_link (1, omega arith, refl), refl, refl), refl, refl)
+
+inner_member : leads (ANetwork network designated) (over_network inner)
+inner_member = (lists 3 inner (3, omega arith, refl), (inner_link, record { lsa = inner_lsa; its = inner_says; among = (0, omega arith, refl) }, refl, refl), refl, refl)
+
+-- ---- ways
+
+are : AreLabels leads (ARouter root) (at dr dn) (at hr hn)
+are = rising transit_root 0 transit_entries dr hr dn hn labels
+
+designated_way : IsWay leads (ARouter root) (ARouter designated) (record { distance = 10; hops = 2 })
+designated_way = way_by leads (ARouter root) (at dr dn) (at hr hn) are (ARouter designated) (to_designated ∷ []) (first_link, refl) refl
+    (λ i t. (to_designated, [], (first_link, refl), refl, sym (only_one i t)))
+
+network_way : IsWay leads (ARouter root) (ANetwork network designated) (record { distance = 15; hops = 2 })
+network_way = way_by leads (ARouter root) (at dr dn) (at hr hn) are (ANetwork network designated) (to_designated ∷ to_network ∷ []) (first_link, (network_link, refl)) refl
+    (λ i t. (to_designated, to_network ∷ [], (first_link, (network_link, refl)), refl, sym (only_one i t)))
+
+inner_way : IsWay leads (ARouter root) (ARouter inner) (record { distance = 15; hops = 2 })
+inner_way = way_by leads (ARouter root) (at dr dn) (at hr hn) are (ARouter inner) (to_designated ∷ to_network ∷ over_network inner ∷ []) (first_link, (network_link, (inner_member, refl))) refl
+    (λ i t. (to_designated, to_network ∷ over_network inner ∷ [], (first_link, (network_link, (inner_member, refl))), refl, sym (only_one i t)))
+
+other_way : IsWay leads (ARouter root) (ARouter other) (record { distance = 15; hops = 6 })
+other_way = way_by leads (ARouter root) (at dr dn) (at hr hn) are (ARouter other) (to_other ∷ []) (second_link, refl) refl
+    (λ i t. elim (one_or_two i t) [
+      | inl e ↦ (to_designated, to_network ∷ over_network other ∷ [], (first_link, (network_link, (other_member, refl))), refl, sym e)
+      | inr e ↦ (to_other, [], (second_link, refl), refl, sym e)
+    ])
+
+never_unlinked : (way : Way) → IsWay leads (ARouter root) (ARouter unlinked) way → ⊥
+never_unlinked = unreached transit_root 0 transit_entries unlinked refl (λ e. omega (arith, e))
+
+-- ---- the offers within the area
+
+abbrev wide_offer : Offer
+wide_offer = intra (network_8 10) 11 2
+
+abbrev network_offer : Offer
+network_offer = intra (network_24 10 1 0) 15 2
+
+abbrev behind_offer : Offer
+behind_offer = intra (network_24 192 0 2) 25 6
+
+abbrev nearby : List Offer
+nearby = wide_offer ∷ network_offer ∷ behind_offer ∷ []
+
+abbrev IsNearby : Offer → Type 0
+IsNearby o = Contains nearby o
+
+abbrev wide_stub : Link
+wide_stub = stub (dotted 10 0 0 0) (dotted 255 0 0 0) 1
+
+abbrev behind_stub : Link
+behind_stub = stub (dotted 192 0 2 0) mask_24 10
+
+stubs_known : AllByRecursion (λ (x : ℕ × Link). IsStubKnown 0 transit_entries transit_root IsNearby x.0 x.1) (filter is_stub (links_of (sayings transit_entries)))
+stubs_known = (
+  inr (8, wide_offer, record { way = record { distance = 10; hops = 2 }; reached = designated_way; within = omega arith; mask = refl; hops = 2; by_root = λ e. absurd (omega (arith, e)); by_others = λ _. refl; is = refl }, (0, omega arith, refl)),
+  (
+    inr (24, behind_offer, record { way = record { distance = 15; hops = 6 }; reached = other_way; within = omega arith; mask = refl; hops = 6; by_root = λ e. absurd (omega (arith, e)); by_others = λ _. refl; is = refl }, (2, omega arith, refl)),
+    (inl never_unlinked, tt),
+  ),
+)
+
+abbrev IsSayingKnown : Key → Body → Type 0
+IsSayingKnown k (body.Router r) = Unit {0}
+IsSayingKnown k (body.Network n) = IsNetworkKnown 0 transit_entries transit_root IsNearby k.link_state_id k.advertising_router n
+IsSayingKnown k (body.External e) = Unit {0}
+
+networks_known : AllByRecursion (λ (s : Key × Body). IsSayingKnown s.0 s.1) (sayings transit_entries)
+networks_known = (
+  tt,
+  (
+    tt,
+    (
+      tt,
+      (
+        tt,
+        (
+          tt,
+          (
+            (24, network_offer, record { way = record { distance = 15; hops = 2 }; reached = network_way; within = omega arith; mask = refl; is = refl }, (1, omega arith, refl)),
+            (tt, (tt, (tt, (tt, (tt, tt))))),
+          ),
+        ),
+      ),
+    ),
+  ),
+)
+
+within : (o : Offer) → OffersWithin 0 db transit_root o → Contains nearby o
+within o x =
+    each_offer 0 transit_entries transit_root IsNearby
+    (λ router l t. one_of (λ (y : ℕ × Link). IsStubKnown 0 transit_entries transit_root IsNearby y.0 y.1) (filter is_stub (links_of (sayings transit_entries))) stubs_known (router, l) t)
+    (λ id by lsa t. one_of (λ (s : Key × Body). IsSayingKnown s.0 s.1) (sayings transit_entries) networks_known (record { ls_type = 2; link_state_id = id; advertising_router = by }, body.Network lsa) t) o x
+
+wide_there : OffersWithin 0 db transit_root wide_offer
+wide_there = record {
+  node = ARouter designated;
+  prefix = network_8 10;
+  more = 1;
+  attached = (wide_stub, linked transit_entries designated designated_links designated_says wide_stub (2, omega arith, refl), refl, (omega arith, refl, refl), refl);
+  way = record { distance = 10; hops = 2 };
+  reached = designated_way;
+  hops = 2;
+  by_root = λ e. absurd (let same : designated ≡ root = cc in omega (arith, same));
+  by_others = λ _. refl;
+  is = refl;
+}
+
+network_there : OffersWithin 0 db transit_root network_offer
+network_there = record {
+  node = ANetwork network designated;
+  prefix = network_24 10 1 0;
+  more = 0;
+  attached = (network_lsa, says transit_entries (key 2 network designated) (body.Network network_lsa) refl, (omega arith, refl, refl), refl);
+  way = record { distance = 15; hops = 2 };
+  reached = network_way;
+  hops = 2;
+  by_root = λ e. absurd (cc);
+  by_others = λ _. refl;
+  is = refl;
+}
+
+behind_there : OffersWithin 0 db transit_root behind_offer
+behind_there = record {
+  node = ARouter other;
+  prefix = network_24 192 0 2;
+  more = 10;
+  attached = (behind_stub, linked transit_entries other other_links other_says behind_stub (2, omega arith, refl), refl, (omega arith, refl, refl), refl);
+  way = record { distance = 15; hops = 6 };
+  reached = other_way;
+  hops = 6;
+  by_root = λ e. absurd (let same : other ≡ root = cc in omega (arith, same));
+  by_others = λ _. refl;
+  is = refl;
+}
+
+-- ---- the forwarding address, which lies in both of the nearer networks
+
+abbrev forwarding : ℕ
+forwarding = dotted 10 1 0 9
+
+abbrev forward_way : Way
+forward_way = record { distance = 15; hops = 2 }
+
+abbrev network_net : Network
+network_net = network_24 10 1 0
+
+matches : MatchesWithin 0 db transit_root forwarding network_offer
+matches = record {
+  offered = network_there;
+  under = refl;
+  best = λ o offered e.
+      one_of (λ (x : Offer). x.prefix ≡ network_net → IsNoWorse network_offer x) nearby
+      ((λ f. absurd (apart (network_8 10) network_net refl f)), ((λ f. no_worse_itself network_offer), ((λ f. absurd (apart (network_24 192 0 2) network_net refl f)), tt))) o (within o offered) e;
+}
+
+forwarded_way : IsForwarded 0 db transit_root forwarding forward_way
+forwarded_way = record {
+  by = network_offer;
+  matches = matches;
+  longest = λ o m. one_of (λ (x : Offer). x.prefix.length ≤ 24) nearby (omega arith, (omega arith, (omega arith, tt))) o (within o m.offered);
+  distance = refl;
+  hops = λ i. (
+    (λ t. (network_offer, matches, refl, t)),
+    (λ h.
+        one_of (λ (x : Offer). x.prefix ≡ network_net → IsTrue (has_interface x.hops i) → IsTrue (has_interface 2 i)) nearby
+        ((λ f t. absurd (apart (network_8 10) network_net refl f)), ((λ f t. t), ((λ f t. absurd (apart (network_24 192 0 2) network_net refl f)), tt))) h.0 (within h.0 h.1.offered) h.2 h.3),
+  );
+}
+
+-- ---- what an external LSA offers
+
+record Given (id originator : ℕ) (lsa : ExternalLsa) (o : Offer) : Type 0 where
+  prefix : Network
+  is_prefix : IsPrefix id lsa.mask prefix
+  way : Way
+  is_way : IsExternalWay 0 db transit_root originator lsa way
+  is : o ≡ external_offer lsa.kind prefix lsa originator way
+
+abbrev net_of : ℕ → Network
+net_of id = record { address = network_address 24 id; length = 24 }
+
+direct_known : (id originator : ℕ) (lsa : ExternalLsa) (way : Way) → IsWay leads (ARouter root) (ARouter originator) way → lsa.mask ≡ mask_24 → lsa.forwarding ≡ 0 → (o : Offer) → Given id originator lsa o
+    → external_offer lsa.kind (net_of id) lsa originator way ≡ o
+direct_known id originator lsa way is mask none o g =
+    let boundary : way ≡ g.is_way.boundary = one_way leads (ARouter root) (ARouter originator) way g.is_way.boundary is g.is_way.reaches.reached in
+    let w : way ≡ g.way = boundary ∙ sym (g.is_way.direct none) in
+    let p : net_of id ≡ g.prefix = one_prefix id lsa.mask 24 g.prefix (omega arith) mask g.is_prefix in
+    (λ i. external_offer lsa.kind (p i) lsa originator (w i)) ∙ sym g.is
+
+forward_known : (id originator : ℕ) (lsa : ExternalLsa) (way : Way) → lsa.mask ≡ mask_24 → lsa.forwarding ≢ 0 → IsForwarded 0 db transit_root lsa.forwarding way → (o : Offer) → Given id originator lsa o
+    → external_offer lsa.kind (net_of id) lsa originator way ≡ o
+forward_known id originator lsa way mask some is o g =
+    let w : way ≡ g.way = one_forward 0 db transit_root lsa.forwarding way g.way is (g.is_way.forwarded some) in
+    let p : net_of id ≡ g.prefix = one_prefix id lsa.mask 24 g.prefix (omega arith) mask g.is_prefix in
+    (λ i. external_offer lsa.kind (p i) lsa originator (w i)) ∙ sym g.is
+
+abbrev designated_lsa : ExternalLsa
+designated_lsa = external Type1 25 0 9
+
+abbrev other_lsa : ExternalLsa
+other_lsa = external Type1 20 0 1
+
+abbrev forwarded_lsa : ExternalLsa
+forwarded_lsa = external Type1 20 forwarding 0
+
+abbrev plain_lsa : ExternalLsa
+plain_lsa = external Type1 20 0 0
+
+abbrev shared_net : Network
+shared_net = network_24 203 0 113
+
+abbrev designated_offer : Offer
+designated_offer = external_offer Type1 shared_net designated_lsa designated (record { distance = 10; hops = 2 })
+
+abbrev other_offer : Offer
+other_offer = external_offer Type1 shared_net other_lsa other (record { distance = 15; hops = 6 })
+
+abbrev forwarded_offer : Offer
+forwarded_offer = external_offer Type1 (network_24 203 0 114) forwarded_lsa designated forward_way
+
+abbrev offers : List Offer
+offers = wide_offer ∷ network_offer ∷ behind_offer ∷ designated_offer ∷ other_offer ∷ forwarded_offer ∷ []
+
+abbrev IsKnown : Key → Body → Type 0
+IsKnown k (body.Router r) = Unit {0}
+IsKnown k (body.Network n) = Unit {0}
+IsKnown k (body.External lsa) = (o : Offer) → Given k.link_state_id k.advertising_router lsa o → Contains offers o
+
+designated_known : IsKnown (key 5 (dotted 203 0 113 0) designated) (body.External designated_lsa)
+designated_known o g = (3, omega arith, direct_known (dotted 203 0 113 0) designated designated_lsa (record { distance = 10; hops = 2 }) designated_way refl refl o g)
+
+other_known : IsKnown (key 5 (dotted 203 0 113 0) other) (body.External other_lsa)
+other_known o g = (4, omega arith, direct_known (dotted 203 0 113 0) other other_lsa (record { distance = 15; hops = 6 }) other_way refl refl o g)
+
+is_forwarded : forwarding ≡ 0 → ⊥
+is_forwarded e = omega (arith, e)
+
+forwarded_known : IsKnown (key 5 (dotted 203 0 114 0) designated) (body.External forwarded_lsa)
+forwarded_known o g = (5, omega arith, forward_known (dotted 203 0 114 0) designated forwarded_lsa forward_way refl is_forwarded forwarded_way o g)
+
+-- the router-LSA of the inner router hasn't flag E
+abbrev has_no_e : Body → Bool
+has_no_e (body.Router r) = nat_eq (bit_and r.flags 2) 0
+has_no_e (body.Network n) = true
+has_no_e (body.External e) = true
+
+abbrev is_plain : Key × Body → Bool
+is_plain s = not (nat_eq s.0.link_state_id inner) || has_no_e s.1
+
+by_inner : IsKnown (key 5 (dotted 203 0 115 0) inner) (body.External plain_lsa)
+by_inner o g =
+    let lsa = g.is_way.reaches.lsa in
+    let t = said 0 transit_entries (key 1 inner inner) (body.Router lsa) g.is_way.reaches.its in
+    let e : has_no_e (body.Router lsa) ≡ true = all_pass is_plain (sayings transit_entries) refl (key 1 inner inner, body.Router lsa) t in
+    let without : bit_and lsa.flags 2 ≡ 0 = eqb-true (bit_and lsa.flags 2) 0 e in
+    let with : bit_and lsa.flags 2 ≡ 2 = g.is_way.reaches.has_e in
+    absurd (omega (arith, without, with))
+
+by_unlinked : IsKnown (key 5 (dotted 203 0 116 0) unlinked) (body.External plain_lsa)
+by_unlinked o g = absurd (never_unlinked g.is_way.boundary g.is_way.reaches.reached)
+
+all_known : AllByRecursion (λ (s : Key × Body). IsKnown s.0 s.1) (sayings transit_entries)
+all_known = (tt, (tt, (tt, (tt, (tt, (tt, (designated_known, (other_known, (forwarded_known, (by_inner, (by_unlinked, tt)))))))))))
+
+complete : (o : Offer) → Offers 0 db transit_root o → Contains offers o
+complete o (Within x) = one_of (λ (y : Offer). Contains offers y) nearby ((0, omega arith, refl), ((1, omega arith, refl), ((2, omega arith, refl), tt))) o (within o x)
+complete o (External x) =
+    one_of (λ (s : Key × Body). IsKnown s.0 s.1) (sayings transit_entries) all_known (key 5 x.id x.originator, body.External x.lsa) (said 0 transit_entries _ (body.External x.lsa) x.its) o
+    (record { prefix = x.prefix; is_prefix = x.is_prefix; way = x.way; is_way = x.is_way; is = x.is })
+
+-- ---- the external ones are offered
+
+designated_offered : Offers 0 db transit_root designated_offer
+designated_offered = External (record {
+  id = dotted 203 0 113 0;
+  originator = designated;
+  lsa = designated_lsa;
+  its = says transit_entries (key 5 (dotted 203 0 113 0) designated) (body.External designated_lsa) refl;
+  reachable = omega arith;
+  of_another = λ e. omega (arith, e);
+  prefix = shared_net;
+  is_prefix = (omega arith, refl, refl);
+  way = record { distance = 10; hops = 2 };
+  is_way = record {
+    boundary = record { distance = 10; hops = 2 };
+    reaches = record { lsa = router_lsa designated_links; its = designated_says; has_e = refl; reached = designated_way };
+    direct = λ _. refl;
+    forwarded = λ some. absurd (some refl);
+  };
+  is = refl;
+})
+
+other_offered : Offers 0 db transit_root other_offer
+other_offered = External (record {
+  id = dotted 203 0 113 0;
+  originator = other;
+  lsa = other_lsa;
+  its = says transit_entries (key 5 (dotted 203 0 113 0) other) (body.External other_lsa) refl;
+  reachable = omega arith;
+  of_another = λ e. omega (arith, e);
+  prefix = shared_net;
+  is_prefix = (omega arith, refl, refl);
+  way = record { distance = 15; hops = 6 };
+  is_way = record {
+    boundary = record { distance = 15; hops = 6 };
+    reaches = record { lsa = router_lsa other_links; its = other_says; has_e = refl; reached = other_way };
+    direct = λ _. refl;
+    forwarded = λ some. absurd (some refl);
+  };
+  is = refl;
+})
+
+forwarded_offered : Offers 0 db transit_root forwarded_offer
+forwarded_offered = External (record {
+  id = dotted 203 0 114 0;
+  originator = designated;
+  lsa = forwarded_lsa;
+  its = says transit_entries (key 5 (dotted 203 0 114 0) designated) (body.External forwarded_lsa) refl;
+  reachable = omega arith;
+  of_another = λ e. omega (arith, e);
+  prefix = network_24 203 0 114;
+  is_prefix = (omega arith, refl, refl);
+  way = forward_way;
+  is_way = record {
+    boundary = record { distance = 10; hops = 2 };
+    reaches = record { lsa = router_lsa designated_links; its = designated_says; has_e = refl; reached = designated_way };
+    direct = λ e. absurd (is_forwarded e);
+    forwarded = λ _. forwarded_way;
+  };
+  is = refl;
+})
+
+-- ---- candidates
+
+abbrev IsBeaten : Offer → Offer → Type 0
+IsBeaten c x = x.prefix ≡ c.prefix → (x ≡ c) ⊎ (IsNoWorse c x × (IsNoWorse x c → ⊥))
+
+elsewhere : (c x : Offer) → not (nat_eq x.prefix.address c.prefix.address) ≡ true → IsBeaten c x
+elsewhere c x far e = absurd (apart x.prefix c.prefix far e)
+
+itself : (c : Offer) → IsBeaten c c
+itself c e = inl refl
+
+beaten : (c : Offer) → AllByRecursion (IsBeaten c) offers → IsAlone 0 db transit_root c
+beaten c all o offered e = one_of (IsBeaten c) offers all o (complete o offered) e
+
+wide_alone : IsAlone 0 db transit_root wide_offer
+wide_alone = beaten wide_offer (itself wide_offer, (elsewhere wide_offer network_offer refl, (elsewhere wide_offer behind_offer refl, (elsewhere wide_offer designated_offer refl, (elsewhere wide_offer other_offer refl, (elsewhere wide_offer forwarded_offer refl, tt))))))
+
+network_alone : IsAlone 0 db transit_root network_offer
+network_alone = beaten network_offer (elsewhere network_offer wide_offer refl, (itself network_offer, (elsewhere network_offer behind_offer refl, (elsewhere network_offer designated_offer refl, (elsewhere network_offer other_offer refl, (elsewhere network_offer forwarded_offer refl, tt))))))
+
+behind_alone : IsAlone 0 db transit_root behind_offer
+behind_alone = beaten behind_offer (elsewhere behind_offer wide_offer refl, (elsewhere behind_offer network_offer refl, (itself behind_offer, (elsewhere behind_offer designated_offer refl, (elsewhere behind_offer other_offer refl, (elsewhere behind_offer forwarded_offer refl, tt))))))
+
+forwarded_alone : IsAlone 0 db transit_root forwarded_offer
+forwarded_alone = beaten forwarded_offer (elsewhere forwarded_offer wide_offer refl, (elsewhere forwarded_offer network_offer refl, (elsewhere forwarded_offer behind_offer refl, (elsewhere forwarded_offer designated_offer refl, (elsewhere forwarded_offer other_offer refl, (itself forwarded_offer, tt))))))
+
+-- the two offers for the shared network, as good as each other
+abbrev IsShared : Offer → Type 0
+IsShared o = (designated_offer ≡ o) ⊎ (other_offer ≡ o)
+
+shared : (o : Offer) → Contains offers o → o.prefix ≡ shared_net → IsShared o
+shared o t e =
+    one_of (λ (x : Offer). x.prefix ≡ shared_net → IsShared x) offers (
+      (λ f. absurd (apart (network_8 10) shared_net refl f)),
+      (
+        (λ f. absurd (apart network_net shared_net refl f)),
+        (
+          (λ f. absurd (apart (network_24 192 0 2) shared_net refl f)),
+          ((λ f. inl refl), ((λ f. inr refl), ((λ f. absurd (apart (network_24 203 0 114) shared_net refl f)), tt))),
+        ),
+      ),
+    ) o t e
+
+alike_first : (o : Offer) → IsShared o → IsNoWorse designated_offer o
+alike_first o (inl e) = let P : Offer → Type 0 = λ x. IsNoWorse designated_offer x in subst P e (no_worse_itself designated_offer)
+alike_first o (inr e) = let P : Offer → Type 0 = λ x. IsNoWorse designated_offer x in subst P e (IsNoWorse.ByDistance refl refl (omega arith))
+
+alike_second : (o : Offer) → IsShared o → IsNoWorse other_offer o
+alike_second o (inl e) = let P : Offer → Type 0 = λ x. IsNoWorse other_offer x in subst P e (IsNoWorse.ByDistance refl refl (omega arith))
+alike_second o (inr e) = let P : Offer → Type 0 = λ x. IsNoWorse other_offer x in subst P e (no_worse_itself other_offer)
+
+designated_best : IsBest 0 db transit_root shared_net designated_offer
+designated_best = record { offered = designated_offered; is_for = refl; best = λ o offered e. alike_first o (shared o (complete o offered) e) }
+
+other_best : IsBest 0 db transit_root shared_net other_offer
+other_best = record { offered = other_offered; is_for = refl; best = λ o offered e. alike_second o (shared o (complete o offered) e) }
+
+earliest : (o : Offer) → IsShared o → IsNoLater designated_offer o
+earliest o (inl e) = let P : Offer → Type 0 = λ x. IsNoLater designated_offer x in subst P e (ByTag refl (omega arith))
+earliest o (inr e) = let P : Offer → Type 0 = λ x. IsNoLater designated_offer x in subst P e (ByOriginator (omega arith))
+
+joined : (o : Offer) → IsShared o → (i : ℕ) → IsTrue (has_interface o.hops i) → IsTrue (has_interface 6 i)
+joined o (inl e) i t = subset 2 6 i refl (let P : Offer → Type 0 = λ x. IsTrue (has_interface x.hops i) in subst P (sym e) t)
+joined o (inr e) i t = let P : Offer → Type 0 = λ x. IsTrue (has_interface x.hops i) in subst P (sym e) t
+
+shared_candidate : IsCandidate 0 db transit_root shared_route
+shared_candidate = record {
+  first = designated_offer;
+  is_best = designated_best;
+  earliest = λ o is. earliest o (shared o (complete o is.offered) is.is_for);
+  kind = refl;
+  cost = refl;
+  distance = refl;
+  tag = refl;
+  hops = λ i. ((λ t. (other_offer, other_best, t)), (λ h. joined h.0 (shared h.0 (complete h.0 h.1.offered) h.1.is_for) i h.2));
+}
+
+abbrev routes : List Route
+routes = wide_route ∷ transit_route ∷ behind_route ∷ shared_route ∷ longest_route ∷ []
+
+sound : AllByRecursion (λ (r : Route). IsCandidate 0 db transit_root r) routes
+sound = (
+  alone 0 db transit_root wide_offer (Within wide_there) wide_alone,
+  (
+    alone 0 db transit_root network_offer (Within network_there) network_alone,
+    (
+      alone 0 db transit_root behind_offer (Within behind_there) behind_alone,
+      (shared_candidate, (alone 0 db transit_root forwarded_offer forwarded_offered forwarded_alone, tt)),
+    ),
+  ),
+)
+
+abbrev HasRoute : Offer → Type 0
+HasRoute o = (s : Route) × Contains routes s × (s.prefix ≡ o.prefix)
+
+covered : AllByRecursion HasRoute offers
+covered = (
+  (wide_route, (0, omega arith, refl), refl),
+  (
+    (transit_route, (1, omega arith, refl), refl),
+    (
+      (behind_route, (2, omega arith, refl), refl),
+      ((shared_route, (3, omega arith, refl), refl), ((shared_route, (3, omega arith, refl), refl), ((longest_route, (4, omega arith, refl), refl), tt))),
+    ),
+  ),
+)
+
+abbrev Before : Route → Route → Type 0
+Before a b = IsBefore a.prefix b.prefix
+
+ascending : AllPairs Before routes
+ascending =
+    in_front Before wide_route (transit_route ∷ behind_route ∷ shared_route ∷ longest_route ∷ []) (ByAddress (omega arith), (ByAddress (omega arith), (ByAddress (omega arith), (ByAddress (omega arith), tt))))
+    (in_front Before transit_route (behind_route ∷ shared_route ∷ longest_route ∷ []) (ByAddress (omega arith), (ByAddress (omega arith), (ByAddress (omega arith), tt)))
+    (in_front Before behind_route (shared_route ∷ longest_route ∷ []) (ByAddress (omega arith), (ByAddress (omega arith), tt))
+    (in_front Before shared_route (longest_route ∷ []) (ByAddress (omega arith), tt) (in_front Before longest_route [] tt (nobody Before)))))
+
+pub worked : WorkedTransit
+worked =
+    all_candidates 0 db transit_root routes (λ r t. one_of (λ (x : Route). IsCandidate 0 db transit_root x) routes sound r t)
+    (λ o offered. one_of HasRoute offers covered o (complete o offered)) ascending

@@ -1,0 +1,5 @@
+pub mod Laws
+pub mod Worked
+pub mod WorkedExternals
+pub mod WorkedTransit
+pub mod WorkedUncounted

@@ -1,0 +1,69 @@
+//! Laws of the candidates and of the routing table, and worked databases with their candidates, each carried by a function with an empty body
+//! (RFC 2328, sections 16.1 and 16.4).
+#![tactic(auto)]
+
+ghost use Rattle.route_laws.specs.Laws.{AnswersToAllAreNotStale, CandidatesAreCheapestWalks, EveryOfferHasACandidate, ForwardingIsDetermined, TablesAreDetermined, TablesArePartsOfCandidates};
+ghost use Rattle.route_laws.specs.Worked.{WorkedSquare, WorkedTwoRouters};
+ghost use Rattle.route_laws.specs.WorkedExternals.{WorkedExternals};
+ghost use Rattle.route_laws.specs.WorkedTransit.{WorkedTransit};
+ghost use Rattle.route_laws.specs.WorkedUncounted.{WorkedUncounted};
+
+/// A forwarding address has one distance and one set of next hops (RFC 2328, section 16.4).
+pub fn forwarding_is_determined()
+    ensures { ForwardingIsDetermined }
+{}
+
+/// A prefix that is offered has a candidate: a list of all candidates has a route for it.
+pub fn every_offer_has_a_candidate()
+    ensures { EveryOfferHasACandidate }
+{}
+
+/// A network that a walk reaches has a candidate within the area only; that candidate's cost is the least of any walk, and its next hops
+/// are exactly the first interfaces of all walks of that cost (RFC 2328, section 16.1).
+pub fn candidates_are_cheapest_walks()
+    ensures { CandidatesAreCheapestWalks }
+{}
+
+/// A database and answers have one table.
+pub fn tables_are_determined()
+    ensures { TablesAreDetermined }
+{}
+
+/// The table is what the answers let in of the candidates, and empty before any answers.
+pub fn tables_are_parts_of_candidates()
+    ensures { TablesArePartsOfCandidates }
+{}
+
+/// Right after answers to all candidates nothing is stale.
+pub fn answers_to_all_are_not_stale()
+    ensures { AnswersToAllAreNotStale }
+{}
+
+/// A stub network of metric 10 behind two neighbors, all links of cost 5: one route of cost 20 by both interfaces, in the table where the
+/// answer of it is 0, and not where it is 1.
+pub fn worked_square()
+    ensures { WorkedSquare }
+{}
+
+/// The candidates of one of two routers on a link, also with an external destination of type 1 and of type 2 at the other one.
+pub fn worked_two_routers()
+    ensures { WorkedTwoRouters }
+{}
+
+/// The candidates where the other router announces external destinations of both types, by itself or by a forwarding address, and where other
+/// external LSAs offer nothing (RFC 2328, section 16.4).
+pub fn worked_externals()
+    ensures { WorkedExternals }
+{}
+
+/// The candidates over a transit network: ways of one cost over it and beside it, external destinations of two originators at one cost and of
+/// a forwarding address in two networks, and routers that don't count (RFC 2328, sections 16.1 and 16.4).
+pub fn worked_transit()
+    ensures { WorkedTransit }
+{}
+
+/// The candidates where other routers are named by links that don't count: of metric 0, by no address of the router's own, virtual, or
+/// without one back (RFC 2328, section 16.1).
+pub fn worked_uncounted()
+    ensures { WorkedUncounted }
+{}

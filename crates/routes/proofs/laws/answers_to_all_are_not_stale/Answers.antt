@@ -1,5 +1,0 @@
-use Rattle.routes.proofs.TableLaws.{not_stale}
-use Rattle.routes.proofs.laws.answers_to_all_are_not_stale.Goals as goal
-
-pub returns : goal.returns
-returns c = not_stale
