@@ -9,3 +9,4 @@ pub mod Parts
 pub mod Recovered
 pub mod Unique
 pub mod Refused
+pub mod Halves

@@ -6,3 +6,5 @@ pub mod Refusals
 pub mod Arithmetic
 pub mod Hooks
 pub mod Maps
+pub mod Flow
+pub mod Laws

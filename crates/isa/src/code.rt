@@ -60,6 +60,15 @@ impl Code {
         &self.slots
     }
 
+    /// Its slots, given away.
+    pub fn into_slots(self) -> Vec<Slot>
+        ensures value { result.items ≡ self }
+        ensures code { IsCode self }
+    {
+        let Code { slots } = self;
+        slots
+    }
+
     /// What stands at a slot, if the code has it.
     pub fn at(&self, slot: u64) -> Option<Slot>
         ensures value { result ≡ slice_get self.now slot }

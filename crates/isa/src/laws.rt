@@ -1,9 +1,10 @@
-//! Laws of the encoding. Each function does nothing: what it ensures holds for all bytes and all code.
+//! Laws of the encoding and of code. Each function does nothing: what it ensures holds for all bytes and all code.
 ghost use Rattle.std.specs.Prelude.{◌≡◌, ◌≢◌, ℕ, List};
 ghost use Rattle.isa.specs.declared.code.Slot.{Slot};
 ghost use Rattle.isa.specs.declared.decoding.DecodeFault.{DecodeFault};
 ghost use Rattle.isa.specs.Spelling.{Spells};
 ghost use Rattle.isa.specs.Refusals.{Refuses};
+ghost use Rattle.isa.specs.Laws.{WideHasSecondHalf, InstructionIsFollowed, OneEndsAtASlot};
 
 /// Bytes spell at most one code.
 pub fn bytes_spell_one_code()
@@ -18,4 +19,19 @@ pub fn code_has_one_spelling()
 /// Bytes that are refused for another reason than memory spell no code.
 pub fn refused_bytes_spell_no_code()
     ensures { (bytes : List ℕ) (slot : ℕ) (fault : DecodeFault) (code : List Slot) → Refuses bytes slot fault → fault ≢ DecodeFault.Memory → Spells bytes code → ⊥ }
+{}
+
+/// In the slot after the first of a wide instruction stands its second half (RFC 9669, section 5.4).
+pub fn a_wide_instruction_has_its_second_half()
+    ensures { WideHasSecondHalf }
+{}
+
+/// Behind an instruction the code ends, or another instruction begins.
+pub fn an_instruction_is_followed()
+    ensures { InstructionIsFollowed }
+{}
+
+/// Two instructions that end at one slot begin at one slot.
+pub fn one_instruction_ends_at_a_slot()
+    ensures { OneEndsAtASlot }
 {}

@@ -5,5 +5,9 @@ pub mod Exclusive
 pub mod Determined
 pub mod Ranges
 pub mod Total
+pub mod SafeRuns
+pub mod OneEnd
 pub mod Least
 pub mod Stacks
+pub mod IgnoresInput
+pub mod ByCode

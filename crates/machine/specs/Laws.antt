@@ -1,22 +1,28 @@
 -- What holds of the step relation and of the stuck states.
-use Rattle.std.specs.Prelude.{◌≡◌, ◌⊎◌, ◌↔◌, ◌<◌, ℕ, Bool, true, false, pos, length, List, [], ◌∷◌}
+use Rattle.std.specs.Prelude.{◌≡◌, ◌≢◌, ◌⊎◌, ◌↔◌, ◌<◌, ◌≤◌, ℕ, ℤ, Bool, true, false, pos, length, List, [], ◌∷◌, ◌++◌, map, Some}
+use Rattle.isa.specs.declared.code.Slot.{Slot}
 use Rattle.isa.specs.declared.code.Slot.TheVariants.{Start}
 use Rattle.isa.specs.declared.instruction.Instruction.{Instruction}
 use Rattle.isa.specs.declared.instruction.Instruction.TheVariants.{Arithmetic, Call, Exit}
 use Rattle.isa.specs.declared.instruction.Width.TheVariants.{Bits64}
 use Rattle.isa.specs.declared.instruction.Operation.TheVariants.{Move}
 use Rattle.isa.specs.declared.instruction.Source.TheVariants.{Immediate}
+use Rattle.isa.specs.declared.hook.Hook.{Hook}
 use Rattle.isa.specs.declared.hook.Hook.TheVariants.{Count}
-use Rattle.machine.specs.declared.input.Input.{Input}
-use Rattle.machine.specs.Runs.{Run, Ends}
+use Rattle.machine.specs.Given.{Given}
+use Rattle.machine.specs.Runs.{Run, Ends, Safe}
 use Rattle.machine.specs.declared.fault.Fault.{Fault}
 use Rattle.machine.specs.declared.fault.Fault.TheVariants.{Helper}
 use Rattle.machine.specs.declared.state.State.{State}
 use Rattle.machine.specs.Input.{IsInput}
 use Rattle.machine.specs.Label.{Label, Silent, Add}
-use Rattle.machine.specs.State.{Setting}
-use Rattle.machine.specs.Steps.{Step, Exits, IsAt}
-use Rattle.machine.specs.Faults.{Stuck, commits, fault_number}
+use Rattle.isa.specs.Arithmetic.{widened}
+use Rattle.isa.specs.Flow.{registers_read, numbers_read, slot_after, jump_target}
+use Rattle.machine.specs.declared.state.Content.{Content}
+use Rattle.machine.specs.declared.state.Content.TheVariants.{Number}
+use Rattle.machine.specs.State.{Setting, setting_of, held}
+use Rattle.machine.specs.Steps.{Does, Step, Exits, IsAt}
+use Rattle.machine.specs.Faults.{Stuck, commits, fault_at, fault_number, reads}
 
 -- A state is in at most one of three ways: it steps, it is at EXIT with an answer, it is stuck.
 pub record GoesOneWay : Type 0 where
@@ -68,7 +74,7 @@ abbrev pub RunsGoOn : Type 0
 RunsGoOn = (setting : Setting) (n : ℕ) (labels : List Label) (s : State) → IsInput setting.input → Run setting n labels s → IsStuckOrGoesOn setting s
 
 -- r1 = 5; r2 = 3; call 1; exit: four instructions, which add 3 to counter 5 and answer 0
-abbrev pub adding : Input → Setting
+abbrev pub adding : Given → Setting
 adding input = record {
   code = Start (Arithmetic Bits64 Move 1 (Immediate (pos 5))) ∷ Start (Arithmetic Bits64 Move 2 (Immediate (pos 3))) ∷ Start (Call (pos 1)) ∷ Start Exit ∷ [];
   hook = Count;
@@ -76,4 +82,40 @@ adding input = record {
 }
 
 abbrev pub AddingEnds : Type 0
-AddingEnds = (input : Input) → Ends (adding input) 4 (Silent ∷ Silent ∷ Add 5 3 ∷ []) 0
+AddingEnds = (input : Given) → Ends (adding input) 4 (Silent ∷ Silent ∷ Add 5 3 ∷ []) 0
+
+-- Whether the machine is stuck at a state, and for which reason, doesn't depend on the input.
+abbrev pub FaultIgnoresInput : Type 0
+FaultIgnoresInput = (code : List Slot) (hook : Hook) (a b : Given) (s : State)
+    → fault_at (setting_of code hook a) s ≡ fault_at (setting_of code hook b) s
+
+-- A safe program ends on every input in its ranges, within its number of instructions.
+abbrev pub SafeRunsEnd : Type 0
+SafeRunsEnd = (code : List Slot) (hook : Hook) (most : ℕ) (input : Given)
+    → Safe code hook most → IsInput input
+    → (n : ℕ) × (labels : List Label) × (word : ℕ)
+    × Ends (setting_of code hook input) n labels word × (n ≤ most)
+
+-- The labels of a run determine its answer.
+abbrev pub LabelsDetermineAnswer : Type 0
+LabelsDetermineAnswer = (setting : Setting) (n m : ℕ) (labels : List Label) (a b : ℕ)
+    → Ends setting n labels a → Ends setting m labels b → a ≡ b
+
+-- `exit` alone is safe for no number: r0 is empty there.
+abbrev pub EmptyExitIsUnsafe : Type 0
+EmptyExitIsUnsafe = (hook : Hook) (most : ℕ) → Safe (Start Exit ∷ []) hook most → ⊥
+
+abbrev pub number_content : ℤ → Content
+number_content number = Number (widened number)
+
+-- What an instruction reads is what its registers hold, and then its number, if it has one. A CALL
+-- reads the arguments of its helper.
+abbrev pub ReadsAreOfRegisters : Type 0
+ReadsAreOfRegisters = (setting : Setting) (s : State) (i : Instruction) → ((number : ℤ) → i ≢ Call number)
+    → reads setting s i ≡ map (held s) (registers_read i) ++ map number_content (numbers_read i)
+
+-- A step leads to the slot behind its instruction, or to the target of its jump.
+abbrev pub StepsLeadByCode : Type 0
+StepsLeadByCode = (setting : Setting) (s next : State) (label : Label) (i : Instruction)
+    → Does i setting s label next
+    → (next.slot ≡ slot_after s.slot i) ⊎ (jump_target s.slot i ≡ Some next.slot)

@@ -7,3 +7,4 @@ pub mod Steps
 pub mod Faults
 pub mod Runs
 pub mod Laws
+pub mod Given

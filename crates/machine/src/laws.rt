@@ -1,5 +1,5 @@
 //! Laws of the machine, each the contract of a function that does nothing.
-ghost use Rattle.machine.specs.Laws.{GoesOneWay, LeastFaultCounts, FaultIsUnique, AnswerIsUnique, LabelDeterminesNext, StatesGoOn, RunsGoOn, AddingEnds};
+ghost use Rattle.machine.specs.Laws.{GoesOneWay, LeastFaultCounts, FaultIsUnique, AnswerIsUnique, LabelDeterminesNext, StatesGoOn, RunsGoOn, AddingEnds, FaultIgnoresInput, SafeRunsEnd, LabelsDetermineAnswer, EmptyExitIsUnsafe, ReadsAreOfRegisters, StepsLeadByCode};
 
 /// No state is two of these: able to step, at EXIT with an answer, stuck.
 pub fn a_state_goes_one_way()
@@ -40,4 +40,34 @@ pub fn the_label_determines_the_next_state()
 /// A program that adds 3 to counter 5 ends after four instructions, whatever its input.
 pub fn a_counting_program_ends()
     ensures { AddingEnds }
+{}
+
+/// Whether the machine is stuck at a state, and for which reason, doesn't depend on the input.
+pub fn the_input_makes_no_fault()
+    ensures { FaultIgnoresInput }
+{}
+
+/// A safe program ends on every input, within its number of instructions.
+pub fn a_safe_program_ends()
+    ensures { SafeRunsEnd }
+{}
+
+/// The labels of a run determine its answer.
+pub fn the_labels_determine_the_answer()
+    ensures { LabelsDetermineAnswer }
+{}
+
+/// `exit` alone is safe for no number of instructions.
+pub fn an_empty_exit_is_never_safe()
+    ensures { EmptyExitIsUnsafe }
+{}
+
+/// What an instruction other than a call reads is what its registers hold, and then its number.
+pub fn an_instruction_reads_its_registers()
+    ensures { ReadsAreOfRegisters }
+{}
+
+/// A step leads to the slot behind its instruction, or to the target of its jump.
+pub fn a_step_leads_behind_or_to_the_target()
+    ensures { StepsLeadByCode }
 {}
