@@ -1,3 +1,7 @@
+pub mod WorkedLinks
+pub mod WorkedEnds
+pub mod WorkedUpdates
+pub mod WorkedAnswers
 pub mod Worked
 pub mod WorkedAged
 pub mod WorkedOwn

@@ -2,18 +2,18 @@
 use Rattle.std.proofs.Common.{◌≡◌, cond, ◌&&◌, None, Some, refl, ap, ◌∙◌}
 use Rattle.std.specs.Prelude.{pos}
 use Rattle.std.specs.Ordering.{int_cmp, is_eq}
-use Rattle.flood.specs.declared.model.CoreError.TheVariants as error
-use Rattle.flood.specs.Commands.{after_withdraw, end_want, is_for}
-use Rattle.flood.specs.Endings.{finished}
-use Rattle.flood.specs.Packing.{outs_of}
-use Rattle.flood.proofs.Greetings.{no_outs_from}
-use Rattle.flood.proofs.WorkedEnds.{begins, ends}
-use Rattle.flood.proofs.WorkedUpdates.{start}
-use Rattle.flood.specs.Originations.{external_key, flush, has_max_sequence, may_originate, originate, wait}
-use Rattle.flood.specs.Refusals.{is_taken, of_event}
-use Rattle.flood.specs.Routers.{Occurrence}
+use Rattle.events.specs.declared.model.CoreError.TheVariants as error
+use Rattle.events.specs.Commands.{after_withdraw, end_want, is_for}
+use Rattle.events.specs.Endings.{finished}
+use Rattle.events.specs.Packing.{outs_of}
+use Rattle.events.proofs.Sends.{no_outs_from}
+use Rattle.conversations.proofs.WorkedEnds.{begins, ends}
+use Rattle.conversations.proofs.WorkedUpdates.{start}
+use Rattle.events.specs.Originations.{external_key, flush, has_max_sequence, may_originate, originate, wait}
+use Rattle.events.specs.Refusals.{is_taken, of_event}
+use Rattle.events.specs.Routers.{Occurrence}
 use Rattle.conversations.specs.Worked.{WorkedEvents, destination, ten}
-use Rattle.flood.specs.Progress.{on_router}
+use Rattle.events.specs.Progress.{on_router}
 
 pub worked : WorkedEvents
 worked = record {

@@ -16,17 +16,17 @@ use Rattle.adjacency.specs.Requests.{next_request}
 use Rattle.adjacency.specs.declared.state.State.TheVariants.{ExStart, Full, Loading}
 use Rattle.received.specs.Links.{Link, neighbor_at}
 use Rattle.received.specs.Outcomes.{one_neighbor}
-use Rattle.flood.specs.declared.model.Out.{Out}
-use Rattle.flood.specs.Endings.{begun, describe_router, describe_router_later, filled, finished, remove_aged}
-use Rattle.flood.specs.Events.{Happens}
-use Rattle.flood.specs.Packets.{after_hello, after_packet, describe_to, hear}
-use Rattle.flood.specs.Packing.{outs_of}
-use Rattle.flood.specs.Progress.{Progress, on_area, on_router}
-use Rattle.flood.specs.Routers.{Occurrence, Router, shown_at}
+use Rattle.events.specs.declared.model.Out.{Out}
+use Rattle.events.specs.Endings.{begun, describe_router, describe_router_later, filled, finished, remove_aged}
+use Rattle.events.specs.Events.{Happens}
+use Rattle.events.specs.Packets.{after_hello, after_packet, describe_to, hear}
+use Rattle.events.specs.Packing.{outs_of}
+use Rattle.events.specs.Progress.{Progress, on_area, on_router}
+use Rattle.events.specs.Routers.{Occurrence, Router, shown_at}
 use Rattle.conversations.specs.WorkedAdjacency.{AnAdjacencyBegins, IsDescription, IsNamingHello, NothingAges, describes, lonely}
 use Rattle.conversations.specs.WorkedOwn.{beside, loading}
-use Rattle.flood.proofs.WorkedEnds.{begins, describes_not, describes_not_later, differ_not, ended, ends_by, last}
-use Rattle.flood.proofs.WorkedUpdates.{itself, start}
+use Rattle.conversations.proofs.WorkedEnds.{begins, describes_not, describes_not_later, differ_not, ended, ends_by, last}
+use Rattle.conversations.proofs.WorkedUpdates.{itself, start}
 
 -- ---- a Hello that names this router
 

@@ -15,17 +15,17 @@ use Rattle.received.specs.Links.{Area, Link, acknowledge_later, anybody_owes, an
 use Rattle.received.specs.Outcomes.{Send, numbered, sent_on, step_on, stepped, stepping_sends}
 use Rattle.received.specs.Updates.{case_at, install}
 use Rattle.received.proofs.Flooded.{replaces_older}
-use Rattle.flood.specs.Endings.{finished, stays_as}
-use Rattle.flood.specs.Originations.{is_wanted, settle_wanted, wanted_body}
-use Rattle.flood.specs.Packets.{after_lsa}
-use Rattle.flood.specs.Packing.{outs_of}
-use Rattle.flood.specs.Progress.{Progress, on_area}
-use Rattle.flood.specs.Routers.{Router}
+use Rattle.events.specs.Endings.{finished, stays_as}
+use Rattle.events.specs.Originations.{is_wanted, settle_wanted, wanted_body}
+use Rattle.events.specs.Packets.{after_lsa}
+use Rattle.events.specs.Packing.{outs_of}
+use Rattle.events.specs.Progress.{Progress, on_area}
+use Rattle.events.specs.Routers.{Router}
 use Rattle.conversations.specs.WorkedAged.{AnAgedLsaComes, IsLoadingWithout, IsOwedTo}
-use Rattle.flood.specs.WorkedUpdates.{HasBrought, WaitsAt, acknowledges_at_once}
-use Rattle.flood.proofs.WorkedEnds.{ended, ends, got}
-use Rattle.flood.proofs.WorkedLinks.{link_changed}
-use Rattle.flood.proofs.WorkedUpdates.{IsStill, brought, inserted, mark_all, own_part, sender_after, sender_there, start}
+use Rattle.conversations.specs.WorkedUpdates.{HasBrought, WaitsAt, acknowledges_at_once}
+use Rattle.conversations.proofs.WorkedEnds.{ended, ends, got}
+use Rattle.conversations.proofs.WorkedLinks.{link_changed}
+use Rattle.conversations.proofs.WorkedUpdates.{IsStill, brought, inserted, mark_all, own_part, sender_after, sender_there, start}
 
 -- ---- which case it is
 

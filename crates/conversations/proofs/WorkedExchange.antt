@@ -20,20 +20,20 @@ use Rattle.adjacency.specs.Requests.{next_request}
 use Rattle.adjacency.specs.declared.state.State.TheVariants.{Exchange, Full, Loading}
 use Rattle.received.specs.Links.{Link}
 use Rattle.received.specs.Outcomes.{one_neighbor}
-use Rattle.flood.specs.declared.model.Out.{Out}
-use Rattle.flood.specs.Endings.{begun, describe_router, describe_router_later, filled, finished, remove_aged}
-use Rattle.flood.specs.Events.{Happens}
-use Rattle.flood.specs.Originations.{router_body}
-use Rattle.flood.specs.Packets.{after_packet, describe_to}
-use Rattle.flood.specs.Packing.{outs_of}
-use Rattle.flood.specs.Progress.{Progress, on_area}
-use Rattle.flood.specs.Routers.{Occurrence, Router, shown_at}
+use Rattle.events.specs.declared.model.Out.{Out}
+use Rattle.events.specs.Endings.{begun, describe_router, describe_router_later, filled, finished, remove_aged}
+use Rattle.events.specs.Events.{Happens}
+use Rattle.events.specs.Originations.{router_body}
+use Rattle.events.specs.Packets.{after_packet, describe_to}
+use Rattle.events.specs.Packing.{outs_of}
+use Rattle.events.specs.Progress.{Progress, on_area}
+use Rattle.events.specs.Routers.{Occurrence, Router, shown_at}
 use Rattle.conversations.specs.WorkedAdjacency.{NothingAges, describes}
 use Rattle.conversations.specs.WorkedExchange.{AnExchangeAsSlave, IsJudged, last_with, opened, reply, slave}
 use Rattle.conversations.specs.WorkedOwn.{beside}
 use Rattle.conversations.proofs.WorkedAdjacency.{answered, at_moment}
-use Rattle.flood.proofs.WorkedEnds.{begins, describes_not, describes_not_later, differ_not, last}
-use Rattle.flood.proofs.WorkedUpdates.{itself, start}
+use Rattle.conversations.proofs.WorkedEnds.{begins, describes_not, describes_not_later, differ_not, last}
+use Rattle.conversations.proofs.WorkedUpdates.{itself, start}
 
 -- the neighbor takes this step
 abbrev taken : Router → Link → Neighbor → ℕ → Step → Progress

@@ -18,20 +18,20 @@ use Rattle.received.specs.Cases.{Case, case_of_readable, case_tests, first_case}
 use Rattle.received.specs.Links.{Area, Link, anybody_owes, anybody_synchronizes, neighbor_at}
 use Rattle.received.specs.Outcomes.{Outcome, on_database}
 use Rattle.received.specs.Updates.{case_at, install}
-use Rattle.flood.specs.declared.model.Out.{Out}
-use Rattle.flood.specs.Endings.{begun, finished, stays_as}
-use Rattle.flood.specs.Events.{Happens}
-use Rattle.flood.specs.Originations.{flush, flush_copy, has_max_sequence, has_room, is_wanted, may_originate, originate, originate_body, router_body, router_key, settle_wanted, wait, wanted_body}
-use Rattle.flood.specs.Packets.{acknowledged_by, after_lsa, after_packet}
-use Rattle.flood.specs.Packing.{outs_of}
-use Rattle.flood.specs.Progress.{Progress, flood_from_nobody, on_area, on_router}
-use Rattle.flood.specs.Routers.{Occurrence, Router}
+use Rattle.events.specs.declared.model.Out.{Out}
+use Rattle.events.specs.Endings.{begun, finished, stays_as}
+use Rattle.events.specs.Events.{Happens}
+use Rattle.events.specs.Originations.{flush, flush_copy, has_max_sequence, has_room, is_wanted, may_originate, originate, originate_body, router_body, router_key, settle_wanted, wait, wanted_body}
+use Rattle.events.specs.Packets.{acknowledged_by, after_lsa, after_packet}
+use Rattle.events.specs.Packing.{outs_of}
+use Rattle.events.specs.Progress.{Progress, flood_from_nobody, on_area, on_router}
+use Rattle.events.specs.Routers.{Occurrence, Router}
 use Rattle.conversations.specs.WorkedFlush.{AcknowledgesTheLast, ComesBack, HasOnList, IsFlushed, TheNumbersEnd, full}
 use Rattle.conversations.specs.WorkedOwn.{beside, sends_update}
-use Rattle.flood.specs.WorkedUpdates.{IsUpdateWith}
-use Rattle.flood.proofs.WorkedEnds.{begins, ended, ends, got}
+use Rattle.conversations.specs.WorkedUpdates.{IsUpdateWith}
+use Rattle.conversations.proofs.WorkedEnds.{begins, ended, ends, got}
 use Rattle.conversations.proofs.WorkedOwn.{put, wanted}
-use Rattle.flood.proofs.WorkedUpdates.{changed_by, inserted, is_young, itself, marked_once, own_part, same_age, start, taken_off}
+use Rattle.conversations.proofs.WorkedUpdates.{changed_by, inserted, is_young, itself, marked_once, own_part, same_age, start, taken_off}
 
 -- ---- it is newer
 

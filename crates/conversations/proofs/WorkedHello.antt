@@ -13,16 +13,16 @@ use Rattle.adjacency.specs.Adjacencies.{named, opening, restart}
 use Rattle.adjacency.specs.Contents.{Content}
 use Rattle.adjacency.specs.Neighbors.{Neighbor, fresh, is_full, is_synchronizing}
 use Rattle.received.specs.Links.{Link, anybody_synchronizes, change_link, link_at, neighbor_at, neighbor_on, synchronizes}
-use Rattle.flood.specs.Endings.{begun, finished}
-use Rattle.flood.specs.Originations.{links_of, point_to_point, router_body, stub}
-use Rattle.flood.specs.Packets.{after_hello, after_packet, hear, heard_on, is_from, with_neighbor}
-use Rattle.flood.specs.Packing.{outs_of}
-use Rattle.flood.specs.Progress.{Progress, on_area}
-use Rattle.flood.specs.Routers.{shown, shown_at}
+use Rattle.events.specs.Endings.{begun, finished}
+use Rattle.events.specs.Originations.{links_of, point_to_point, router_body, stub}
+use Rattle.events.specs.Packets.{after_hello, after_packet, hear, heard_on, is_from, with_neighbor}
+use Rattle.events.specs.Packing.{outs_of}
+use Rattle.events.specs.Progress.{Progress, on_area}
+use Rattle.events.specs.Routers.{shown, shown_at}
 use Rattle.conversations.specs.WorkedHello.{ANeighborIsHeard}
-use Rattle.flood.proofs.WorkedEnds.{begins, ended, ends_by}
-use Rattle.flood.proofs.WorkedLinks.{link_changed}
-use Rattle.flood.proofs.WorkedUpdates.{itself, start}
+use Rattle.conversations.proofs.WorkedEnds.{begins, ended, ends_by}
+use Rattle.conversations.proofs.WorkedLinks.{link_changed}
+use Rattle.conversations.proofs.WorkedUpdates.{itself, start}
 
 -- a neighbor that is neither Full nor in Exchange or Loading comes to a link where nobody was
 module _ (number : ℕ) (n : Neighbor) (not_full : is_full n.state ≡ false) (not_busy : is_synchronizing n.state ≡ false) where

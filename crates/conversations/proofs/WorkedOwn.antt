@@ -19,18 +19,18 @@ use Rattle.adjacency.specs.declared.state.State.TheVariants.{Full}
 use Rattle.received.specs.Flooding.{meets}
 use Rattle.received.specs.Links.{Link, acknowledge_later}
 use Rattle.received.specs.Updates.{install}
-use Rattle.flood.specs.declared.model.Out.{Out}
-use Rattle.flood.specs.Endings.{copy_says, describe_router, describe_router_later, filled, finished, is_at, is_said, links_differ}
-use Rattle.flood.specs.Events.{Happens}
-use Rattle.flood.specs.Originations.{announced_body, as_originated, flush, has_max_sequence, has_room, install_and_flood, interval_is_over, is_own_external, is_wanted, may_originate, new_instance, originate_body, originate_or_wait, own_externals, router_body, router_key, settle_wanted, wait, wanted_body}
-use Rattle.flood.specs.Packets.{after_lsa}
-use Rattle.flood.specs.Packing.{outs_of}
-use Rattle.flood.specs.Progress.{Progress, on_area, on_router}
-use Rattle.flood.specs.Routers.{Occurrence, Router, shown_at}
+use Rattle.events.specs.declared.model.Out.{Out}
+use Rattle.events.specs.Endings.{copy_says, describe_router, describe_router_later, filled, finished, is_at, is_said, links_differ}
+use Rattle.events.specs.Events.{Happens}
+use Rattle.events.specs.Originations.{announced_body, as_originated, flush, has_max_sequence, has_room, install_and_flood, interval_is_over, is_own_external, is_wanted, may_originate, new_instance, originate_body, originate_or_wait, own_externals, router_body, router_key, settle_wanted, wait, wanted_body}
+use Rattle.events.specs.Packets.{after_lsa}
+use Rattle.events.specs.Packing.{outs_of}
+use Rattle.events.specs.Progress.{Progress, on_area, on_router}
+use Rattle.events.specs.Routers.{Occurrence, Router, shown_at}
 use Rattle.conversations.specs.WorkedOwn.{ALastRequestIsMet, MeetsTheLastRequest, beside, loading, next_router_lsa, sends_update}
-use Rattle.flood.specs.WorkedUpdates.{IsUpdateWith, WaitsAt}
-use Rattle.flood.proofs.WorkedEnds.{describes_not_later, ended, last, last_rest}
-use Rattle.flood.proofs.WorkedUpdates.{inserted, new_case, own_part, start, tied}
+use Rattle.conversations.specs.WorkedUpdates.{IsUpdateWith, WaitsAt}
+use Rattle.conversations.proofs.WorkedEnds.{describes_not_later, ended, last, last_rest}
+use Rattle.conversations.proofs.WorkedUpdates.{inserted, new_case, own_part, start, tied}
 
 -- ---- the request
 

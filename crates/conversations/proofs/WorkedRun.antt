@@ -8,15 +8,15 @@ use Rattle.adjacency.specs.Descriptions.{Verdict, young_copies}
 use Rattle.adjacency.specs.Neighbors.{Neighbor, fresh}
 use Rattle.adjacency.specs.declared.state.State.TheVariants.{Exchange}
 use Rattle.received.specs.Links.{Link}
-use Rattle.flood.specs.Events.{Happens}
-use Rattle.flood.specs.Packing.{outs_of}
-use Rattle.flood.specs.Progress.{Progress}
-use Rattle.flood.specs.Routers.{Occurrence, Router, shown_at}
+use Rattle.events.specs.Events.{Happens}
+use Rattle.events.specs.Packing.{outs_of}
+use Rattle.events.specs.Progress.{Progress}
+use Rattle.events.specs.Routers.{Occurrence, Router, shown_at}
 use Rattle.conversations.specs.WorkedAdjacency.{NothingAges, describes}
 use Rattle.conversations.specs.WorkedExchange.{IsJudged, opened, reply}
 use Rattle.conversations.specs.WorkedRun.{AnAdjacencyIsNegotiated}
 use Rattle.conversations.proofs.WorkedAdjacency.{heard, hello_ends, opens_it}
-use Rattle.flood.proofs.WorkedEnds.{ended}
+use Rattle.conversations.proofs.WorkedEnds.{ended}
 use Rattle.conversations.proofs.WorkedExchange.{negotiates_it}
 
 -- the neighbor after the Hello

@@ -18,21 +18,21 @@ use Rattle.adjacency.specs.Requests.{still_outstanding}
 use Rattle.adjacency.specs.Retransmissions.{next_retransmissions, owed, request_again, send_again, update_again}
 use Rattle.received.specs.Links.{Link}
 use Rattle.received.specs.Outcomes.{Outcome, Send, on_links, stepping_sends}
-use Rattle.flood.specs.declared.model.Out.{Out}
-use Rattle.flood.specs.Endings.{finished}
-use Rattle.flood.specs.Events.{Happens}
-use Rattle.flood.specs.Originations.{as_originated, due_keys, flush, forget_originations, has_max_sequence, has_room, install_and_flood, interval_is_over, is_due, is_recent, may_originate, new_instance, originate_body, originate_due, originate_or_wait, router_body, router_key, wait}
-use Rattle.flood.specs.Packing.{outs_of}
-use Rattle.flood.specs.Progress.{Progress, on_area, on_router}
-use Rattle.flood.specs.Routers.{Occurrence, Router}
-use Rattle.flood.specs.Ticks.{acknowledge_all, after_tick, again, greet_all, greeting_on, run_out, send_all_again, sends_of, settled_exchange}
+use Rattle.events.specs.declared.model.Out.{Out}
+use Rattle.events.specs.Endings.{finished}
+use Rattle.events.specs.Events.{Happens}
+use Rattle.events.specs.Originations.{as_originated, due_keys, flush, forget_originations, has_max_sequence, has_room, install_and_flood, interval_is_over, is_due, is_recent, may_originate, new_instance, originate_body, originate_due, originate_or_wait, router_body, router_key, wait}
+use Rattle.events.specs.Packing.{outs_of}
+use Rattle.events.specs.Progress.{Progress, on_area, on_router}
+use Rattle.events.specs.Routers.{Occurrence, Router}
+use Rattle.events.specs.Ticks.{acknowledge_all, after_tick, again, greet_all, greeting_on, run_out, send_all_again, sends_of, settled_exchange}
 use Rattle.conversations.specs.WorkedFlush.{full}
 use Rattle.conversations.specs.WorkedOwn.{beside}
 use Rattle.conversations.specs.WorkedTicks.{ATickOriginates, IsDueAtTick, IsNothingDue, originated_lsa, waiting_acknowledgments}
-use Rattle.flood.proofs.WorkedEnds.{begins, ended, ends}
-use Rattle.flood.proofs.WorkedLinks.{chosen_step, who}
+use Rattle.conversations.proofs.WorkedEnds.{begins, ended, ends}
+use Rattle.conversations.proofs.WorkedLinks.{chosen_step, who}
 use Rattle.conversations.proofs.WorkedOwn.{wanted}
-use Rattle.flood.proofs.WorkedUpdates.{start}
+use Rattle.conversations.proofs.WorkedUpdates.{start}
 
 -- ---- what runs out
 

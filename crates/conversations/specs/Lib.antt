@@ -1,3 +1,5 @@
+pub mod WorkedUpdates
+pub mod WorkedAnswers
 pub mod Worked
 pub mod WorkedAged
 pub mod WorkedOwn

@@ -9,17 +9,17 @@ use Rattle.words.specs.declared.route.Route.{Route}
 use Rattle.lsa.specs.declared.body.Body.{Body}
 use Rattle.lsdb.specs.Copies.{DatabaseCopy}
 use Rattle.lsdb.specs.Headers.{Lsa, lsa_aged}
-use Rattle.flood.specs.declared.model.CoreError.TheVariants as error
-use Rattle.flood.specs.Commands.{after_install, after_redistribute, after_withdraw, announce_as, end_want}
-use Rattle.flood.specs.HelloPath.{is_clock_back}
-use Rattle.flood.specs.Originations.{external_key, flush, interval_is_over, is_stale, originate_body}
-use Rattle.flood.specs.Packing.{sent_lsa}
-use Rattle.flood.specs.Progress.{Progress}
-use Rattle.flood.specs.WorkedUpdates.{IsAtRest}
-use Rattle.flood.specs.Events.{Happens}
-use Rattle.flood.specs.declared.model.Out.{Out}
-use Rattle.flood.specs.Refusals.{first_refusal}
-use Rattle.flood.specs.Routers.{Occurrence, Router}
+use Rattle.events.specs.declared.model.CoreError.TheVariants as error
+use Rattle.events.specs.Commands.{after_install, after_redistribute, after_withdraw, announce_as, end_want}
+use Rattle.events.specs.Refusals.{is_clock_back}
+use Rattle.events.specs.Originations.{external_key, flush, interval_is_over, is_stale, originate_body}
+use Rattle.events.specs.Packing.{sent_lsa}
+use Rattle.events.specs.Progress.{Progress}
+use Rattle.conversations.specs.WorkedUpdates.{IsAtRest}
+use Rattle.events.specs.Events.{Happens}
+use Rattle.events.specs.declared.model.Out.{Out}
+use Rattle.events.specs.Refusals.{first_refusal}
+use Rattle.events.specs.Routers.{Occurrence, Router}
 
 -- the network of 10.0.0.0 with so many bits, and it as an external destination of metric 20
 abbrev pub ten : ℕ → Network

@@ -15,11 +15,11 @@ use Rattle.adjacency.specs.declared.state.State.TheVariants.{ExStart, Loading}
 use Rattle.adjacency.specs.Neighbors.{Neighbor}
 use Rattle.received.specs.Links.{Link, neighbor_at}
 use Rattle.received.specs.Outcomes.{Send}
-use Rattle.flood.specs.declared.model.Out.{Out}
-use Rattle.flood.specs.Events.{Happens}
-use Rattle.flood.specs.Hellos.{accepts, is_foreign, names}
-use Rattle.flood.specs.Packing.{outs_of}
-use Rattle.flood.specs.Routers.{Occurrence, Router, shown_at}
+use Rattle.events.specs.declared.model.Out.{Out}
+use Rattle.events.specs.Events.{Happens}
+use Rattle.events.specs.Hellos.{accepts, is_foreign, names}
+use Rattle.events.specs.Packing.{outs_of}
+use Rattle.events.specs.Routers.{Occurrence, Router, shown_at}
 use Rattle.conversations.specs.WorkedOwn.{beside, loading}
 
 -- the router with this one interface, and nobody at it

@@ -9,11 +9,11 @@ use Rattle.adjacency.specs.Neighbors.{Neighbor}
 use Rattle.adjacency.specs.Requests.{requested}
 use Rattle.adjacency.specs.declared.state.State.TheVariants.{Loading}
 use Rattle.received.specs.Links.{Link, link_at, neighbor_at}
-use Rattle.flood.specs.declared.model.Out.{Out}
-use Rattle.flood.specs.Events.{Happens}
-use Rattle.flood.specs.Packing.{outs_of}
-use Rattle.flood.specs.Routers.{Occurrence, Router}
-use Rattle.flood.specs.WorkedUpdates.{HasBrought, HasFullNeighbor, IsAtRest, IsUpdateWith, WaitsAt, acknowledges_at_once}
+use Rattle.events.specs.declared.model.Out.{Out}
+use Rattle.events.specs.Events.{Happens}
+use Rattle.events.specs.Packing.{outs_of}
+use Rattle.events.specs.Routers.{Occurrence, Router}
+use Rattle.conversations.specs.WorkedUpdates.{HasBrought, HasFullNeighbor, IsAtRest, IsUpdateWith, WaitsAt, acknowledges_at_once}
 
 -- the interface of this number has this link, whose neighbor is in Loading, and wasn't asked for an LSA of this key
 pub record IsLoadingWithout (r : Router) (number : ℕ) (link : Link) (n : Neighbor) (lsa : Lsa) : Type 0 where

@@ -15,11 +15,11 @@ use Rattle.adjacency.specs.Descriptions.{Verdict, is_known_type, is_wanted, verd
 use Rattle.adjacency.specs.declared.state.State.TheVariants.{Exchange, ExStart, Loading}
 use Rattle.adjacency.specs.Neighbors.{Neighbor}
 use Rattle.received.specs.Links.{Link}
-use Rattle.flood.specs.declared.model.Out.{Out}
-use Rattle.flood.specs.Events.{Happens}
-use Rattle.flood.specs.Hellos.{is_foreign}
-use Rattle.flood.specs.Packing.{outs_of}
-use Rattle.flood.specs.Routers.{Occurrence, Router, shown_at}
+use Rattle.events.specs.declared.model.Out.{Out}
+use Rattle.events.specs.Events.{Happens}
+use Rattle.events.specs.Hellos.{is_foreign}
+use Rattle.events.specs.Packing.{outs_of}
+use Rattle.events.specs.Routers.{Occurrence, Router, shown_at}
 use Rattle.conversations.specs.WorkedAdjacency.{NothingAges, describes}
 use Rattle.conversations.specs.WorkedOwn.{beside}
 

@@ -11,14 +11,14 @@ use Rattle.packet.specs.Text.{PacketText}
 use Rattle.adjacency.specs.declared.state.State.TheVariants.{Full}
 use Rattle.adjacency.specs.Neighbors.{Neighbor}
 use Rattle.received.specs.Links.{Link, neighbor_at}
-use Rattle.flood.specs.declared.model.Out.{Out}
-use Rattle.flood.specs.Events.{Happens}
-use Rattle.flood.specs.Hellos.{is_foreign}
-use Rattle.flood.specs.Originations.{router_key}
-use Rattle.flood.specs.Packing.{outs_of}
-use Rattle.flood.specs.Routers.{Occurrence, Router}
+use Rattle.events.specs.declared.model.Out.{Out}
+use Rattle.events.specs.Events.{Happens}
+use Rattle.events.specs.Hellos.{is_foreign}
+use Rattle.events.specs.Originations.{router_key}
+use Rattle.events.specs.Packing.{outs_of}
+use Rattle.events.specs.Routers.{Occurrence, Router}
 use Rattle.conversations.specs.WorkedOwn.{beside, sends_update}
-use Rattle.flood.specs.WorkedUpdates.{IsUpdateWith}
+use Rattle.conversations.specs.WorkedUpdates.{IsUpdateWith}
 
 abbrev pub full : Neighbor → Neighbor
 full n = record n { state = Full }

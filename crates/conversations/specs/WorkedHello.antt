@@ -5,12 +5,12 @@ use Rattle.adjacency.specs.Adjacencies.{opening}
 use Rattle.adjacency.specs.Contents.{Content}
 use Rattle.adjacency.specs.declared.state.State.TheVariants.{ExStart}
 use Rattle.received.specs.Links.{Link, link_at}
-use Rattle.flood.specs.declared.model.Out.{Out}
-use Rattle.flood.specs.Events.{Happens}
-use Rattle.flood.specs.Packing.{outs_of}
-use Rattle.flood.specs.Routers.{Occurrence, Router, shown_at}
+use Rattle.events.specs.declared.model.Out.{Out}
+use Rattle.events.specs.Events.{Happens}
+use Rattle.events.specs.Packing.{outs_of}
+use Rattle.events.specs.Routers.{Occurrence, Router, shown_at}
 use Rattle.conversations.specs.WorkedAdjacency.{IsNamingHello}
-use Rattle.flood.specs.WorkedUpdates.{IsAtRest}
+use Rattle.conversations.specs.WorkedUpdates.{IsAtRest}
 
 -- where nobody is in Exchange or Loading, and nobody at this interface: an accepted Hello that names this router leads to ExStart, and the
 -- opening Description with the moment's number is all that is sent, at whatever interface

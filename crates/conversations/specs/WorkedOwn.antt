@@ -12,13 +12,13 @@ use Rattle.adjacency.specs.Requests.{requested}
 use Rattle.received.specs.Flooding.{meets}
 use Rattle.received.specs.Links.{Link}
 use Rattle.received.specs.Outcomes.{Send}
-use Rattle.flood.specs.declared.model.Out.{Out}
-use Rattle.flood.specs.Events.{Happens}
-use Rattle.flood.specs.Hellos.{is_foreign}
-use Rattle.flood.specs.Originations.{has_max_sequence, interval_is_over, new_instance, router_body, router_key}
-use Rattle.flood.specs.Packing.{outs_of}
-use Rattle.flood.specs.Routers.{Occurrence, Router, shown_at}
-use Rattle.flood.specs.WorkedUpdates.{IsUpdateWith, WaitsAt}
+use Rattle.events.specs.declared.model.Out.{Out}
+use Rattle.events.specs.Events.{Happens}
+use Rattle.events.specs.Hellos.{is_foreign}
+use Rattle.events.specs.Originations.{has_max_sequence, interval_is_over, new_instance, router_body, router_key}
+use Rattle.events.specs.Packing.{outs_of}
+use Rattle.events.specs.Routers.{Occurrence, Router, shown_at}
+use Rattle.conversations.specs.WorkedUpdates.{IsUpdateWith, WaitsAt}
 
 -- the router with this one interface, and this neighbor at it
 abbrev pub beside : Router → Link → Neighbor → Router

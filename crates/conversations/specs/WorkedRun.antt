@@ -8,10 +8,10 @@ use Rattle.adjacency.specs.Adjacencies.{opening}
 use Rattle.adjacency.specs.Descriptions.{young_copies}
 use Rattle.adjacency.specs.declared.state.State.TheVariants.{Exchange, ExStart}
 use Rattle.received.specs.Links.{Link}
-use Rattle.flood.specs.declared.model.Out.{Out}
-use Rattle.flood.specs.Events.{Run, Step}
-use Rattle.flood.specs.Packing.{outs_of}
-use Rattle.flood.specs.Routers.{Occurrence, Router, shown_at}
+use Rattle.events.specs.declared.model.Out.{Out}
+use Rattle.events.specs.Events.{Run, Step}
+use Rattle.events.specs.Packing.{outs_of}
+use Rattle.events.specs.Routers.{Occurrence, Router, shown_at}
 use Rattle.conversations.specs.WorkedAdjacency.{IsNamingHello, NothingAges, describes, lonely}
 use Rattle.conversations.specs.WorkedExchange.{reply}
 

@@ -9,11 +9,11 @@ use Rattle.adjacency.specs.Contents.{Content}
 use Rattle.adjacency.specs.Neighbors.{Neighbor}
 use Rattle.received.specs.Links.{Link}
 use Rattle.received.specs.Outcomes.{Send, numbered}
-use Rattle.flood.specs.declared.model.Out.{Out}
-use Rattle.flood.specs.Events.{Happens}
-use Rattle.flood.specs.Originations.{has_max_sequence, has_room, initial_sequence, interval_is_over, is_due, new_instance, next_sequence, router_body, router_key}
-use Rattle.flood.specs.Packing.{outs_of}
-use Rattle.flood.specs.Routers.{Occurrence, Router}
+use Rattle.events.specs.declared.model.Out.{Out}
+use Rattle.events.specs.Events.{Happens}
+use Rattle.events.specs.Originations.{has_max_sequence, has_room, initial_sequence, interval_is_over, is_due, new_instance, next_sequence, router_body, router_key}
+use Rattle.events.specs.Packing.{outs_of}
+use Rattle.events.specs.Routers.{Occurrence, Router}
 use Rattle.conversations.specs.WorkedFlush.{full}
 use Rattle.conversations.specs.WorkedOwn.{beside}
 

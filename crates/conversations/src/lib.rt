@@ -10,7 +10,9 @@ ghost use Rattle.conversations.specs.WorkedFlush.{TheNumbersEnd};
 ghost use Rattle.conversations.specs.WorkedHello.{ANeighborIsHeard};
 ghost use Rattle.conversations.specs.WorkedOwn.{ALastRequestIsMet};
 ghost use Rattle.conversations.specs.WorkedRun.{AnAdjacencyIsNegotiated};
+ghost use Rattle.conversations.specs.WorkedAnswers.{AnswersChangeNoDatabase};
 ghost use Rattle.conversations.specs.WorkedTicks.{ATickOriginates};
+ghost use Rattle.conversations.specs.WorkedUpdates.{ANewLsaComesTwice};
 
 /// Worked parts of events: a clash of two destinations, a withdrawal of nothing, a metric that withholds, five seconds between instances,
 /// renewal, the end of the sequence numbers, and ages of what is sent.
@@ -64,4 +66,16 @@ pub fn an_adjacency_is_negotiated()
 /// neighbor that names this router leads to ExStart, and the opening Description is all that is sent.
 pub fn a_neighbor_is_heard()
     ensures { ANeighborIsHeard }
+{}
+
+/// A worked event: an Update with a new LSA comes twice from a Full neighbor. The first is acknowledged at a Tick, the second at once,
+/// and the second leaves the router as the first left it.
+pub fn a_new_lsa_comes_twice()
+    ensures { ANewLsaComesTwice }
+{}
+
+/// The answers of the programs, a veto among them, change the table of routes alone: nothing is sent, and the neighbors and the copies that
+/// aren't at MaxAge stay as they were.
+pub fn answers_change_no_database()
+    ensures { AnswersChangeNoDatabase }
 {}

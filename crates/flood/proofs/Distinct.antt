@@ -6,8 +6,8 @@ use Rattle.std.proofs.lemmas.List.Elements.{All-from_recursion}
 use Rattle.std.proofs.lemmas.List.{at_drop_more, length-map}
 use Rattle.adjacency.specs.declared.interface.Interface.{Interface}
 use Rattle.flood.specs.declared.link.Link.{Link}
-use Rattle.flood.specs.declared.model.Config.{Config}
-use Rattle.flood.specs.Routers.{are_distinct, in_profile, is_lawful}
+use Rattle.events.specs.declared.model.Config.{Config}
+use Rattle.events.specs.Routers.{are_distinct, in_profile, is_lawful}
 use Rattle.flood.specs.Seen.{fresh}
 use Rattle.flood.proofs.Links.{IsSound}
 

@@ -7,16 +7,11 @@ use Rattle.std.proofs.lemmas.List.Elements.{filter_map-append}
 use Rattle.adjacency.specs.Contents.{Content}
 use Rattle.received.specs.Links.{Link}
 use Rattle.received.specs.Outcomes.{Send, numbered}
-use Rattle.flood.specs.declared.model.Out.{Out}
-use Rattle.flood.specs.Packing.{at_interface, outs_at, outs_of}
+use Rattle.events.specs.declared.model.Out.{Out}
+use Rattle.events.specs.Packing.{at_interface, outs_at, outs_of}
 
 sends_from : (Link → List Content) → ℕ → List Link → List Send
 sends_from g k xs = flat_map (λ (e : ℕ × Link). numbered e.0 (g e.1)) (enumerate_from k xs)
-
--- nothing was sent
-pub no_outs_from : (own k : ℕ) (xs : List Link) → flat_map (λ (e : ℕ × Link). outs_at own [] e.0 e.1) (enumerate_from k xs) ≡ []
-no_outs_from own k [] = refl
-no_outs_from own k (x ∷ xs) = no_outs_from own (k + 1) xs
 
 -- ---- what was sent at one interface
 

@@ -25,23 +25,24 @@ use Rattle.adjacency.specs.Requests.{still_outstanding}
 use Rattle.adjacency.specs.Retransmissions.{next_retransmissions, request_again, send_again, update_again}
 use Rattle.received.specs.Links.{Link, change_link, neighbor_at, neighbor_on}
 use Rattle.received.specs.Outcomes.{Outcome, Send, marked, numbered, on_links, only_at}
-use Rattle.flood.specs.declared.model.Event.{Event}
-use Rattle.flood.specs.declared.model.Event.TheVariants as event
-use Rattle.flood.specs.declared.model.Out.{Out}
+use Rattle.events.specs.declared.model.Event.{Event}
+use Rattle.events.specs.declared.model.Event.TheVariants as event
+use Rattle.events.specs.declared.model.Out.{Out}
 use Rattle.flood.specs.Bare.{bare, bare_link, bare_links, bare_neighbor}
-use Rattle.flood.specs.Endings.{finished}
+use Rattle.events.specs.Endings.{finished}
 use Rattle.flood.specs.Laws.{HellosAloneAreTheHelloProtocol}
-use Rattle.flood.specs.Events.{HappensBy, hellos_alone}
+use Rattle.events.specs.Events.{HappensBy, hellos_alone}
 use Rattle.flood.specs.HelloPath.{with_links_at}
 use Rattle.flood.specs.HelloPath as path
-use Rattle.flood.specs.Originations.{forget_originations, is_recent}
-use Rattle.flood.specs.Packets.{TwoWay, from_neighbor, heard_on, is_in_exchange, names}
-use Rattle.flood.specs.Packets as packets
-use Rattle.flood.specs.Packing.{at_interface, bodies, out_of, outs_at, outs_of}
-use Rattle.flood.specs.Progress.{Progress, on_area, on_router}
-use Rattle.flood.specs.Routers.{Occurrence, Router}
-use Rattle.flood.specs.Ticks as ticks
-use Rattle.flood.proofs.Greetings.{no_outs_from, outs_by_link}
+use Rattle.events.specs.Originations.{forget_originations, is_recent}
+use Rattle.events.specs.Packets.{TwoWay, from_neighbor, heard_on, is_in_exchange, names}
+use Rattle.events.specs.Packets as packets
+use Rattle.events.specs.Packing.{at_interface, bodies, out_of, outs_at, outs_of}
+use Rattle.events.specs.Progress.{Progress, on_area, on_router}
+use Rattle.events.specs.Routers.{Occurrence, Router}
+use Rattle.events.specs.Ticks as ticks
+use Rattle.events.proofs.Sends.{no_outs_from}
+use Rattle.flood.proofs.Greetings.{outs_by_link}
 use Rattle.flood.proofs.Quiet.{begins, each_quiet, ends, quiet_area, quiet_progress, same_router}
 
 -- ---- one link of a list

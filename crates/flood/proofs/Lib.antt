@@ -1,11 +1,6 @@
-pub mod Outcomes
 pub mod Quiet
 pub mod Greetings
 pub mod HelloPath
-pub mod WorkedLinks
-pub mod WorkedEnds
-pub mod WorkedUpdates
-pub mod WorkedAnswers
 pub mod Links
 pub mod Distinct
 pub mod Whole

@@ -14,8 +14,8 @@ use Rattle.adjacency.specs.Neighbors as neighbors
 use Rattle.received.specs.Links as links
 use Rattle.flood.specs.declared.link.Link.{Link}
 use Rattle.flood.specs.HelloPath.{after_body, after_packet, is_interface, ticked}
-use Rattle.flood.specs.Hellos.{accepts}
-use Rattle.flood.specs.Routers.{shown, shown_at, silent}
+use Rattle.events.specs.Hellos.{accepts}
+use Rattle.events.specs.Routers.{shown, shown_at, silent}
 use Rattle.flood.specs.Seen.{Kept, as_link, as_links, as_neighbor, as_router, fresh, link_at}
 
 -- a prefix length that a mask can have, on each link

@@ -18,10 +18,10 @@ use Rattle.adjacency.specs.declared.interface.Interface.{Interface}
 use Rattle.received.specs.Links.{Link, anybody_synchronizes, synchronizes}
 use Rattle.received.specs.Outcomes.{Outcome, Send, Stepping, each_neighbor, marked, numbered, on_database, sent_on, step_on}
 use Rattle.flood.specs.Bare.{bare, bare_link, bare_links, bare_neighbor, with_bare}
-use Rattle.flood.specs.Endings.{begun, describe_router, describe_router_later, fill, filled, filled_on, finished, is_said, links_differ, remove_aged, request_all, same_body, stays, with_age}
-use Rattle.flood.specs.Originations.{links_of, originate_or_wait, point_to_point, router_body, router_key, stub, wait}
-use Rattle.flood.specs.Progress.{Progress, on_area, on_router}
-use Rattle.flood.specs.Routers.{Router}
+use Rattle.events.specs.Endings.{begun, describe_router, describe_router_later, fill, filled, filled_on, finished, is_said, links_differ, remove_aged, request_all, same_body, stays, with_age}
+use Rattle.events.specs.Originations.{links_of, originate_or_wait, point_to_point, router_body, router_key, stub, wait}
+use Rattle.events.specs.Progress.{Progress, on_area, on_router}
+use Rattle.events.specs.Routers.{Router}
 
 -- ---- steps of the neighbors that do nothing
 

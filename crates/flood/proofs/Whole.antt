@@ -4,12 +4,12 @@ use Rattle.std.proofs.Common.{◌≡◌, ℕ, List, [], ◌∷◌, IfOk, Option,
 use Rattle.std.specs.Prelude.{Result, Ok, Err}
 use Rattle.flood.specs.declared.link.Link.{Link}
 use Rattle.flood.specs.declared.link.Neighbor.{Neighbor}
-use Rattle.flood.specs.declared.model.Event.{Event}
-use Rattle.flood.specs.declared.model.Out.{Out}
+use Rattle.events.specs.declared.model.Event.{Event}
+use Rattle.events.specs.declared.model.Out.{Out}
 use Rattle.flood.specs.Bare.{IsBare, bare_link, bare_links, bare_neighbor}
-use Rattle.flood.specs.Events.{HappensBy, hellos_alone}
+use Rattle.events.specs.Events.{HappensBy, hellos_alone}
 use Rattle.flood.specs.HelloPath as path
-use Rattle.flood.specs.Routers.{with_links}
+use Rattle.events.specs.Routers.{with_links}
 use Rattle.flood.specs.Seen.{Kept, as_link, as_links, as_neighbor, as_router}
 use Rattle.flood.proofs.HelloPath.{happens_by}
 

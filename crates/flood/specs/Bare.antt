@@ -3,7 +3,7 @@ use Rattle.std.specs.Prelude.{◌≡◌, List, map, Option, None, Some}
 use Rattle.std.specs.FinMap as finite
 use Rattle.adjacency.specs.Neighbors.{Neighbor, fresh}
 use Rattle.received.specs.Links.{Link}
-use Rattle.flood.specs.Routers.{Router}
+use Rattle.events.specs.Routers.{Router}
 
 abbrev pub bare_neighbor : Option Neighbor → Option Neighbor
 bare_neighbor None = None

@@ -10,13 +10,14 @@ use Rattle.packet.specs.Reading.{fault_of}
 use Rattle.packet.specs.Text.{PacketText, canonical}
 use Rattle.adjacency.specs.Adjacencies.{heard_by, still_heard}
 use Rattle.received.specs.Links.{Link}
-use Rattle.flood.specs.declared.model.CoreError.{CoreError}
-use Rattle.flood.specs.declared.model.CoreError.TheVariants as error
-use Rattle.flood.specs.declared.model.Event.{Event}
-use Rattle.flood.specs.declared.model.Event.TheVariants as event
-use Rattle.flood.specs.declared.model.Out.{Out}
-pub use Rattle.flood.specs.Hellos.{accepts, agrees, greeted, greets, heard_of, hello_on, hello_packet, is_due, is_foreign, may_be}
-use Rattle.flood.specs.Routers.{Occurrence, Router}
+use Rattle.events.specs.declared.model.CoreError.{CoreError}
+use Rattle.events.specs.declared.model.CoreError.TheVariants as error
+use Rattle.events.specs.declared.model.Event.{Event}
+use Rattle.events.specs.declared.model.Event.TheVariants as event
+use Rattle.events.specs.declared.model.Out.{Out}
+pub use Rattle.events.specs.Hellos.{accepts, agrees, greeted, greets, heard_of, hello_on, hello_packet, is_due, is_foreign, may_be}
+use Rattle.events.specs.Refusals.{bad_packet, is_clock_back, is_interface}
+use Rattle.events.specs.Routers.{Occurrence, Router}
 
 -- ---- received packets
 
@@ -81,20 +82,9 @@ occurrence_of event.Tick = Occurrence.Tick
 
 -- ---- refusals, in the order in which they are tried
 
-abbrev pub bad_packet : Option Fault → Option CoreError
-bad_packet None = None
-bad_packet (Some f) = Some (error.BadPacket f)
-
-abbrev pub is_interface : ℕ → Router → Bool
-is_interface number r = nat_le 1 number && nat_le number (length r.area.links)
-
 abbrev pub event_refusal : Router → Event → Option CoreError
 event_refusal old (event.Packet number bytes) = if is_interface number old then bad_packet (fault_of bytes) else Some error.NoInterface
 event_refusal old event.Tick = None
-
--- the clock goes back, or is out of range
-abbrev pub is_clock_back : ℕ → Router → Bool
-is_clock_back moment old = nat_lt moment old.moment || nat_le (2 ^ 62) moment
 
 abbrev pub refusal_of : Router → ℕ → Event → Option CoreError
 refusal_of old moment e = if is_clock_back moment old then Some error.ClockBack else event_refusal old e

@@ -1,16 +1,11 @@
--- Laws of events.
+-- A law of events under the rules of the Hello protocol alone.
 use Rattle.std.specs.Prelude.{◌≡◌, ℕ, List}
-use Rattle.flood.specs.declared.model.Event.{Event}
-use Rattle.flood.specs.declared.model.Out.{Out}
+use Rattle.events.specs.declared.model.Event.{Event}
+use Rattle.events.specs.declared.model.Out.{Out}
 use Rattle.flood.specs.Bare.{IsBare}
-use Rattle.flood.specs.Events.{HappensBy, Rules, hellos_alone}
+use Rattle.events.specs.Events.{HappensBy, hellos_alone}
 use Rattle.flood.specs.HelloPath as path
-use Rattle.flood.specs.Routers.{Occurrence, Router}
-
--- an event has one outcome: nothing is left to choose
-abbrev pub EventsAreDetermined : Type 0
-EventsAreDetermined = (rules : Rules) (old : Router) (moment : ℕ) (event : Occurrence) (sent others : List Out) (new another : Router)
-    → HappensBy rules old moment event sent new → HappensBy rules old moment event others another → (sent ≡ others) × (new ≡ another)
+use Rattle.events.specs.Routers.{Router}
 
 -- where the router keeps nothing but what the Hello protocol makes, what the Hello protocol says of an event is what the whole composition
 -- says under its rules alone

@@ -6,7 +6,7 @@ use Rattle.adjacency.specs.Neighbors as neighbors
 use Rattle.received.specs.Links as links
 use Rattle.flood.specs.declared.link.Link.{Link}
 use Rattle.flood.specs.declared.link.Neighbor.{Neighbor}
-use Rattle.flood.specs.Routers.{Router, with_links}
+use Rattle.events.specs.Routers.{Router, with_links}
 
 -- interface n stands at place n - 1
 pub record Kept : Type 0 where

@@ -5,11 +5,11 @@ ghost use Rattle.words.specs.Prefixes.{mask_of};
 ghost use Rattle.packet.specs.Text.{canonical};
 ghost use Rattle.adjacency.specs.Adjacencies.{has_passed, heard_by, still_heard};
 ghost use Rattle.flood.specs.HelloPath.{after_hello, after_packet, aged, greeting, ticked};
-ghost use Rattle.flood.specs.Hellos.{accepts, agrees, greeted, greets, heard_of, hello_packet, is_due, is_foreign, may_be};
+ghost use Rattle.events.specs.Hellos.{accepts, agrees, greeted, greets, heard_of, hello_packet, is_due, is_foreign, may_be};
 ghost use Rattle.flood.specs.Seen.{as_link, as_links, as_neighbor};
 
 use crate::link::{Link, Neighbor};
-use crate::model::Out;
+use events::Out;
 use packet::{Body, Hello, Packet, write};
 use std::alloc::{AllocError, Global};
 use words::{RouterId, Second, Sequence};

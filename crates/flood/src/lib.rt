@@ -7,12 +7,10 @@
 mod hello;
 pub mod laws;
 mod link;
-mod model;
 mod profile;
 mod router;
 #[cfg(test)]
 mod tests;
 
-pub use adjacency::{Interface, State};
-pub use model::{Config, ConfigError, CoreError, Event, Out};
+pub use events::{Config, ConfigError, CoreError, Event, Interface, Out, State};
 pub use router::Core;

@@ -1,11 +1,11 @@
 //! Which configurations a router takes, and its links at the start.
 ghost use Rattle.std.specs.Prelude.{◌≡◌, ◌==◌, IfOk, map};
 ghost use Rattle.std.specs.List.{list_all, list_any};
-ghost use Rattle.flood.specs.Routers.{are_distinct, in_profile, is_lawful};
+ghost use Rattle.events.specs.Routers.{are_distinct, in_profile, is_lawful};
 ghost use Rattle.flood.specs.Seen.{fresh};
 
 use crate::link::Link;
-use crate::model::Config;
+use events::Config;
 use adjacency::Interface;
 use std::alloc::{AllocError, Global};
 use words::Address;

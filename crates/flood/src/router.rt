@@ -1,11 +1,11 @@
 //! The router: it takes events one by one, and answers what it sends.
 ghost use Rattle.std.specs.Prelude.{◌≡◌, ◌↔◌, IfOk, IsErrOf, OnErr, true, false};
-ghost use Rattle.flood.specs.Routers.{shown};
+ghost use Rattle.events.specs.Routers.{shown};
 ghost use Rattle.flood.specs.Seen.{as_neighbor};
 
 use crate::hello::{after_packet, greetings, tick_all};
 use crate::link::{Link, Neighbor};
-use crate::model::{Config, ConfigError, CoreError, Event, Out};
+use events::{Config, ConfigError, CoreError, Event, Out};
 use crate::profile::{in_profile, links_of};
 use adjacency::{Interface, State};
 use packet::read;
@@ -34,7 +34,7 @@ impl Model for Core {
 }
 
 impl Core {
-    ghost use Rattle.flood.specs.Events.{HappensBy, hellos_alone};
+    ghost use Rattle.events.specs.Events.{HappensBy, hellos_alone};
     ghost use Rattle.flood.specs.HelloPath.{Answers, Happens, Receives, Ticks, event_refusal, occurrence_of, refusal_of};
     ghost use Rattle.flood.specs.Seen.{as_router};
 
@@ -100,7 +100,7 @@ impl Core {
 
 impl Core {
     ghost use Rattle.std.specs.Prelude.{length, map};
-    ghost use Rattle.flood.specs.Routers.{in_profile, shown_at, unannounced};
+    ghost use Rattle.events.specs.Routers.{in_profile, shown_at, unannounced};
     ghost use Rattle.flood.specs.Seen.{as_router, interface_at, link_at};
 
     /// A router that has heard of nobody, whose last event was at the start.

@@ -7,9 +7,9 @@ use Rattle.adjacency.proofs.Facts.{Bare, Sound, bare_kept, sound_kept, sound_lis
 use Rattle.adjacency.proofs.Kept.{Fact, IsKept, Of, named_kept}
 use Rattle.received.specs.Holds.{Holds, HoldsOfEach}
 use Rattle.received.specs.Links.{Link}
-use Rattle.flood.specs.Events.{Run, Step, hellos_alone, initial, whole}
+use Rattle.events.specs.Events.{Run, Step, hellos_alone, initial, whole}
 use Rattle.flood_laws.specs.NeighborLaws.{FullNeighborsRequestNothing, IsAlwaysSo, ListsAreSound}
-use Rattle.flood.specs.Routers.{Router}
+use Rattle.events.specs.Routers.{Router}
 use Rattle.flood_laws.proofs.Invariants.{event_kept, initial_kept}
 
 -- one fact for another

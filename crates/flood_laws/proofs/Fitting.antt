@@ -32,8 +32,8 @@ use Rattle.adjacency.specs.declared.interface.Interface.{Interface}
 use Rattle.adjacency.specs.Rooms.{Fits}
 use Rattle.adjacency.proofs.Kept.{chosen}
 use Rattle.received.specs.Links.{Link}
-use Rattle.flood.specs.Originations.{announced_body, links_of, new_instance, point_to_point, router_body, router_key, stub, wanted_body}
-use Rattle.flood.specs.Routers.{Router}
+use Rattle.events.specs.Originations.{announced_body, links_of, new_instance, point_to_point, router_body, router_key, stub, wanted_body}
+use Rattle.events.specs.Routers.{Router}
 
 -- ---- tests
 

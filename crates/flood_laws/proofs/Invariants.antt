@@ -28,17 +28,17 @@ use Rattle.received.specs.Links.{Link, anybody_synchronizes, link_at, neighbor_o
 use Rattle.received.specs.Outcomes.{Outcome, numbered, on_database, on_links, one_neighbor, sending}
 use Rattle.received.specs.Updates.{after_case, case_at, goes_on}
 use Rattle.received.proofs.Holding.{case_kept, changed_keeps, each_keeps, each_link_keeps, flood_kept, one_holds, one_keeps}
-use Rattle.flood.specs.declared.model.Config.{Config}
-use Rattle.flood.specs.declared.model.Out.{Out}
-use Rattle.flood.specs.Commands.{after_redistribute, after_withdraw, announce, announce_as, answered, end_want, infinity, is_announced_as, is_for, taken_down, unannounce}
-use Rattle.flood.specs.Endings.{begun, describe_router, describe_router_later, fill, filled, filled_on, finished, is_said, links_differ, remove_aged, request_all, stays, with_age}
-use Rattle.flood.specs.Events.{HappensBy, OwnPart, Rules, initial}
-use Rattle.flood.specs.Hellos.{accepts, names}
-use Rattle.flood.specs.Originations.{external_key, flush, flush_copy, forget_originations, has_max_sequence, has_room, is_wanted, may_originate, new_instance, originate, originate_anyway, originate_body, originate_due, originate_or_wait, router_key, settle_own, settle_wanted, wait, wanted_body}
-use Rattle.flood.specs.Packets.{after_lsa, after_lsas, after_packet, after_unread, case_in, from_neighbor, hear, heard_on, is_heard, is_in_exchange, is_there, requested_from, requested_lsas, settle, with_neighbor, acknowledged_by}
-use Rattle.flood.specs.Progress.{Progress, flood_from_nobody, on_area, on_router}
-use Rattle.flood.specs.Routers.{Occurrence, Router, silent, unannounced}
-use Rattle.flood.specs.Ticks.{after_tick, again, greeted, run_out, send_all_again, settled_exchange, without_acknowledgments}
+use Rattle.events.specs.declared.model.Config.{Config}
+use Rattle.events.specs.declared.model.Out.{Out}
+use Rattle.events.specs.Commands.{after_redistribute, after_withdraw, announce, announce_as, answered, end_want, infinity, is_announced_as, is_for, taken_down, unannounce}
+use Rattle.events.specs.Endings.{begun, describe_router, describe_router_later, fill, filled, filled_on, finished, is_said, links_differ, remove_aged, request_all, stays, with_age}
+use Rattle.events.specs.Events.{HappensBy, OwnPart, Rules, initial}
+use Rattle.events.specs.Hellos.{accepts, names}
+use Rattle.events.specs.Originations.{external_key, flush, flush_copy, forget_originations, has_max_sequence, has_room, is_wanted, may_originate, new_instance, originate, originate_anyway, originate_body, originate_due, originate_or_wait, router_key, settle_own, settle_wanted, wait, wanted_body}
+use Rattle.events.specs.Packets.{after_lsa, after_lsas, after_packet, after_unread, case_in, from_neighbor, hear, heard_on, is_heard, is_in_exchange, is_there, requested_from, requested_lsas, settle, with_neighbor, acknowledged_by}
+use Rattle.events.specs.Progress.{Progress, flood_from_nobody, on_area, on_router}
+use Rattle.events.specs.Routers.{Occurrence, Router, silent, unannounced}
+use Rattle.events.specs.Ticks.{after_tick, again, greeted, run_out, send_all_again, settled_exchange, without_acknowledgments}
 
 module _ (Q : Fact) (kept : IsKept Q) where
   -- of every neighbor, in the midst of an event

@@ -24,16 +24,16 @@ use Rattle.adjacency.proofs.Told.{OfContent, OfCopy, OfListed, OfOwedIfAny, OfTw
 use Rattle.received.specs.Links.{Link}
 use Rattle.received.specs.Outcomes.{Send}
 use Rattle.received.proofs.Told.{OfArea, OfLink, OfLinks, OfSend, OfWaiting}
-use Rattle.flood.specs.declared.model.Config.{Config}
-use Rattle.flood.specs.declared.model.Out.{Out}
-use Rattle.flood.specs.Endings.{finished}
-use Rattle.flood.specs.Events.{HappensBy, Rules, Run, Step, hellos_alone, initial, whole}
+use Rattle.events.specs.declared.model.Config.{Config}
+use Rattle.events.specs.declared.model.Out.{Out}
+use Rattle.events.specs.Endings.{finished}
+use Rattle.events.specs.Events.{HappensBy, Rules, Run, Step, hellos_alone, initial, whole}
 use Rattle.flood_laws.specs.Known.{AnnouncesItsOwn, EventsHoldOnlyWhatIsKnown, HoldsWhatIsKnown, IsNewInstance, IsOutOf, names_in_content, names_in_send, names_in_sends}
-use Rattle.flood.specs.Names.{Name, lsa_name, name_of, names_brought, names_in_update}
-use Rattle.flood.specs.Originations.{is_due, new_instance, router_key, wanted_keys}
-use Rattle.flood.specs.Progress.{Progress}
-use Rattle.flood.specs.Routers.{Occurrence, Router, silent, unannounced}
-use Rattle.flood.specs.Worlds.{IsKnown, names_held, names_on_link, names_owed}
+use Rattle.events.specs.Names.{Name, lsa_name, name_of, names_brought, names_in_update}
+use Rattle.events.specs.Originations.{is_due, new_instance, router_key, wanted_keys}
+use Rattle.events.specs.Progress.{Progress}
+use Rattle.events.specs.Routers.{Occurrence, Router, silent, unannounced}
+use Rattle.events.specs.Worlds.{IsKnown, names_held, names_on_link, names_owed}
 use Rattle.flood_laws.proofs.Packed.{outs_bear}
 use Rattle.flood_laws.proofs.Told.{IfRead, IsOwn, IsOwnKey, OfBrought, OfBytes, OfProgress, event_told, originate_or_wait_told}
 use Rattle.flood_laws.proofs.Worlds.{one_more}

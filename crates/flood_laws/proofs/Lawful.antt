@@ -20,7 +20,7 @@ use Rattle.packet.specs.Text.{IsBody, IsUnread, PacketText, canonical, closed, t
 use Rattle.packet.proofs.Patch.{canonical_is_text}
 use Rattle.adjacency.specs.Rooms.{Fits}
 use Rattle.flood_laws.specs.Lawful.{TextsAreLawful}
-use Rattle.flood.specs.Packing.{packet_of}
+use Rattle.events.specs.Packing.{packet_of}
 
 -- ---- bytes
 

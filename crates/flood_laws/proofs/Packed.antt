@@ -9,8 +9,8 @@ use Rattle.adjacency.specs.Contents.{Content}
 use Rattle.received.specs.Links.{Link}
 use Rattle.received.specs.Outcomes.{Send}
 use Rattle.flood_laws.specs.Known.{Bears, IsOutOf, IsTextOf, names_in_content}
-use Rattle.flood.specs.Names.{Name, lsa_name, name_of}
-use Rattle.flood.specs.Packing.{acknowledgments, at_interface, bodies, descriptions, first_key, header_size, hellos, in_key_order, lsa_size, out_of, outs_at, packed, requests, sent_lsa, update_of, updates}
+use Rattle.events.specs.Names.{Name, lsa_name, name_of}
+use Rattle.events.specs.Packing.{acknowledgments, at_interface, bodies, descriptions, first_key, header_size, hellos, in_key_order, lsa_size, out_of, outs_at, packed, requests, sent_lsa, update_of, updates}
 use Rattle.flood_laws.proofs.Rooms.{both, mapped_all, order_all, packed_all}
 
 -- what an option gives of each content

@@ -14,8 +14,8 @@ use Rattle.lsdb.proofs.Keys.{keys_exact, keys_total}
 use Rattle.packet.specs.declared.model.Body.{Body}
 use Rattle.received.specs.Links.{Link}
 use Rattle.received.specs.Outcomes.{Send}
-use Rattle.flood.specs.declared.model.Out.{Out}
-use Rattle.flood.specs.Packing.{at_interface, bodies, fill_on, header_size, in_key_order, is_after, out_of, outs_at, outs_of, packed, put}
+use Rattle.events.specs.declared.model.Out.{Out}
+use Rattle.events.specs.Packing.{at_interface, bodies, fill_on, header_size, in_key_order, is_after, out_of, outs_at, outs_of, packed, put}
 use Rattle.flood_laws.specs.PackingLaws.{AreByInterface, AreFull, IsAscending, IsFull, IsInKeyOrder, IsPacking, sizes, total}
 
 -- ---- the order of keys

@@ -8,7 +8,7 @@ use Rattle.lsa.specs.declared.fault.Fault.{Fault}
 use Rattle.lsa.proofs.Headers.{header-reads_back}
 use Rattle.lsdb.specs.Headers.{Header, Lsa}
 use Rattle.flood_laws.specs.Known.{UpdatesTellWhatTheyBear}
-use Rattle.flood.specs.Names.{Name, lsa_name, name_of, names_in_update}
+use Rattle.events.specs.Names.{Name, lsa_name, name_of, names_in_update}
 use Rattle.flood_laws.proofs.Known.{of_member}
 use Rattle.flood_laws.proofs.Worlds.{one_more}
 

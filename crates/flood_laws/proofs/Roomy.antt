@@ -42,18 +42,18 @@ use Rattle.received.specs.Outcomes.{Outcome, numbered, on_database, on_links, on
 use Rattle.received.specs.Updates.{after_case, case_at, goes_on}
 use Rattle.received.proofs.Holding.{each_link_keeps, one_holds}
 use Rattle.received.proofs.Roomy.{FitsIfThere, HasRoomFor, IsRoomyOutcome, SendHasRoom, all_fit, case_roomy, changed_fit, changed_roomy, each_roomy, fits_at, flood_roomy, inserted_fit, joined, numbered_roomy, on_database_roomy, on_links_roomy, one_roomy, sending_roomy}
-use Rattle.flood.specs.declared.model.Config.{Config}
-use Rattle.flood.specs.declared.model.Out.{Out}
-use Rattle.flood.specs.Commands.{after_redistribute, after_withdraw, announce, announce_as, answered, end_want, infinity, is_announced_as, is_for, taken_down, unannounce}
-use Rattle.flood.specs.Endings.{begun, describe_router, describe_router_later, fill, filled, filled_on, finished, is_said, links_differ, remove_aged, request_all, stays, with_age}
-use Rattle.flood.specs.Events.{HappensBy, OwnPart, Rules, Run, Step, hellos_alone, initial, whole}
-use Rattle.flood.specs.Hellos.{accepts, greets, heard_of, hello_on, names}
-use Rattle.flood.specs.Originations.{external_key, flush, flush_copy, forget_originations, has_max_sequence, has_room, is_wanted, may_originate, new_instance, originate, originate_anyway, originate_body, originate_due, originate_or_wait, router_key, settle_own, settle_wanted, wait, wanted_body}
-use Rattle.flood.specs.Packets.{acknowledged_by, after_lsa, after_lsas, after_packet, after_unread, case_in, from_neighbor, hear, heard_on, is_heard, is_in_exchange, is_there, requested_from, requested_lsas, settle, with_neighbor}
-use Rattle.flood.specs.Progress.{Progress, flood_from_nobody, on_area, on_router}
+use Rattle.events.specs.declared.model.Config.{Config}
+use Rattle.events.specs.declared.model.Out.{Out}
+use Rattle.events.specs.Commands.{after_redistribute, after_withdraw, announce, announce_as, answered, end_want, infinity, is_announced_as, is_for, taken_down, unannounce}
+use Rattle.events.specs.Endings.{begun, describe_router, describe_router_later, fill, filled, filled_on, finished, is_said, links_differ, remove_aged, request_all, stays, with_age}
+use Rattle.events.specs.Events.{HappensBy, OwnPart, Rules, Run, Step, hellos_alone, initial, whole}
+use Rattle.events.specs.Hellos.{accepts, greets, heard_of, hello_on, names}
+use Rattle.events.specs.Originations.{external_key, flush, flush_copy, forget_originations, has_max_sequence, has_room, is_wanted, may_originate, new_instance, originate, originate_anyway, originate_body, originate_due, originate_or_wait, router_key, settle_own, settle_wanted, wait, wanted_body}
+use Rattle.events.specs.Packets.{acknowledged_by, after_lsa, after_lsas, after_packet, after_unread, case_in, from_neighbor, hear, heard_on, is_heard, is_in_exchange, is_there, requested_from, requested_lsas, settle, with_neighbor}
+use Rattle.events.specs.Progress.{Progress, flood_from_nobody, on_area, on_router}
 use Rattle.flood_laws.specs.RoomLaws.{EveryPacketHasRoom, HaveRoom, IsRoomy}
-use Rattle.flood.specs.Routers.{Occurrence, Router, in_profile, silent, unannounced}
-use Rattle.flood.specs.Ticks.{acknowledge_all, acknowledgments_on, after_tick, again, greet_all, greeted, greeting_on, run_out, send_all_again, sends_of, settled_exchange, without_acknowledgments}
+use Rattle.events.specs.Routers.{Occurrence, Router, in_profile, silent, unannounced}
+use Rattle.events.specs.Ticks.{acknowledge_all, acknowledgments_on, after_tick, again, greet_all, greeted, greeting_on, run_out, send_all_again, sends_of, settled_exchange, without_acknowledgments}
 use Rattle.flood_laws.proofs.Fitting.{BringsShort, FitsIfRead, IsFewIfAny, IsShort, originated_fits, packet_short, read_fits, wanted_few}
 use Rattle.flood_laws.proofs.Rooms.{ordered_and_packed}
 

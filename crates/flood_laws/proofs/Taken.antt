@@ -20,11 +20,11 @@ use Rattle.adjacency.specs.Retransmissions.{acknowledged, is_entry, released}
 use Rattle.received.specs.Cases.{Case, case_of_readable, first_case, is_wrapping, was_owed, was_requested}
 use Rattle.received.specs.Links.{anybody_synchronizes, neighbor_at}
 use Rattle.received.specs.Updates.{case_at, copy_of, goes_on}
-use Rattle.flood.specs.Endings.{begun}
-use Rattle.flood.specs.Names.{Name, lsa_name, name_of, names_in_update, names_told}
-use Rattle.flood.specs.Packets.{after_unread, case_in, is_heard, is_in_exchange}
-use Rattle.flood.specs.Progress.{Progress}
-use Rattle.flood.specs.Taken.{WhatIsTakenOffWasTold, entry_of, gone, taken_by_body, taken_by_headers, taken_by_lsa, taken_by_lsas, taken_from, taken_in_case}
+use Rattle.events.specs.Endings.{begun}
+use Rattle.events.specs.Names.{Name, lsa_name, name_of, names_in_update, names_told}
+use Rattle.events.specs.Packets.{after_unread, case_in, is_heard, is_in_exchange}
+use Rattle.events.specs.Progress.{Progress}
+use Rattle.events.specs.Taken.{WhatIsTakenOffWasTold, entry_of, gone, taken_by_body, taken_by_headers, taken_by_lsa, taken_by_lsas, taken_from, taken_in_case}
 use Rattle.flood_laws.proofs.Lists.{later_is, of_cons, of_empty}
 
 -- ---- one entry

@@ -32,15 +32,15 @@ use Rattle.received.specs.Links.{Link, anybody_synchronizes, link_at, neighbor_o
 use Rattle.received.specs.Outcomes.{Outcome, numbered, on_database, on_links, one_neighbor, sending}
 use Rattle.received.specs.Updates.{after_case, case_at, goes_on}
 use Rattle.received.proofs.Told.{OfArea, OfLink, OfLinks, OfOutcome, OfSend, OfWaiting, case_told, change_told, changed_told, each_link_told, each_told, flood_told, joined, numbered_told, on_database_told, on_links_told, one_neighbor_told, one_told, sending_told}
-use Rattle.flood.specs.Commands.{after_redistribute, after_withdraw, announce, announce_as, answered, end_want, infinity, is_announced_as, is_for, taken_down, unannounce}
-use Rattle.flood.specs.Endings.{begun, describe_router, describe_router_later, fill, filled, filled_on, finished, is_said, links_differ, remove_aged, request_all, stays, with_age}
-use Rattle.flood.specs.Events.{OwnPart, Rules}
-use Rattle.flood.specs.Hellos.{accepts, greets, hello_on, names}
-use Rattle.flood.specs.Originations.{external_key, flush, flush_copy, forget_originations, has_max_sequence, has_room, is_wanted, may_originate, new_instance, originate, originate_anyway, originate_body, originate_due, originate_or_wait, router_key, settle_own, settle_wanted, wait, wanted_body}
-use Rattle.flood.specs.Packets.{acknowledged_by, after_lsa, after_lsas, after_packet, after_unread, case_in, from_neighbor, hear, heard_on, is_heard, is_in_exchange, is_there, requested_from, requested_lsas, settle, with_neighbor}
-use Rattle.flood.specs.Progress.{Progress, flood_from_nobody, on_area, on_router}
-use Rattle.flood.specs.Routers.{Occurrence, Router}
-use Rattle.flood.specs.Ticks.{acknowledge_all, acknowledgments_on, after_tick, again, greet_all, greeted, greeting_on, run_out, send_all_again, sends_of, settled_exchange, without_acknowledgments}
+use Rattle.events.specs.Commands.{after_redistribute, after_withdraw, announce, announce_as, answered, end_want, infinity, is_announced_as, is_for, taken_down, unannounce}
+use Rattle.events.specs.Endings.{begun, describe_router, describe_router_later, fill, filled, filled_on, finished, is_said, links_differ, remove_aged, request_all, stays, with_age}
+use Rattle.events.specs.Events.{OwnPart, Rules}
+use Rattle.events.specs.Hellos.{accepts, greets, hello_on, names}
+use Rattle.events.specs.Originations.{external_key, flush, flush_copy, forget_originations, has_max_sequence, has_room, is_wanted, may_originate, new_instance, originate, originate_anyway, originate_body, originate_due, originate_or_wait, router_key, settle_own, settle_wanted, wait, wanted_body}
+use Rattle.events.specs.Packets.{acknowledged_by, after_lsa, after_lsas, after_packet, after_unread, case_in, from_neighbor, hear, heard_on, is_heard, is_in_exchange, is_there, requested_from, requested_lsas, settle, with_neighbor}
+use Rattle.events.specs.Progress.{Progress, flood_from_nobody, on_area, on_router}
+use Rattle.events.specs.Routers.{Occurrence, Router}
+use Rattle.events.specs.Ticks.{acknowledge_all, acknowledgments_on, after_tick, again, greet_all, greeted, greeting_on, run_out, send_all_again, sends_of, settled_exchange, without_acknowledgments}
 
 -- ---- what an event brings, and what is the router's own
 

@@ -6,11 +6,11 @@ use Rattle.std.proofs.lemmas.List.Elements.{Contains-append_cases, Contains-appe
 use Rattle.packet.specs.declared.model.Packet.{Packet}
 use Rattle.packet.specs.Text.{PacketText}
 use Rattle.packet.proofs.Whole.{one_packet}
-use Rattle.flood.specs.declared.model.Config.{Config}
-use Rattle.flood.specs.Events.{initial}
-use Rattle.flood.specs.Routers.{Occurrence, Router}
-use Rattle.flood.specs.Names.{Name, names_brought, names_told}
-use Rattle.flood.specs.Worlds.{AcknowledgedWasReceived, Brings, Datagram, IsHistory, IsKnown, IsLawfulOut, Joins, Knowledge, Lives, Restarts, World, WorldStep, all_known, begun_with, known_as, knows, names_held, sent_from}
+use Rattle.events.specs.declared.model.Config.{Config}
+use Rattle.events.specs.Events.{initial}
+use Rattle.events.specs.Routers.{Occurrence, Router}
+use Rattle.events.specs.Names.{Name, names_brought, names_told}
+use Rattle.events.specs.Worlds.{AcknowledgedWasReceived, Brings, Datagram, IsHistory, IsKnown, IsLawfulOut, Joins, Knowledge, Lives, Restarts, World, WorldStep, all_known, begun_with, known_as, knows, names_held, sent_from}
 use Rattle.flood_laws.proofs.Taken.{taken_was_told}
 
 -- ---- lists

@@ -14,14 +14,14 @@ use Rattle.packet.specs.declared.model.Body.{Body}
 use Rattle.packet.specs.declared.model.Body.TheVariants as packets
 use Rattle.adjacency.specs.Contents.{Content}
 use Rattle.received.specs.Outcomes.{Send}
-use Rattle.flood.specs.declared.model.Config.{Config}
-use Rattle.flood.specs.declared.model.Out.{Out}
-use Rattle.flood.specs.Events.{Happens, HappensBy, Run, Step, hellos_alone, initial}
-use Rattle.flood.specs.Names.{Name, lsa_name, name_of, names_in_update}
-use Rattle.flood.specs.Originations.{new_instance}
-use Rattle.flood.specs.Packing.{out_of}
-use Rattle.flood.specs.Routers.{Occurrence, Router}
-use Rattle.flood.specs.Worlds.{IsKnown, names_held}
+use Rattle.events.specs.declared.model.Config.{Config}
+use Rattle.events.specs.declared.model.Out.{Out}
+use Rattle.events.specs.Events.{Happens, HappensBy, Run, Step, hellos_alone, initial}
+use Rattle.events.specs.Names.{Name, lsa_name, name_of, names_in_update}
+use Rattle.events.specs.Originations.{new_instance}
+use Rattle.events.specs.Packing.{out_of}
+use Rattle.events.specs.Routers.{Occurrence, Router}
+use Rattle.events.specs.Worlds.{IsKnown, names_held}
 
 -- a new instance of an LSA whose Advertising Router is this one
 pub record IsNewInstance (id : ℕ) (name : Name) : Type 0 where

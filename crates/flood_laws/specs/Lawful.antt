@@ -7,7 +7,7 @@ use Rattle.lsdb.specs.Headers.{Header, Lsa}
 use Rattle.packet.specs.declared.model.Body.TheVariants as body
 use Rattle.packet.specs.Text.{PacketText, canonical}
 use Rattle.adjacency.specs.Rooms.{Fits}
-use Rattle.flood.specs.Packing.{packet_of}
+use Rattle.events.specs.Packing.{packet_of}
 
 -- of so few bytes, with the headers' numbers in their ranges and each LSA's length that of its text
 pub record TextsAreLawful : Type 0 where

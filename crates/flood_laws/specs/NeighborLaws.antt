@@ -4,10 +4,10 @@ use Rattle.adjacency.specs.Laws.{IsBareWhereFull}
 use Rattle.adjacency.specs.Lists.{HasSoundLists}
 use Rattle.adjacency.specs.Neighbors.{Neighbor}
 use Rattle.received.specs.Holds.{HoldsOfEach}
-use Rattle.flood.specs.declared.model.Config.{Config}
-use Rattle.flood.specs.declared.model.Out.{Out}
-use Rattle.flood.specs.Events.{Happens, HappensBy, Run, Step, hellos_alone, initial}
-use Rattle.flood.specs.Routers.{Occurrence, Router}
+use Rattle.events.specs.declared.model.Config.{Config}
+use Rattle.events.specs.declared.model.Out.{Out}
+use Rattle.events.specs.Events.{Happens, HappensBy, Run, Step, hellos_alone, initial}
+use Rattle.events.specs.Routers.{Occurrence, Router}
 
 -- it holds of each neighbor of the router
 abbrev pub OfEachNeighbor : (Neighbor → Type 0) → Router → Type 0

@@ -7,8 +7,8 @@ use Rattle.lsdb.specs.Keys.{same_key}
 pub use Rattle.adjacency.specs.Rooms.{HasRoom}
 use Rattle.received.specs.Links.{Link}
 use Rattle.received.specs.Outcomes.{Send}
-use Rattle.flood.specs.declared.model.Out.{Out}
-use Rattle.flood.specs.Packing.{header_size, in_key_order, is_after, lsa_size, outs_of, packed}
+use Rattle.events.specs.declared.model.Out.{Out}
+use Rattle.events.specs.Packing.{header_size, in_key_order, is_after, lsa_size, outs_of, packed}
 
 -- ---- in the order of the keys
 

@@ -2,11 +2,11 @@
 use Rattle.std.specs.Prelude.{◌≡◌, ◌≤◌, ℕ, true, List, length}
 use Rattle.std.specs.List.{AllByRecursion}
 use Rattle.adjacency.specs.Rooms.{AllFit, HasRoomyLists}
-use Rattle.flood.specs.declared.model.Config.{Config}
-use Rattle.flood.specs.declared.model.Out.{Out}
-use Rattle.flood.specs.Events.{Happens, HappensBy, Run, Step, hellos_alone, initial}
+use Rattle.events.specs.declared.model.Config.{Config}
+use Rattle.events.specs.declared.model.Out.{Out}
+use Rattle.events.specs.Events.{Happens, HappensBy, Run, Step, hellos_alone, initial}
 use Rattle.flood_laws.specs.NeighborLaws.{OfEachNeighbor}
-use Rattle.flood.specs.Routers.{Occurrence, Router, in_profile}
+use Rattle.events.specs.Routers.{Occurrence, Router, in_profile}
 
 -- each copy fits into an Update; what was last described and asked for fits into a packet; of so few links the router-LSA fits too
 pub record IsRoomy (r : Router) : Type 0 where

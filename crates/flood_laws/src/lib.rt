@@ -7,8 +7,8 @@ ghost use Rattle.flood_laws.specs.Lawful.{TextsAreLawful};
 ghost use Rattle.flood_laws.specs.NeighborLaws.{FullNeighborsRequestNothing, ListsAreSound};
 ghost use Rattle.flood_laws.specs.PackingLaws.{OutsAreOrderedAndPacked};
 ghost use Rattle.flood_laws.specs.RoomLaws.{EveryPacketHasRoom};
-ghost use Rattle.flood.specs.Taken.{WhatIsTakenOffWasTold};
-ghost use Rattle.flood.specs.Worlds.{AcknowledgedWasReceived};
+ghost use Rattle.events.specs.Taken.{WhatIsTakenOffWasTold};
+ghost use Rattle.events.specs.Worlds.{AcknowledgedWasReceived};
 
 /// A neighbor that is Full has nothing to request: so it is at the start, each event keeps it so, also where the Hello protocol alone is
 /// run, and so it is after every run (RFC 2328, section 10.3).

@@ -1,9 +1,9 @@
 use Rattle.std.proofs.Common.{◌≡◌, true, Some, ◌-◌, ◌<◌, set, length, ap, sym, ◌∙◌, arith}
 use Rattle.std.specs.Prelude.{if◌then◌else◌, slice_get}
 use Rattle.packet.specs.Reading.{fault_of}
-use Rattle.flood.specs.declared.model.CoreError.TheVariants as error
+use Rattle.events.specs.declared.model.CoreError.TheVariants as error
 use Rattle.flood.specs.HelloPath.{after_packet, bad_packet, is_interface}
-use Rattle.flood.specs.Routers.{with_links}
+use Rattle.events.specs.Routers.{with_links}
 use Rattle.flood.specs.Seen.{Kept, as_link, as_links, as_router}
 use Rattle.flood.proofs.Links.{IsSound-received, as_links-set, interface-seen, seen_here}
 use Rattle.flood.proofs.router.Core.receive.Goals as goal

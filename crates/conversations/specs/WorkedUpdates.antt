@@ -1,0 +1,62 @@
+-- A worked event: an Update with a new LSA comes twice from a Full neighbor (RFC 2328, sections 13 and 13.5).
+use Rattle.std.specs.Prelude.{◌≡◌, ◌<◌, ℕ, ◌==◌, true, false, List, [], ◌∷◌, Option, None, Some}
+use Rattle.std.specs.FinMap as finite
+use Rattle.std.specs.List.{list_any}
+use Rattle.lsa.specs.Reading.{lsa_in}
+use Rattle.lsdb.specs.Copies.{has_just_aged_out}
+use Rattle.lsdb.specs.Headers.{Lsa, lsa_key}
+use Rattle.packet.specs.declared.model.Body.TheVariants as body
+use Rattle.packet.specs.Text.{PacketText}
+use Rattle.adjacency.specs.Contents.{Content}
+use Rattle.adjacency.specs.declared.state.State.TheVariants.{Full}
+use Rattle.adjacency.specs.Neighbors.{Neighbor}
+use Rattle.adjacency.specs.Requests.{requested}
+use Rattle.received.specs.Links.{Link, anybody_synchronizes, link_at}
+use Rattle.received.specs.Outcomes.{Send}
+use Rattle.events.specs.declared.model.Out.{Out}
+use Rattle.events.specs.Events.{Happens}
+use Rattle.events.specs.Hellos.{is_foreign}
+use Rattle.events.specs.Packing.{outs_of}
+use Rattle.events.specs.Routers.{Occurrence, Router}
+
+-- nobody is in Exchange or Loading, and no copy comes to MaxAge at this moment
+pub record IsAtRest (r : Router) (moment : ℕ) : Type 0 where
+  pub nobody : anybody_synchronizes r.area.links ≡ false
+  pub nothing_ages : list_any (λ e. has_just_aged_out r.moment moment e.1) (finite.entries r.area.database) ≡ false
+
+-- the interface of this number has this link, and its neighbor is Full
+pub record HasFullNeighbor (r : Router) (number : ℕ) (link : Link) (n : Neighbor) : Type 0 where
+  pub link_there : link_at number r.area.links ≡ Some link
+  pub neighbor_there : link.neighbor ≡ Some n
+  pub is_other : is_foreign r.id n.router ≡ true
+  pub is_full : n.state ≡ Full
+
+-- the bytes are the text of that router's Update with this one LSA
+pub record IsUpdateWith (bytes : List ℕ) (from : ℕ) (lsa : Lsa) : Type 0 where
+  pub unread : List ℕ
+  pub is_text : PacketText bytes (record { router = from; body = body.Update (unread ∷ []) })
+  pub is_read : lsa_in unread ≡ Some lsa
+
+-- at the interface of this number an acknowledgment of the LSA, as it was received, waits for a Tick
+abbrev pub WaitsAt : Router → ℕ → Lsa → Type 0
+WaitsAt r number lsa = (link : Link) × (link_at number r.area.links ≡ Some link) × (finite.get link.acknowledgments (lsa_key lsa) ≡ Some lsa.header)
+
+-- the router got it at this moment by flooding; it may have sent it on
+abbrev pub HasBrought : Router → ℕ → Lsa → Type 0
+HasBrought r moment lsa =
+    (sent : Option ℕ) × (finite.get r.area.database (lsa_key lsa) ≡ Some (record { lsa = lsa; stored = moment; installed = Some moment; sent = sent }))
+
+-- what is sent is one acknowledgment of the LSA, at the interface of this number
+abbrev pub acknowledges_at_once : ℕ → Lsa → List Send
+acknowledges_at_once number lsa = record { number = number; content = Content.Acknowledges lsa.header } ∷ []
+
+-- one Update with a new LSA of another router is delivered twice in one second by a Full neighbor: after the first the LSA is in the
+-- database and its acknowledgment waits for a Tick; the second is acknowledged at once, with nothing else sent, and leaves the router,
+-- its database with it, as the first left it
+abbrev pub ANewLsaComesTwice : Type 0
+ANewLsaComesTwice = (old middle new : Router) (moment number : ℕ) (bytes : List ℕ) (lsa : Lsa) (link : Link) (n : Neighbor) (outs more : List Out)
+    → IsAtRest old moment → HasFullNeighbor old number link n → requested n (lsa_key lsa) ≡ None → IsUpdateWith bytes n.router lsa
+    → finite.get old.area.database (lsa_key lsa) ≡ None → lsa.header.age < 3600 → (lsa.header.advertising_router == old.id) ≡ false
+    → Happens old moment (Occurrence.Packet number bytes) outs middle → Happens middle moment (Occurrence.Packet number bytes) more new
+    → HasBrought middle moment lsa × WaitsAt middle number lsa
+    × (more ≡ outs_of middle.id middle.area.links (acknowledges_at_once number lsa)) × (new ≡ middle)

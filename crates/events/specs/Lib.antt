@@ -1,0 +1,16 @@
+pub mod Routers
+pub mod Hellos
+pub mod Progress
+pub mod Originations
+pub mod Packets
+pub mod Ticks
+pub mod Commands
+pub mod Endings
+pub mod Packing
+pub mod Events
+pub mod Refusals
+pub mod Names
+pub mod Taken
+pub mod Worlds
+pub mod Laws
+pub mod Numbers

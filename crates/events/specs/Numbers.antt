@@ -1,0 +1,25 @@
+-- The numbers of the refusals, and what becomes of a packet that can't be read.
+use Rattle.std.specs.Prelude.{ℕ}
+use Rattle.packet.specs.declared.refusal.ReadError.{ReadError}
+use Rattle.packet.specs.declared.refusal.ReadError.TheVariants as reading
+use Rattle.events.specs.declared.model.ConfigError.{ConfigError}
+use Rattle.events.specs.declared.model.ConfigError.TheVariants as configuring
+use Rattle.events.specs.declared.model.CoreError.{CoreError}
+use Rattle.events.specs.declared.model.CoreError.TheVariants as refusing
+
+abbrev pub config_error_number : ConfigError → ℕ
+config_error_number configuring.Interface = 1
+config_error_number configuring.Memory = 2
+
+abbrev pub core_error_number : CoreError → ℕ
+core_error_number (refusing.BadPacket f) = 1
+core_error_number refusing.NoInterface = 2
+core_error_number refusing.Clash = 3
+core_error_number refusing.ClockBack = 4
+core_error_number refusing.Full = 5
+core_error_number refusing.Memory = 6
+
+-- what the router says where a packet can't be read
+abbrev pub core_error_of : ReadError → CoreError
+core_error_of (reading.Fault f) = refusing.BadPacket f
+core_error_of reading.Memory = refusing.Memory

@@ -1,0 +1,204 @@
+-- The router's own LSAs: what is wanted, new instances, what waits for a Tick, and flushing (RFC 2328, sections 12.1.6, 12.4, 13.4, 14 and 14.1).
+use Rattle.std.specs.Prelude.{ℕ, ℤ, pos, negsuc, ◌+ℤ◌, ◌==◌, Bool, true, false, not, ◌&&◌, ◌||◌, nat_le, nat_lt, if◌then◌else◌, List, [], ◌∷◌, ◌++◌, length, Option, None, Some}
+use Rattle.std.specs.List.{filter, flat_map, fold}
+use Rattle.std.specs.FinMap as finite
+use Rattle.std.specs.FinSet as set
+use Rattle.std.specs.Ordering.{int_cmp, is_eq}
+use Rattle.words.specs.Prefixes.{Network, mask_of, network_address}
+use Rattle.words.specs.declared.key.Key.{Key}
+use Rattle.words.specs.declared.route.External.{External}
+use Rattle.lsa.specs.declared.body.Body.{Body}
+use Rattle.lsa.specs.declared.body.Body.TheVariants as body
+use Rattle.lsa.specs.declared.body.Link.{Link as RouterLink}
+use Rattle.lsa.specs.declared.body.LinkKind.TheVariants.{PointToPoint, Stub}
+use Rattle.lsa.specs.Origination.{sealed_lsa}
+use Rattle.lsdb.specs.Copies.{Database, DatabaseCopy, age_now, age_out, install_originated, is_aged_out}
+use Rattle.lsdb.specs.Headers.{Lsa, lsa_aged, lsa_key}
+use Rattle.lsdb.specs.Keys.{same_key}
+use Rattle.adjacency.specs.Adjacencies.{has_passed}
+use Rattle.adjacency.specs.Neighbors.{Neighbor, is_full}
+use Rattle.adjacency.specs.declared.interface.Interface.{Interface}
+use Rattle.received.specs.Links.{Link}
+use Rattle.received.specs.Outcomes.{Outcome, on_database}
+use Rattle.events.specs.Progress.{Progress, flood_from_nobody, on_area, on_router}
+use Rattle.events.specs.Routers.{Router}
+
+-- ---- what is wanted
+
+abbrev pub router_key : ℕ → Key
+router_key id = record { ls_type = 1; link_state_id = id; advertising_router = id }
+
+-- the address of the destination is the Link State ID
+abbrev pub external_key : ℕ → Network → Key
+external_key id prefix = record { ls_type = 5; link_state_id = prefix.address; advertising_router = id }
+
+abbrev pub point_to_point : Interface → Option Neighbor → List RouterLink
+point_to_point i None = []
+point_to_point i (Some n) =
+    if is_full n.state then record { link_id = n.router; link_data = i.address; kind = PointToPoint; metric = i.cost; tos = [] } ∷ [] else []
+
+abbrev pub stub : Interface → RouterLink
+stub i = record { link_id = network_address i.length i.address; link_data = mask_of i.length; kind = Stub; metric = i.cost; tos = [] }
+
+-- to the neighbor, if it is Full, and then to the subnet
+abbrev pub links_of : Link → List RouterLink
+links_of link = point_to_point link.interface link.neighbor ++ stub link.interface ∷ []
+
+-- the router-LSA: flag E alone, and the links of each interface in order (section 12.4.1)
+abbrev pub router_body : List Link → Body
+router_body links = body.Router (record { flags = 2; links = flat_map links_of links })
+
+-- the AS-external-LSA of an announced destination (section 12.4.4)
+abbrev pub external_body : External → Body
+external_body e = body.External (record { mask = mask_of e.prefix.length; kind = e.kind; metric = e.metric; forwarding = 0; tag = e.tag; tos = [] })
+
+abbrev pub announced_body : Option External → Option Body
+announced_body None = None
+announced_body (Some e) = Some (external_body e)
+
+-- what the own LSA of this key is to say, if it is wanted
+abbrev pub wanted_body : Router → Key → Option Body
+wanted_body r key =
+    if same_key key (router_key r.id) then Some (router_body r.area.links) else announced_body (finite.get r.announced key)
+
+-- the keys of all own LSAs that are wanted, in their order
+abbrev pub wanted_keys : Router → List Key
+wanted_keys r = router_key r.id ∷ finite.keys r.announced
+
+-- ---- a new instance
+
+-- InitialSequenceNumber, 0x80000001, and MaxSequenceNumber, 0x7fffffff (section 12.1.6)
+abbrev pub initial_sequence : ℤ
+initial_sequence = negsuc 2147483646
+
+abbrev pub max_sequence : ℤ
+max_sequence = pos 2147483647
+
+-- the number after that of the copy
+abbrev pub next_sequence : Option DatabaseCopy → ℤ
+next_sequence None = initial_sequence
+next_sequence (Some c) = c.lsa.header.sequence +ℤ pos 1
+
+abbrev pub has_max_sequence : Option DatabaseCopy → Bool
+has_max_sequence None = false
+has_max_sequence (Some c) = is_eq (int_cmp c.lsa.header.sequence max_sequence)
+
+-- of age 0; its type, length and checksum are those of its body
+abbrev pub new_instance : Key → Option DatabaseCopy → Body → Lsa
+new_instance key copy says = sealed_lsa (record {
+  header = record {
+    age = 0;
+    options = 2;
+    ls_type = key.ls_type;
+    link_state_id = key.link_state_id;
+    advertising_router = key.advertising_router;
+    sequence = next_sequence copy;
+    checksum = 0;
+    length = 0;
+  };
+  body = says;
+})
+
+abbrev pub install_and_flood : ℕ → Lsa → Outcome → Outcome
+install_and_flood moment lsa o = flood_from_nobody moment lsa (on_database (install_originated moment lsa) o)
+
+-- it waits for no Tick any more, and its five seconds run
+abbrev pub as_originated : ℕ → Key → Router → Router
+as_originated moment key r = record r { waiting = set.remove r.waiting key; originated = finite.insert r.originated key moment }
+
+abbrev pub originate : ℕ → Key → Body → Progress → Progress
+originate moment key says p =
+    on_router (as_originated moment key) (on_area (install_and_flood moment (new_instance key (finite.get p.router.area.database key) says)) p)
+
+-- ---- flushing (section 14.1)
+
+-- a copy that is younger than MaxAge gets that age, and is flooded
+abbrev pub flush_copy : ℕ → Key → Option DatabaseCopy → Outcome → Outcome
+flush_copy moment key None o = o
+flush_copy moment key (Some c) o =
+    if is_aged_out moment c then o else flood_from_nobody moment (lsa_aged 3600 c.lsa) (on_database (age_out moment key) o)
+
+abbrev pub flush : ℕ → Key → Progress → Progress
+flush moment key p = on_area (flush_copy moment key (finite.get p.router.area.database key)) p
+
+-- ---- when a new instance may go out
+
+-- MinLSInterval, 5 seconds, has passed since the last own instance of this key
+abbrev pub interval_is_over : ℕ → Option ℕ → Bool
+interval_is_over moment None = true
+interval_is_over moment (Some last) = has_passed last 5 moment
+
+abbrev pub may_originate : ℕ → Key → Router → Bool
+may_originate moment key r = interval_is_over moment (finite.get r.originated key)
+
+abbrev pub is_own_external : ℕ → Key → Bool
+is_own_external id key = key.ls_type == 5 && key.advertising_router == id
+
+abbrev pub own_externals : ℕ → Database → ℕ
+own_externals id db = length (filter (is_own_external id) (finite.keys db))
+
+-- an LSA of this key passes no limit: it takes the place of its copy, or there are fewer than 16,384 LSAs, and, if it is an external one,
+-- fewer than 4,096 own externals; copies still to be removed count
+abbrev pub has_room : Key → Router → Bool
+has_room key r =
+    finite.contains_key r.area.database key
+    || (nat_lt (finite.len r.area.database) 16384 && (not (is_own_external r.id key) || nat_lt (own_externals r.id r.area.database) 4096))
+
+abbrev pub wait : Key → Router → Router
+wait key r = record r { waiting = set.insert r.waiting key }
+
+-- at once, if `may_now` and the five seconds allow it, else at a Tick; after MaxSequenceNumber the copy is flushed first, and the LSA is
+-- originated when it has left the database
+abbrev pub originate_body : Bool → ℕ → Key → Option Body → Progress → Progress
+originate_body may_now moment key None p = p
+originate_body may_now moment key (Some says) p =
+    if has_max_sequence (finite.get p.router.area.database key) then flush moment key p
+    else if may_now && may_originate moment key p.router then originate moment key says p
+    else on_router (wait key) p
+
+-- where there is room for it
+abbrev pub originate_or_wait : ℕ → Key → Progress → Progress
+originate_or_wait moment key p = originate_body (has_room key p.router) moment key (wanted_body p.router key) p
+
+-- whether there is room or not, which a Redistribute asks afterwards
+abbrev pub originate_anyway : ℕ → Key → Progress → Progress
+originate_anyway moment key p = originate_body true moment key (wanted_body p.router key) p
+
+-- ---- at a Tick
+
+-- the LSA has left the database, or its copy is of LSRefreshTime, 1800 seconds, or more
+abbrev pub is_stale : ℕ → Option DatabaseCopy → Bool
+is_stale moment None = true
+is_stale moment (Some c) = nat_le 1800 (age_now moment c)
+
+abbrev pub is_due : ℕ → Router → Key → Bool
+is_due moment r key = set.contains r.waiting key || is_stale moment (finite.get r.area.database key)
+
+abbrev pub due_keys : ℕ → Router → List Key
+due_keys moment r = filter (is_due moment r) (wanted_keys r)
+
+abbrev pub originate_due : ℕ → List Key → Progress → Progress
+originate_due moment keys p = fold (λ (q : Progress) (key : Key). originate_or_wait moment key q) p keys
+
+-- own originations whose five seconds are over are forgotten
+abbrev pub is_recent : ℕ → Option ℕ → Bool
+is_recent moment at = not (interval_is_over moment at)
+
+abbrev pub forget_originations : ℕ → Router → Router
+forget_originations moment r =
+    record r { originated = finite.retain_keys r.originated (λ key. is_recent moment (finite.get r.originated key)) }
+
+-- ---- received ones (section 13.4)
+
+abbrev pub is_wanted : Option Body → Bool
+is_wanted None = false
+is_wanted (Some says) = true
+
+abbrev pub settle_wanted : Bool → ℕ → Key → Progress → Progress
+settle_wanted true moment key p = originate_or_wait moment key p
+settle_wanted false moment key p = flush moment key p
+
+-- a self-originated LSA that was installed: one that is wanted is originated again, one past its number; any other is flushed
+abbrev pub settle_own : ℕ → Lsa → Progress → Progress
+settle_own moment lsa p =
+    if lsa.header.advertising_router == p.router.id then settle_wanted (is_wanted (wanted_body p.router (lsa_key lsa))) moment (lsa_key lsa) p else p

@@ -1,0 +1,135 @@
+-- What a received packet makes of the router (RFC 2328, sections 8.2, 10.5 to 10.7, 13 and 13.7).
+use Rattle.std.specs.Prelude.{ℕ, ◌==◌, Bool, true, false, ◌&&◌, ◌||◌, if◌then◌else◌, List, [], ◌∷◌, map, Option, None, Some}
+use Rattle.std.specs.List.{filter_map, list_all}
+use Rattle.std.specs.FinMap as finite
+use Rattle.words.specs.declared.key.Key.{Key}
+use Rattle.lsa.specs.Reading.{lsa_in}
+use Rattle.lsdb.specs.Copies.{Database}
+use Rattle.lsdb.specs.Headers.{Header, Lsa}
+use Rattle.packet.specs.declared.model.Body.{Body}
+use Rattle.packet.specs.declared.model.Body.TheVariants as body
+use Rattle.packet.specs.declared.model.Description.{Description}
+use Rattle.packet.specs.declared.model.Hello.{Hello}
+use Rattle.packet.specs.declared.model.Packet.{Packet}
+use Rattle.adjacency.specs.Adjacencies as adjacencies
+use Rattle.adjacency.specs.Contents.{Content, Step, quiet}
+use Rattle.adjacency.specs.Descriptions.{after_description}
+use Rattle.adjacency.specs.Neighbors.{Neighbor, takes_part}
+use Rattle.adjacency.specs.Retransmissions.{after_acknowledgment, lsa_of}
+use Rattle.received.specs.Cases.{Case}
+use Rattle.received.specs.Links.{Link, change_link, link_at, neighbor_at}
+use Rattle.received.specs.Outcomes.{Outcome, numbered, on_links, one_neighbor, sending}
+use Rattle.received.specs.Updates.{after_case, case_at, goes_on}
+pub use Rattle.events.specs.Hellos.{accepts, agrees, is_foreign, may_be, names}
+use Rattle.events.specs.Originations.{settle_own}
+use Rattle.events.specs.Progress.{Progress, on_area}
+
+-- what a Hello that names this router makes of its sender, once it was heard
+abbrev pub TwoWay : Type 0
+TwoWay = ℕ → Neighbor → Step
+
+-- ---- Hellos (section 10.5)
+
+abbrev pub with_neighbor : Neighbor → Link → Link
+with_neighbor n link = record link { neighbor = Some n }
+
+abbrev pub hear : ℕ → ℕ → Step → Outcome → Outcome
+hear moment number s o = sending moment (numbered number s.sends) (on_links (change_link number (with_neighbor s.neighbor)) o)
+
+abbrev pub heard_on : TwoWay → ℕ → ℕ → ℕ → ℕ → Hello → Option Link → Outcome → Outcome
+heard_on two_way own moment number from h None o = o
+heard_on two_way own moment number from h (Some link) o =
+    if accepts own from h link then hear moment number (adjacencies.after_hello two_way moment from (names own h) link.neighbor) o else o
+
+abbrev pub after_hello : TwoWay → ℕ → ℕ → ℕ → ℕ → Hello → Outcome → Outcome
+after_hello two_way own moment number from h o = heard_on two_way own moment number from h (link_at number o.area.links) o
+
+-- ---- Requests (section 10.7)
+
+abbrev pub is_there : Database → Key → Bool
+is_there db key = finite.contains_key db key
+
+abbrev pub requested_lsas : ℕ → Database → List Key → List Lsa
+requested_lsas moment db keys = filter_map (λ (key : Key). lsa_of moment (finite.get db key)) keys
+
+-- the LSAs are sent and go on no list; where one is missing, none is
+abbrev pub requested_from : ℕ → ℕ → List Key → Outcome → Outcome
+requested_from moment number keys o =
+    if list_all (is_there o.area.database) keys
+    then sending moment (numbered number (map Content.Updates (requested_lsas moment o.area.database keys))) o
+    else one_neighbor moment number (adjacencies.mismatched moment) o
+
+-- ---- Updates (section 13)
+
+-- a self-originated LSA that was installed is settled
+abbrev pub settle : Case → ℕ → Lsa → Progress → Progress
+settle Case.Unreadable moment lsa p = p
+settle Case.NothingToFlush moment lsa p = p
+settle Case.TooSoon moment lsa p = p
+settle Case.Newer moment lsa p = settle_own moment lsa p
+settle Case.BadRequest moment lsa p = p
+settle Case.ImpliedAcknowledgment moment lsa p = p
+settle Case.Duplicate moment lsa p = p
+settle Case.SequenceWraps moment lsa p = p
+settle Case.SentJustNow moment lsa p = p
+settle Case.Older moment lsa p = p
+
+abbrev pub after_lsa : Case → ℕ → ℕ → Lsa → Progress → Progress
+after_lsa case moment number lsa p = settle case moment lsa (on_area (after_case case moment number lsa) p)
+
+-- the case of the LSA that the bytes are: they are an LSA's text, or none's
+abbrev pub case_in : ℕ → ℕ → Option Lsa → Progress → Case
+case_in moment number None p = Case.Unreadable
+case_in moment number (Some lsa) p = case_at moment number lsa p.router.area
+
+abbrev pub after_unread : ℕ → ℕ → Option Lsa → Progress → Progress
+after_unread moment number None p = p
+after_unread moment number (Some lsa) p = after_lsa (case_at moment number lsa p.router.area) moment number lsa p
+
+-- the LSAs of an Update in order, up to a bad request
+abbrev pub after_lsas : ℕ → ℕ → List (List ℕ) → Progress → Progress
+after_lsas moment number [] p = p
+after_lsas moment number (bytes ∷ rest) p =
+    let q : Progress = after_unread moment number (lsa_in bytes) p in
+    if goes_on (case_in moment number (lsa_in bytes) p) then after_lsas moment number rest q else q
+
+-- ---- the whole
+
+-- the interface's neighbor is this router
+abbrev pub is_from : ℕ → Option Neighbor → Bool
+is_from from None = false
+is_from from (Some n) = n.router == from
+
+abbrev pub is_in_exchange : Option Neighbor → Bool
+is_in_exchange None = false
+is_in_exchange (Some n) = takes_part n.state
+
+abbrev pub describe_to : TwoWay → ℕ → ℕ → ℕ → Description → Outcome → Outcome
+describe_to two_way own moment number d o = one_neighbor moment number (after_description two_way own moment o.area.database d) o
+
+abbrev pub acknowledged_by : ℕ → ℕ → List Header → Outcome → Outcome
+acknowledged_by moment number headers o = one_neighbor moment number (λ n. quiet (after_acknowledgment moment headers n)) o
+
+-- from the interface's neighbor; Requests, Updates and Acknowledgments count from Exchange on
+abbrev pub from_neighbor : TwoWay → ℕ → ℕ → ℕ → Bool → Body → Progress → Progress
+from_neighbor two_way moment number from in_exchange (body.Hello h) p = on_area (after_hello two_way p.router.id moment number from h) p
+from_neighbor two_way moment number from in_exchange (body.Description d) p = on_area (describe_to two_way p.router.id moment number d) p
+from_neighbor two_way moment number from in_exchange (body.Request keys) p = if in_exchange then on_area (requested_from moment number keys) p else p
+from_neighbor two_way moment number from in_exchange (body.Update lsas) p = if in_exchange then after_lsas moment number lsas p else p
+from_neighbor two_way moment number from in_exchange (body.Acknowledgment headers) p = if in_exchange then on_area (acknowledged_by moment number headers) p else p
+
+abbrev pub is_hello : Body → Bool
+is_hello (body.Hello h) = true
+is_hello (body.Description d) = false
+is_hello (body.Request keys) = false
+is_hello (body.Update lsas) = false
+is_hello (body.Acknowledgment headers) = false
+
+-- a packet of no router or of this one is discarded, and one other than a Hello that isn't from the interface's neighbor
+abbrev pub is_heard : ℕ → Packet → Option Neighbor → Bool
+is_heard own packet n = is_foreign own packet.router && (is_hello packet.body || is_from packet.router n)
+
+abbrev pub after_packet : TwoWay → ℕ → ℕ → Packet → Progress → Progress
+after_packet two_way moment number packet p =
+    let n : Option Neighbor = neighbor_at number p.router.area.links in
+    if is_heard p.router.id packet n then from_neighbor two_way moment number packet.router (is_in_exchange n) packet.body p else p

@@ -1,0 +1,123 @@
+-- What is sent as packets: in their order, packed, and as canonical texts (RFC 2328, sections 13.3, 13.5 and appendix A.3).
+use Rattle.std.specs.Prelude.{ℕ, ◌+◌, Bool, nat_le, ◌==◌, min, if◌then◌else◌, List, [], ◌∷◌, ◌++◌, map, Option, None, Some}
+use Rattle.std.specs.List.{enumerate_from, filter_map, flat_map}
+use Rattle.std.specs.Ordering.{is_gt}
+use Rattle.words.specs.declared.key.Key.{Key}
+use Rattle.lsa.specs.Text.{text}
+use Rattle.lsdb.specs.Headers.{Header, Lsa, key_of, lsa_aged, lsa_key}
+use Rattle.lsdb.specs.Keys.{key_cmp}
+use Rattle.packet.specs.declared.model.Body.{Body}
+use Rattle.packet.specs.declared.model.Body.TheVariants as body
+use Rattle.packet.specs.declared.model.Packet.{Packet}
+use Rattle.packet.specs.Text.{canonical}
+use Rattle.adjacency.specs.Contents.{Content}
+use Rattle.received.specs.Links.{Link}
+use Rattle.received.specs.Outcomes.{Send}
+use Rattle.events.specs.declared.model.Out.{Out}
+
+-- ---- in the order of the keys; of equal ones the one that arose first goes first
+
+abbrev pub is_after : Key → Key → Bool
+is_after a b = is_gt (key_cmp a b)
+
+abbrev pub put : {X : Type 0} → (X → Key) → X → List X → List X
+put key x [] = x ∷ []
+put key x (y ∷ ys) = if is_after (key x) (key y) then y ∷ put key x ys else x ∷ (y ∷ ys)
+
+abbrev pub in_key_order : {X : Type 0} → (X → Key) → List X → List X
+in_key_order key [] = []
+in_key_order key (x ∷ xs) = put key x (in_key_order key xs)
+
+-- ---- as many as fit into a packet
+
+-- `taken` goes into the packet that is being filled, which has `used` bytes by now; each begins with `start` bytes
+abbrev pub fill_on : {X : Type 0} → (X → ℕ) → ℕ → ℕ → List X → List X → List (List X)
+fill_on size start used taken [] = taken ∷ []
+fill_on size start used taken (x ∷ xs) =
+    if nat_le (used + size x) 8192 then fill_on size start (used + size x) (taken ++ (x ∷ [])) xs
+    else taken ∷ fill_on size start (start + size x) (x ∷ []) xs
+
+abbrev pub packed : {X : Type 0} → (X → ℕ) → ℕ → List X → List (List X)
+packed size start [] = []
+packed size start (x ∷ xs) = fill_on size start (start + size x) (x ∷ []) xs
+
+-- ---- the packets of one interface, by their types
+
+abbrev pub hellos : Content → Option Body
+hellos (Content.Greets h) = Some (body.Hello h)
+hellos (Content.Describes d) = None
+hellos (Content.Requests keys) = None
+hellos (Content.Updates lsa) = None
+hellos (Content.Acknowledges h) = None
+
+abbrev pub descriptions : Content → Option Body
+descriptions (Content.Greets h) = None
+descriptions (Content.Describes d) = Some (body.Description d)
+descriptions (Content.Requests keys) = None
+descriptions (Content.Updates lsa) = None
+descriptions (Content.Acknowledges h) = None
+
+abbrev pub requests : Content → Option (List Key)
+requests (Content.Greets h) = None
+requests (Content.Describes d) = None
+requests (Content.Requests keys) = Some keys
+requests (Content.Updates lsa) = None
+requests (Content.Acknowledges h) = None
+
+abbrev pub updates : Content → Option Lsa
+updates (Content.Greets h) = None
+updates (Content.Describes d) = None
+updates (Content.Requests keys) = None
+updates (Content.Updates lsa) = Some lsa
+updates (Content.Acknowledges h) = None
+
+abbrev pub acknowledgments : Content → Option Header
+acknowledgments (Content.Greets h) = None
+acknowledgments (Content.Describes d) = None
+acknowledgments (Content.Requests keys) = None
+acknowledgments (Content.Updates lsa) = None
+acknowledgments (Content.Acknowledges h) = Some h
+
+-- a Request stands where its first key does
+abbrev pub first_key : List Key → Key
+first_key [] = record { ls_type = 0; link_state_id = 0; advertising_router = 0 }
+first_key (key ∷ keys) = key
+
+-- the age of a sent LSA grows by InfTransDelay, at most to MaxAge
+abbrev pub sent_lsa : ℕ → Lsa → Lsa
+sent_lsa delay lsa = lsa_aged (min 3600 (lsa.header.age + delay)) lsa
+
+abbrev pub lsa_size : Lsa → ℕ
+lsa_size lsa = lsa.header.length
+
+abbrev pub header_size : Header → ℕ
+header_size h = 20
+
+-- an Update has 28 bytes before its first LSA, an Acknowledgment 24 before its first header
+abbrev pub update_of : ℕ → List Lsa → Body
+update_of delay lsas = body.Update (map (λ (l : Lsa). text (sent_lsa delay l)) lsas)
+
+abbrev pub bodies : ℕ → List Content → List Body
+bodies delay contents =
+    filter_map hellos contents
+    ++ filter_map descriptions contents
+    ++ map body.Request (in_key_order first_key (filter_map requests contents))
+    ++ map (update_of delay) (packed lsa_size 28 (in_key_order lsa_key (filter_map updates contents)))
+    ++ map body.Acknowledgment (packed header_size 24 (in_key_order key_of (filter_map acknowledgments contents)))
+
+-- ---- all interfaces in order
+
+abbrev pub at_interface : ℕ → Send → Option Content
+at_interface number s = if s.number == number then Some s.content else None
+
+abbrev pub packet_of : ℕ → Body → Packet
+packet_of own says = record { router = own; body = says }
+
+abbrev pub out_of : ℕ → ℕ → Body → Out
+out_of own number says = record { interface = number; bytes = canonical (packet_of own says) }
+
+abbrev pub outs_at : ℕ → List Send → ℕ → Link → List Out
+outs_at own sends number link = map (out_of own number) (bodies link.interface.delay (filter_map (at_interface number) sends))
+
+abbrev pub outs_of : ℕ → List Link → List Send → List Out
+outs_of own links sends = flat_map (λ (e : ℕ × Link). outs_at own sends e.0 e.1) (enumerate_from 1 links)

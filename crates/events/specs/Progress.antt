@@ -1,0 +1,23 @@
+-- An event in the making: the router as it is by now, and what was sent, in the order in which it arose.
+use Rattle.std.specs.Prelude.{ℕ, List, None}
+use Rattle.lsdb.specs.Headers.{Lsa}
+use Rattle.received.specs.Flooding.{flood}
+use Rattle.received.specs.Outcomes.{Outcome, Send}
+use Rattle.events.specs.Routers.{Router}
+
+pub record Progress : Type 0 where
+  pub router : Router
+  pub sends : List Send
+
+abbrev pub on_router : (Router → Router) → Progress → Progress
+on_router f p = record p { router = f p.router }
+
+-- a change of the links and the database, and what it sends
+abbrev pub on_area : (Outcome → Outcome) → Progress → Progress
+on_area f p =
+    let o : Outcome = f (record { area = p.router.area; sends = p.sends }) in
+    record { router = record p.router { area = o.area }; sends = o.sends }
+
+-- flooded to every neighbor, as if from nobody
+abbrev pub flood_from_nobody : ℕ → Lsa → Outcome → Outcome
+flood_from_nobody moment lsa o = flood moment None lsa o

@@ -1,0 +1,92 @@
+-- What a router keeps, what may happen to it, and how it begins.
+use Rattle.std.specs.Prelude.{◌^◌, ℕ, Bool, true, not, ◌&&◌, ◌==◌, nat_le, nat_lt, List, [], ◌∷◌, length, map, Option, None, Some}
+use Rattle.std.specs.List.{list_all, list_any}
+use Rattle.std.specs.FinMap as finite
+use Rattle.std.specs.FinSet as set
+use Rattle.words.specs.Prefixes.{Network}
+use Rattle.words.specs.declared.route.External.{External}
+use Rattle.words.specs.declared.route.Route.{Route}
+use Rattle.lsdb.specs.Keys.{ByKey, KeySet}
+use Rattle.adjacency.specs.declared.interface.Interface.{Interface}
+use Rattle.adjacency.specs.declared.state.State.{State}
+use Rattle.adjacency.specs.Neighbors.{Neighbor}
+use Rattle.received.specs.Links.{Area, Link, neighbor_at}
+use Rattle.events.specs.declared.model.Config.{Config}
+
+pub record Router : Type 0 where
+  -- the own Router ID
+  pub id : ℕ
+  -- the links, interface n at place n - 1, and the database
+  pub area : Area
+  -- the external destinations that are announced, by the keys of their LSAs, with the metric and the tag that were answered
+  pub announced : ByKey External
+  -- the own LSAs that wait for a Tick
+  pub waiting : KeySet
+  -- when an own LSA was last originated, for five seconds
+  pub originated : ByKey ℕ
+  -- the routes that the last Install was asked for, with the words that answer
+  pub answers : List (Route × ℕ)
+  -- the moment of the last event
+  pub moment : ℕ
+
+-- ---- what may happen
+
+pub data Occurrence : Type 0 where
+  -- these bytes came in at the interface of this number
+  Packet : (interface : ℕ) (bytes : List ℕ) → Occurrence
+  Tick : Occurrence
+  -- a destination is to be announced: a word on its tag and one on its metric, each with the destination that it answers for
+  Redistribute : (tagged : External) (tag : ℕ) (priced : External) (price : ℕ) → Occurrence
+  Withdraw : (prefix : Network) → Occurrence
+  -- the routes that were offered, each with the word that answers for it
+  Install : (answers : List (Route × ℕ)) → Occurrence
+  LinkDown : (interface : ℕ) → Occurrence
+
+-- ---- which configurations a router takes
+
+abbrev pub is_lawful : Interface → Bool
+is_lawful i =
+    nat_le i.length 32 && nat_le 1 i.cost && nat_le 1 i.hello_interval && nat_le 1 i.dead_interval && nat_le 1 i.retransmit_interval
+    && nat_le 1 i.delay && nat_le i.delay 3600
+
+-- no two have one address
+abbrev pub are_distinct : List Interface → Bool
+are_distinct [] = true
+are_distinct (i ∷ others) = not (list_any (λ j. j.address == i.address) others) && are_distinct others
+
+abbrev pub in_profile : Config → Bool
+in_profile c =
+    not (c.router == 0) && nat_lt c.start (2 ^ 62) && nat_le 1 (length c.interfaces) && nat_le (length c.interfaces) 63
+    && list_all is_lawful c.interfaces && are_distinct c.interfaces
+
+-- ---- the start
+
+-- a link on which nothing was heard or sent
+abbrev pub silent : Interface → Link
+silent i = record { interface = i; neighbor = None; acknowledgments = finite.empty; greeted = None }
+
+-- a router that keeps nothing but its links
+abbrev pub with_links : ℕ → List Link → ℕ → Router
+with_links id links moment = record {
+  id = id;
+  area = record { links = links; database = finite.empty };
+  announced = finite.empty;
+  waiting = set.empty;
+  originated = finite.empty;
+  answers = [];
+  moment = moment;
+}
+
+-- before it has originated anything; the start counts as the moment of a last event
+abbrev pub unannounced : Config → Router
+unannounced c = with_links c.router (map silent c.interfaces) c.start
+
+-- ---- what is shown
+
+abbrev pub shown : Option Neighbor → Option (ℕ × State)
+shown None = None
+shown (Some n) = Some (n.router, n.state)
+
+-- the Router ID and the state of the neighbor at the interface of this number, unless it is Down or there is no such interface
+abbrev pub shown_at : Router → ℕ → Option (ℕ × State)
+shown_at r number = shown (neighbor_at number r.area.links)

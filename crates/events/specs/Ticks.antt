@@ -1,0 +1,68 @@
+-- What a Tick does, in its order (RFC 2328, sections 9.5, 10.3, 12.4, 13.5 and 13.6).
+use Rattle.std.specs.Prelude.{ℕ, if◌then◌else◌, List, [], ◌∷◌, map, Option, None, Some}
+use Rattle.std.specs.List.{enumerate_from, flat_map}
+use Rattle.std.specs.FinMap as finite
+use Rattle.words.specs.declared.key.Key.{Key}
+use Rattle.adjacency.specs.Adjacencies.{still_heard}
+use Rattle.adjacency.specs.Contents.{Content}
+use Rattle.adjacency.specs.Descriptions.{without_old_description}
+use Rattle.adjacency.specs.Neighbors.{Neighbor}
+use Rattle.adjacency.specs.Retransmissions.{send_again}
+use Rattle.received.specs.Links.{Link}
+use Rattle.received.specs.Outcomes.{Outcome, Send, Stepping, each_neighbor, numbered, on_links, sending}
+pub use Rattle.events.specs.Hellos.{greeted, greets, hello_on, is_due}
+use Rattle.events.specs.Originations.{forget_originations, originate_due}
+use Rattle.events.specs.Progress.{Progress, on_area, on_router}
+use Rattle.events.specs.Routers.{Router}
+
+-- ---- times that run out
+
+abbrev pub settled_exchange : ℕ → ℕ → Option Neighbor → Option Neighbor
+settled_exchange moment dead None = None
+settled_exchange moment dead (Some n) = Some (without_old_description moment dead n)
+
+-- an inactive neighbor is Down; a slave gives up its last Description
+abbrev pub run_out : ℕ → Link → Link
+run_out moment link = record link {
+  neighbor = settled_exchange moment link.interface.dead_interval (still_heard moment link.interface.dead_interval link.neighbor);
+}
+
+-- ---- what is sent again
+
+abbrev pub again : ℕ → Outcome → Stepping
+again moment o number link n = send_again moment link.interface.retransmit_interval o.area.database n
+
+abbrev pub send_all_again : ℕ → Outcome → Outcome
+send_all_again moment o = each_neighbor moment (again moment o) o
+
+-- ---- delayed acknowledgments
+
+abbrev pub acknowledgments_on : Link → List Content
+acknowledgments_on link = map Content.Acknowledges (finite.values link.acknowledgments)
+
+abbrev pub without_acknowledgments : Link → Link
+without_acknowledgments link = record link { acknowledgments = finite.empty }
+
+-- what each link sends by itself
+abbrev pub sends_of : (Link → List Content) → List Link → List Send
+sends_of f links = flat_map (λ (e : ℕ × Link). numbered e.0 (f e.1)) (enumerate_from 1 links)
+
+abbrev pub acknowledge_all : ℕ → Outcome → Outcome
+acknowledge_all moment o = sending moment (sends_of acknowledgments_on o.area.links) (on_links (map without_acknowledgments) o)
+
+-- ---- Hellos
+
+abbrev pub greeting_on : ℕ → Link → List Content
+greeting_on moment link = if greets moment link then Content.Greets (hello_on link) ∷ [] else []
+
+abbrev pub greet_all : ℕ → Outcome → Outcome
+greet_all moment o = sending moment (sends_of (greeting_on moment) o.area.links) (on_links (map (greeted moment)) o)
+
+-- ---- the whole
+
+-- `due` are the own LSAs that a Tick originates
+abbrev pub after_tick : (ℕ → Router → List Key) → ℕ → Progress → Progress
+after_tick due moment p =
+    let quiet : Progress = on_router (forget_originations moment) (on_area (on_links (map (run_out moment))) p) in
+    let renewed : Progress = originate_due moment (due moment quiet.router) quiet in
+    on_area (λ o. greet_all moment (acknowledge_all moment (send_all_again moment o))) renewed

@@ -1,0 +1,12 @@
+//! Laws of events, each carried by a function with an empty body.
+ghost use Rattle.events.specs.Laws.{AnswersLeaveTheArea, EventsAreDetermined};
+
+/// An event has one outcome: what it makes of a router, and what the router sends, leave nothing to choose.
+pub fn events_are_determined()
+    ensures { EventsAreDetermined }
+{}
+
+/// The answers of the programs, a veto among them, change neither the database nor a link by themselves, and send nothing.
+pub fn answers_leave_the_area()
+    ensures { AnswersLeaveTheArea }
+{}

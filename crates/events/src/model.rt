@@ -1,0 +1,178 @@
+//! What a router is told, and what it answers.
+ghost use Rattle.std.specs.Prelude.{◌≡◌, IfOk};
+ghost use Rattle.events.specs.Numbers.{config_error_number, core_error_number, core_error_of};
+
+use adjacency::Interface;
+use packet::{Fault, ReadError};
+use std::alloc::{AllocError, AllocFailed};
+use thiserror::Error;
+use words::{RouterId, Second, Sequence};
+
+/// How a router begins (RFC 2328, appendix C).
+///
+/// A router runs with it where the Router ID isn't 0.0.0.0, the start is below 2^62 seconds, there are 1 to 63 interfaces, no two have one
+/// address, and each interface's numbers are in the ranges that [`Interface`] names.
+#[derive(Debug, Drop)]
+pub struct Config {
+    /// The own Router ID.
+    pub router: RouterId,
+    /// The moment of the start, from which on events may come.
+    pub start: Second,
+    /// Interface n at place n - 1.
+    pub interfaces: Sequence<Interface>,
+}
+
+impl Config {
+    /// The same configuration once more. The only error is that an allocation was refused.
+    pub fn copy(&self) -> Result<Config, AllocError>
+        ensures { IfOk result (λ copy. copy ≡ self.now) }
+    {
+        let interfaces = self.interfaces.copy()?;
+        Ok(Config {
+            router: self.router,
+            start: self.start,
+            interfaces,
+        })
+    }
+}
+
+/// What happens to a router at a moment.
+#[derive(Debug, Drop)]
+pub enum Event {
+    /// These bytes came in at the interface of this number.
+    Packet(u16, Sequence<u8>),
+    /// Time has passed: what is due is done. Each time of the router's runs out at a Tick alone.
+    Tick,
+}
+
+impl Event {
+    /// The same event once more. The only error is that an allocation was refused.
+    pub fn copy(&self) -> Result<Event, AllocError>
+        ensures { IfOk result (λ copy. copy ≡ self.now) }
+    {
+        match self {
+            Event::Packet(interface, bytes) => Ok(Event::Packet(*interface, bytes.copy()?)),
+            Event::Tick => Ok(Event::Tick),
+        }
+    }
+}
+
+/// The text of a packet that is to be sent at the interface of this number.
+#[derive(Debug, Drop)]
+pub struct Out {
+    pub interface: u16,
+    pub bytes: Sequence<u8>,
+}
+
+/// Why `Core::new` made no router.
+#[derive(Clone, Copy, Debug, PartialEq, Eq, Error)]
+pub enum ConfigError {
+    /// The configuration is outside of what [`Config`] allows: its Router ID, its interfaces or its start.
+    #[error("the configuration is not in the profile")]
+    Interface,
+    /// An allocation was refused; nothing is wrong with the configuration.
+    #[error("out of memory")]
+    Memory,
+}
+
+impl ConfigError {
+    /// The number of the refusal: 1 for `Interface`, 2 for `Memory`.
+    pub fn number(self) -> u8
+        ensures { result ≡ config_error_number self }
+    {
+        match self {
+            ConfigError::Interface => 1,
+            ConfigError::Memory => 2,
+        }
+    }
+}
+
+impl From<AllocError> for ConfigError {
+    ghost use Rattle.events.specs.declared.model.ConfigError.TheVariants.{Memory};
+
+    ghost from_gives = { λ _ e. e ≡ Memory };
+
+    fn from(_e: AllocError) -> ConfigError {
+        ConfigError::Memory
+    }
+}
+
+impl<T: Drop> From<AllocFailed<T>> for ConfigError {
+    ghost use Rattle.events.specs.declared.model.ConfigError.TheVariants.{Memory};
+
+    ghost from_gives = { λ _ e. e ≡ Memory };
+
+    fn from(_e: AllocFailed<T>) -> ConfigError {
+        ConfigError::Memory
+    }
+}
+
+/// Why `Core::step` refused an event, which then changed nothing.
+#[derive(Clone, Copy, Debug, PartialEq, Eq, Error)]
+pub enum CoreError {
+    /// The bytes are no packet's text; this is what is wrong with them.
+    #[error("{0}")]
+    BadPacket(Fault),
+    /// There is no interface of this number.
+    #[error("there is no such interface")]
+    NoInterface,
+    /// The Link State ID is that of another announced prefix, or two answers are on different destinations. No event of today's is refused so.
+    #[error("the destination clashes with another one")]
+    Clash,
+    /// The moment is earlier than that of the last event, or 2^62 or more.
+    #[error("the clock went back")]
+    ClockBack,
+    /// The database would hold more than it may. No event of today's is refused so.
+    #[error("the database is full")]
+    Full,
+    /// An allocation was refused; nothing is wrong with the event.
+    #[error("out of memory")]
+    Memory,
+}
+
+impl CoreError {
+    /// The number of the refusal: 1 for `BadPacket`, 2 for `NoInterface`, 3 for `Clash`, 4 for `ClockBack`, 5 for `Full`, 6 for `Memory`.
+    pub fn number(self) -> u8
+        ensures { result ≡ core_error_number self }
+    {
+        match self {
+            CoreError::BadPacket(_) => 1,
+            CoreError::NoInterface => 2,
+            CoreError::Clash => 3,
+            CoreError::ClockBack => 4,
+            CoreError::Full => 5,
+            CoreError::Memory => 6,
+        }
+    }
+}
+
+impl From<AllocError> for CoreError {
+    ghost use Rattle.events.specs.declared.model.CoreError.TheVariants.{Memory};
+
+    ghost from_gives = { λ _ e. e ≡ Memory };
+
+    fn from(_e: AllocError) -> CoreError {
+        CoreError::Memory
+    }
+}
+
+impl<T: Drop> From<AllocFailed<T>> for CoreError {
+    ghost use Rattle.events.specs.declared.model.CoreError.TheVariants.{Memory};
+
+    ghost from_gives = { λ _ e. e ≡ Memory };
+
+    fn from(_e: AllocFailed<T>) -> CoreError {
+        CoreError::Memory
+    }
+}
+
+impl From<ReadError> for CoreError {
+    ghost from_gives = { λ r e. e ≡ core_error_of r };
+
+    fn from(e: ReadError) -> CoreError {
+        match e {
+            ReadError::Fault(fault) => CoreError::BadPacket(fault),
+            ReadError::Memory => CoreError::Memory,
+        }
+    }
+}

@@ -1,5 +1,0 @@
-use Rattle.flood.proofs.WorkedAnswers.{answers_change_no_database}
-use Rattle.flood.proofs.laws.answers_change_no_database.Goals as goal
-
-pub returns : goal.returns
-returns c = answers_change_no_database
