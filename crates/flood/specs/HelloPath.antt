@@ -16,7 +16,7 @@ use Rattle.events.specs.declared.model.Event.{Event}
 use Rattle.events.specs.declared.model.Event.TheVariants as event
 use Rattle.events.specs.declared.model.Out.{Out}
 pub use Rattle.events.specs.Hellos.{accepts, agrees, greeted, greets, heard_of, hello_on, hello_packet, is_due, is_foreign, may_be}
-use Rattle.events.specs.Refusals.{bad_packet, is_clock_back, is_interface}
+pub use Rattle.events.specs.Refusals.{bad_packet, is_clock_back, is_interface}
 use Rattle.events.specs.Routers.{Occurrence, Router}
 
 -- ---- received packets
