@@ -5,8 +5,8 @@ ghost use Rattle.events.specs.Routers.{are_distinct, in_profile, is_lawful};
 ghost use Rattle.flood.specs.Seen.{fresh};
 
 use crate::link::Link;
-use events::Config;
 use adjacency::Interface;
+use events::Config;
 use std::alloc::{AllocError, Global};
 use words::Address;
 

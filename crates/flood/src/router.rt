@@ -5,9 +5,9 @@ ghost use Rattle.flood.specs.Seen.{as_neighbor};
 
 use crate::hello::{after_packet, greetings, tick_all};
 use crate::link::{Link, Neighbor};
-use events::{Config, ConfigError, CoreError, Event, Out};
 use crate::profile::{in_profile, links_of};
 use adjacency::{Interface, State};
+use events::{Config, ConfigError, CoreError, Event, Out};
 use packet::read;
 use std::alloc::{AllocError, Global};
 use std::marker::Model;
