@@ -1,0 +1,16 @@
+use Rattle.std.proofs.Common.{◌≡◌}
+use Rattle.std.specs.Prelude.{vec_len}
+use Rattle.std.specs.FinMap as map
+use Rattle.keyed_map.specs.Slots.{AllFit, live, slots_of, undone}
+use Rattle.keyed_map.proofs.map.KeyedMap.roll_back.Given as goal
+
+-- what is left of the journal leads back to the map before it
+abbrev pub invariant-loop-edit : goal.invariant-loop-edit
+invariant-loop-edit g l = record {
+  fit : AllFit l.self-inside.edits.items (slots_of l.self-inside.slots.entries);
+  settled : live (undone l.self-inside.edits.items (slots_of l.self-inside.slots.entries)) ≡ l.fn.self.settled;
+  len : l.self-inside.settled_len ≡ map.len l.fn.self.settled;
+}
+
+abbrev pub decreases-loop-edit : goal.decreases-loop-edit
+decreases-loop-edit g l = vec_len l.self-inside.edits

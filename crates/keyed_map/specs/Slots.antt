@@ -1,0 +1,70 @@
+-- A map of slots, of which some are gone, and edits of it with what takes them back.
+use Rattle.std.specs.Prelude.{◌≡◌, ℕ, ◌+◌, ◌-◌, Bool, true, false, if◌then◌else◌, List, [], ◌∷◌, Option, Some, None, IsSome}
+use Rattle.std.specs.List.{filter}
+use Rattle.std.specs.Ordering.{is_le}
+use Rattle.std.specs.FinMap as map
+use Rattle.words.specs.declared.key.Key.{Key}
+use Rattle.keyed_map.specs.declared.slot.Slot.{Slot}
+use Rattle.keyed_map.specs.declared.slot.Slot.TheVariants.{Gone, Holds}
+use Rattle.keyed_map.specs.declared.slot.Edit.{Edit}
+use Rattle.keyed_map.specs.Keys.{ByKey, key_cmp}
+
+module _ {X : Type 0} where
+  -- the entries that aren't gone
+  abbrev pub kept : List (Key × Slot X) → List (Key × X)
+  kept [] = []
+  kept ((k, Gone) ∷ es) = kept es
+  kept ((k, Holds x) ∷ es) = (k, x) ∷ kept es
+
+  unfoldable pub slots_of : List (Key × Slot X) → ByKey (Slot X)
+  slots_of es = map.from_entries es
+
+  -- the map without what is gone
+  unfoldable pub live : ByKey (Slot X) → ByKey X
+  live m = map.from_entries (kept (map.entries m))
+
+  -- a value, or none, is put at a key
+  abbrev pub put_live : ByKey X → Key → Slot X → ByKey X
+  put_live m k Gone = map.remove m k
+  put_live m k (Holds x) = map.insert m k x
+
+  abbrev pub put_back : Key → Option (Slot X) → ByKey (Slot X) → ByKey (Slot X)
+  put_back k None m = map.remove m k
+  put_back k (Some slot) m = map.insert m k slot
+
+  abbrev pub undo : Edit X → ByKey (Slot X) → ByKey (Slot X)
+  undo e m = put_back e.key e.before m
+
+  -- what is put back has its place
+  abbrev pub HasPlace : Key → Option (Slot X) → ByKey (Slot X) → Type 0
+  HasPlace k None m = Unit {0}
+  HasPlace k (Some slot) m = IsSome (map.get m k)
+
+  abbrev pub Fits : Edit X → ByKey (Slot X) → Type 0
+  Fits e m = HasPlace e.key e.before m
+
+  -- the map before all edits, which were made in this order
+  abbrev pub undone : List (Edit X) → ByKey (Slot X) → ByKey (Slot X)
+  undone [] m = m
+  undone (e ∷ es) m = undo e (undone es m)
+
+  abbrev pub AllFit : List (Edit X) → ByKey (Slot X) → Type 0
+  AllFit [] m = Unit {0}
+  AllFit (e ∷ es) m = Fits e (undone es m) × AllFit es m
+
+  abbrev pub holds : Slot X → Bool
+  holds Gone = false
+  holds (Holds x) = true
+
+  -- the edits can be taken back, and the two numbers are those of the keys now and before the edits
+  abbrev pub IsKept : List (Edit X) → ByKey (Slot X) → ℕ → ℕ → Type 0
+  IsKept es m len settled = AllFit es m × (len ≡ map.len (live m)) × (settled ≡ map.len (live (undone es m)))
+
+-- so many keys, once one that was held or not was set or taken out
+abbrev pub counted : Bool → Bool → ℕ → ℕ
+counted held true n = if held then n else n + 1
+counted held false n = if held then n - 1 else n
+
+-- the keys from this one on
+abbrev pub keys_from : Key → List Key → List Key
+keys_from key ks = filter (λ k. is_le (key_cmp key k)) ks

@@ -1,0 +1,8 @@
+//! Maps by LSA key whose edits since they were last settled can be taken back, without memory and at the cost of the edits.
+#![tactic(auto)]
+
+mod map;
+mod slot;
+
+pub use map::{Copied, KeyedMap};
+pub use slot::{Edit, Slot};

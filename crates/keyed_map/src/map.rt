@@ -1,0 +1,252 @@
+ghost use Rattle.std.specs.Prelude.{◌≡◌, ◌==◌, IfOk, OnOk, OnErr, take, option_copied};
+ghost use Rattle.std.specs.FinMap as map;
+ghost use Rattle.keyed_map.specs.Keys.{key_cmp};
+ghost use Rattle.keyed_map.specs.Slots.{Fits, counted, holds, keys_from, live, put_live, slots_of, undo};
+
+use crate::slot::{Edit, Slot};
+use std::alloc::{AllocError, Global};
+use std::collections::BTreeMap;
+use std::marker::Model;
+use words::Key;
+
+/// A map by LSA key, which remembers what it was when it was last settled.
+#[derive(Drop)]
+pub struct KeyedMap<X> {
+    slots: BTreeMap<Key, Slot<X>>,
+    edits: Vec<Edit<X>>,
+    // how many keys there are, and how many there were when it was last settled
+    len: usize,
+    settled_len: usize,
+}
+
+impl<X> Model for KeyedMap<X> {
+    ghost use Rattle.keyed_map.specs.Held.{Held, coded_held};
+
+    ghost Value = { Held X };
+
+    ghost coded = { coded_held X.code };
+
+    ghost use Rattle.keyed_map.specs.Slots.{IsKept, live, slots_of, undone};
+
+    ghost view = { λ a. record {
+      present = live (slots_of a.slots.entries);
+      settled = live (undone a.edits.items (slots_of a.slots.entries));
+    } };
+
+    ghost invariant = { λ a. IsKept a.edits.items (slots_of a.slots.entries) a.len a.settled_len };
+}
+
+// The key once more: a `Copy` struct with a field that has a model counts as moved where it is used.
+fn same(key: &Key) -> Key
+    ensures { result ≡ key.now }
+{
+    *key
+}
+
+fn holds<X>(slot: &Slot<X>) -> bool
+    ensures { result ≡ holds slot.now }
+{
+    match slot {
+        Slot::Gone => false,
+        Slot::Holds(_) => true,
+    }
+}
+
+// How many keys there are, once a slot was written: there are no more than slots.
+fn count<X>(slots: &BTreeMap<Key, Slot<X>>, len: usize, held: bool, holds: bool) -> usize
+    requires { map.len (live (slots_of slots.now.entries)) ≡ counted held holds len }
+    ensures { result ≡ map.len (live (slots_of slots.now.entries)) }
+{
+    let _slots = slots.len();
+    if holds {
+        return if held { len } else { len + 1 };
+    }
+    if held { len.saturating_sub(1) } else { len }
+}
+
+// Takes one edit back. It needs no memory.
+fn take_back<X: Drop>(slots: &mut BTreeMap<Key, Slot<X>>, edit: Edit<X>)
+    requires { Fits edit (slots_of slots.old.entries) }
+    ensures { slots_of slots.new.entries ≡ undo edit (slots_of slots.old.entries) }
+{
+    let Edit { key, before } = edit;
+    match before {
+        Some(slot) => {
+            let written: Result<_, _> = slots.insert(key, slot);
+            let Ok(_gone) = written else { unreachable!() };
+        }
+        None => {
+            let _gone = slots.remove(&key);
+        }
+    }
+}
+
+// Forgets a key that is gone.
+fn forget<X: Drop>(slots: &mut BTreeMap<Key, Slot<X>>, key: Key)
+    ensures { live (slots_of slots.new.entries) ≡ live (slots_of slots.old.entries) }
+{
+    if let Some(Slot::Gone) = slots.get(&key) {
+        let _gone = slots.remove(&key);
+    }
+}
+
+/// A value that can be copied where there is memory.
+pub trait Copied: Drop + Sized {
+    fn copy(&self) -> Result<Self, AllocError>
+        ensures { IfOk result (λ made. made ≡ self.now) };
+}
+
+impl<X: Copied> KeyedMap<X> {
+    /// The same map, with nothing to be taken back.
+    pub fn copy(&self, alloc: Global) -> Result<Self, AllocError>
+        ensures present { IfOk result (λ made. made.present ≡ self.now.present) }
+        ensures settled { IfOk result (λ made. made.settled ≡ made.present) }
+    {
+        let mut made = KeyedMap::new(alloc);
+        for (key, slot) in self.slots.iter() {
+            if let Slot::Holds(x) = slot {
+                made.insert(*key, x.copy()?)?;
+                made.settle();
+            }
+        }
+        Ok(made)
+    }
+}
+
+impl<X: Drop> KeyedMap<X> {
+    /// An empty map. It wants no memory.
+    pub fn new(alloc: Global) -> Self
+        ensures { result ≡ record { present = map.empty; settled = map.empty } }
+    {
+        KeyedMap {
+            slots: BTreeMap::new(alloc),
+            edits: Vec::new(alloc),
+            len: 0,
+            settled_len: 0,
+        }
+    }
+
+    /// How many keys there are.
+    pub fn len(&self) -> usize
+        ensures { result ≡ map.len self.now.present }
+    {
+        self.len
+    }
+
+    /// Tells whether there is no key.
+    pub fn is_empty(&self) -> bool
+        ensures { result ≡ (map.len self.now.present == 0) }
+    {
+        self.len == 0
+    }
+
+    /// The value of a key, if the key is there.
+    pub fn get(&self, key: &Key) -> Option<&X>
+        ensures { option_copied result ≡ map.get self.now.present key.now }
+    {
+        match self.slots.get(key) {
+            Some(Slot::Holds(x)) => Some(x),
+            Some(Slot::Gone) => None,
+            None => None,
+        }
+    }
+
+    /// Tells whether the key is there.
+    pub fn contains(&self, key: &Key) -> bool
+        ensures { result ≡ map.contains_key self.now.present key.now }
+    {
+        match self.get(key) {
+            Some(_) => true,
+            None => false,
+        }
+    }
+
+    /// The first so many keys, in their order.
+    pub fn first(&self, alloc: Global, count: usize) -> Result<Vec<Key>, AllocError>
+        ensures { IfOk result (λ keys. keys.items ≡ take count (map.keys self.now.present)) }
+    {
+        let mut keys = Vec::new(alloc);
+        for (key, slot) in self.slots.iter() {
+            if keys.len() >= count {
+                break;
+            }
+            if let Slot::Holds(_) = slot {
+                keys.push(*key)?;
+            }
+        }
+        Ok(keys)
+    }
+
+    /// The first so many keys from a key on, in their order.
+    pub fn first_from(&self, alloc: Global, key: &Key, count: usize) -> Result<Vec<Key>, AllocError>
+        ensures { IfOk result (λ keys. keys.items ≡ take count (keys_from key.now (map.keys self.now.present))) }
+    {
+        let mut keys = Vec::new(alloc);
+        for (found, slot) in self.slots.range(*key..) {
+            if keys.len() >= count {
+                break;
+            }
+            if let Slot::Holds(_) = slot {
+                keys.push(*found)?;
+            }
+        }
+        Ok(keys)
+    }
+
+    // Writes a slot, and notes what stood there.
+    fn put(&mut self, key: Key, slot: Slot<X>) -> Result<(), AllocError>
+        ensures ok { OnOk result (self.new.present ≡ put_live self.old.present key slot) }
+        ensures settled { self.new.settled ≡ self.old.settled }
+        ensures err { OnErr result (self.new.present ≡ self.old.present) }
+    {
+        self.edits.reserve(1)?;
+        let noted = same(&key);
+        let held = self.contains(&key);
+        let holds = holds(&slot);
+        let before = self.slots.insert(key, slot)?;
+        self.edits.push(Edit { key: noted, before }).unwrap();
+        self.len = count(&self.slots, self.len, held, holds);
+        Ok(())
+    }
+
+    /// Sets the value of a key.
+    pub fn insert(&mut self, key: Key, x: X) -> Result<(), AllocError>
+        ensures ok { OnOk result (self.new.present ≡ map.insert self.old.present key x) }
+        ensures settled { self.new.settled ≡ self.old.settled }
+        ensures err { OnErr result (self.new.present ≡ self.old.present) }
+    {
+        self.put(key, Slot::Holds(x))
+    }
+
+    /// Takes a key out, if it is there.
+    pub fn remove(&mut self, key: &Key) -> Result<(), AllocError>
+        ensures ok { OnOk result (self.new.present ≡ map.remove self.old.present key.now) }
+        ensures settled { self.new.settled ≡ self.old.settled }
+        ensures err { OnErr result (self.new.present ≡ self.old.present) }
+    {
+        if let None = self.get(key) {
+            return Ok(());
+        }
+        self.put(*key, Slot::Gone)
+    }
+
+    /// Makes the edits so far final.
+    pub fn settle(&mut self)
+        ensures { self.new ≡ record { present = self.old.present; settled = self.old.present } }
+    {
+        while let Some(edit) = self.edits.pop() {
+            forget(&mut self.slots, edit.key);
+        }
+        self.settled_len = self.len;
+    }
+
+    /// Takes all edits back that were made since it was last settled.
+    pub fn roll_back(&mut self)
+        ensures { self.new ≡ record { present = self.old.settled; settled = self.old.settled } }
+    {
+        while let Some(edit) = self.edits.pop() {
+            take_back(&mut self.slots, edit);
+        }
+        self.len = self.settled_len;
+    }
+}
