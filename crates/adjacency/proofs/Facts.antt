@@ -8,13 +8,13 @@ use Rattle.std.proofs.lemmas.Bool.{eqb-true}
 use Rattle.std.proofs.lemmas.List.{take-append-drop}
 use Rattle.std.proofs.lemmas.List.Folds.{list_any-append}
 use Rattle.words.specs.declared.key.Key.{Key}
-use Rattle.lsdb.specs.Instances.{Listed}
+use Rattle.lsdb.specs.Instances.{ListEntry}
 use Rattle.lsdb.specs.Keys.{ByKey, KeySet, key_cmp, same_key}
 use Rattle.lsdb.proofs.Keys.{keys_exact, keys_total}
 use Rattle.adjacency.specs.declared.state.State.{State}
 use Rattle.adjacency.specs.declared.state.State.TheVariants.{Init, ExStart, Exchange, Loading, Full}
 use Rattle.adjacency.specs.Lists.{HasSoundLists, IsDoneWhereFull, IsOutstandingRequested}
-use Rattle.adjacency.specs.Neighbors.{Neighbor, is_full, is_synchronizing, takes_part}
+use Rattle.adjacency.specs.Neighbors.{Neighbor, is_full, is_exchange_or_loading, is_exchange_or_later}
 use Rattle.adjacency.proofs.Kept.{Fact, IsKept, Of}
 
 -- ---- empty maps and sets
@@ -22,18 +22,18 @@ use Rattle.adjacency.proofs.Kept.{Fact, IsKept, Of}
 not_both : {A : Type 0} → true ≡ false → A
 not_both e = absurd (true≢false e)
 
-none : (m : ByKey Listed) → (finite.len m == 0) ≡ true → m ≡ finite.empty
+none : (m : ByKey ListEntry) → (finite.len m == 0) ≡ true → m ≡ finite.empty
 none m e = finite.empty_of_len m (eqb-true (finite.len m) 0 e)
 
-chosen_none : (b : Bool) (o : Option Listed) → o ≡ None → cond b None o ≡ None
+chosen_none : (b : Bool) (o : Option ListEntry) → o ≡ None → cond b None o ≡ None
 chosen_none true o e = refl
 chosen_none false o e = e
 
-removed : (m : ByKey Listed) (key : Key) → m ≡ finite.empty → finite.remove m key ≡ finite.empty
+removed : (m : ByKey ListEntry) (key : Key) → m ≡ finite.empty → finite.remove m key ≡ finite.empty
 removed m key e =
-    ap (λ (l : ByKey Listed). finite.remove l key) e
+    ap (λ (l : ByKey ListEntry). finite.remove l key) e
     ∙ finite.same_map keys_total keys_exact _ _ (λ q.
-    finite.get-remove keys_total (finite.empty {X = Listed} {R = key_cmp}) key q
+    finite.get-remove keys_total (finite.empty {X = ListEntry} {R = key_cmp}) key q
     ∙ chosen_none (same_key q key) _ (finite.get-empty key_cmp q)
     ∙ sym (finite.get-empty key_cmp q))
 
@@ -54,10 +54,10 @@ left_out o key e =
 abbrev pub Requested : Fact
 Requested state s r t o = (key : Key) → set.contains o key ≡ true → finite.contains_key r key ≡ true
 
-nothing_asked : (r : ByKey Listed) (key : Key) → set.contains (set.empty {R = key_cmp}) key ≡ true → finite.contains_key r key ≡ true
+nothing_asked : (r : ByKey ListEntry) (key : Key) → set.contains (set.empty {R = key_cmp}) key ≡ true → finite.contains_key r key ≡ true
 nothing_asked r key e = not_both (sym e ∙ set.contains-empty key_cmp key)
 
-still_there : (b : Bool) (x : Listed) (y : Option Listed) → is_some y ≡ true → is_some (cond b (Some x) y) ≡ true
+still_there : (b : Bool) (x : ListEntry) (y : Option ListEntry) → is_some y ≡ true → is_some (cond b (Some x) y) ≡ true
 still_there true x y e = refl
 still_there false x y e = e
 
@@ -65,7 +65,7 @@ among_more : (p : Key → Bool) (n : ℕ) (keys : List Key) → list_any p (take
 among_more p n keys e =
     sym (ap (list_any p) (take-append-drop n keys)) ∙ list_any-append p (take n keys) (drop n keys) ∙ ap (λ b. b || list_any p (drop n keys)) e
 
-both_left : (b c : Bool) (x : Option Listed) → (c ≡ true → is_some x ≡ true) → (not b && c) ≡ true → is_some (cond b None x) ≡ true
+both_left : (b c : Bool) (x : Option ListEntry) → (c ≡ true → is_some x ≡ true) → (not b && c) ≡ true → is_some (cond b None x) ≡ true
 both_left true c x f e = e
 both_left false c x f e = f e
 
@@ -84,15 +84,15 @@ requested_kept = record {
   meets = λ state s r t o key h q e.
       ap is_some (finite.get-remove keys_total r key q) ∙ both_left (same_key q key) (set.contains o q) (finite.get r q) (h q) (sym (set.contains-remove keys_total o key q) ∙ e);
   releases = λ state s r t o key h. h;
-  owes = λ state s r t o key x part h. h;
+  has_retransmission = λ state s r t o key x part h. h;
 }
 
 -- ---- before Exchange there are no lists
 
 abbrev pub Listless : Fact
-Listless state s r t o = takes_part state ≡ false → (s ≡ finite.empty) × (r ≡ finite.empty) × (t ≡ finite.empty) × (o ≡ set.empty)
+Listless state s r t o = is_exchange_or_later state ≡ false → (s ≡ finite.empty) × (r ≡ finite.empty) × (t ≡ finite.empty) × (o ≡ set.empty)
 
-synchronizing_part : (state : State) → is_synchronizing state ≡ true → takes_part state ≡ false → true ≡ false
+synchronizing_part : (state : State) → is_exchange_or_loading state ≡ true → is_exchange_or_later state ≡ false → true ≡ false
 synchronizing_part Init e p = sym e
 synchronizing_part ExStart e p = sym e
 synchronizing_part Exchange e p = p
@@ -112,7 +112,7 @@ listless_kept = record {
   asks = λ state s r t o busy h e. not_both (synchronizing_part state busy e);
   meets = λ state s r t o key h e. let l = h e in (l.0, removed r key l.1, l.2, left_out o key l.3);
   releases = λ state s r t o key h e. let l = h e in (l.0, l.1, removed t key l.2, l.3);
-  owes = λ state s r t o key x part h e. not_both (sym part ∙ e);
+  has_retransmission = λ state s r t o key x part h e. not_both (sym part ∙ e);
 }
 
 -- ---- where the neighbor is Full nothing is to be requested
@@ -135,19 +135,19 @@ bare_kept = record {
   fills = λ s r t o h is e. is;
   asks = λ state s r t o busy h e. h e;
   meets = λ state s r t o key h e.
-      ap (λ (m : ByKey Listed). finite.len m == 0) (removed r key (none r (h e))) ∙ ap (λ n. n == 0) (finite.len-empty key_cmp Listed);
+      ap (λ (m : ByKey ListEntry). finite.len m == 0) (removed r key (none r (h e))) ∙ ap (λ n. n == 0) (finite.len-empty key_cmp ListEntry);
   releases = λ state s r t o key h. h;
-  owes = λ state s r t o key x part h. h;
+  has_retransmission = λ state s r t o key x part h. h;
 }
 
 -- ---- all of it
 
-nothing_left : (o : KeySet) (r : ByKey Listed) → ((key : Key) → set.contains o key ≡ true → finite.contains_key r key ≡ true) → r ≡ finite.empty → o ≡ set.empty
+nothing_left : (o : KeySet) (r : ByKey ListEntry) → ((key : Key) → set.contains o key ≡ true → finite.contains_key r key ≡ true) → r ≡ finite.empty → o ≡ set.empty
 nothing_left o r asked e =
     set.same_set keys_total keys_exact o set.empty (λ q. is_out q (set.contains o q) refl ∙ sym (set.contains-empty key_cmp q))
   where
     is_out : (q : Key) (b : Bool) → set.contains o q ≡ b → b ≡ false
-    is_out q true is = sym (asked q is) ∙ ap (λ (m : ByKey Listed). is_some (finite.get m q)) e ∙ ap is_some (finite.get-empty key_cmp q)
+    is_out q true is = sym (asked q is) ∙ ap (λ (m : ByKey ListEntry). is_some (finite.get m q)) e ∙ ap is_some (finite.get-empty key_cmp q)
     is_out q false is = refl
 
 done_where_full : (n : Neighbor) → (n.state ≡ Full → (finite.len n.requests == 0) ≡ true) → IsOutstandingRequested n → IsDoneWhereFull n
@@ -171,7 +171,7 @@ both_kept A B a b = record {
   asks = λ state s r t o busy h. (a.asks state s r t o busy h.0, b.asks state s r t o busy h.1);
   meets = λ state s r t o key h. (a.meets state s r t o key h.0, b.meets state s r t o key h.1);
   releases = λ state s r t o key h. (a.releases state s r t o key h.0, b.releases state s r t o key h.1);
-  owes = λ state s r t o key x part h. (a.owes state s r t o key x part h.0, b.owes state s r t o key x part h.1);
+  has_retransmission = λ state s r t o key x part h. (a.has_retransmission state s r t o key x part h.0, b.has_retransmission state s r t o key x part h.1);
 }
 
 abbrev pub Sound : Fact
@@ -186,5 +186,5 @@ sound_lists n h = record { before_exchange = h.0; outstanding = h.1.0; full = do
 pub sound_of : (n : Neighbor) → HasSoundLists n → Of Sound n
 sound_of n h =
     let bare : n.state ≡ Full → (finite.len n.requests == 0) ≡ true =
-    λ full. ap (λ (m : ByKey Listed). finite.len m == 0) (h.full full).0 ∙ ap (λ k. k == 0) (finite.len-empty key_cmp Listed) in
+    λ full. ap (λ (m : ByKey ListEntry). finite.len m == 0) (h.full full).0 ∙ ap (λ k. k == 0) (finite.len-empty key_cmp ListEntry) in
     (h.before_exchange, (h.outstanding, bare))

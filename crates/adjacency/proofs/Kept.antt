@@ -7,17 +7,17 @@ use Rattle.std.specs.FinSet as set
 use Rattle.words.specs.declared.key.Key.{Key}
 use Rattle.lsdb.specs.Copies.{Database}
 use Rattle.lsdb.specs.Headers.{Header, key_of}
-use Rattle.lsdb.specs.Instances.{Listed}
+use Rattle.lsdb.specs.Instances.{ListEntry}
 use Rattle.lsdb.specs.Keys.{ByKey, KeySet}
 use Rattle.packet.specs.declared.model.Description.{Description}
 use Rattle.adjacency.specs.declared.state.State.{State}
 use Rattle.adjacency.specs.declared.state.State.TheVariants.{Init, ExStart, Exchange, Loading, Full}
-use Rattle.adjacency.specs.Adjacencies.{after_hello, filled, has_passed, heard_by, mismatched, named, named_in, requests_nothing, restart}
-use Rattle.adjacency.specs.Contents.{Requests, Step, Updates, quiet}
-use Rattle.adjacency.specs.Descriptions.{Verdict, accept, act, after_description, announced_more, changes_options, describe, exchange_done, exchange_over, exchanging, expected, in_state, is_duplicate, is_kept, is_over_for, is_wanted, judge, knows_types, mark_of, master_goes_on, negotiated, negotiating, opens, repeat, same_flag, slave_replies, with_requests, without_old_description}
-use Rattle.adjacency.specs.Neighbors.{Neighbor, is_synchronizing, takes_part}
+use Rattle.adjacency.specs.Adjacencies.{after_hello, loading_done, has_passed, with_hello_heard, mismatched, two_way_received, two_way_received_in, requests_nothing, enter_exstart}
+use Rattle.adjacency.specs.Contents.{Requests, Step, Updates, no_sends}
+use Rattle.adjacency.specs.Descriptions.{Verdict, accept, act, after_description, announced_more, changes_options, describe, exchange_done, exchange_over, exchanging, expected, in_state, is_duplicate, is_kept, is_over_for, is_wanted, judge, knows_types, as_received, master_goes_on, negotiated, negotiating, is_initial_description, repeat, same_flag, slave_replies, with_requests, without_old_description}
+use Rattle.adjacency.specs.Neighbors.{Neighbor, is_exchange_or_loading, is_exchange_or_later}
 use Rattle.adjacency.specs.Requests.{may_request, next_request, request_next, still_outstanding, without_request}
-use Rattle.adjacency.specs.Retransmissions.{acknowledged, after_acknowledgment, describe_again, is_entry, next_retransmissions, owed, released, repeats_description, request_again, send_again, update_again}
+use Rattle.adjacency.specs.Retransmissions.{acknowledged, after_acknowledgment, describe_again, is_entry, next_retransmissions, add_retransmission, remove_retransmission, repeats_description, request_again, send_again, update_again}
 
 -- ---- choices
 
@@ -28,7 +28,7 @@ chosen P false x y p q = q refl
 -- ---- facts of a state and of its lists: what is to be described, requested and acknowledged, and what is outstanding
 
 abbrev pub Fact : Type 1
-Fact = State → ByKey Listed → ByKey Listed → ByKey Listed → KeySet → Type 0
+Fact = State → ByKey ListEntry → ByKey ListEntry → ByKey ListEntry → KeySet → Type 0
 
 abbrev pub Of : Fact → Neighbor → Type 0
 Of Q n = Q n.state n.summary n.requests n.retransmissions n.outstanding
@@ -37,16 +37,16 @@ Of Q n = Q n.state n.summary n.requests n.retransmissions n.outstanding
 pub record IsKept (Q : Fact) : Type 0 where
   pub begins : Q Init finite.empty finite.empty finite.empty set.empty
   pub restarts : Q ExStart finite.empty finite.empty finite.empty set.empty
-  pub negotiates : (s r t s' t' : ByKey Listed) (o : KeySet) → Q ExStart s r t o → Q Exchange s' r t' o
-  pub wants : (s r t : ByKey Listed) (o : KeySet) (key : Key) (x : Listed) → Q Exchange s r t o → Q Exchange s (finite.insert r key x) t o
-  pub describes : (s r t s' : ByKey Listed) (o : KeySet) → Q Exchange s r t o → Q Exchange s' r t o
-  pub loads : (s r t : ByKey Listed) (o : KeySet) → Q Exchange s r t o → Q Loading s r t o
-  pub ends : (s r t : ByKey Listed) (o : KeySet) → Q Exchange s r t o → (finite.len r == 0) ≡ true → Q Full s r t o
-  pub fills : (s r t : ByKey Listed) (o : KeySet) → Q Loading s r t o → (finite.len r == 0) ≡ true → Q Full s r t o
-  pub asks : (state : State) (s r t : ByKey Listed) (o : KeySet) → is_synchronizing state ≡ true → Q state s r t o → Q state s r t (set.from_list (take 680 (finite.keys r)))
-  pub meets : (state : State) (s r t : ByKey Listed) (o : KeySet) (key : Key) → Q state s r t o → Q state s (finite.remove r key) t (set.remove o key)
-  pub releases : (state : State) (s r t : ByKey Listed) (o : KeySet) (key : Key) → Q state s r t o → Q state s r (finite.remove t key) o
-  pub owes : (state : State) (s r t : ByKey Listed) (o : KeySet) (key : Key) (x : Listed) → takes_part state ≡ true → Q state s r t o
+  pub negotiates : (s r t s' t' : ByKey ListEntry) (o : KeySet) → Q ExStart s r t o → Q Exchange s' r t' o
+  pub wants : (s r t : ByKey ListEntry) (o : KeySet) (key : Key) (x : ListEntry) → Q Exchange s r t o → Q Exchange s (finite.insert r key x) t o
+  pub describes : (s r t s' : ByKey ListEntry) (o : KeySet) → Q Exchange s r t o → Q Exchange s' r t o
+  pub loads : (s r t : ByKey ListEntry) (o : KeySet) → Q Exchange s r t o → Q Loading s r t o
+  pub ends : (s r t : ByKey ListEntry) (o : KeySet) → Q Exchange s r t o → (finite.len r == 0) ≡ true → Q Full s r t o
+  pub fills : (s r t : ByKey ListEntry) (o : KeySet) → Q Loading s r t o → (finite.len r == 0) ≡ true → Q Full s r t o
+  pub asks : (state : State) (s r t : ByKey ListEntry) (o : KeySet) → is_exchange_or_loading state ≡ true → Q state s r t o → Q state s r t (set.from_list (take 680 (finite.keys r)))
+  pub meets : (state : State) (s r t : ByKey ListEntry) (o : KeySet) (key : Key) → Q state s r t o → Q state s (finite.remove r key) t (set.remove o key)
+  pub releases : (state : State) (s r t : ByKey ListEntry) (o : KeySet) (key : Key) → Q state s r t o → Q state s r (finite.remove t key) o
+  pub has_retransmission : (state : State) (s r t : ByKey ListEntry) (o : KeySet) (key : Key) (x : ListEntry) → is_exchange_or_later state ≡ true → Q state s r t o
       → Q state s r (finite.insert (finite.remove t key) key x) o
 
 left_true : (a b : Bool) → (a && b) ≡ true → a ≡ true
@@ -59,7 +59,7 @@ module _ (V : Verdict → Type 0) (n : Neighbor) (d : Description) where
   negotiating_one_of : (own : ℕ) → V Verdict.Discarded → V Verdict.NegotiatedAsSlave → V Verdict.NegotiatedAsMaster → V (negotiating own n d)
   negotiating_one_of own discarded slave master =
       let leads : Bool = not d.init && not d.master && d.sequence == n.sequence && nat_lt n.router own in
-      chosen V (opens d && nat_lt own n.router) Verdict.NegotiatedAsSlave (cond leads Verdict.NegotiatedAsMaster Verdict.Discarded) (λ e. slave)
+      chosen V (is_initial_description d && nat_lt own n.router) Verdict.NegotiatedAsSlave (cond leads Verdict.NegotiatedAsMaster Verdict.Discarded) (λ e. slave)
       (λ e. chosen V leads Verdict.NegotiatedAsMaster Verdict.Discarded (λ e. master) (λ e. discarded))
 
   first_two : (a b : Bool) (v : Verdict) → V Verdict.Discarded → V Verdict.Repeated → V v → V (cond a Verdict.Discarded (cond b Verdict.Repeated v))
@@ -87,16 +87,16 @@ module _ (Q : Fact) (kept : IsKept Q) where
   -- ---- attempts and Hellos
 
   pub mismatched_kept : (moment : ℕ) (n : Neighbor) → Of Q n → Of Q (mismatched moment n).neighbor
-  mismatched_kept moment n h = chosen (λ (s : Step). Of Q s.neighbor) (takes_part n.state) (restart moment n) (quiet n) (λ e. kept.restarts) (λ e. h)
+  mismatched_kept moment n h = chosen (λ (s : Step). Of Q s.neighbor) (is_exchange_or_later n.state) (enter_exstart moment n) (no_sends n) (λ e. kept.restarts) (λ e. h)
 
-  named_in_kept : (s : State) (moment : ℕ) (n : Neighbor) → Of Q n → Of Q (named_in s moment n).neighbor
+  named_in_kept : (s : State) (moment : ℕ) (n : Neighbor) → Of Q n → Of Q (two_way_received_in s moment n).neighbor
   named_in_kept Init moment n h = kept.restarts
   named_in_kept ExStart moment n h = h
   named_in_kept Exchange moment n h = h
   named_in_kept Loading moment n h = h
   named_in_kept Full moment n h = h
 
-  pub named_kept : (moment : ℕ) (n : Neighbor) → Of Q n → Of Q (named moment n).neighbor
+  pub named_kept : (moment : ℕ) (n : Neighbor) → Of Q n → Of Q (two_way_received moment n).neighbor
   named_kept moment n h = named_in_kept n.state moment n h
 
   -- ---- Descriptions
@@ -124,7 +124,7 @@ module _ (Q : Fact) (kept : IsKept Q) where
   master_kept : (moment : ℕ) (d : Description) (n : Neighbor) → Of Q (in_exchange n) → Of Q (master_goes_on moment d (in_exchange n)).neighbor
   master_kept moment d n h =
       let next : Neighbor = record n { sequence = (n.sequence + 1) % 2 ^ 32 } in
-      chosen (λ (s : Step). Of Q s.neighbor) (announced_more n.described || d.more) (describe moment (in_exchange next)) (quiet (exchange_done moment (in_exchange n)))
+      chosen (λ (s : Step). Of Q s.neighbor) (announced_more n.described || d.more) (describe moment (in_exchange next)) (no_sends (exchange_done moment (in_exchange n)))
       (λ e. describe_kept moment next h) (λ e. done_kept moment n h)
 
   slave_kept : (moment : ℕ) (d : Description) (n : Neighbor) → Of Q (in_exchange n) → Of Q (slave_replies moment d (in_exchange n)).neighbor
@@ -138,15 +138,15 @@ module _ (Q : Fact) (kept : IsKept Q) where
   requests_kept : (moment : ℕ) (db : Database) (hs : List Header) (n : Neighbor) → Of Q (in_exchange n) → Of Q (with_requests moment db hs (in_exchange n))
   requests_kept moment db [] n h = h
   requests_kept moment db (x ∷ hs) n h =
-      let more : ByKey Listed = finite.insert n.requests (key_of x) (record { header = x; at = moment }) in
+      let more : ByKey ListEntry = finite.insert n.requests (key_of x) (record { header = x; at = moment }) in
       requests_kept moment db hs (record n { requests = cond (is_wanted moment db x) more n.requests })
-      (chosen (λ (r : ByKey Listed). Q Exchange n.summary r n.retransmissions n.outstanding) (is_wanted moment db x) more n.requests
+      (chosen (λ (r : ByKey ListEntry). Q Exchange n.summary r n.retransmissions n.outstanding) (is_wanted moment db x) more n.requests
       (λ e. kept.wants n.summary n.requests n.retransmissions n.outstanding (key_of x) (record { header = x; at = moment }) h) (λ e. h))
 
   accept_kept : (moment : ℕ) (db : Database) (d : Description) (n : Neighbor) → Of Q (in_exchange n) → Of Q (accept moment db d (in_exchange n)).neighbor
   accept_kept moment db d n h =
-      let m : Neighbor = with_requests moment db d.headers (record n { state = Exchange; received = Some (mark_of d) }) in
-      let asked : Of Q (in_exchange m) = requests_kept moment db d.headers (record n { received = Some (mark_of d) }) h in
+      let m : Neighbor = with_requests moment db d.headers (record n { state = Exchange; received = Some (as_received d) }) in
+      let asked : Of Q (in_exchange m) = requests_kept moment db d.headers (record n { received = Some (as_received d) }) h in
       chosen (λ (s : Step). Of Q s.neighbor) (knows_types d) (cond m.is_master (master_goes_on moment d m) (slave_replies moment d m)) (mismatched moment (in_exchange n))
       (λ e. chosen (λ (s : Step). Of Q s.neighbor) m.is_master (master_goes_on moment d m) (slave_replies moment d m) (λ e. master_kept moment d m asked) (λ e. slave_kept moment d m asked))
       (λ e. mismatched_kept moment (in_exchange n) h)
@@ -180,8 +180,8 @@ module _ (Q : Fact) (kept : IsKept Q) where
   judge_kept own moment db d n h = judged_in moment db d n.state own n h
 
   module _ (two_way : ℕ → Neighbor → Step) (two_way_kept : (moment : ℕ) (n : Neighbor) → Of Q n → Of Q (two_way moment n).neighbor) where
-    pub hello_kept : (moment from : ℕ) (names : Bool) (o : Option Neighbor) → Of Q (heard_by from moment o) → Of Q (after_hello two_way moment from names o).neighbor
-    hello_kept moment from true o h = two_way_kept moment (heard_by from moment o) h
+    pub hello_kept : (moment from : ℕ) (names : Bool) (o : Option Neighbor) → Of Q (with_hello_heard from moment o) → Of Q (after_hello two_way moment from names o).neighbor
+    hello_kept moment from true o h = two_way_kept moment (with_hello_heard from moment o) h
     hello_kept moment from false o h = kept.begins
 
     stated_kept : (s : State) (own moment : ℕ) (db : Database) (d : Description) (n : Neighbor) → Of Q n → Of Q (in_state two_way s own moment db d n).neighbor
@@ -193,11 +193,11 @@ module _ (Q : Fact) (kept : IsKept Q) where
 
     pub description_kept : (own moment : ℕ) (db : Database) (d : Description) (n : Neighbor) → Of Q n → Of Q (after_description two_way own moment db d n).neighbor
     description_kept own moment db d n h =
-        chosen (λ (s : Step). Of Q s.neighbor) (nat_lt 8192 d.mtu) (quiet n) (in_state two_way n.state own moment db d n) (λ e. h) (λ e. stated_kept n.state own moment db d n h)
+        chosen (λ (s : Step). Of Q s.neighbor) (nat_lt 8192 d.mtu) (no_sends n) (in_state two_way n.state own moment db d n) (λ e. h) (λ e. stated_kept n.state own moment db d n h)
 
   -- ---- Loading and Requests
 
-  filled_in_kept : (s : State) (n : Neighbor) → Of Q (record n { state = s }) → Of Q (filled (record n { state = s }))
+  filled_in_kept : (s : State) (n : Neighbor) → Of Q (record n { state = s }) → Of Q (loading_done (record n { state = s }))
   filled_in_kept Init n h = h
   filled_in_kept ExStart n h = h
   filled_in_kept Exchange n h = h
@@ -205,31 +205,31 @@ module _ (Q : Fact) (kept : IsKept Q) where
       chosen (Of Q) (requests_nothing n) (record n { state = Full }) (record n { state = Loading }) (λ e. kept.fills n.summary n.requests n.retransmissions n.outstanding h e) (λ e. h)
   filled_in_kept Full n h = h
 
-  pub filled_kept : (n : Neighbor) → Of Q n → Of Q (filled n)
+  pub filled_kept : (n : Neighbor) → Of Q n → Of Q (loading_done n)
   filled_kept n h = filled_in_kept n.state n h
 
   pub request_kept : (moment : ℕ) (n : Neighbor) → Of Q n → Of Q (request_next moment n).neighbor
   request_kept moment n h =
       chosen (λ (s : Step). Of Q s.neighbor) (may_request n)
-      (record { neighbor = record n { outstanding = set.from_list (next_request n); requested_at = moment }; sends = Requests (next_request n) ∷ [] }) (quiet n)
-      (λ e. kept.asks n.state n.summary n.requests n.retransmissions n.outstanding (left_true (is_synchronizing n.state) _ (left_true _ _ e)) h) (λ e. h)
+      (record { neighbor = record n { outstanding = set.from_list (next_request n); requested_at = moment }; sends = Requests (next_request n) ∷ [] }) (no_sends n)
+      (λ e. kept.asks n.state n.summary n.requests n.retransmissions n.outstanding (left_true (is_exchange_or_loading n.state) _ (left_true _ _ e)) h) (λ e. h)
 
   pub met_kept : (key : Key) (n : Neighbor) → Of Q n → Of Q (without_request key n)
   met_kept key n h = kept.meets n.state n.summary n.requests n.retransmissions n.outstanding key h
 
   -- ---- retransmissions
 
-  pub released_kept : (key : Key) (n : Neighbor) → Of Q n → Of Q (released key n)
+  pub released_kept : (key : Key) (n : Neighbor) → Of Q n → Of Q (remove_retransmission key n)
   released_kept key n h = kept.releases n.state n.summary n.requests n.retransmissions n.outstanding key h
 
-  pub owed_kept : (moment : ℕ) (x : Header) (n : Neighbor) → takes_part n.state ≡ true → Of Q n → Of Q (owed moment x n)
-  owed_kept moment x n part h = kept.owes n.state n.summary n.requests n.retransmissions n.outstanding (key_of x) (record { header = x; at = moment }) part h
+  pub owed_kept : (moment : ℕ) (x : Header) (n : Neighbor) → is_exchange_or_later n.state ≡ true → Of Q n → Of Q (add_retransmission moment x n)
+  owed_kept moment x n part h = kept.has_retransmission n.state n.summary n.requests n.retransmissions n.outstanding (key_of x) (record { header = x; at = moment }) part h
 
   pub acknowledgment_kept : (moment : ℕ) (hs : List Header) (n : Neighbor) → Of Q n → Of Q (after_acknowledgment moment hs n)
   acknowledgment_kept moment [] n h = h
   acknowledgment_kept moment (x ∷ hs) n h =
       acknowledgment_kept moment hs (acknowledged moment n x)
-      (chosen (Of Q) (is_entry moment x (finite.get n.retransmissions (key_of x))) (released (key_of x) n) n (λ e. released_kept (key_of x) n h) (λ e. h))
+      (chosen (Of Q) (is_entry moment x (finite.get n.retransmissions (key_of x))) (remove_retransmission (key_of x) n) n (λ e. released_kept (key_of x) n h) (λ e. h))
 
   pub again_kept : (moment interval : ℕ) (db : Database) (n : Neighbor) → Of Q n → Of Q (send_again moment interval db n).neighbor
   again_kept moment interval db n h = update_kept asked (request_again_kept described (describe_again_kept n h))
@@ -242,17 +242,17 @@ module _ (Q : Fact) (kept : IsKept Q) where
 
       describe_again_kept : (m : Neighbor) → Of Q m → Of Q (describe_again moment interval m).neighbor
       describe_again_kept m k =
-          chosen (λ (s : Step). Of Q s.neighbor) (repeats_description m.state m.is_master && has_passed m.described_at interval moment) (repeat moment m) (quiet m) (λ e. repeat_kept moment m k) (λ e. k)
+          chosen (λ (s : Step). Of Q s.neighbor) (repeats_description m.state m.is_master && has_passed m.described_at interval moment) (repeat moment m) (no_sends m) (λ e. repeat_kept moment m k) (λ e. k)
 
       request_again_kept : (m : Neighbor) → Of Q m → Of Q (request_again moment interval m).neighbor
       request_again_kept m k =
           chosen (λ (s : Step). Of Q s.neighbor) (not (set.len m.outstanding == 0) && has_passed m.requested_at interval moment)
-          (record { neighbor = record m { requested_at = moment }; sends = Requests (still_outstanding m) ∷ [] }) (quiet m) (λ e. k) (λ e. k)
+          (record { neighbor = record m { requested_at = moment }; sends = Requests (still_outstanding m) ∷ [] }) (no_sends m) (λ e. k) (λ e. k)
 
       update_kept : (m : Neighbor) → Of Q m → Of Q (update_again moment interval db m).neighbor
       update_kept m k =
           chosen (λ (s : Step). Of Q s.neighbor) (not (finite.len m.retransmissions == 0) && has_passed m.retransmitted_at interval moment)
-          (record { neighbor = record m { retransmitted_at = moment }; sends = map Updates (next_retransmissions moment db m) }) (quiet m) (λ e. k) (λ e. k)
+          (record { neighbor = record m { retransmitted_at = moment }; sends = map Updates (next_retransmissions moment db m) }) (no_sends m) (λ e. k) (λ e. k)
 
   -- ---- times that run out
 

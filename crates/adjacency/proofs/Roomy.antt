@@ -20,12 +20,12 @@ use Rattle.lsdb.proofs.Keys.{keys_total}
 use Rattle.packet.specs.declared.model.Description.{Description}
 use Rattle.adjacency.specs.declared.state.State.{State}
 use Rattle.adjacency.specs.declared.state.State.TheVariants.{Init, ExStart, Exchange, Loading, Full}
-use Rattle.adjacency.specs.Adjacencies.{after_hello, filled, filled_in, has_passed, heard_by, mismatched, named, named_in, next_attempt, not_named, opening, requests_nothing, restart, still_heard}
-use Rattle.adjacency.specs.Contents.{Requests, Step, Updates, quiet, then_}
-use Rattle.adjacency.specs.Descriptions.{Verdict, accept, act, after_description, announced_more, describe, exchange_done, in_state, is_over_for, judge, knows_types, mark_of, master_goes_on, negotiated, next_description, repeat, slave_replies, verdict, with_requests, without_old_description}
-use Rattle.adjacency.specs.Neighbors.{Neighbor, fresh, takes_part}
+use Rattle.adjacency.specs.Adjacencies.{after_hello, loading_done, loading_done_in, has_passed, with_hello_heard, mismatched, two_way_received, two_way_received_in, next_dd_sequence_start, one_way_received, initial_description, requests_nothing, enter_exstart, after_inactivity_timer}
+use Rattle.adjacency.specs.Contents.{Requests, Step, Updates, no_sends, then_}
+use Rattle.adjacency.specs.Descriptions.{Verdict, accept, act, after_description, announced_more, describe, exchange_done, in_state, is_over_for, judge, knows_types, as_received, master_goes_on, negotiated, next_description, repeat, slave_replies, verdict, with_requests, without_old_description}
+use Rattle.adjacency.specs.Neighbors.{Neighbor, fresh, is_exchange_or_later}
 use Rattle.adjacency.specs.Requests.{may_request, next_request, request_next, still_outstanding, without_request}
-use Rattle.adjacency.specs.Retransmissions.{acknowledged, after_acknowledgment, describe_again, is_entry, lsa_of, next_retransmissions, owed, owed_lsas, released, repeats_description, request_again, send_again, that_fit, update_again}
+use Rattle.adjacency.specs.Retransmissions.{acknowledged, after_acknowledgment, describe_again, is_entry, lsa_of, next_retransmissions, add_retransmission, retransmission_lsas, remove_retransmission, repeats_description, request_again, send_again, that_fit, update_again}
 use Rattle.adjacency.specs.Rooms.{AllFit, Fits, HasRoom, HasRoomyLists, HasRoomyListsIfAny, IsRoomyStep, IsRoomyTwoWay, StepsHaveRoom}
 use Rattle.adjacency.proofs.Kept.{chosen}
 
@@ -126,8 +126,8 @@ one_description d h c e = subst (λ (n : ℕ). n ≤ 408) (ap headers_in e) h
 pub roomy : (n : Neighbor) → IsShort n.described → IsFew n.outstanding → HasRoomyLists n
 roomy n d o = record { described = d; outstanding = o }
 
-pub fresh_roomy : (router : ℕ) (attempt : Option ℕ) (heard : ℕ) → HasRoomyLists (fresh router attempt heard)
-fresh_roomy router attempt heard = roomy (fresh router attempt heard) no_description none_few
+pub fresh_roomy : (router : ℕ) (dd_sequence_start : Option ℕ) (last_heard : ℕ) → HasRoomyLists (fresh router dd_sequence_start last_heard)
+fresh_roomy router dd_sequence_start last_heard = roomy (fresh router dd_sequence_start last_heard) no_description none_few
 
 -- ---- steps
 
@@ -138,7 +138,7 @@ both P (x ∷ xs) ys p q = (p.0, both P xs ys p.1 q)
 step : (s : Step) → IsShort s.neighbor.described → IsFew s.neighbor.outstanding → AllByRecursion HasRoom s.sends → IsRoomyStep s
 step s d o sends = record { neighbor = roomy s.neighbor d o; sends = sends }
 
-pub quiet_roomy : (n : Neighbor) → HasRoomyLists n → IsRoomyStep (quiet n)
+pub quiet_roomy : (n : Neighbor) → HasRoomyLists n → IsRoomyStep (no_sends n)
 quiet_roomy n h = record { neighbor = h; sends = tt }
 
 pub then_roomy : (s : Step) (next : Neighbor → Step) → IsRoomyStep s → ((n : Neighbor) → HasRoomyLists n → IsRoomyStep (next n)) → IsRoomyStep (then_ s next)
@@ -148,40 +148,40 @@ then_roomy s next first each =
 
 -- ---- attempts and Hellos
 
-pub opening_short : (sequence : ℕ) → length (opening sequence).headers ≤ 408
+pub opening_short : (sequence : ℕ) → length (initial_description sequence).headers ≤ 408
 opening_short sequence = omega arith
 
-pub restart_roomy : (moment : ℕ) (n : Neighbor) → IsRoomyStep (restart moment n)
+pub restart_roomy : (moment : ℕ) (n : Neighbor) → IsRoomyStep (enter_exstart moment n)
 restart_roomy moment n =
-    let first : Description = opening (next_attempt moment n.attempt) in
-    step (restart moment n) (one_description first (opening_short (next_attempt moment n.attempt))) none_few (opening_short (next_attempt moment n.attempt), tt)
+    let first : Description = initial_description (next_dd_sequence_start moment n.dd_sequence_start) in
+    step (enter_exstart moment n) (one_description first (opening_short (next_dd_sequence_start moment n.dd_sequence_start))) none_few (opening_short (next_dd_sequence_start moment n.dd_sequence_start), tt)
 
 pub mismatched_roomy : (moment : ℕ) (n : Neighbor) → HasRoomyLists n → IsRoomyStep (mismatched moment n)
-mismatched_roomy moment n h = chosen IsRoomyStep (takes_part n.state) (restart moment n) (quiet n) (λ e. restart_roomy moment n) (λ e. quiet_roomy n h)
+mismatched_roomy moment n h = chosen IsRoomyStep (is_exchange_or_later n.state) (enter_exstart moment n) (no_sends n) (λ e. restart_roomy moment n) (λ e. quiet_roomy n h)
 
-named_in_roomy : (s : State) (moment : ℕ) (n : Neighbor) → HasRoomyLists n → IsRoomyStep (named_in s moment n)
+named_in_roomy : (s : State) (moment : ℕ) (n : Neighbor) → HasRoomyLists n → IsRoomyStep (two_way_received_in s moment n)
 named_in_roomy Init moment n h = restart_roomy moment n
 named_in_roomy ExStart moment n h = quiet_roomy n h
 named_in_roomy Exchange moment n h = quiet_roomy n h
 named_in_roomy Loading moment n h = quiet_roomy n h
 named_in_roomy Full moment n h = quiet_roomy n h
 
-pub named_roomy : IsRoomyTwoWay named
+pub named_roomy : IsRoomyTwoWay two_way_received
 named_roomy moment n h = named_in_roomy n.state moment n h
 
-pub unnamed_roomy : IsRoomyTwoWay (λ moment n. quiet n)
+pub unnamed_roomy : IsRoomyTwoWay (λ moment n. no_sends n)
 unnamed_roomy moment n h = quiet_roomy n h
 
-pub heard_roomy : (from moment : ℕ) (o : Option Neighbor) → HasRoomyListsIfAny o → HasRoomyLists (heard_by from moment o)
+pub heard_roomy : (from moment : ℕ) (o : Option Neighbor) → HasRoomyListsIfAny o → HasRoomyLists (with_hello_heard from moment o)
 heard_roomy from moment None h = fresh_roomy from None moment
-heard_roomy from moment (Some n) h = roomy (record n { heard = moment }) h.described h.outstanding
+heard_roomy from moment (Some n) h = roomy (record n { last_heard = moment }) h.described h.outstanding
 
 pub hello_roomy : (two_way : ℕ → Neighbor → Step) → IsRoomyTwoWay two_way → (moment from : ℕ) (names : Bool) (o : Option Neighbor) → HasRoomyListsIfAny o
     → IsRoomyStep (after_hello two_way moment from names o)
-hello_roomy two_way each moment from true o h = each moment (heard_by from moment o) (heard_roomy from moment o h)
+hello_roomy two_way each moment from true o h = each moment (with_hello_heard from moment o) (heard_roomy from moment o h)
 hello_roomy two_way each moment from false o h =
-    let n : Neighbor = heard_by from moment o in
-    quiet_roomy (not_named n) (fresh_roomy n.router n.attempt n.heard)
+    let n : Neighbor = with_hello_heard from moment o in
+    quiet_roomy (one_way_received n) (fresh_roomy n.router n.dd_sequence_start n.last_heard)
 
 -- ---- Descriptions
 
@@ -205,7 +205,7 @@ done_roomy moment n h = roomy (exchange_done moment n) h.described h.outstanding
 master_roomy : (moment : ℕ) (d : Description) (n : Neighbor) → HasRoomyLists n → IsRoomyStep (master_goes_on moment d n)
 master_roomy moment d n h =
     let next : Neighbor = record n { sequence = (n.sequence + 1) % 2 ^ 32 } in
-    chosen IsRoomyStep (announced_more n.described || d.more) (describe moment next) (quiet (exchange_done moment n))
+    chosen IsRoomyStep (announced_more n.described || d.more) (describe moment next) (no_sends (exchange_done moment n))
     (λ e. describe_roomy moment next h.outstanding) (λ e. quiet_roomy (exchange_done moment n) (done_roomy moment n h))
 
 slave_roomy : (moment : ℕ) (d : Description) (n : Neighbor) → HasRoomyLists n → IsRoomyStep (slave_replies moment d n)
@@ -218,7 +218,7 @@ slave_roomy moment d n h =
 
 accept_roomy : (moment : ℕ) (db : Database) (d : Description) (n : Neighbor) → HasRoomyLists n → IsRoomyStep (accept moment db d n)
 accept_roomy moment db d n h =
-    let m : Neighbor = with_requests moment db d.headers (record n { received = Some (mark_of d) }) in
+    let m : Neighbor = with_requests moment db d.headers (record n { received = Some (as_received d) }) in
     let asked : HasRoomyLists m = roomy m h.described h.outstanding in
     chosen IsRoomyStep (knows_types d) (cond m.is_master (master_goes_on moment d m) (slave_replies moment d m)) (mismatched moment n)
     (λ e. chosen IsRoomyStep m.is_master (master_goes_on moment d m) (slave_replies moment d m) (λ e. master_roomy moment d m asked) (λ e. slave_roomy moment d m asked))
@@ -250,11 +250,11 @@ module _ (two_way : ℕ → Neighbor → Step) (each : IsRoomyTwoWay two_way) wh
 
   pub description_roomy : (own moment : ℕ) (db : Database) (d : Description) (n : Neighbor) → HasRoomyLists n → IsRoomyStep (after_description two_way own moment db d n)
   description_roomy own moment db d n h =
-      chosen IsRoomyStep (nat_lt 8192 d.mtu) (quiet n) (in_state two_way n.state own moment db d n) (λ e. quiet_roomy n h) (λ e. in_state_roomy n.state own moment db d n h)
+      chosen IsRoomyStep (nat_lt 8192 d.mtu) (no_sends n) (in_state two_way n.state own moment db d n) (λ e. quiet_roomy n h) (λ e. in_state_roomy n.state own moment db d n h)
 
 -- ---- Loading and Requests
 
-filled_in_roomy : (s : State) (n : Neighbor) → HasRoomyLists n → HasRoomyLists (filled_in s n)
+filled_in_roomy : (s : State) (n : Neighbor) → HasRoomyLists n → HasRoomyLists (loading_done_in s n)
 filled_in_roomy Init n h = h
 filled_in_roomy ExStart n h = h
 filled_in_roomy Exchange n h = h
@@ -262,7 +262,7 @@ filled_in_roomy Loading n h =
     chosen HasRoomyLists (requests_nothing n) (record n { state = Full }) n (λ e. roomy (record n { state = Full }) h.described h.outstanding) (λ e. h)
 filled_in_roomy Full n h = h
 
-pub filled_roomy : (n : Neighbor) → HasRoomyLists n → HasRoomyLists (filled n)
+pub filled_roomy : (n : Neighbor) → HasRoomyLists n → HasRoomyLists (loading_done n)
 filled_roomy n h = filled_in_roomy n.state n h
 
 pub keys_short : (n : Neighbor) → length (next_request n) ≤ 680
@@ -274,7 +274,7 @@ made_within keys h = omega (arith, made_few keys, h)
 pub request_roomy : (moment : ℕ) (n : Neighbor) → HasRoomyLists n → IsRoomyStep (request_next moment n)
 request_roomy moment n h =
     let asked : Step = record { neighbor = record n { outstanding = set.from_list (next_request n); requested_at = moment }; sends = Requests (next_request n) ∷ [] } in
-    chosen IsRoomyStep (may_request n) asked (quiet n)
+    chosen IsRoomyStep (may_request n) asked (no_sends n)
     (λ e. step asked h.described (made_within (next_request n) (keys_short n)) (keys_short n, tt)) (λ e. quiet_roomy n h)
 
 pub met_roomy : (key : Key) (n : Neighbor) → HasRoomyLists n → HasRoomyLists (without_request key n)
@@ -282,17 +282,17 @@ met_roomy key n h = roomy (without_request key n) h.described (omega (arith, lef
 
 -- ---- retransmissions
 
-pub released_roomy : (key : Key) (n : Neighbor) → HasRoomyLists n → HasRoomyLists (released key n)
-released_roomy key n h = roomy (released key n) h.described h.outstanding
+pub released_roomy : (key : Key) (n : Neighbor) → HasRoomyLists n → HasRoomyLists (remove_retransmission key n)
+released_roomy key n h = roomy (remove_retransmission key n) h.described h.outstanding
 
-pub owed_roomy : (moment : ℕ) (x : Header) (n : Neighbor) → HasRoomyLists n → HasRoomyLists (owed moment x n)
-owed_roomy moment x n h = roomy (owed moment x n) h.described h.outstanding
+pub owed_roomy : (moment : ℕ) (x : Header) (n : Neighbor) → HasRoomyLists n → HasRoomyLists (add_retransmission moment x n)
+owed_roomy moment x n h = roomy (add_retransmission moment x n) h.described h.outstanding
 
 pub acknowledgment_roomy : (moment : ℕ) (hs : List Header) (n : Neighbor) → HasRoomyLists n → HasRoomyLists (after_acknowledgment moment hs n)
 acknowledgment_roomy moment [] n h = h
 acknowledgment_roomy moment (x ∷ hs) n h =
     acknowledgment_roomy moment hs (acknowledged moment n x)
-    (chosen HasRoomyLists (is_entry moment x (finite.get n.retransmissions (key_of x))) (released (key_of x) n) n (λ e. released_roomy (key_of x) n h) (λ e. h))
+    (chosen HasRoomyLists (is_entry moment x (finite.get n.retransmissions (key_of x))) (remove_retransmission (key_of x) n) n (λ e. released_roomy (key_of x) n h) (λ e. h))
 
 -- ---- LSAs at another age
 
@@ -330,21 +330,21 @@ updates_room (l ∷ ls) all = (all.0, updates_room ls all.1)
 
 pub describe_again_roomy : (moment interval : ℕ) (n : Neighbor) → HasRoomyLists n → IsRoomyStep (describe_again moment interval n)
 describe_again_roomy moment interval n h =
-    chosen IsRoomyStep (repeats_description n.state n.is_master && has_passed n.described_at interval moment) (repeat moment n) (quiet n)
+    chosen IsRoomyStep (repeats_description n.state n.is_master && has_passed n.described_at interval moment) (repeat moment n) (no_sends n)
     (λ e. repeat_roomy moment n h) (λ e. quiet_roomy n h)
 
 pub request_again_roomy : (moment interval : ℕ) (n : Neighbor) → HasRoomyLists n → IsRoomyStep (request_again moment interval n)
 request_again_roomy moment interval n h =
     let asked : Step = record { neighbor = record n { requested_at = moment }; sends = Requests (still_outstanding n) ∷ [] } in
     let short : length (still_outstanding n) ≤ 680 = omega (arith, outstanding_few n, h.outstanding) in
-    chosen IsRoomyStep (not (set.len n.outstanding == 0) && has_passed n.requested_at interval moment) asked (quiet n)
+    chosen IsRoomyStep (not (set.len n.outstanding == 0) && has_passed n.requested_at interval moment) asked (no_sends n)
     (λ e. step asked h.described h.outstanding (short, tt)) (λ e. quiet_roomy n h)
 
 pub update_again_roomy : (moment interval : ℕ) (db : Database) (n : Neighbor) → AllFit db → HasRoomyLists n → IsRoomyStep (update_again moment interval db n)
 update_again_roomy moment interval db n fit h =
     let resent : Step = record { neighbor = record n { retransmitted_at = moment }; sends = map Updates (next_retransmissions moment db n) } in
-    let lsas : AllByRecursion Fits (next_retransmissions moment db n) = first_fit 28 (owed_lsas moment db n) (copies_fit moment db fit (finite.keys n.retransmissions)) in
-    chosen IsRoomyStep (not (finite.len n.retransmissions == 0) && has_passed n.retransmitted_at interval moment) resent (quiet n)
+    let lsas : AllByRecursion Fits (next_retransmissions moment db n) = first_fit 28 (retransmission_lsas moment db n) (copies_fit moment db fit (finite.keys n.retransmissions)) in
+    chosen IsRoomyStep (not (finite.len n.retransmissions == 0) && has_passed n.retransmitted_at interval moment) resent (no_sends n)
     (λ e. step resent h.described h.outstanding (updates_room (next_retransmissions moment db n) lsas)) (λ e. quiet_roomy n h)
 
 pub again_roomy : (moment interval : ℕ) (db : Database) (n : Neighbor) → AllFit db → HasRoomyLists n → IsRoomyStep (send_again moment interval db n)
@@ -355,9 +355,9 @@ again_roomy moment interval db n fit h =
 
 -- ---- times that run out
 
-pub still_heard_roomy : (moment dead : ℕ) (o : Option Neighbor) → HasRoomyListsIfAny o → HasRoomyListsIfAny (still_heard moment dead o)
+pub still_heard_roomy : (moment dead : ℕ) (o : Option Neighbor) → HasRoomyListsIfAny o → HasRoomyListsIfAny (after_inactivity_timer moment dead o)
 still_heard_roomy moment dead None h = tt
-still_heard_roomy moment dead (Some n) h = chosen HasRoomyListsIfAny (has_passed n.heard dead moment) None (Some n) (λ e. tt) (λ e. h)
+still_heard_roomy moment dead (Some n) h = chosen HasRoomyListsIfAny (has_passed n.last_heard dead moment) None (Some n) (λ e. tt) (λ e. h)
 
 pub old_description_roomy : (moment dead : ℕ) (n : Neighbor) → HasRoomyLists n → HasRoomyLists (without_old_description moment dead n)
 old_description_roomy moment dead n h =

@@ -9,16 +9,16 @@ use Rattle.std.specs.List.{AllByRecursion, cons_option, filter, filter_map}
 use Rattle.words.specs.declared.key.Key.{Key}
 use Rattle.lsdb.specs.Copies.{Database, DatabaseCopy, age_now, is_aged_out, listed, lsa_now}
 use Rattle.lsdb.specs.Headers.{Header, Lsa, key_of, lsa_aged, lsa_key}
-use Rattle.lsdb.specs.Instances.{Listed}
+use Rattle.lsdb.specs.Instances.{ListEntry}
 use Rattle.packet.specs.declared.model.Description.{Description}
 use Rattle.adjacency.specs.declared.state.State.{State}
 use Rattle.adjacency.specs.declared.state.State.TheVariants.{Init, ExStart, Exchange, Loading, Full}
-use Rattle.adjacency.specs.Adjacencies.{after_hello, filled, filled_in, has_passed, heard_by, mismatched, named, named_in, not_named, requests_nothing, restart, still_heard}
-use Rattle.adjacency.specs.Contents.{Content, Requests, Step, Updates, quiet, then_}
-use Rattle.adjacency.specs.Descriptions.{Verdict, accept, act, after_description, announced_more, describe, exchange_done, in_state, is_over_for, judge, knows_types, mark_of, master_goes_on, negotiated, repeat, slave_replies, verdict, with_requests, without_old_description}
-use Rattle.adjacency.specs.Neighbors.{Neighbor, takes_part}
+use Rattle.adjacency.specs.Adjacencies.{after_hello, loading_done, loading_done_in, has_passed, with_hello_heard, mismatched, two_way_received, two_way_received_in, one_way_received, requests_nothing, enter_exstart, after_inactivity_timer}
+use Rattle.adjacency.specs.Contents.{Content, Requests, Step, Updates, no_sends, then_}
+use Rattle.adjacency.specs.Descriptions.{Verdict, accept, act, after_description, announced_more, describe, exchange_done, in_state, is_over_for, judge, knows_types, as_received, master_goes_on, negotiated, repeat, slave_replies, verdict, with_requests, without_old_description}
+use Rattle.adjacency.specs.Neighbors.{Neighbor, is_exchange_or_later}
 use Rattle.adjacency.specs.Requests.{may_request, next_request, request_next, still_outstanding}
-use Rattle.adjacency.specs.Retransmissions.{acknowledged, after_acknowledgment, describe_again, is_entry, lsa_of, next_retransmissions, owed, owed_lsas, released, repeats_description, request_again, send_again, that_fit, update_again}
+use Rattle.adjacency.specs.Retransmissions.{acknowledged, after_acknowledgment, describe_again, is_entry, lsa_of, next_retransmissions, add_retransmission, retransmission_lsas, remove_retransmission, repeats_description, request_again, send_again, that_fit, update_again}
 use Rattle.adjacency.proofs.Kept.{chosen}
 use Rattle.adjacency.proofs.Maps.{AllIn, IfThere, OfEntry, entries_in, inserted_in, made_in, none_in, removed_in}
 
@@ -35,7 +35,7 @@ pub record Telling : Type 1 where
 abbrev pub OfCopy : Telling → Key → DatabaseCopy → Type 0
 OfCopy t key c = t.of_lsa c.lsa
 
-abbrev pub OfListed : Telling → Key → Listed → Type 0
+abbrev pub OfListed : Telling → Key → ListEntry → Type 0
 OfListed t key l = t.of_header l.header
 
 -- of all copies
@@ -52,7 +52,7 @@ OfOwedIfAny t (Some n) = OfOwed t n
 
 -- of what is told
 abbrev pub OfContent : Telling → Content → Type 0
-OfContent t (Content.Greets h) = Unit {0}
+OfContent t (Content.SendsHello h) = Unit {0}
 OfContent t (Content.Describes d) = Unit {0}
 OfContent t (Content.Requests keys) = Unit {0}
 OfContent t (Content.Updates lsa) = t.of_lsa lsa
@@ -72,7 +72,7 @@ both P (x ∷ xs) ys p q = (p.0, both P xs ys p.1 q)
 module _ (t : Telling) where
   -- ---- steps
 
-  pub quiet_told : (n : Neighbor) → OfOwed t n → OfStep t (quiet n)
+  pub quiet_told : (n : Neighbor) → OfOwed t n → OfStep t (no_sends n)
   quiet_told n h = record { neighbor = h; sends = tt }
 
   then_told : (s : Step) (next : Neighbor → Step) → OfStep t s → ((n : Neighbor) → OfOwed t n → OfStep t (next n)) → OfStep t (then_ s next)
@@ -82,30 +82,30 @@ module _ (t : Telling) where
 
   -- ---- attempts and Hellos
 
-  restart_told : (moment : ℕ) (n : Neighbor) → OfStep t (restart moment n)
+  restart_told : (moment : ℕ) (n : Neighbor) → OfStep t (enter_exstart moment n)
   restart_told moment n = record { neighbor = none_in (OfListed t); sends = (tt, tt) }
 
   pub mismatched_told : (moment : ℕ) (n : Neighbor) → OfOwed t n → OfStep t (mismatched moment n)
-  mismatched_told moment n h = chosen (OfStep t) (takes_part n.state) (restart moment n) (quiet n) (λ e. restart_told moment n) (λ e. quiet_told n h)
+  mismatched_told moment n h = chosen (OfStep t) (is_exchange_or_later n.state) (enter_exstart moment n) (no_sends n) (λ e. restart_told moment n) (λ e. quiet_told n h)
 
-  named_in_told : (s : State) (moment : ℕ) (n : Neighbor) → OfOwed t n → OfStep t (named_in s moment n)
+  named_in_told : (s : State) (moment : ℕ) (n : Neighbor) → OfOwed t n → OfStep t (two_way_received_in s moment n)
   named_in_told Init moment n h = restart_told moment n
   named_in_told ExStart moment n h = quiet_told n h
   named_in_told Exchange moment n h = quiet_told n h
   named_in_told Loading moment n h = quiet_told n h
   named_in_told Full moment n h = quiet_told n h
 
-  pub named_told : OfTwoWay t named
+  pub named_told : OfTwoWay t two_way_received
   named_told moment n h = named_in_told n.state moment n h
 
-  heard_told : (from moment : ℕ) (o : Option Neighbor) → OfOwedIfAny t o → OfOwed t (heard_by from moment o)
+  heard_told : (from moment : ℕ) (o : Option Neighbor) → OfOwedIfAny t o → OfOwed t (with_hello_heard from moment o)
   heard_told from moment None h = none_in (OfListed t)
   heard_told from moment (Some n) h = h
 
   pub hello_told : (two_way : ℕ → Neighbor → Step) → OfTwoWay t two_way → (moment from : ℕ) (names : Bool) (o : Option Neighbor) → OfOwedIfAny t o
       → OfStep t (after_hello two_way moment from names o)
-  hello_told two_way each moment from true o h = each moment (heard_by from moment o) (heard_told from moment o h)
-  hello_told two_way each moment from false o h = quiet_told (not_named (heard_by from moment o)) (none_in (OfListed t))
+  hello_told two_way each moment from true o h = each moment (with_hello_heard from moment o) (heard_told from moment o h)
+  hello_told two_way each moment from false o h = quiet_told (one_way_received (with_hello_heard from moment o)) (none_in (OfListed t))
 
   -- ---- Descriptions
 
@@ -122,7 +122,7 @@ module _ (t : Telling) where
   master_told : (moment : ℕ) (d : Description) (n : Neighbor) → OfOwed t n → OfStep t (master_goes_on moment d n)
   master_told moment d n h =
       let next : Neighbor = record n { sequence = (n.sequence + 1) % 2 ^ 32 } in
-      chosen (OfStep t) (announced_more n.described || d.more) (describe moment next) (quiet (exchange_done moment n))
+      chosen (OfStep t) (announced_more n.described || d.more) (describe moment next) (no_sends (exchange_done moment n))
       (λ e. describe_told moment next h) (λ e. quiet_told (exchange_done moment n) h)
 
   slave_told : (moment : ℕ) (d : Description) (n : Neighbor) → OfOwed t n → OfStep t (slave_replies moment d n)
@@ -134,7 +134,7 @@ module _ (t : Telling) where
 
   accept_told : (moment : ℕ) (db : Database) (d : Description) (n : Neighbor) → OfOwed t n → OfStep t (accept moment db d n)
   accept_told moment db d n h =
-      let m : Neighbor = with_requests moment db d.headers (record n { received = Some (mark_of d) }) in
+      let m : Neighbor = with_requests moment db d.headers (record n { received = Some (as_received d) }) in
       chosen (OfStep t) (knows_types d) (cond m.is_master (master_goes_on moment d m) (slave_replies moment d m)) (mismatched moment n)
       (λ e. chosen (OfStep t) m.is_master (master_goes_on moment d m) (slave_replies moment d m) (λ e. master_told moment d m h) (λ e. slave_told moment d m h))
       (λ e. mismatched_told moment n h)
@@ -183,33 +183,33 @@ module _ (t : Telling) where
     pub description_told : (own moment : ℕ) (db : Database) (d : Description) → OfCopies t db → (n : Neighbor) → OfOwed t n
         → OfStep t (after_description two_way own moment db d n)
     description_told own moment db d copies n h =
-        chosen (OfStep t) (nat_lt 8192 d.mtu) (quiet n) (in_state two_way n.state own moment db d n) (λ e. quiet_told n h)
+        chosen (OfStep t) (nat_lt 8192 d.mtu) (no_sends n) (in_state two_way n.state own moment db d n) (λ e. quiet_told n h)
         (λ e. in_state_told n.state own moment db d n copies h)
 
   -- ---- Loading and Requests
 
-  filled_in_told : (s : State) (n : Neighbor) → OfOwed t n → OfOwed t (filled_in s n)
+  filled_in_told : (s : State) (n : Neighbor) → OfOwed t n → OfOwed t (loading_done_in s n)
   filled_in_told Init n h = h
   filled_in_told ExStart n h = h
   filled_in_told Exchange n h = h
   filled_in_told Loading n h = chosen (OfOwed t) (requests_nothing n) (record n { state = Full }) n (λ e. h) (λ e. h)
   filled_in_told Full n h = h
 
-  pub filled_told : (n : Neighbor) → OfOwed t n → OfOwed t (filled n)
+  pub filled_told : (n : Neighbor) → OfOwed t n → OfOwed t (loading_done n)
   filled_told n h = filled_in_told n.state n h
 
   pub request_told : (moment : ℕ) (n : Neighbor) → OfOwed t n → OfStep t (request_next moment n)
   request_told moment n h =
       chosen (OfStep t) (may_request n)
-      (record { neighbor = record n { outstanding = set.from_list (next_request n); requested_at = moment }; sends = Requests (next_request n) ∷ [] }) (quiet n)
+      (record { neighbor = record n { outstanding = set.from_list (next_request n); requested_at = moment }; sends = Requests (next_request n) ∷ [] }) (no_sends n)
       (λ e. record { neighbor = h; sends = (tt, tt) }) (λ e. quiet_told n h)
 
   -- ---- retransmissions
 
-  pub released_told : (key : Key) (n : Neighbor) → OfOwed t n → OfOwed t (released key n)
+  pub released_told : (key : Key) (n : Neighbor) → OfOwed t n → OfOwed t (remove_retransmission key n)
   released_told key n h = removed_in (OfListed t) n.retransmissions key h
 
-  pub owed_told : (moment : ℕ) (x : Header) (n : Neighbor) → t.of_header x → OfOwed t n → OfOwed t (owed moment x n)
+  pub owed_told : (moment : ℕ) (x : Header) (n : Neighbor) → t.of_header x → OfOwed t n → OfOwed t (add_retransmission moment x n)
   owed_told moment x n so h =
       inserted_in (OfListed t) (finite.remove n.retransmissions (key_of x)) (key_of x) (record { header = x; at = moment })
       (removed_in (OfListed t) n.retransmissions (key_of x) h) so
@@ -218,7 +218,7 @@ module _ (t : Telling) where
   acknowledgment_told moment [] n h = h
   acknowledgment_told moment (x ∷ hs) n h =
       acknowledgment_told moment hs (acknowledged moment n x)
-      (chosen (OfOwed t) (is_entry moment x (finite.get n.retransmissions (key_of x))) (released (key_of x) n) n (λ e. released_told (key_of x) n h) (λ e. h))
+      (chosen (OfOwed t) (is_entry moment x (finite.get n.retransmissions (key_of x))) (remove_retransmission (key_of x) n) n (λ e. released_told (key_of x) n h) (λ e. h))
 
   -- ---- copies
 
@@ -251,21 +251,21 @@ module _ (t : Telling) where
 
   describe_again_told : (moment interval : ℕ) (n : Neighbor) → OfOwed t n → OfStep t (describe_again moment interval n)
   describe_again_told moment interval n h =
-      chosen (OfStep t) (repeats_description n.state n.is_master && has_passed n.described_at interval moment) (repeat moment n) (quiet n)
+      chosen (OfStep t) (repeats_description n.state n.is_master && has_passed n.described_at interval moment) (repeat moment n) (no_sends n)
       (λ e. repeat_told moment n h) (λ e. quiet_told n h)
 
   request_again_told : (moment interval : ℕ) (n : Neighbor) → OfOwed t n → OfStep t (request_again moment interval n)
   request_again_told moment interval n h =
       chosen (OfStep t) (not (set.len n.outstanding == 0) && has_passed n.requested_at interval moment)
-      (record { neighbor = record n { requested_at = moment }; sends = Requests (still_outstanding n) ∷ [] }) (quiet n)
+      (record { neighbor = record n { requested_at = moment }; sends = Requests (still_outstanding n) ∷ [] }) (no_sends n)
       (λ e. record { neighbor = h; sends = (tt, tt) }) (λ e. quiet_told n h)
 
   update_again_told : (moment interval : ℕ) (db : Database) (n : Neighbor) → OfCopies t db → OfOwed t n → OfStep t (update_again moment interval db n)
   update_again_told moment interval db n copies h =
       let lsas : AllByRecursion t.of_lsa (next_retransmissions moment db n) =
-      first_told 28 (owed_lsas moment db n) (copies_told moment db copies (finite.keys n.retransmissions)) in
+      first_told 28 (retransmission_lsas moment db n) (copies_told moment db copies (finite.keys n.retransmissions)) in
       chosen (OfStep t) (not (finite.len n.retransmissions == 0) && has_passed n.retransmitted_at interval moment)
-      (record { neighbor = record n { retransmitted_at = moment }; sends = map Updates (next_retransmissions moment db n) }) (quiet n)
+      (record { neighbor = record n { retransmitted_at = moment }; sends = map Updates (next_retransmissions moment db n) }) (no_sends n)
       (λ e. record { neighbor = h; sends = updates_told (next_retransmissions moment db n) lsas }) (λ e. quiet_told n h)
 
   pub again_told : (moment interval : ℕ) (db : Database) (n : Neighbor) → OfCopies t db → OfOwed t n → OfStep t (send_again moment interval db n)
@@ -276,9 +276,9 @@ module _ (t : Telling) where
 
   -- ---- times that run out
 
-  pub still_heard_told : (moment dead : ℕ) (o : Option Neighbor) → OfOwedIfAny t o → OfOwedIfAny t (still_heard moment dead o)
+  pub still_heard_told : (moment dead : ℕ) (o : Option Neighbor) → OfOwedIfAny t o → OfOwedIfAny t (after_inactivity_timer moment dead o)
   still_heard_told moment dead None h = tt
-  still_heard_told moment dead (Some n) h = chosen (OfOwedIfAny t) (has_passed n.heard dead moment) None (Some n) (λ e. tt) (λ e. h)
+  still_heard_told moment dead (Some n) h = chosen (OfOwedIfAny t) (has_passed n.last_heard dead moment) None (Some n) (λ e. tt) (λ e. h)
 
   pub old_description_told : (moment dead : ℕ) (n : Neighbor) → OfOwed t n → OfOwed t (without_old_description moment dead n)
   old_description_told moment dead n h = chosen (OfOwed t) (is_over_for moment dead n.exchanged) (record n { described = None }) n (λ e. h) (λ e. h)

@@ -4,7 +4,7 @@ use Rattle.std.specs.Prelude.{pos}
 use Rattle.std.specs.Ordering.{int_cmp, is_eq}
 use Rattle.events.specs.declared.model.CoreError.TheVariants as error
 use Rattle.events.specs.Commands.{after_withdraw, end_want, is_for}
-use Rattle.events.specs.Endings.{finished}
+use Rattle.events.specs.Endings.{end_event}
 use Rattle.events.specs.Packing.{outs_of}
 use Rattle.events.proofs.Sends.{no_outs_from}
 use Rattle.conversations.proofs.WorkedEnds.{begins, ends}
@@ -13,7 +13,7 @@ use Rattle.events.specs.Originations.{external_key, flush, has_max_sequence, may
 use Rattle.events.specs.Refusals.{is_taken, of_event}
 use Rattle.events.specs.Routers.{Occurrence}
 use Rattle.conversations.specs.Worked.{WorkedEvents, destination, ten}
-use Rattle.events.specs.Progress.{on_router}
+use Rattle.events.specs.EventState.{on_router}
 
 pub worked : WorkedEvents
 worked = record {
@@ -27,7 +27,7 @@ worked = record {
       ∙ ap (after_withdraw moment prefix) (begins moment old rest.nothing_ages)
       ∙ ap (λ o. cond (is_for prefix o) (end_want moment (external_key old.id prefix) (start old)) (start old)) none in
       event.sent
-      ∙ ap (λ q. outs_of old.id old.area.links q.sends) (ap (finished old moment) own ∙ ends old moment (start old) refl rest.nobody)
+      ∙ ap (λ q. outs_of old.id old.area.links q.sends) (ap (end_event old moment) own ∙ ends old moment (start old) refl rest.nobody)
       ∙ no_outs_from old.id 1 old.area.links;
   vetoed = λ answers p. refl;
   withheld = λ moment tag e p. refl;

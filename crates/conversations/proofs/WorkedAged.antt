@@ -6,20 +6,20 @@ use Rattle.std.proofs.lemmas.List.Elements.{Contains-append_left, Contains-appen
 use Rattle.lsdb.specs.Copies.{install_flooded}
 use Rattle.lsdb.specs.Headers.{Header, Lsa, lsa_aged, lsa_key}
 use Rattle.lsdb.specs.Order.{is_max_age}
-use Rattle.adjacency.specs.Contents.{Content, Step, quiet}
-use Rattle.adjacency.specs.Neighbors.{Neighbor, is_synchronizing, takes_part}
-use Rattle.adjacency.specs.Retransmissions.{owed, released}
+use Rattle.adjacency.specs.Contents.{Content, Step, no_sends}
+use Rattle.adjacency.specs.Neighbors.{Neighbor, is_exchange_or_loading, is_exchange_or_later}
+use Rattle.adjacency.specs.Retransmissions.{add_retransmission, remove_retransmission}
 use Rattle.received.specs.Cases.{Case, case_of_readable}
 use Rattle.received.specs.Flooding.{flood_to, gets, passes, request_of, without_met_request}
-use Rattle.received.specs.Links.{Area, Link, acknowledge_later, anybody_owes, anybody_synchronizes, change_link, link_at, neighbor_at, neighbor_on, synchronizes}
+use Rattle.received.specs.Links.{Area, Link, acknowledge_later, any_has_retransmission, any_exchange_or_loading, change_link, link_at, neighbor_at, neighbor_on, neighbor_is_exchange_or_loading}
 use Rattle.received.specs.Outcomes.{Send, numbered, sent_on, step_on, stepped, stepping_sends}
 use Rattle.received.specs.Updates.{case_at, install}
 use Rattle.received.proofs.Flooded.{replaces_older}
-use Rattle.events.specs.Endings.{finished, stays_as}
-use Rattle.events.specs.Originations.{is_wanted, settle_wanted, wanted_body}
+use Rattle.events.specs.Endings.{end_event, stays_as}
+use Rattle.events.specs.Originations.{is_wanted, originate_or_flush, wanted_body}
 use Rattle.events.specs.Packets.{after_lsa}
 use Rattle.events.specs.Packing.{outs_of}
-use Rattle.events.specs.Progress.{Progress, on_area}
+use Rattle.events.specs.EventState.{EventState, on_area}
 use Rattle.events.specs.Routers.{Router}
 use Rattle.conversations.specs.WorkedAged.{AnAgedLsaComes, IsLoadingWithout, IsOwedTo}
 use Rattle.conversations.specs.WorkedUpdates.{HasBrought, WaitsAt, acknowledges_at_once}
@@ -30,7 +30,7 @@ use Rattle.conversations.proofs.WorkedUpdates.{IsStill, brought, inserted, mark_
 -- ---- which case it is
 
 -- nobody is in Exchange or Loading
-nothing_to_flush : (moment number : ℕ) (lsa : Lsa) (a : Area) → finite.get a.database (lsa_key lsa) ≡ None → lsa.header.age ≡ 3600 → anybody_synchronizes a.links ≡ false
+nothing_to_flush : (moment number : ℕ) (lsa : Lsa) (a : Area) → finite.get a.database (lsa_key lsa) ≡ None → lsa.header.age ≡ 3600 → any_exchange_or_loading a.links ≡ false
     → case_at moment number lsa a ≡ Case.NothingToFlush
 nothing_to_flush moment number lsa a none aged nobody =
     let sender : Option Neighbor = neighbor_at number a.links in
@@ -41,7 +41,7 @@ is_installed true = refl
 is_installed false = refl
 
 -- somebody is
-newer : (moment number : ℕ) (lsa : Lsa) (a : Area) → finite.get a.database (lsa_key lsa) ≡ None → anybody_synchronizes a.links ≡ true → case_at moment number lsa a ≡ Case.Newer
+newer : (moment number : ℕ) (lsa : Lsa) (a : Area) → finite.get a.database (lsa_key lsa) ≡ None → any_exchange_or_loading a.links ≡ true → case_at moment number lsa a ≡ Case.Newer
 newer moment number lsa a none busy = (λ i. case_of_readable moment (none i) (neighbor_at number a.links) (busy i) lsa) ∙ is_installed (is_max_age lsa.header.age)
 
 -- ---- one of the links
@@ -53,14 +53,14 @@ or_true : (b : Bool) → (b || true) ≡ true
 or_true true = refl
 or_true false = refl
 
-busy_at : (i : ℕ) (xs : List Link) (x : Link) → slice_get xs i ≡ Some x → synchronizes x.neighbor ≡ true → anybody_synchronizes xs ≡ true
+busy_at : (i : ℕ) (xs : List Link) (x : Link) → slice_get xs i ≡ Some x → neighbor_is_exchange_or_loading x.neighbor ≡ true → any_exchange_or_loading xs ≡ true
 busy_at i [] x e is = nothing_there e
 busy_at zero (y ∷ xs) x e is =
     let same : y ≡ x = cc in
-    (λ j. synchronizes (same j).neighbor || anybody_synchronizes xs) ∙ (λ j. is j || anybody_synchronizes xs)
-busy_at (suc i) (y ∷ xs) x e is = ap (λ b. synchronizes y.neighbor || b) (busy_at i xs x e is) ∙ or_true (synchronizes y.neighbor)
+    (λ j. neighbor_is_exchange_or_loading (same j).neighbor || any_exchange_or_loading xs) ∙ (λ j. is j || any_exchange_or_loading xs)
+busy_at (suc i) (y ∷ xs) x e is = ap (λ b. neighbor_is_exchange_or_loading y.neighbor || b) (busy_at i xs x e is) ∙ or_true (neighbor_is_exchange_or_loading y.neighbor)
 
-busy_on : (number : ℕ) (xs : List Link) (x : Link) → link_at number xs ≡ Some x → synchronizes x.neighbor ≡ true → anybody_synchronizes xs ≡ true
+busy_on : (number : ℕ) (xs : List Link) (x : Link) → link_at number xs ≡ Some x → neighbor_is_exchange_or_loading x.neighbor ≡ true → any_exchange_or_loading xs ≡ true
 busy_on zero xs x e is = nothing_there e
 busy_on (suc i) xs x e is = busy_at i xs x e is
 
@@ -88,16 +88,16 @@ alone s = let first : 0 < 1 = omega arith in (0, first, refl)
 
 module _ (moment number other : ℕ) (lsa : Lsa) (another : Link) (m : Neighbor) (r : Router) (there : IsLoadingWithout r other another m lsa) (apart : (number == other) ≡ false) where
   asked_not : request_of m lsa ≡ None
-  asked_not = λ i. cond (is_synchronizing (there.is_loading i)) (there.not_asked i) None
+  asked_not = λ i. cond (is_exchange_or_loading (there.is_loading i)) (there.not_asked i) None
 
   gets_it : gets moment (Some number) other lsa m ≡ true
   gets_it = λ i. not (apart i) && passes moment lsa (asked_not i)
 
   sends_it : (flood_to moment (Some number) lsa other another m).sends ≡ Content.Updates lsa ∷ []
   sends_it =
-      let got_it : Step = record { neighbor = owed moment lsa.header (without_met_request moment lsa m); sends = Content.Updates lsa ∷ [] } in
-      let not_got : Step = quiet (released (lsa_key lsa) (without_met_request moment lsa m)) in
-      λ i. (cond (takes_part (there.is_loading i)) (cond (gets_it i) got_it not_got) (quiet m)).sends
+      let got_it : Step = record { neighbor = add_retransmission moment lsa.header (without_met_request moment lsa m); sends = Content.Updates lsa ∷ [] } in
+      let not_got : Step = no_sends (remove_retransmission (lsa_key lsa) (without_met_request moment lsa m)) in
+      λ i. (cond (is_exchange_or_later (there.is_loading i)) (cond (gets_it i) got_it not_got) (no_sends m)).sends
 
   is_sent : Contains (stepping_sends (flood_to moment (Some number) lsa) r.area.links) (record { number = other; content = Content.Updates lsa })
   is_sent =
@@ -112,8 +112,8 @@ module _ (moment number other : ℕ) (lsa : Lsa) (another : Link) (m : Neighbor)
   neighbor_of true h l = refl
   neighbor_of false h l = refl
 
-  is_owed : IsOwedTo (record r { area = (install moment number lsa (record { area = r.area; sends = [] })).area }) moment other lsa
-  is_owed =
+  is_on_some_list : IsOwedTo (record r { area = (install moment number lsa (record { area = r.area; sends = [] })).area }) moment other lsa
+  is_on_some_list =
       let f = flood_to moment (Some number) lsa in
       let stepped_link : Link = record another { neighbor = step_on (f other another) another.neighbor } in
       let one : link_at other (stepped f r.area.links) ≡ Some stepped_link =
@@ -122,7 +122,7 @@ module _ (moment number other : ℕ) (lsa : Lsa) (another : Link) (m : Neighbor)
       link_changed (λ (e : ℕ × Link). cond (e.0 == number) (acknowledge_later lsa.header e.1) e.1) other (stepped f r.area.links) stepped_link one in (
         (f other another m).neighbor,
         ap neighbor_on two ∙ neighbor_of (other == number) lsa.header stepped_link ∙ ap (step_on (f other another)) there.neighbor_there,
-        replaces_older moment (Some number) lsa other another m (ap takes_part there.is_loading) ∙ ap (λ b. cond b (Some (record { header = lsa.header; at = moment })) None) gets_it,
+        replaces_older moment (Some number) lsa other another m (ap is_exchange_or_later there.is_loading) ∙ ap (λ b. cond b (Some (record { header = lsa.header; at = moment })) None) gets_it,
       )
 
 -- ---- the two events
@@ -130,28 +130,28 @@ module _ (moment number other : ℕ) (lsa : Lsa) (another : Link) (m : Neighbor)
 pub aged_lsa_comes : AnAgedLsaComes
 aged_lsa_comes = record {
   all_full = λ old new moment number bytes lsa link n outs rest from text none aged event.
-      let said : Progress = record { router = old; sends = acknowledges_at_once number lsa } in
+      let said : EventState = record { router = old; sends = acknowledges_at_once number lsa } in
       let own : event.after ≡ said =
-      own_part old moment number bytes lsa n event.after rest.nothing_ages (ap neighbor_on from.link_there ∙ from.neighbor_there) from.is_other (ap takes_part from.is_full) text event.own
+      own_part old moment number bytes lsa n event.after rest.nothing_ages (ap neighbor_on from.link_there ∙ from.neighbor_there) from.is_other (ap is_exchange_or_later from.is_full) text event.own
       ∙ ap (λ c. after_lsa c moment number lsa (start old)) (nothing_to_flush moment number lsa old.area none aged rest.nobody) in
-      let end : finished old moment event.after ≡ ended moment said = ap (finished old moment) own ∙ ends old moment said refl rest.nobody in
-      let is : new ≡ (ended moment said).router = event.router ∙ ap (λ (q : Progress). q.router) end in (
-        event.sent ∙ ap (λ (q : Progress). outs_of old.id old.area.links q.sends) end,
+      let end : end_event old moment event.after ≡ ended moment said = ap (end_event old moment) own ∙ ends old moment said refl rest.nobody in
+      let is : new ≡ (ended moment said).router = event.router ∙ ap (λ (q : EventState). q.router) end in (
+        event.sent ∙ ap (λ (q : EventState). outs_of old.id old.area.links q.sends) end,
         ap (λ (r : Router). finite.get r.area.database (lsa_key lsa)) is
             ∙ got moment (record { area = old.area; sends = said.sends }) (lsa_key lsa)
-            ∙ ap (λ c. cond (stays_as moment (anybody_owes (lsa_key lsa) old.area.links) c) c None) none,
+            ∙ ap (λ c. cond (stays_as moment (any_has_retransmission (lsa_key lsa) old.area.links) c) c None) none,
         ap (λ (r : Router). r.area.links) is,
       );
   one_loading = λ old new moment number other bytes lsa link n another m outs nothing_ages from text there apart none foreign event.
-      let p : Progress = on_area (install moment number lsa) (start old) in
-      let busy : anybody_synchronizes old.area.links ≡ true = busy_on other old.area.links another there.link_there (ap synchronizes there.neighbor_there ∙ ap is_synchronizing there.is_loading) in
+      let p : EventState = on_area (install moment number lsa) (start old) in
+      let busy : any_exchange_or_loading old.area.links ≡ true = busy_on other old.area.links another there.link_there (ap neighbor_is_exchange_or_loading there.neighbor_there ∙ ap is_exchange_or_loading there.is_loading) in
       let own : p ≡ event.after =
-      sym (own_part old moment number bytes lsa n event.after nothing_ages (ap neighbor_on from.link_there ∙ from.neighbor_there) from.is_other (ap takes_part from.is_full) text event.own
+      sym (own_part old moment number bytes lsa n event.after nothing_ages (ap neighbor_on from.link_there ∙ from.neighbor_there) from.is_other (ap is_exchange_or_later from.is_full) text event.own
       ∙ ap (λ c. after_lsa c moment number lsa (start old)) (newer moment number lsa old.area none busy)
-      ∙ ap (λ b. cond b (settle_wanted (is_wanted (wanted_body p.router (lsa_key lsa))) moment (lsa_key lsa) p) p) foreign) in
+      ∙ ap (λ b. cond b (originate_or_flush (is_wanted (wanted_body p.router (lsa_key lsa))) moment (lsa_key lsa) p) p) foreign) in
       let still : IsStill p.router.area.database (lsa_key lsa) (brought lsa moment None) =
       mark_all moment (stepping_sends (flood_to moment (Some number) lsa) old.area.links) (lsa_key lsa) (brought lsa moment None) (install_flooded moment lsa old.area.database)
       (inserted old.area.database (lsa_key lsa) (brought lsa moment None)) in
-      subst (λ (q : Progress). HasBrought q.router moment lsa × WaitsAt q.router number lsa × IsOwedTo q.router moment other lsa × Contains q.sends (record { number = other; content = Content.Updates lsa })) own
-      (still, (sender_after lsa link n, sender_there old moment number lsa link n from, inserted link.acknowledgments (lsa_key lsa) lsa.header), is_owed moment number other lsa another m old there apart, is_sent moment number other lsa another m old there apart);
+      subst (λ (q : EventState). HasBrought q.router moment lsa × WaitsAt q.router number lsa × IsOwedTo q.router moment other lsa × Contains q.sends (record { number = other; content = Content.Updates lsa })) own
+      (still, (sender_after lsa link n, sender_there old moment number lsa link n from, inserted link.acknowledgments (lsa_key lsa) lsa.header), is_on_some_list moment number other lsa another m old there apart, is_sent moment number other lsa another m old there apart);
 }

@@ -2,12 +2,12 @@
 use Rattle.std.proofs.Common.{◌≡◌, ℕ, cond, not, ◌||◌, List, [], None, Some, refl, ap, ◌∙◌}
 use Rattle.std.specs.FinMap as finite
 use Rattle.words.specs.declared.route.Route.{Route}
-use Rattle.received.specs.Links.{anybody_owes}
+use Rattle.received.specs.Links.{any_has_retransmission}
 use Rattle.received.specs.Outcomes.{Outcome, Send}
 use Rattle.events.specs.Commands.{after_install}
-use Rattle.events.specs.Endings.{finished, stays_as}
+use Rattle.events.specs.Endings.{end_event, stays_as}
 use Rattle.events.specs.Packing.{outs_of}
-use Rattle.events.specs.Progress.{Progress}
+use Rattle.events.specs.EventState.{EventState}
 use Rattle.events.specs.Routers.{Router}
 use Rattle.conversations.specs.WorkedAnswers.{AnswersChangeNoDatabase, KeepsTheYoung}
 use Rattle.events.proofs.Sends.{no_outs_from}
@@ -23,23 +23,23 @@ kept r moment sends answers =
     record {
       young = λ key c there young.
           got moment o key
-          ∙ ap (λ x. cond (stays_as moment (anybody_owes key r.area.links) x) x None) there
-          ∙ ap (λ b. cond (not b || anybody_owes key r.area.links) (Some c) None) young;
+          ∙ ap (λ x. cond (stays_as moment (any_has_retransmission key r.area.links) x) x None) there
+          ∙ ap (λ b. cond (not b || any_has_retransmission key r.area.links) (Some c) None) young;
       none = λ key none.
           got moment o key
-          ∙ ap (λ x. cond (stays_as moment (anybody_owes key r.area.links) x) x None) none;
+          ∙ ap (λ x. cond (stays_as moment (any_has_retransmission key r.area.links) x) x None) none;
     }
 
 -- ---- answers
 
 pub answers_change_no_database : AnswersChangeNoDatabase
 answers_change_no_database old new moment answers outs rest event =
-    let said : Progress = after_install answers (start old) in
+    let said : EventState = after_install answers (start old) in
     let own : event.after ≡ said = event.own ∙ ap (after_install answers) (begins moment old rest.nothing_ages) in
-    let end : finished old moment event.after ≡ ended moment said = ap (finished old moment) own ∙ ends old moment said refl rest.nobody in
-    let router : new ≡ (ended moment said).router = event.router ∙ ap (λ (q : Progress). q.router) end in
+    let end : end_event old moment event.after ≡ ended moment said = ap (end_event old moment) own ∙ ends old moment said refl rest.nobody in
+    let router : new ≡ (ended moment said).router = event.router ∙ ap (λ (q : EventState). q.router) end in
     let keeps : KeepsTheYoung old moment (ended moment said).router = kept old moment [] answers in (
-      event.sent ∙ ap (λ (q : Progress). outs_of old.id old.area.links q.sends) end ∙ no_outs_from old.id 1 old.area.links,
+      event.sent ∙ ap (λ (q : EventState). outs_of old.id old.area.links q.sends) end ∙ no_outs_from old.id 1 old.area.links,
       ap (λ (r : Router). r.answers) router,
       ap (λ (r : Router). r.area.links) router,
       record {

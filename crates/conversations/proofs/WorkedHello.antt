@@ -9,15 +9,15 @@ use Rattle.packet.specs.declared.model.Body.TheVariants as body
 use Rattle.packet.specs.declared.model.Packet.{Packet}
 use Rattle.packet.proofs.Whole.{one_packet}
 use Rattle.adjacency.specs.Adjacencies as adjacencies
-use Rattle.adjacency.specs.Adjacencies.{named, opening, restart}
+use Rattle.adjacency.specs.Adjacencies.{named, initial_description, enter_exstart}
 use Rattle.adjacency.specs.Contents.{Content}
-use Rattle.adjacency.specs.Neighbors.{Neighbor, fresh, is_full, is_synchronizing}
-use Rattle.received.specs.Links.{Link, anybody_synchronizes, change_link, link_at, neighbor_at, neighbor_on, synchronizes}
-use Rattle.events.specs.Endings.{begun, finished}
+use Rattle.adjacency.specs.Neighbors.{Neighbor, fresh, is_full, is_exchange_or_loading}
+use Rattle.received.specs.Links.{Link, any_exchange_or_loading, change_link, link_at, neighbor_at, neighbor_on, neighbor_is_exchange_or_loading}
+use Rattle.events.specs.Endings.{start_event, end_event}
 use Rattle.events.specs.Originations.{links_of, point_to_point, router_body, stub}
 use Rattle.events.specs.Packets.{after_hello, after_packet, hear, heard_on, is_from, with_neighbor}
 use Rattle.events.specs.Packing.{outs_of}
-use Rattle.events.specs.Progress.{Progress, on_area}
+use Rattle.events.specs.EventState.{EventState, on_area}
 use Rattle.events.specs.Routers.{shown, shown_at}
 use Rattle.conversations.specs.WorkedHello.{ANeighborIsHeard}
 use Rattle.conversations.proofs.WorkedEnds.{begins, ended, ends_by}
@@ -25,7 +25,7 @@ use Rattle.conversations.proofs.WorkedLinks.{link_changed}
 use Rattle.conversations.proofs.WorkedUpdates.{itself, start}
 
 -- a neighbor that is neither Full nor in Exchange or Loading comes to a link where nobody was
-module _ (number : ℕ) (n : Neighbor) (not_full : is_full n.state ≡ false) (not_busy : is_synchronizing n.state ≡ false) where
+module _ (number : ℕ) (n : Neighbor) (not_full : is_full n.state ≡ false) (not_busy : is_exchange_or_loading n.state ≡ false) where
   abbrev changed : (ℕ × Link) → Link
   changed e = cond (e.0 == number) (with_neighbor n e.1) e.1
 
@@ -51,15 +51,15 @@ module _ (number : ℕ) (n : Neighbor) (not_full : is_full n.state ≡ false) (n
       ap (λ b. cond b told [] ++ stub x.interface ∷ []) not_full ∙ ap (λ o. point_to_point x.interface o ++ stub x.interface ∷ []) (sym (none refl))
   same_links false x none = refl
 
-  same_busy : (b : Bool) (x : Link) → (b ≡ true → x.neighbor ≡ None) → synchronizes (cond b (with_neighbor n x) x).neighbor ≡ synchronizes x.neighbor
-  same_busy true x none = not_busy ∙ ap synchronizes (sym (none refl))
+  same_busy : (b : Bool) (x : Link) → (b ≡ true → x.neighbor ≡ None) → neighbor_is_exchange_or_loading (cond b (with_neighbor n x) x).neighbor ≡ neighbor_is_exchange_or_loading x.neighbor
+  same_busy true x none = not_busy ∙ ap neighbor_is_exchange_or_loading (sym (none refl))
   same_busy false x none = refl
 
   all_links : (k : ℕ) (xs : List Link) → IsFree k xs → flat_map links_of (map changed (enumerate_from k xs)) ≡ flat_map links_of xs
   all_links k [] free = refl
   all_links k (x ∷ xs) free = λ i. same_links (k == number) x (free_here k x xs free) i ++ all_links (k + 1) xs (free_on k x xs free) i
 
-  all_busy : (k : ℕ) (xs : List Link) → IsFree k xs → anybody_synchronizes (map changed (enumerate_from k xs)) ≡ anybody_synchronizes xs
+  all_busy : (k : ℕ) (xs : List Link) → IsFree k xs → any_exchange_or_loading (map changed (enumerate_from k xs)) ≡ any_exchange_or_loading xs
   all_busy k [] free = refl
   all_busy k (x ∷ xs) free = λ i. same_busy (k == number) x (free_here k x xs free) i || all_busy (k + 1) xs (free_on k x xs free) i
 
@@ -72,20 +72,20 @@ module _ (number : ℕ) (n : Neighbor) (not_full : is_full n.state ≡ false) (n
       ap neighbor_on same ∙ none
 
 abbrev opener : ℕ → ℕ → Neighbor
-opener moment from = (restart moment (fresh from None moment)).neighbor
+opener moment from = (enter_exstart moment (fresh from None moment)).neighbor
 
 pub is_heard_of : ANeighborIsHeard
 is_heard_of old new number link moment from bytes h outs rest there none hello event =
     let packet : Packet = record { router = from; body = body.Hello h } in
     let n : Neighbor = opener moment from in
     let xs : List Link = change_link number (with_neighbor n) old.area.links in
-    let p : Progress = record {
+    let p : EventState = record {
       router = record old { area = record old.area { links = xs } };
-      sends = record { number = number; content = Content.Describes (opening (moment % 2 ^ 32)) } ∷ [];
+      sends = record { number = number; content = Content.Describes (initial_description (moment % 2 ^ 32)) } ∷ [];
     } in
     let own : event.after ≡ p =
     event.own.2
-    ∙ ap (λ q. after_packet named moment number q (begun moment old)) (one_packet bytes event.own.0 packet event.own.1 hello.is_text)
+    ∙ ap (λ q. after_packet named moment number q (start_event moment old)) (one_packet bytes event.own.0 packet event.own.1 hello.is_text)
     ∙ ap (after_packet named moment number packet) (begins moment old rest.nothing_ages)
     ∙ (λ i. cond (hello.is_other i && (true || is_from from (neighbor_at number old.area.links))) (on_area (after_hello named old.id moment number from h) (start old)) (start old))
     ∙ ap (λ o. on_area (heard_on named old.id moment number from h o) (start old)) there
@@ -94,10 +94,10 @@ is_heard_of old new number link moment from bytes h outs rest there none hello e
     let free : IsFree number n refl refl 1 old.area.links = free_from number n refl refl old.area.links link there none in
     let links : flat_map links_of old.area.links ≡ flat_map links_of xs = sym (all_links number n refl refl 1 old.area.links free) in
     let body_same : router_body old.area.links ≡ router_body xs = λ i. lsa.Router (record { flags = 2; links = links i }) in
-    let still : anybody_synchronizes xs ≡ false = all_busy number n refl refl 1 old.area.links free ∙ rest.nobody in
-    let end : finished old moment event.after ≡ ended moment p = ap (finished old moment) own ∙ ends_by old moment p body_same still in
+    let still : any_exchange_or_loading xs ≡ false = all_busy number n refl refl 1 old.area.links free ∙ rest.nobody in
+    let end : end_event old moment event.after ≡ ended moment p = ap (end_event old moment) own ∙ ends_by old moment p body_same still in
     let here : link_at number xs ≡ Some (cond (number == number) (with_neighbor n link) link) =
     link_changed (λ (e : ℕ × Link). cond (e.0 == number) (with_neighbor n e.1) e.1) number old.area.links link there in (
-      ap (λ s. shown_at s number) (event.router ∙ ap (λ (q : Progress). q.router) end) ∙ ap (λ o. shown (neighbor_on o)) here ∙ (λ i. shown (cond (itself number i) (with_neighbor n link) link).neighbor),
-      event.sent ∙ ap (λ (q : Progress). outs_of old.id old.area.links q.sends) end,
+      ap (λ s. shown_at s number) (event.router ∙ ap (λ (q : EventState). q.router) end) ∙ ap (λ o. shown (neighbor_on o)) here ∙ (λ i. shown (cond (itself number i) (with_neighbor n link) link).neighbor),
+      event.sent ∙ ap (λ (q : EventState). outs_of old.id old.area.links q.sends) end,
     )

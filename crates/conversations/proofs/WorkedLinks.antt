@@ -7,14 +7,14 @@ use Rattle.lsa.specs.declared.body.Link.{Link as RouterLink}
 use Rattle.lsa.specs.declared.body.LinkKind.TheVariants.{PointToPoint}
 use Rattle.lsdb.specs.Copies.{Database}
 use Rattle.lsdb.specs.Headers.{Header, Lsa, lsa_key}
-use Rattle.adjacency.specs.Contents.{Step, Updates, quiet}
-use Rattle.adjacency.specs.Neighbors.{Neighbor, is_full, is_synchronizing, takes_part}
+use Rattle.adjacency.specs.Contents.{Step, Updates, no_sends}
+use Rattle.adjacency.specs.Neighbors.{Neighbor, is_full, is_exchange_or_loading, is_exchange_or_later}
 use Rattle.adjacency.specs.Requests.{without_request}
-use Rattle.adjacency.specs.Retransmissions.{owed, released}
+use Rattle.adjacency.specs.Retransmissions.{add_retransmission, remove_retransmission}
 use Rattle.adjacency.specs.declared.interface.Interface.{Interface}
 use Rattle.adjacency.specs.declared.state.State.{State}
 use Rattle.received.specs.Flooding.{flood_to, gets, meets, request_of, without_met_request}
-use Rattle.received.specs.Links.{Link, acknowledge_later, anybody_synchronizes, change_link, link_at, synchronizes}
+use Rattle.received.specs.Links.{Link, acknowledge_later, any_exchange_or_loading, change_link, link_at, neighbor_is_exchange_or_loading}
 use Rattle.received.specs.Outcomes.{Outcome, Stepping, each_neighbor, marked, numbered, sent_on, step_on, stepped}
 use Rattle.events.specs.Originations.{links_of, point_to_point, router_body, stub}
 use Rattle.events.specs.Routers.{shown}
@@ -54,20 +54,20 @@ same_router xs ys e =
 
 abbrev pub is_busy_of : Option (ℕ × State) → Bool
 is_busy_of None = false
-is_busy_of (Some n) = is_synchronizing n.1
+is_busy_of (Some n) = is_exchange_or_loading n.1
 
 abbrev pub is_busy : Interface × Option (ℕ × State) → Bool
 is_busy x = is_busy_of x.1
 
-busy_on : (o : Option Neighbor) → synchronizes o ≡ is_busy_of (shown o)
+busy_on : (o : Option Neighbor) → neighbor_is_exchange_or_loading o ≡ is_busy_of (shown o)
 busy_on None = refl
 busy_on (Some n) = refl
 
-any_busy : (xs : List Link) → anybody_synchronizes xs ≡ list_any is_busy (map seen xs)
+any_busy : (xs : List Link) → any_exchange_or_loading xs ≡ list_any is_busy (map seen xs)
 any_busy [] = refl
 any_busy (x ∷ xs) = λ i. busy_on x.neighbor i || any_busy xs i
 
-pub same_rest : (xs ys : List Link) → map seen xs ≡ map seen ys → anybody_synchronizes xs ≡ anybody_synchronizes ys
+pub same_rest : (xs ys : List Link) → map seen xs ≡ map seen ys → any_exchange_or_loading xs ≡ any_exchange_or_loading ys
 same_rest xs ys e = any_busy xs ∙ ap (list_any is_busy) e ∙ sym (any_busy ys)
 
 -- ---- steps that leave everybody who they are
@@ -90,9 +90,9 @@ pub flooding_keeps : (moment : ℕ) (sender : Option ℕ) (lsa : Lsa) → Keeps 
 flooding_keeps moment sender lsa number link n =
     let m : Neighbor = without_met_request moment lsa n in
     let same : who m ≡ who n = chosen_who (meets moment lsa (request_of n lsa)) (without_request (lsa_key lsa) n) n (who n) refl refl in
-    let got : Step = record { neighbor = owed moment lsa.header m; sends = Updates lsa ∷ [] } in
-    let not_got : Step = quiet (released (lsa_key lsa) m) in
-    chosen_step (takes_part n.state) (cond (gets moment sender number lsa n) got not_got) (quiet n) (who n)
+    let got : Step = record { neighbor = add_retransmission moment lsa.header m; sends = Updates lsa ∷ [] } in
+    let not_got : Step = no_sends (remove_retransmission (lsa_key lsa) m) in
+    chosen_step (is_exchange_or_later n.state) (cond (gets moment sender number lsa n) got not_got) (no_sends n) (who n)
     (chosen_step (gets moment sender number lsa n) got not_got (who n) same same) refl
 
 shown_kept : (f : Neighbor → Step) (o : Option Neighbor) → ((n : Neighbor) → who (f n).neighbor ≡ who n) → shown (step_on f o) ≡ shown o
@@ -121,25 +121,25 @@ acknowledged_seen number h xs = changed_from number h 1 xs
 
 -- ---- steps that do nothing
 
-module _ (f : Neighbor → Step) (does_nothing : (n : Neighbor) → is_synchronizing n.state ≡ false → f n ≡ quiet n) where
-  step_rest : (o : Option Neighbor) → synchronizes o ≡ false → step_on f o ≡ o
+module _ (f : Neighbor → Step) (does_nothing : (n : Neighbor) → is_exchange_or_loading n.state ≡ false → f n ≡ no_sends n) where
+  step_rest : (o : Option Neighbor) → neighbor_is_exchange_or_loading o ≡ false → step_on f o ≡ o
   step_rest None e = refl
   step_rest (Some n) e = ap (λ (s : Step). Some s.neighbor) (does_nothing n e)
 
-  sent_rest : (o : Option Neighbor) → synchronizes o ≡ false → sent_on f o ≡ []
+  sent_rest : (o : Option Neighbor) → neighbor_is_exchange_or_loading o ≡ false → sent_on f o ≡ []
   sent_rest None e = refl
   sent_rest (Some n) e = ap (λ (s : Step). s.sends) (does_nothing n e)
 
-  stepped_rest : (k : ℕ) (xs : List Link) → anybody_synchronizes xs ≡ false → map (λ (e : ℕ × Link). record e.1 { neighbor = step_on f e.1.neighbor }) (enumerate_from k xs) ≡ xs
+  stepped_rest : (k : ℕ) (xs : List Link) → any_exchange_or_loading xs ≡ false → map (λ (e : ℕ × Link). record e.1 { neighbor = step_on f e.1.neighbor }) (enumerate_from k xs) ≡ xs
   stepped_rest k [] e = refl
   stepped_rest k (x ∷ xs) e =
-      λ i. record x { neighbor = step_rest x.neighbor (left_false _ _ e) i } ∷ stepped_rest (k + 1) xs (right_false (synchronizes x.neighbor) _ e) i
+      λ i. record x { neighbor = step_rest x.neighbor (left_false _ _ e) i } ∷ stepped_rest (k + 1) xs (right_false (neighbor_is_exchange_or_loading x.neighbor) _ e) i
 
-  sends_rest : (k : ℕ) (xs : List Link) → anybody_synchronizes xs ≡ false → flat_map (λ (e : ℕ × Link). numbered e.0 (sent_on f e.1.neighbor)) (enumerate_from k xs) ≡ []
+  sends_rest : (k : ℕ) (xs : List Link) → any_exchange_or_loading xs ≡ false → flat_map (λ (e : ℕ × Link). numbered e.0 (sent_on f e.1.neighbor)) (enumerate_from k xs) ≡ []
   sends_rest k [] e = refl
-  sends_rest k (x ∷ xs) e = λ i. numbered k (sent_rest x.neighbor (left_false _ _ e) i) ++ sends_rest (k + 1) xs (right_false (synchronizes x.neighbor) _ e) i
+  sends_rest k (x ∷ xs) e = λ i. numbered k (sent_rest x.neighbor (left_false _ _ e) i) ++ sends_rest (k + 1) xs (right_false (neighbor_is_exchange_or_loading x.neighbor) _ e) i
 
-  pub each_rest : (moment : ℕ) (o : Outcome) → anybody_synchronizes o.area.links ≡ false → each_neighbor moment (λ number link n. f n) o ≡ o
+  pub each_rest : (moment : ℕ) (o : Outcome) → any_exchange_or_loading o.area.links ≡ false → each_neighbor moment (λ number link n. f n) o ≡ o
   each_rest moment o e =
       (λ i. record {
         area = record {

@@ -9,23 +9,23 @@ use Rattle.lsa.specs.Origination.{sealed_lsa}
 use Rattle.lsa.specs.declared.body.Body.{Body}
 use Rattle.lsdb.specs.Copies.{Database, DatabaseCopy, install_flooded}
 use Rattle.lsdb.specs.Headers.{Lsa, lsa_key}
-use Rattle.lsdb.specs.Instances.{Listed}
+use Rattle.lsdb.specs.Instances.{ListEntry}
 use Rattle.lsdb.specs.Keys.{ByKey, KeySet, key_cmp}
 use Rattle.lsdb.proofs.Keys.{keys_total}
 use Rattle.adjacency.specs.Neighbors.{Neighbor}
 use Rattle.adjacency.specs.Requests.{requested, without_request}
-use Rattle.adjacency.specs.Retransmissions.{released}
+use Rattle.adjacency.specs.Retransmissions.{remove_retransmission}
 use Rattle.adjacency.specs.declared.state.State.TheVariants.{Full}
 use Rattle.received.specs.Flooding.{meets}
 use Rattle.received.specs.Links.{Link, acknowledge_later}
 use Rattle.received.specs.Updates.{install}
 use Rattle.events.specs.declared.model.Out.{Out}
-use Rattle.events.specs.Endings.{copy_says, describe_router, describe_router_later, filled, finished, is_at, is_said, links_differ}
+use Rattle.events.specs.Endings.{copy_has_body, describe_router, describe_router_later, loading_done, end_event, is_at, is_current, links_differ}
 use Rattle.events.specs.Events.{Happens}
-use Rattle.events.specs.Originations.{announced_body, as_originated, flush, has_max_sequence, has_room, install_and_flood, interval_is_over, is_own_external, is_wanted, may_originate, new_instance, originate_body, originate_or_wait, own_externals, router_body, router_key, settle_wanted, wait, wanted_body}
+use Rattle.events.specs.Originations.{announced_body, as_originated, flush, has_max_sequence, has_room, install_and_flood, interval_is_over, is_own_external, is_wanted, may_originate, new_instance, originate_body, originate_or_wait, own_externals, router_body, router_key, originate_or_flush, wait, wanted_body}
 use Rattle.events.specs.Packets.{after_lsa}
 use Rattle.events.specs.Packing.{outs_of}
-use Rattle.events.specs.Progress.{Progress, on_area, on_router}
+use Rattle.events.specs.EventState.{EventState, on_area, on_router}
 use Rattle.events.specs.Routers.{Occurrence, Router, shown_at}
 use Rattle.conversations.specs.WorkedOwn.{ALastRequestIsMet, MeetsTheLastRequest, beside, loading, next_router_lsa, sends_update}
 use Rattle.conversations.specs.WorkedUpdates.{IsUpdateWith, WaitsAt}
@@ -34,21 +34,21 @@ use Rattle.conversations.proofs.WorkedUpdates.{inserted, new_case, own_part, sta
 
 -- ---- the request
 
-asked : (moment : ℕ) (lsa : Lsa) (o : Option Listed) → meets moment lsa o ≡ true → is_some o ≡ true
+asked : (moment : ℕ) (lsa : Lsa) (o : Option ListEntry) → meets moment lsa o ≡ true → is_some o ≡ true
 asked moment lsa None e = absurd (true≢false (sym e))
 asked moment lsa (Some r) e = refl
 
-none_left : (m : ByKey Listed) (k : Key) → is_some (finite.get m k) ≡ true → finite.len m ≡ 1 → (finite.len (finite.remove m k) == 0) ≡ true
+none_left : (m : ByKey ListEntry) (k : Key) → is_some (finite.get m k) ≡ true → finite.len m ≡ 1 → (finite.len (finite.remove m k) == 0) ≡ true
 none_left m k there one = ap (λ n. n == 0) (finite.len-remove keys_total m k ∙ (λ i. cond (there i) (one i - 1) (one i)))
 
 abbrev met : Lsa → Neighbor → Neighbor
-met lsa n = released (lsa_key lsa) (without_request (lsa_key lsa) (loading n))
+met lsa n = remove_retransmission (lsa_key lsa) (without_request (lsa_key lsa) (loading n))
 
 abbrev full : Lsa → Neighbor → Neighbor
 full lsa n = record (met lsa n) { state = Full }
 
 -- the LSA is installed, and this is the neighbor
-abbrev pub put : Router → Link → ℕ → Lsa → Neighbor → Progress
+abbrev pub put : Router → Link → ℕ → Lsa → Neighbor → EventState
 put r link moment lsa n = record {
   router = record r {
     area = record { links = acknowledge_later lsa.header (record link { neighbor = Some n }) ∷ []; database = install_flooded moment lsa r.area.database };
@@ -57,9 +57,9 @@ put r link moment lsa n = record {
 }
 
 becomes_full : (r : Router) (link : Link) (n : Neighbor) (moment : ℕ) (lsa : Lsa) → finite.len n.requests ≡ 1 → meets moment lsa (requested n (lsa_key lsa)) ≡ true
-    → filled (on_area (install moment 1 lsa) (start (beside r link (loading n)))) ≡ put r link moment lsa (full lsa n)
+    → loading_done (on_area (install moment 1 lsa) (start (beside r link (loading n)))) ≡ put r link moment lsa (full lsa n)
 becomes_full r link n moment lsa one is_met =
-    ap (λ b. filled (put r link moment lsa (released (lsa_key lsa) (cond b (without_request (lsa_key lsa) (loading n)) (loading n))))) is_met
+    ap (λ b. loading_done (put r link moment lsa (remove_retransmission (lsa_key lsa) (cond b (without_request (lsa_key lsa) (loading n)) (loading n))))) is_met
     ∙ ap (λ b. put r link moment lsa (cond b (full lsa n) (met lsa n))) (none_left n.requests (lsa_key lsa) (asked moment lsa (requested n (lsa_key lsa)) is_met) one)
 
 -- ---- the router-LSA
@@ -83,11 +83,11 @@ pub wanted : (r : Router) → wanted_body r (router_key r.id) ≡ Some (router_b
 wanted r = ap (λ o. cond (is_eq o) (Some (router_body r.area.links)) (announced_body (finite.get r.announced (router_key r.id)))) (tied_itself keys_total (router_key r.id))
 
 -- what the end of an event makes of changed links, by whether the five seconds are over
-abbrev described : Bool → ℕ → DatabaseCopy → Progress → Progress
+abbrev described : Bool → ℕ → DatabaseCopy → EventState → EventState
 described over moment own p =
     cond over (on_router (as_originated moment (router_key p.router.id)) (on_area (install_and_flood moment (next_router_lsa p.router own)) p)) (on_router (wait (router_key p.router.id)) p)
 
-describes : (over : Bool) (moment : ℕ) (own : DatabaseCopy) (p : Progress) → finite.get p.router.area.database (router_key p.router.id) ≡ Some own → has_max_sequence (Some own) ≡ false
+describes : (over : Bool) (moment : ℕ) (own : DatabaseCopy) (p : EventState) → finite.get p.router.area.database (router_key p.router.id) ≡ Some own → has_max_sequence (Some own) ≡ false
     → may_originate moment (router_key p.router.id) p.router ≡ over → originate_or_wait moment (router_key p.router.id) p ≡ described over moment own p
 describes over moment own p there counts may =
     let key : Key = router_key p.router.id in
@@ -106,20 +106,20 @@ now_full r link n moment lsa = refl
 
 ending : (r : Router) (link : Link) (n : Neighbor) (moment : ℕ) (lsa : Lsa) (own : DatabaseCopy) (over : Bool)
     → MeetsTheLastRequest r n moment lsa own → is_at moment (finite.get r.originated (router_key r.id)) ≡ false → interval_is_over moment (finite.get r.originated (router_key r.id)) ≡ over
-    → finished (beside r link (loading n)) moment (on_area (install moment 1 lsa) (start (beside r link (loading n)))) ≡ ended moment (described over moment own (put r link moment lsa (full lsa n)))
+    → end_event (beside r link (loading n)) moment (on_area (install moment 1 lsa) (start (beside r link (loading n)))) ≡ ended moment (described over moment own (put r link moment lsa (full lsa n)))
 ending r link n moment lsa own over meet unsaid is_over =
     let old : Router = beside r link (loading n) in
-    let p : Progress = put r link moment lsa (full lsa n) in
-    let later : Progress → Progress = λ q. last moment (describe_router_later q.router.area.links (filled q)) in
-    let told : Progress = originate_or_wait moment (router_key r.id) p in
+    let p : EventState = put r link moment lsa (full lsa n) in
+    let later : EventState → EventState = λ q. last moment (describe_router_later q.router.area.links (loading_done q)) in
+    let told : EventState = originate_or_wait moment (router_key r.id) p in
     let still : finite.get p.router.area.database (router_key r.id) ≡ Some own = own_stays r.area.database lsa (router_key r.id) own moment meet.is_absent meet.own_there in
     ap (λ q. later (describe_router old.area.links moment q)) (becomes_full r link n moment lsa meet.is_last meet.is_met)
-    ∙ ap (λ b. later (cond (b && not (is_said moment p.router)) told p)) (now_full r link n moment lsa)
-    ∙ ap (λ b. later (cond (not (b && copy_says (router_body p.router.area.links) (finite.get p.router.area.database (router_key r.id)))) told p)) unsaid
+    ∙ ap (λ b. later (cond (b && not (is_current moment p.router)) told p)) (now_full r link n moment lsa)
+    ∙ ap (λ b. later (cond (not (b && copy_has_body (router_body p.router.area.links) (finite.get p.router.area.database (router_key r.id)))) told p)) unsaid
     ∙ ap later (describes over moment own p still meet.counts_on is_over)
     ∙ quietly over
   where
-    quietly : (b : Bool) → last moment (describe_router_later (described b moment own (put r link moment lsa (full lsa n))).router.area.links (filled (described b moment own (put r link moment lsa (full lsa n)))))
+    quietly : (b : Bool) → last moment (describe_router_later (described b moment own (put r link moment lsa (full lsa n))).router.area.links (loading_done (described b moment own (put r link moment lsa (full lsa n)))))
         ≡ ended moment (described b moment own (put r link moment lsa (full lsa n)))
     quietly true = ap (last moment) (describes_not_later (described true moment own (put r link moment lsa (full lsa n)))) ∙ last_rest moment (described true moment own (put r link moment lsa (full lsa n))) refl
     quietly false = ap (last moment) (describes_not_later (described false moment own (put r link moment lsa (full lsa n)))) ∙ last_rest moment (described false moment own (put r link moment lsa (full lsa n))) refl
@@ -129,10 +129,10 @@ own_update : (r new : Router) (link : Link) (n : Neighbor) (moment : ℕ) (bytes
     → event.after ≡ on_area (install moment 1 lsa) (start (beside r link (loading n)))
 own_update r new link n moment bytes lsa own outs meet text event =
     let old : Router = beside r link (loading n) in
-    let p : Progress = on_area (install moment 1 lsa) (start old) in
+    let p : EventState = on_area (install moment 1 lsa) (start old) in
     own_part old moment 1 bytes lsa (loading n) event.after meet.nothing_ages refl meet.is_other refl text event.own
     ∙ ap (λ c. after_lsa c moment 1 lsa (start old)) (new_case moment 1 lsa old.area meet.is_absent meet.is_young)
-    ∙ ap (λ b. cond b (settle_wanted (is_wanted (wanted_body p.router (lsa_key lsa))) moment (lsa_key lsa) p) p) meet.is_foreign_lsa
+    ∙ ap (λ b. cond b (originate_or_flush (is_wanted (wanted_body p.router (lsa_key lsa))) moment (lsa_key lsa) p) p) meet.is_foreign_lsa
 
 over_not_now : (moment : ℕ) (o : Option ℕ) → interval_is_over moment o ≡ true → is_at moment o ≡ false
 over_not_now moment None e = refl
@@ -154,29 +154,29 @@ last_request = record {
   new_age = λ r own. refl;
   at_once = λ r new link n moment bytes lsa own outs meet text over event.
       let old : Router = beside r link (loading n) in
-      let p : Progress = put r link moment lsa (full lsa n) in
-      let end : finished old moment event.after ≡ ended moment (described true moment own p) =
-      ap (finished old moment) (own_update r new link n moment bytes lsa own outs meet text event)
+      let p : EventState = put r link moment lsa (full lsa n) in
+      let end : end_event old moment event.after ≡ ended moment (described true moment own p) =
+      ap (end_event old moment) (own_update r new link n moment bytes lsa own outs meet text event)
       ∙ ending r link n moment lsa own true meet (over_not_now moment (finite.get r.originated (router_key r.id)) over) over in
-      let is : new ≡ (ended moment (described true moment own p)).router = event.router ∙ ap (λ (q : Progress). q.router) end in
+      let is : new ≡ (ended moment (described true moment own p)).router = event.router ∙ ap (λ (q : EventState). q.router) end in
       subst (λ s. (shown_at s 1 ≡ Some (n.router, Full)) × WaitsAt s 1 lsa × (outs ≡ outs_of r.id old.area.links (sends_update (next_router_lsa s own)))) (sym is) (
         refl,
         (_, refl, inserted link.acknowledgments (lsa_key lsa) lsa.header),
-        event.sent ∙ ap (λ (q : Progress). outs_of r.id old.area.links q.sends) end,
+        event.sent ∙ ap (λ (q : EventState). outs_of r.id old.area.links q.sends) end,
       );
   later = λ r new link n moment before bytes lsa own outs meet text there early late event.
       let old : Router = beside r link (loading n) in
-      let p : Progress = put r link moment lsa (full lsa n) in
+      let p : EventState = put r link moment lsa (full lsa n) in
       let not_now : is_at moment (finite.get r.originated (router_key r.id)) ≡ false = ap (is_at moment) there ∙ before_now before moment early in
       let not_over : interval_is_over moment (finite.get r.originated (router_key r.id)) ≡ false = ap (interval_is_over moment) there ∙ too_early before moment late in
-      let end : finished old moment event.after ≡ ended moment (described false moment own p) =
-      ap (finished old moment) (own_update r new link n moment bytes lsa own outs meet text event)
+      let end : end_event old moment event.after ≡ ended moment (described false moment own p) =
+      ap (end_event old moment) (own_update r new link n moment bytes lsa own outs meet text event)
       ∙ ending r link n moment lsa own false meet not_now not_over in
-      let is : new ≡ (ended moment (described false moment own p)).router = event.router ∙ ap (λ (q : Progress). q.router) end in
+      let is : new ≡ (ended moment (described false moment own p)).router = event.router ∙ ap (λ (q : EventState). q.router) end in
       subst (λ s. (shown_at s 1 ≡ Some (n.router, Full)) × WaitsAt s 1 lsa × (outs ≡ []) × (set.contains s.waiting (router_key r.id) ≡ true)) (sym is) (
         refl,
         (_, refl, inserted link.acknowledgments (lsa_key lsa) lsa.header),
-        event.sent ∙ ap (λ (q : Progress). outs_of r.id old.area.links q.sends) end,
+        event.sent ∙ ap (λ (q : EventState). outs_of r.id old.area.links q.sends) end,
         waits_for_tick r.waiting (router_key r.id),
       );
 }

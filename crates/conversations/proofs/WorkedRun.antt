@@ -1,43 +1,43 @@
 -- A Hello begins an adjacency, and the exchange follows in the next event.
 use Rattle.std.proofs.Common.{◌≡◌, ℕ, ◌==◌, true, cond, None, Some, refl, sym, ap, subst, ◌∙◌}
 use Rattle.std.specs.FinMap as finite
-use Rattle.lsdb.specs.Instances.{Listed}
+use Rattle.lsdb.specs.Instances.{ListEntry}
 use Rattle.lsdb.specs.Keys.{key_cmp}
-use Rattle.adjacency.specs.Adjacencies.{opening, restart}
+use Rattle.adjacency.specs.Adjacencies.{initial_description, enter_exstart}
 use Rattle.adjacency.specs.Descriptions.{Verdict, young_copies}
 use Rattle.adjacency.specs.Neighbors.{Neighbor, fresh}
 use Rattle.adjacency.specs.declared.state.State.TheVariants.{Exchange}
 use Rattle.received.specs.Links.{Link}
 use Rattle.events.specs.Events.{Happens}
 use Rattle.events.specs.Packing.{outs_of}
-use Rattle.events.specs.Progress.{Progress}
+use Rattle.events.specs.EventState.{EventState}
 use Rattle.events.specs.Routers.{Occurrence, Router, shown_at}
 use Rattle.conversations.specs.WorkedAdjacency.{NothingAges, describes}
 use Rattle.conversations.specs.WorkedExchange.{IsJudged, opened, reply}
 use Rattle.conversations.specs.WorkedRun.{AnAdjacencyIsNegotiated}
-use Rattle.conversations.proofs.WorkedAdjacency.{heard, hello_ends, opens_it}
+use Rattle.conversations.proofs.WorkedAdjacency.{last_heard, hello_ends, opens_it}
 use Rattle.conversations.proofs.WorkedEnds.{ended}
 use Rattle.conversations.proofs.WorkedExchange.{negotiates_it}
 
 -- the neighbor after the Hello
 abbrev opener : ℕ → ℕ → Neighbor
-opener moment from = (restart moment (fresh from None moment)).neighbor
+opener moment from = (enter_exstart moment (fresh from None moment)).neighbor
 
 -- the router after the Hello, but for its neighbor
 abbrev greeted_by : Router → Link → ℕ → ℕ → Router
-greeted_by r link moment from = (ended moment (heard r link moment from)).router
+greeted_by r link moment from = (ended moment (last_heard r link moment from)).router
 
 pub is_negotiated : AnAdjacencyIsNegotiated
 is_negotiated r new link moment later from sequence hello_bytes bytes h outs answers nothing hello larger text run still =
     let first = opens_it r run.0 link moment from hello_bytes h outs nothing hello run.1 in
     let q : Router = greeted_by r link moment from in
     let n : Neighbor = opener moment from in
-    let none : (finite.len n.requests == 0) ≡ true = ap (λ k. k == 0) (finite.len-empty key_cmp Listed) in
-    let judged : IsJudged q (opened n) bytes (opening sequence) Verdict.NegotiatedAsSlave =
+    let none : (finite.len n.requests == 0) ≡ true = ap (λ k. k == 0) (finite.len-empty key_cmp ListEntry) in
+    let judged : IsJudged q (opened n) bytes (initial_description sequence) Verdict.NegotiatedAsSlave =
     record { is_text = text; is_other = hello.is_other; fits = refl; is_judged = ap (λ b. cond b Verdict.NegotiatedAsSlave Verdict.Discarded) larger } in
-    let is : q ≡ run.0 = sym (run.1.router ∙ ap (λ (p : Progress). p.router) (hello_ends r run.0 link moment from hello_bytes h outs nothing hello run.1)) in
+    let is : q ≡ run.0 = sym (run.1.router ∙ ap (λ (p : EventState). p.router) (hello_ends r run.0 link moment from hello_bytes h outs nothing hello run.1)) in
     let second = subst
     (λ (s : Router). NothingAges s later → Happens s later (Occurrence.Packet 1 bytes) answers run.2.0
     → (shown_at run.2.0 1 ≡ Some (from, Exchange)) × (answers ≡ outs_of r.id s.area.links (describes (reply later sequence (young_copies later s.area.database)))))
-    is (λ quiet happens. negotiates_it q run.2.0 link n later sequence bytes answers quiet judged none happens) still run.2.1 in
+    is (λ no_sends happens. negotiates_it q run.2.0 link n later sequence bytes answers no_sends judged none happens) still run.2.1 in
     (first.1, first.0, ap (λ s. shown_at s 1) run.2.2 ∙ second.0, second.1)

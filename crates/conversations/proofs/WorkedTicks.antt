@@ -10,22 +10,22 @@ use Rattle.lsdb.specs.Copies.{Database, DatabaseCopy}
 use Rattle.lsdb.specs.Headers.{Lsa}
 use Rattle.lsdb.proofs.Keys.{keys_exact}
 use Rattle.adjacency.specs.Adjacencies.{has_passed}
-use Rattle.adjacency.specs.Contents.{Content, Step, quiet}
+use Rattle.adjacency.specs.Contents.{Content, Step, no_sends}
 use Rattle.adjacency.specs.Contents as contents
 use Rattle.adjacency.specs.Descriptions.{is_over_for}
 use Rattle.adjacency.specs.Neighbors.{Neighbor}
 use Rattle.adjacency.specs.Requests.{still_outstanding}
-use Rattle.adjacency.specs.Retransmissions.{next_retransmissions, owed, request_again, send_again, update_again}
+use Rattle.adjacency.specs.Retransmissions.{next_retransmissions, add_retransmission, request_again, send_again, update_again}
 use Rattle.received.specs.Links.{Link}
 use Rattle.received.specs.Outcomes.{Outcome, Send, on_links, stepping_sends}
 use Rattle.events.specs.declared.model.Out.{Out}
-use Rattle.events.specs.Endings.{finished}
+use Rattle.events.specs.Endings.{end_event}
 use Rattle.events.specs.Events.{Happens}
 use Rattle.events.specs.Originations.{as_originated, due_keys, flush, forget_originations, has_max_sequence, has_room, install_and_flood, interval_is_over, is_due, is_recent, may_originate, new_instance, originate_body, originate_due, originate_or_wait, router_body, router_key, wait}
 use Rattle.events.specs.Packing.{outs_of}
-use Rattle.events.specs.Progress.{Progress, on_area, on_router}
+use Rattle.events.specs.EventState.{EventState, on_area, on_router}
 use Rattle.events.specs.Routers.{Occurrence, Router}
-use Rattle.events.specs.Ticks.{acknowledge_all, after_tick, again, greet_all, greeting_on, run_out, send_all_again, sends_of, settled_exchange}
+use Rattle.events.specs.Ticks.{acknowledge_all, after_tick, again, send_hellos, hello_sent_on, run_out, send_all_again, sends_of, settled_exchange}
 use Rattle.conversations.specs.WorkedFlush.{full}
 use Rattle.conversations.specs.WorkedOwn.{beside}
 use Rattle.conversations.specs.WorkedTicks.{ATickOriginates, IsDueAtTick, IsNothingDue, originated_lsa, waiting_acknowledgments}
@@ -44,14 +44,14 @@ both_full false m n = refl
 abbrev settled : Link → Neighbor → ℕ → Neighbor
 settled link n moment = cond (is_over_for moment link.interface.dead_interval n.exchanged) (record n { described = None }) n
 
-abbrev resting : Router → Link → Neighbor → ℕ → Progress
+abbrev resting : Router → Link → Neighbor → ℕ → EventState
 resting r link n moment = on_router (forget_originations moment) (start (beside r link (full (settled link n moment))))
 
-rests : (r : Router) (link : Link) (n : Neighbor) (moment : ℕ) → has_passed n.heard link.interface.dead_interval moment ≡ false
+rests : (r : Router) (link : Link) (n : Neighbor) (moment : ℕ) → has_passed n.last_heard link.interface.dead_interval moment ≡ false
     → on_router (forget_originations moment) (on_area (on_links (map (run_out moment))) (start (beside r link (full n)))) ≡ resting r link n moment
-rests r link n moment heard =
-    let put : Option Neighbor → Progress = λ o. on_router (forget_originations moment) (start (record r { area = record r.area { links = record link { neighbor = o } ∷ [] } })) in
-    ap (λ b. put (settled_exchange moment link.interface.dead_interval (cond b None (Some (full n))))) heard
+rests r link n moment last_heard =
+    let put : Option Neighbor → EventState = λ o. on_router (forget_originations moment) (start (record r { area = record r.area { links = record link { neighbor = o } ∷ [] } })) in
+    ap (λ b. put (settled_exchange moment link.interface.dead_interval (cond b None (Some (full n))))) last_heard
     ∙ ap (λ m. put (Some m)) (both_full (is_over_for moment link.interface.dead_interval n.exchanged) (record n { described = None }) n)
 
 over_or_none : (moment : ℕ) (o : Option ℕ) (b : Bool) → interval_is_over moment o ≡ true → b ≡ is_recent moment o → interval_is_over moment (cond b o None) ≡ true
@@ -66,10 +66,10 @@ still_over moment r key over =
 
 -- ---- the origination
 
-abbrev told : ℕ → Option DatabaseCopy → Progress → Progress
+abbrev told : ℕ → Option DatabaseCopy → EventState → EventState
 told moment copy p = on_router (as_originated moment (router_key p.router.id)) (on_area (install_and_flood moment (new_instance (router_key p.router.id) copy (router_body p.router.area.links))) p)
 
-originates : (moment : ℕ) (copy : Option DatabaseCopy) (p : Progress) → finite.get p.router.area.database (router_key p.router.id) ≡ copy → has_max_sequence copy ≡ false
+originates : (moment : ℕ) (copy : Option DatabaseCopy) (p : EventState) → finite.get p.router.area.database (router_key p.router.id) ≡ copy → has_max_sequence copy ≡ false
     → has_room (router_key p.router.id) p.router ≡ true → may_originate moment (router_key p.router.id) p.router ≡ true
     → originate_or_wait moment (router_key p.router.id) p ≡ told moment copy p
 originates moment copy p there counts room may =
@@ -89,12 +89,12 @@ alone_due r moment none due =
 request_keeps : (moment interval : ℕ) (n : Neighbor) → who (request_again moment interval n).neighbor ≡ who n
 request_keeps moment interval n =
     chosen_step (not (set.len n.outstanding == 0) && has_passed n.requested_at interval moment)
-    (record { neighbor = record n { requested_at = moment }; sends = contents.Requests (still_outstanding n) ∷ [] }) (quiet n) (who n) refl refl
+    (record { neighbor = record n { requested_at = moment }; sends = contents.Requests (still_outstanding n) ∷ [] }) (no_sends n) (who n) refl refl
 
 update_keeps : (moment interval : ℕ) (db : Database) (n : Neighbor) → who (update_again moment interval db n).neighbor ≡ who n
 update_keeps moment interval db n =
     chosen_step (not (finite.len n.retransmissions == 0) && has_passed n.retransmitted_at interval moment)
-    (record { neighbor = record n { retransmitted_at = moment }; sends = map contents.Updates (next_retransmissions moment db n) }) (quiet n) (who n) refl refl
+    (record { neighbor = record n { retransmitted_at = moment }; sends = map contents.Updates (next_retransmissions moment db n) }) (no_sends n) (who n) refl refl
 
 again_keeps : (moment interval : ℕ) (db : Database) (n : Neighbor) → who (send_again moment interval db (full n)).neighbor ≡ who (full n)
 again_keeps moment interval db n =
@@ -102,8 +102,8 @@ again_keeps moment interval db n =
 
 -- ---- the whole event
 
-abbrev rest_of_tick : ℕ → Progress → Progress
-rest_of_tick moment p = on_area (λ o. greet_all moment (acknowledge_all moment (send_all_again moment o))) p
+abbrev rest_of_tick : ℕ → EventState → EventState
+rest_of_tick moment p = on_area (λ o. send_hellos moment (acknowledge_all moment (send_all_again moment o))) p
 
 tick_sends : (r new : Router) (link : Link) (n : Neighbor) (moment : ℕ) (copy : Option DatabaseCopy) (outs : List Out)
     → IsDueAtTick r link n moment copy → Happens (beside r link (full n)) moment Occurrence.Tick outs new
@@ -114,15 +114,15 @@ tick_sends r new link n moment copy outs due event =
     let old : Router = beside r link (full n) in
     let key : Key = router_key r.id in
     let m : Neighbor = settled link n moment in
-    let q : Progress = resting r link n moment in
+    let q : EventState = resting r link n moment in
     let lsa : Lsa = originated_lsa r link n copy in
-    let p : Progress = told moment copy q in
-    let after : Progress = rest_of_tick moment p in
+    let p : EventState = told moment copy q in
+    let after : EventState = rest_of_tick moment p in
     let o : Outcome = record { area = p.router.area; sends = p.sends } in
     let x : Outcome = send_all_again moment o in
     let y : Outcome = acknowledge_all moment x in
     let resent : List Send = stepping_sends (again moment o) o.area.links in
-    let hellos : List Send = sends_of (greeting_on moment) y.area.links in
+    let hellos : List Send = sends_of (hello_sent_on moment) y.area.links in
     let same_router : m.router ≡ n.router = by_case (is_over_for moment link.interface.dead_interval n.exchanged) in
     let one_due : due_keys moment q.router ≡ key ∷ [] = alone_due q.router moment due.nothing_announced due.is_due_now in
     let begun_so : event.after ≡ after =
@@ -132,16 +132,16 @@ tick_sends r new link n moment copy outs due event =
     ∙ ap (λ keys. rest_of_tick moment (originate_due moment keys q)) one_due
     ∙ ap (rest_of_tick moment) (originates moment copy q due.copy_there due.counts_on due.room (still_over moment (beside r link (full m)) key due.is_over)) in
     let newly : Lsa = new_instance key copy (router_body q.router.area.links) in
-    let seen_same : who (send_again moment link.interface.retransmit_interval o.area.database (full (owed moment newly.header m))).neighbor ≡ who (full n) =
-    again_keeps moment link.interface.retransmit_interval o.area.database (owed moment newly.header m) ∙ (λ i. (same_router i, (full n).state)) in
-    let end : finished old moment event.after ≡ ended moment after = ap (finished old moment) begun_so ∙ ends old moment after (λ i. (link.interface, Some (seen_same i)) ∷ []) refl in
+    let seen_same : who (send_again moment link.interface.retransmit_interval o.area.database (full (add_retransmission moment newly.header m))).neighbor ≡ who (full n) =
+    again_keeps moment link.interface.retransmit_interval o.area.database (add_retransmission moment newly.header m) ∙ (λ i. (same_router i, (full n).state)) in
+    let end : end_event old moment event.after ≡ ended moment after = ap (end_event old moment) begun_so ∙ ends old moment after (λ i. (link.interface, Some (seen_same i)) ∷ []) refl in
     let content : List Send → List Send = λ rest. record { number = 1; content = Content.Updates newly } ∷ rest in
     let in_order : (resent ++ (waiting_acknowledgments link ++ [])) ++ hellos ≡ resent ++ (waiting_acknowledgments link ++ hellos) =
     ap (λ a. (resent ++ a) ++ hellos) (append-nil (waiting_acknowledgments link)) ∙ append_assoc resent (waiting_acknowledgments link) hellos in
     let as_told : newly ≡ lsa = ap (λ id. new_instance key copy (router_body (record link { neighbor = Some (full (record n { router = id })) } ∷ []))) same_router in (
       resent,
       hellos,
-      event.sent ∙ ap (λ (z : Progress). outs_of r.id old.area.links z.sends) end
+      event.sent ∙ ap (λ (z : EventState). outs_of r.id old.area.links z.sends) end
           ∙ ap (λ rest. outs_of r.id old.area.links (content rest)) in_order
           ∙ ap (λ l. outs_of r.id old.area.links (record { number = 1; content = Content.Updates l } ∷ (resent ++ (waiting_acknowledgments link ++ hellos)))) as_told,
     )
@@ -160,12 +160,12 @@ tick_acknowledges : (r new : Router) (link : Link) (n : Neighbor) (moment : ℕ)
 tick_acknowledges r new link n moment outs idle event =
     let old : Router = beside r link (full n) in
     let m : Neighbor = settled link n moment in
-    let q : Progress = resting r link n moment in
-    let after : Progress = rest_of_tick moment q in
+    let q : EventState = resting r link n moment in
+    let after : EventState = rest_of_tick moment q in
     let o : Outcome = record { area = q.router.area; sends = [] } in
     let y : Outcome = acknowledge_all moment (send_all_again moment o) in
     let resent : List Send = stepping_sends (again moment o) o.area.links in
-    let hellos : List Send = sends_of (greeting_on moment) y.area.links in
+    let hellos : List Send = sends_of (hello_sent_on moment) y.area.links in
     let same_router : m.router ≡ n.router = by_case (is_over_for moment link.interface.dead_interval n.exchanged) in
     let begun_so : event.after ≡ after =
     event.own
@@ -174,10 +174,10 @@ tick_acknowledges r new link n moment outs idle event =
     ∙ ap (λ keys. rest_of_tick moment (originate_due moment keys q)) (none_due q.router moment idle.nothing_announced idle.not_due) in
     let seen_same : who (send_again moment link.interface.retransmit_interval o.area.database (full m)).neighbor ≡ who (full n) =
     again_keeps moment link.interface.retransmit_interval o.area.database m ∙ (λ i. (same_router i, (full n).state)) in
-    let end : finished old moment event.after ≡ ended moment after = ap (finished old moment) begun_so ∙ ends old moment after (λ i. (link.interface, Some (seen_same i)) ∷ []) refl in
+    let end : end_event old moment event.after ≡ ended moment after = ap (end_event old moment) begun_so ∙ ends old moment after (λ i. (link.interface, Some (seen_same i)) ∷ []) refl in
     let in_order : (resent ++ (waiting_acknowledgments link ++ [])) ++ hellos ≡ resent ++ (waiting_acknowledgments link ++ hellos) =
     ap (λ a. (resent ++ a) ++ hellos) (append-nil (waiting_acknowledgments link)) ∙ append_assoc resent (waiting_acknowledgments link) hellos in
-    (resent, hellos, event.sent ∙ ap (λ (z : Progress). outs_of r.id old.area.links z.sends) end ∙ ap (outs_of r.id old.area.links) in_order)
+    (resent, hellos, event.sent ∙ ap (λ (z : EventState). outs_of r.id old.area.links z.sends) end ∙ ap (outs_of r.id old.area.links) in_order)
   where
     by_case : (b : Bool) → (cond b (record n { described = None }) n).router ≡ n.router
     by_case true = refl

@@ -18,23 +18,23 @@ use Rattle.packet.specs.declared.model.Body.TheVariants as body
 use Rattle.packet.specs.declared.model.Packet.{Packet}
 use Rattle.packet.proofs.Whole.{one_packet}
 use Rattle.adjacency.specs.Adjacencies.{named}
-use Rattle.adjacency.specs.Contents.{Content, Step, quiet}
-use Rattle.adjacency.specs.Neighbors.{Neighbor, is_synchronizing, takes_part}
+use Rattle.adjacency.specs.Contents.{Content, Step, no_sends}
+use Rattle.adjacency.specs.Neighbors.{Neighbor, is_exchange_or_loading, is_exchange_or_later}
 use Rattle.adjacency.specs.Requests.{requested, without_request}
-use Rattle.adjacency.specs.Retransmissions.{is_entry, owed, released}
+use Rattle.adjacency.specs.Retransmissions.{is_entry, add_retransmission, remove_retransmission}
 use Rattle.received.specs.Cases.{Case, case_of_readable, first_case, is_wrapping}
 use Rattle.received.specs.Flooding.{flood_to, meets, passes, request_of, without_met_request}
-use Rattle.received.specs.Links.{Area, Link, acknowledge_later, anybody_owes, anybody_synchronizes, link_at, neighbor_at, neighbor_on}
+use Rattle.received.specs.Links.{Area, Link, acknowledge_later, any_has_retransmission, any_exchange_or_loading, link_at, neighbor_at, neighbor_on}
 use Rattle.received.specs.Outcomes.{Outcome, Send, marked, step_on, stepped, stepping_sends}
 use Rattle.received.specs.Updates.{case_at, goes_on, install}
 use Rattle.events.specs.declared.model.Out.{Out}
-use Rattle.events.specs.Endings.{begun, finished, stays_as}
+use Rattle.events.specs.Endings.{start_event, end_event, stays_as}
 use Rattle.events.specs.Events.{Happens, OwnPart, whole}
 use Rattle.events.specs.Hellos.{is_foreign}
-use Rattle.events.specs.Originations.{is_wanted, settle_wanted, wanted_body}
+use Rattle.events.specs.Originations.{is_wanted, originate_or_flush, wanted_body}
 use Rattle.events.specs.Packets.{after_lsa, after_lsas, after_packet, after_unread, case_in, from_neighbor, is_heard, is_in_exchange}
 use Rattle.events.specs.Packing.{outs_of}
-use Rattle.events.specs.Progress.{Progress, on_area}
+use Rattle.events.specs.EventState.{EventState, on_area}
 use Rattle.events.specs.Routers.{Occurrence, Router}
 use Rattle.conversations.specs.WorkedUpdates.{ANewLsaComesTwice, HasBrought, HasFullNeighbor, IsAtRest, IsUpdateWith, WaitsAt, acknowledges_at_once}
 use Rattle.conversations.proofs.WorkedEnds.{begins, ended, ends, got, no_time_passes, not_both_ways, removed_once}
@@ -90,7 +90,7 @@ marked_once moment other key c db there = by_found (finite.get db other) refl
     by_found (Some d) e = by_same d e (eq_by_cmp key_cmp key other) refl
 
 mark_one : (moment : ℕ) (says : Content) (key : Key) (c : DatabaseCopy) (db : Database) → finite.get db key ≡ Some c → IsStill (marked moment db says) key c
-mark_one moment (Content.Greets h) key c db there = (c.sent, there)
+mark_one moment (Content.SendsHello h) key c db there = (c.sent, there)
 mark_one moment (Content.Describes d) key c db there = (c.sent, there)
 mark_one moment (Content.Requests keys) key c db there = (c.sent, there)
 mark_one moment (Content.Updates lsa) key c db there = marked_once moment (lsa_key lsa) key c db there
@@ -124,7 +124,7 @@ alike lsa c moment same now young =
 
 -- ---- one Update with one LSA
 
-pub after_one : (moment number : ℕ) (unread : List ℕ) (lsa : Lsa) (p : Progress) → lsa_in unread ≡ Some lsa
+pub after_one : (moment number : ℕ) (unread : List ℕ) (lsa : Lsa) (p : EventState) → lsa_in unread ≡ Some lsa
     → after_lsas moment number (unread ∷ []) p ≡ after_lsa (case_at moment number lsa p.router.area) moment number lsa p
 after_one moment number unread lsa p e =
     chosen (goes_on (case_in moment number (lsa_in unread) p)) (after_unread moment number (lsa_in unread) p) ∙ ap (λ o. after_unread moment number o p) e
@@ -132,25 +132,25 @@ after_one moment number unread lsa p e =
 pub itself : (n : ℕ) → (n == n) ≡ true
 itself n = grind arith
 
-pub update_heard : (moment number : ℕ) (p : Progress) (n : Neighbor) (texts : List (List ℕ)) → neighbor_at number p.router.area.links ≡ Some n → is_foreign p.router.id n.router ≡ true → takes_part n.state ≡ true
+pub update_heard : (moment number : ℕ) (p : EventState) (n : Neighbor) (texts : List (List ℕ)) → neighbor_at number p.router.area.links ≡ Some n → is_foreign p.router.id n.router ≡ true → is_exchange_or_later n.state ≡ true
     → after_packet named moment number (record { router = n.router; body = body.Update texts }) p ≡ after_lsas moment number texts p
 update_heard moment number p n texts there other part =
     let packet : Packet = record { router = n.router; body = body.Update texts } in
     ap (λ o. cond (is_heard p.router.id packet o) (from_neighbor named moment number n.router (is_in_exchange o) packet.body p) p) there
     ∙ (λ i. cond (other i && (false || itself n.router i)) (cond (part i) (after_lsas moment number texts p) p) p)
 
-abbrev pub start : Router → Progress
+abbrev pub start : Router → EventState
 start r = record { router = r; sends = [] }
 
-pub own_part : (r : Router) (moment number : ℕ) (bytes : List ℕ) (lsa : Lsa) (n : Neighbor) (after : Progress)
+pub own_part : (r : Router) (moment number : ℕ) (bytes : List ℕ) (lsa : Lsa) (n : Neighbor) (after : EventState)
     → list_any (λ e. has_just_aged_out r.moment moment e.1) (finite.entries r.area.database) ≡ false
-    → neighbor_at number r.area.links ≡ Some n → is_foreign r.id n.router ≡ true → takes_part n.state ≡ true
-    → IsUpdateWith bytes n.router lsa → OwnPart whole moment (Occurrence.Packet number bytes) (begun moment r) after
+    → neighbor_at number r.area.links ≡ Some n → is_foreign r.id n.router ≡ true → is_exchange_or_later n.state ≡ true
+    → IsUpdateWith bytes n.router lsa → OwnPart whole moment (Occurrence.Packet number bytes) (start_event moment r) after
     → after ≡ after_lsa (case_at moment number lsa r.area) moment number lsa (start r)
 own_part r moment number bytes lsa n after nothing there other part text own =
     let packet : Packet = record { router = n.router; body = body.Update (text.unread ∷ []) } in
     own.2
-    ∙ ap (λ q. after_packet named moment number q (begun moment r)) (one_packet bytes own.0 packet own.1 text.is_text)
+    ∙ ap (λ q. after_packet named moment number q (start_event moment r)) (one_packet bytes own.0 packet own.1 text.is_text)
     ∙ ap (after_packet named moment number packet) (begins moment r nothing)
     ∙ update_heard moment number (start r) n (text.unread ∷ []) there other part
     ∙ after_one moment number text.unread lsa (start r) text.is_read
@@ -159,15 +159,15 @@ own_part r moment number bytes lsa n after nothing there other part text own =
 
 pub new_case : (moment number : ℕ) (lsa : Lsa) (a : Area) → finite.get a.database (lsa_key lsa) ≡ None → lsa.header.age < 3600 → case_at moment number lsa a ≡ Case.Newer
 new_case moment number lsa a none young =
-    ap (λ c. case_of_readable moment c (neighbor_at number a.links) (anybody_synchronizes a.links) lsa) none
-    ∙ ap (λ b. cond (b && true && not (anybody_synchronizes a.links)) Case.NothingToFlush Case.Newer) (is_young lsa.header.age young)
+    ap (λ c. case_of_readable moment c (neighbor_at number a.links) (any_exchange_or_loading a.links) lsa) none
+    ∙ ap (λ b. cond (b && true && not (any_exchange_or_loading a.links)) Case.NothingToFlush Case.Newer) (is_young lsa.header.age young)
 
-pub sender_step : (moment number : ℕ) (lsa : Lsa) (link : Link) (n : Neighbor) → takes_part n.state ≡ true → is_synchronizing n.state ≡ false
-    → flood_to moment (Some number) lsa number link n ≡ quiet (released (lsa_key lsa) n)
+pub sender_step : (moment number : ℕ) (lsa : Lsa) (link : Link) (n : Neighbor) → is_exchange_or_later n.state ≡ true → is_exchange_or_loading n.state ≡ false
+    → flood_to moment (Some number) lsa number link n ≡ no_sends (remove_retransmission (lsa_key lsa) n)
 sender_step moment number lsa link n part rest =
-    let got_it : Step = record { neighbor = owed moment lsa.header (without_met_request moment lsa n); sends = Content.Updates lsa ∷ [] } in
+    let got_it : Step = record { neighbor = add_retransmission moment lsa.header (without_met_request moment lsa n); sends = Content.Updates lsa ∷ [] } in
     let same : without_met_request moment lsa n ≡ n = ap (λ b. cond (meets moment lsa (cond b (requested n (lsa_key lsa)) None)) (without_request (lsa_key lsa) n) n) rest in
-    λ i. cond (part i) (cond (not (itself number i) && passes moment lsa (request_of n lsa)) got_it (quiet (released (lsa_key lsa) (same i)))) (quiet n)
+    λ i. cond (part i) (cond (not (itself number i) && passes moment lsa (request_of n lsa)) got_it (no_sends (remove_retransmission (lsa_key lsa) (same i)))) (no_sends n)
 
 abbrev first : Router → ℕ → ℕ → Lsa → Outcome
 first r moment number lsa = install moment number lsa (record { area = r.area; sends = [] })
@@ -181,7 +181,7 @@ first_seen r moment number lsa =
     ∙ stepped_seen (flood_to moment (Some number) lsa) (flooding_keeps moment (Some number) lsa) r.area.links
 
 abbrev pub sender_after : Lsa → Link → Neighbor → Link
-sender_after lsa link n = acknowledge_later lsa.header (record link { neighbor = Some (released (lsa_key lsa) n) })
+sender_after lsa link n = acknowledge_later lsa.header (record link { neighbor = Some (remove_retransmission (lsa_key lsa) n) })
 
 pub sender_there : (r : Router) (moment number : ℕ) (lsa : Lsa) (link : Link) (n : Neighbor) → HasFullNeighbor r number link n
     → link_at number (first r moment number lsa).area.links ≡ Some (sender_after lsa link n)
@@ -190,9 +190,9 @@ sender_there r moment number lsa link n from =
     let stepped_link : Link = record link { neighbor = step_on (f number link) link.neighbor } in
     let one : link_at number (stepped f r.area.links) ≡ Some stepped_link =
     link_changed (λ (e : ℕ × Link). record e.1 { neighbor = step_on (f e.0 e.1) e.1.neighbor }) number r.area.links link from.link_there in
-    let two : step_on (f number link) link.neighbor ≡ Some (released (lsa_key lsa) n) =
+    let two : step_on (f number link) link.neighbor ≡ Some (remove_retransmission (lsa_key lsa) n) =
     ap (step_on (f number link)) from.neighbor_there
-    ∙ ap (λ (s : Step). Some s.neighbor) (sender_step moment number lsa link n (ap takes_part from.is_full) (ap is_synchronizing from.is_full)) in
+    ∙ ap (λ (s : Step). Some s.neighbor) (sender_step moment number lsa link n (ap is_exchange_or_later from.is_full) (ap is_exchange_or_loading from.is_full)) in
     link_changed (λ (e : ℕ × Link). cond (e.0 == number) (acknowledge_later lsa.header e.1) e.1) number (stepped f r.area.links) stepped_link one
     ∙ (λ i. Some (cond (itself number i) (acknowledge_later lsa.header (record link { neighbor = two i })) (record link { neighbor = two i })))
 
@@ -212,8 +212,8 @@ has_brought r moment number lsa young =
     let still : IsStill o.area.database key (brought lsa moment None) = mark_all moment (stepping_sends (flood_to moment (Some number) lsa) r.area.links) key (brought lsa moment None) (install_flooded moment lsa r.area.database) (inserted r.area.database key (brought lsa moment None)) in (
       still.0,
       got moment o key
-          ∙ ap (λ c. cond (stays_as moment (anybody_owes key o.area.links) c) c None) still.1
-          ∙ ap (λ b. cond b (Some (brought lsa moment still.0)) None) (stays_young moment (anybody_owes key o.area.links) lsa (brought lsa moment still.0) refl refl young),
+          ∙ ap (λ c. cond (stays_as moment (any_has_retransmission key o.area.links) c) c None) still.1
+          ∙ ap (λ b. cond b (Some (brought lsa moment still.0)) None) (stays_young moment (any_has_retransmission key o.area.links) lsa (brought lsa moment still.0) refl refl young),
     )
 
 -- ---- the second
@@ -222,7 +222,7 @@ same_case : (moment number : ℕ) (lsa : Lsa) (a : Area) (sent : Option ℕ) (n 
     → requested n (lsa_key lsa) ≡ None → finite.get n.retransmissions (lsa_key lsa) ≡ None → lsa.header.age < 3600 → case_at moment number lsa a ≡ Case.Duplicate
 same_case moment number lsa a sent n there from none entry young =
     let c : DatabaseCopy = brought lsa moment sent in
-    let busy : Bool = anybody_synchronizes a.links in
+    let busy : Bool = any_exchange_or_loading a.links in
     let equal : compare_instances (instance_of lsa.header) (copy_now moment c) ≡ Equal = alike lsa c moment refl refl young in
     (λ i. case_of_readable moment (there i) (from i) busy lsa)
     ∙ (λ i. first_case (
@@ -249,31 +249,31 @@ again r new moment number bytes lsa link n more rest from none text young event 
     let key : Key = lsa_key lsa in
     let there : HasBrought m moment lsa = has_brought r moment number lsa young in
     let link_there : link_at number m.area.links ≡ Some (sender_after lsa link n) = sender_there r moment number lsa link n from in
-    let still : HasFullNeighbor m number (sender_after lsa link n) (released key n) = record { link_there = link_there; neighbor_there = refl; is_other = from.is_other; is_full = from.is_full } in
+    let still : HasFullNeighbor m number (sender_after lsa link n) (remove_retransmission key n) = record { link_there = link_there; neighbor_there = refl; is_other = from.is_other; is_full = from.is_full } in
     let quiet_still : IsAtRest m moment =
     record { nobody = same_rest m.area.links r.area.links (first_seen r moment number lsa) ∙ rest.nobody; nothing_ages = no_time_passes moment (finite.entries m.area.database) } in
     let case : case_at moment number lsa m.area ≡ Case.Duplicate =
-    same_case moment number lsa m.area there.0 (released key n) there.1 (ap neighbor_on link_there) none (taken_off n.retransmissions key) young in
-    let said : Progress = record { router = m; sends = acknowledges_at_once number lsa } in
+    same_case moment number lsa m.area there.0 (remove_retransmission key n) there.1 (ap neighbor_on link_there) none (taken_off n.retransmissions key) young in
+    let said : EventState = record { router = m; sends = acknowledges_at_once number lsa } in
     let own : event.after ≡ said =
-    own_part m moment number bytes lsa (released key n) event.after quiet_still.nothing_ages (ap neighbor_on still.link_there) still.is_other (ap takes_part still.is_full) text event.own
+    own_part m moment number bytes lsa (remove_retransmission key n) event.after quiet_still.nothing_ages (ap neighbor_on still.link_there) still.is_other (ap is_exchange_or_later still.is_full) text event.own
     ∙ ap (λ c. after_lsa c moment number lsa (start m)) case in
-    let end : finished m moment event.after ≡ ended moment said = ap (finished m moment) own ∙ ends m moment said refl quiet_still.nobody in
+    let end : end_event m moment event.after ≡ ended moment said = ap (end_event m moment) own ∙ ends m moment said refl quiet_still.nobody in
     let back : (ended moment said).router ≡ m = λ i. record m { area = record m.area { database = removed_once moment o i } } in (
       there,
       (sender_after lsa link n, link_there, inserted link.acknowledgments key lsa.header),
-      event.sent ∙ ap (λ (q : Progress). outs_of m.id m.area.links q.sends) end,
-      event.router ∙ ap (λ (q : Progress). q.router) end ∙ back,
+      event.sent ∙ ap (λ (q : EventState). outs_of m.id m.area.links q.sends) end,
+      event.router ∙ ap (λ (q : EventState). q.router) end ∙ back,
     )
 
 pub comes_twice : ANewLsaComesTwice
 comes_twice old middle new moment number bytes lsa link n outs more rest from none text absent young other one two =
-    let p : Progress = on_area (install moment number lsa) (start old) in
+    let p : EventState = on_area (install moment number lsa) (start old) in
     let own : one.after ≡ p =
-    own_part old moment number bytes lsa n one.after rest.nothing_ages (ap neighbor_on from.link_there ∙ from.neighbor_there) from.is_other (ap takes_part from.is_full) text one.own
+    own_part old moment number bytes lsa n one.after rest.nothing_ages (ap neighbor_on from.link_there ∙ from.neighbor_there) from.is_other (ap is_exchange_or_later from.is_full) text one.own
     ∙ ap (λ c. after_lsa c moment number lsa (start old)) (new_case moment number lsa old.area absent young)
-    ∙ ap (λ b. cond b (settle_wanted (is_wanted (wanted_body p.router (lsa_key lsa))) moment (lsa_key lsa) p) p) other in
+    ∙ ap (λ b. cond b (originate_or_flush (is_wanted (wanted_body p.router (lsa_key lsa))) moment (lsa_key lsa) p) p) other in
     let is : middle ≡ second old moment number lsa =
-    one.router ∙ ap (λ q. (finished old moment q).router) own ∙ ap (λ (q : Progress). q.router) (ends old moment p (first_seen old moment number lsa) rest.nobody) in
+    one.router ∙ ap (λ q. (end_event old moment q).router) own ∙ ap (λ (q : EventState). q.router) (ends old moment p (first_seen old moment number lsa) rest.nobody) in
     subst (λ r. Twice r new moment number lsa more) (sym is)
     (again old new moment number bytes lsa link n more rest from none text young (subst (λ r. Happens r moment (Occurrence.Packet number bytes) more new) is two))

@@ -8,7 +8,7 @@ use Rattle.packet.specs.declared.model.Body.TheVariants as body
 use Rattle.packet.specs.declared.model.Description.{Description}
 use Rattle.packet.specs.declared.model.Hello.{Hello}
 use Rattle.packet.specs.Text.{PacketText}
-use Rattle.adjacency.specs.Adjacencies.{next_attempt, opening, requests_nothing, restart}
+use Rattle.adjacency.specs.Adjacencies.{next_dd_sequence_start, initial_description, requests_nothing, enter_exstart}
 use Rattle.adjacency.specs.Contents.{Content}
 use Rattle.adjacency.specs.Descriptions.{Verdict, verdict}
 use Rattle.adjacency.specs.declared.state.State.TheVariants.{ExStart, Loading}
@@ -50,7 +50,7 @@ pub record AnAdjacencyBegins : Type 0 where
   -- a Hello from a new neighbor that names this router: ExStart, and the opening Description with the moment's number is all that is sent
   pub opens : (r new : Router) (link : Link) (moment from : ℕ) (bytes : List ℕ) (h : Hello) (outs : List Out)
       → NothingAges r moment → IsNamingHello r link bytes from h → Happens (lonely r link) moment (Occurrence.Packet 1 bytes) outs new
-      → (shown_at new 1 ≡ Some (from, ExStart)) × (outs ≡ outs_of r.id (lonely r link).area.links (describes (opening (moment % 2 ^ 32))))
+      → (shown_at new 1 ≡ Some (from, ExStart)) × (outs ≡ outs_of r.id (lonely r link).area.links (describes (initial_description (moment % 2 ^ 32))))
   -- in Loading, with a Request outstanding, the last Description delivered again: the answer is sent again, alone
   pub repeats : (r new : Router) (link : Link) (n : Neighbor) (moment : ℕ) (bytes : List ℕ) (d last : Description) (outs : List Out)
       → NothingAges r moment → IsDescription r n bytes d Verdict.Repeated → n.described ≡ Some last
@@ -61,8 +61,8 @@ pub record AnAdjacencyBegins : Type 0 where
   pub begins_again : (r new : Router) (link : Link) (n : Neighbor) (moment : ℕ) (bytes : List ℕ) (d : Description) (outs : List Out)
       → NothingAges r moment → IsDescription r n bytes d Verdict.Mismatch
       → Happens (beside r link (loading n)) moment (Occurrence.Packet 1 bytes) outs new
-      → (neighbor_at 1 new.area.links ≡ Some (restart moment (loading n)).neighbor)
-      × (outs ≡ outs_of r.id (beside r link (loading n)).area.links (describes (opening (next_attempt moment n.attempt))))
+      → (neighbor_at 1 new.area.links ≡ Some (enter_exstart moment (loading n)).neighbor)
+      × (outs ≡ outs_of r.id (beside r link (loading n)).area.links (describes (initial_description (next_dd_sequence_start moment n.dd_sequence_start))))
   pub clears : (moment : ℕ) (n : Neighbor)
-      → ((restart moment n).neighbor.state ≡ ExStart) × ((restart moment n).neighbor.summary ≡ finite.empty)
-      × ((restart moment n).neighbor.requests ≡ finite.empty) × ((restart moment n).neighbor.retransmissions ≡ finite.empty)
+      → ((enter_exstart moment n).neighbor.state ≡ ExStart) × ((enter_exstart moment n).neighbor.summary ≡ finite.empty)
+      × ((enter_exstart moment n).neighbor.requests ≡ finite.empty) × ((enter_exstart moment n).neighbor.retransmissions ≡ finite.empty)

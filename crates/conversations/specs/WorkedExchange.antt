@@ -4,12 +4,12 @@ use Rattle.std.specs.FinMap as finite
 use Rattle.std.specs.FinSet as set
 use Rattle.words.specs.declared.key.Key.{Key}
 use Rattle.lsdb.specs.Headers.{Header, key_of}
-use Rattle.lsdb.specs.Instances.{Listed, header_now}
+use Rattle.lsdb.specs.Instances.{ListEntry, aged_header}
 use Rattle.lsdb.specs.Keys.{ByKey}
 use Rattle.packet.specs.declared.model.Body.TheVariants as body
 use Rattle.packet.specs.declared.model.Description.{Description}
 use Rattle.packet.specs.Text.{PacketText}
-use Rattle.adjacency.specs.Adjacencies.{opening, requests_nothing}
+use Rattle.adjacency.specs.Adjacencies.{initial_description, requests_nothing}
 use Rattle.adjacency.specs.Contents.{Content}
 use Rattle.adjacency.specs.Descriptions.{Verdict, is_known_type, is_wanted, verdict, young_copies}
 use Rattle.adjacency.specs.declared.state.State.TheVariants.{Exchange, ExStart, Loading}
@@ -30,7 +30,7 @@ abbrev pub slave : Neighbor → Neighbor
 slave n = record n { state = Exchange; is_master = false }
 
 -- the slave's Description of this number, with the first of these headers
-abbrev pub reply : ℕ → ℕ → ByKey Listed → Description
+abbrev pub reply : ℕ → ℕ → ByKey ListEntry → Description
 reply moment sequence summary = record {
   mtu = 8192;
   options = 2;
@@ -38,7 +38,7 @@ reply moment sequence summary = record {
   more = nat_lt 408 (finite.len summary);
   master = false;
   sequence = sequence;
-  headers = map (λ (e : Key × Listed). header_now moment e.1) (take 408 (finite.entries summary));
+  headers = map (λ (e : Key × ListEntry). aged_header moment e.1) (take 408 (finite.entries summary));
 }
 
 -- the master's last Description, with one header
@@ -56,7 +56,7 @@ pub record AnExchangeAsSlave : Type 0 where
   -- in ExStart, an opening Description from the larger Router ID: Exchange, and what is sent is one Description of its number, with the
   -- headers of the database, as many as fit
   pub negotiates : (r new : Router) (link : Link) (n : Neighbor) (moment sequence : ℕ) (bytes : List ℕ) (outs : List Out)
-      → NothingAges r moment → IsJudged r (opened n) bytes (opening sequence) Verdict.NegotiatedAsSlave → requests_nothing n ≡ true
+      → NothingAges r moment → IsJudged r (opened n) bytes (initial_description sequence) Verdict.NegotiatedAsSlave → requests_nothing n ≡ true
       → Happens (beside r link (opened n)) moment (Occurrence.Packet 1 bytes) outs new
       → (shown_at new 1 ≡ Some (n.router, Exchange))
       × (outs ≡ outs_of r.id (beside r link (opened n)).area.links (describes (reply moment sequence (young_copies moment r.area.database))))

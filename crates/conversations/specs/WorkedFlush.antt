@@ -5,7 +5,7 @@ use Rattle.std.specs.List.{list_any}
 use Rattle.words.specs.declared.key.Key.{Key}
 use Rattle.lsdb.specs.Copies.{DatabaseCopy, has_just_aged_out, installed_just_now, is_aged_out, newer_than_copy}
 use Rattle.lsdb.specs.Headers.{Header, Lsa, header_aged, key_of, lsa_aged, lsa_key}
-use Rattle.lsdb.specs.Instances.{Listed, same_as_listed}
+use Rattle.lsdb.specs.Instances.{ListEntry, same_as_listed}
 use Rattle.packet.specs.declared.model.Body.TheVariants as body
 use Rattle.packet.specs.Text.{PacketText}
 use Rattle.adjacency.specs.declared.state.State.TheVariants.{Full}
@@ -40,11 +40,11 @@ IsFlushed r moment lsa =
     (sent : Option ℕ) × (finite.get r.area.database (router_key r.id) ≡ Some (record { lsa = lsa_aged 3600 lsa; stored = moment; installed = Some moment; sent = sent }))
 
 -- the neighbor at interface 1 has this entry on its retransmission list
-abbrev pub HasOnList : Router → Key → Option Listed → Type 0
+abbrev pub HasOnList : Router → Key → Option ListEntry → Type 0
 HasOnList r key entry = (n : Neighbor) × (neighbor_at 1 r.area.links ≡ Some n) × (finite.get n.retransmissions key ≡ entry)
 
 -- the neighbor still is to acknowledge this header's instance, and the copy has MaxAge
-pub record AcknowledgesTheLast (r : Router) (n : Neighbor) (moment : ℕ) (bytes : List ℕ) (h : Header) (entry : Listed) (c : DatabaseCopy) : Type 0 where
+pub record AcknowledgesTheLast (r : Router) (n : Neighbor) (moment : ℕ) (bytes : List ℕ) (h : Header) (entry : ListEntry) (c : DatabaseCopy) : Type 0 where
   pub nothing_ages : list_any (λ e. has_just_aged_out r.moment moment e.1) (finite.entries r.area.database) ≡ false
   pub is_other : is_foreign r.id n.router ≡ true
   pub is_text : PacketText bytes (record { router = n.router; body = body.Acknowledgment (h ∷ []) })
@@ -65,7 +65,7 @@ pub record TheNumbersEnd : Type 0 where
   pub copy_stays : (lsa : Lsa) (at moment : ℕ) (installed sent : Option ℕ)
       → is_aged_out moment (record { lsa = lsa_aged 3600 lsa; stored = at; installed = installed; sent = sent }) ≡ true
   -- the acknowledgment takes it off the list, and the copy leaves the database in that event; nothing is sent
-  pub leaves : (r new : Router) (link : Link) (n : Neighbor) (moment : ℕ) (bytes : List ℕ) (h : Header) (entry : Listed) (c : DatabaseCopy) (outs : List Out)
+  pub leaves : (r new : Router) (link : Link) (n : Neighbor) (moment : ℕ) (bytes : List ℕ) (h : Header) (entry : ListEntry) (c : DatabaseCopy) (outs : List Out)
       → AcknowledgesTheLast r n moment bytes h entry c
       → Happens (beside r link (full n)) moment (Occurrence.Packet 1 bytes) outs new
       → (finite.get new.area.database (key_of h) ≡ None) × HasOnList new (key_of h) None × (outs ≡ [])

@@ -1,7 +1,7 @@
 -- A worked event of a router with any number of interfaces: a Hello of a new neighbor begins an adjacency (RFC 2328, sections 10.5 and 10.8).
 use Rattle.std.specs.Prelude.{◌≡◌, ℕ, ◌%◌, ◌^◌, List, [], ◌∷◌, None, Some}
 use Rattle.packet.specs.declared.model.Hello.{Hello}
-use Rattle.adjacency.specs.Adjacencies.{opening}
+use Rattle.adjacency.specs.Adjacencies.{initial_description}
 use Rattle.adjacency.specs.Contents.{Content}
 use Rattle.adjacency.specs.declared.state.State.TheVariants.{ExStart}
 use Rattle.received.specs.Links.{Link, link_at}
@@ -19,4 +19,4 @@ ANeighborIsHeard = (old new : Router) (number : ℕ) (link : Link) (moment from 
     → IsAtRest old moment → link_at number old.area.links ≡ Some link → link.neighbor ≡ None → IsNamingHello old link bytes from h
     → Happens old moment (Occurrence.Packet number bytes) outs new
     → (shown_at new number ≡ Some (from, ExStart))
-    × (outs ≡ outs_of old.id old.area.links (record { number = number; content = Content.Describes (opening (moment % 2 ^ 32)) } ∷ []))
+    × (outs ≡ outs_of old.id old.area.links (record { number = number; content = Content.Describes (initial_description (moment % 2 ^ 32)) } ∷ []))

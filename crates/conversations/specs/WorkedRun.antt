@@ -4,7 +4,7 @@ use Rattle.std.specs.Prelude.{◌≡◌, ℕ, ◌%◌, ◌^◌, true, nat_lt, Li
 use Rattle.packet.specs.declared.model.Body.TheVariants as body
 use Rattle.packet.specs.declared.model.Hello.{Hello}
 use Rattle.packet.specs.Text.{PacketText}
-use Rattle.adjacency.specs.Adjacencies.{opening}
+use Rattle.adjacency.specs.Adjacencies.{initial_description}
 use Rattle.adjacency.specs.Descriptions.{young_copies}
 use Rattle.adjacency.specs.declared.state.State.TheVariants.{Exchange, ExStart}
 use Rattle.received.specs.Links.{Link}
@@ -25,8 +25,8 @@ receives moment bytes outs = record { moment = moment; event = Occurrence.Packet
 abbrev pub AnAdjacencyIsNegotiated : Type 0
 AnAdjacencyIsNegotiated = (r new : Router) (link : Link) (moment later from sequence : ℕ) (hello_bytes bytes : List ℕ) (h : Hello) (outs answers : List Out)
     → NothingAges r moment → IsNamingHello r link hello_bytes from h → nat_lt r.id from ≡ true
-    → PacketText bytes (record { router = from; body = body.Description (opening sequence) })
+    → PacketText bytes (record { router = from; body = body.Description (initial_description sequence) })
     → (run : Run (lonely r link) (receives moment hello_bytes outs ∷ receives later bytes answers ∷ []) new) → NothingAges run.0 later
-    → (outs ≡ outs_of r.id (lonely r link).area.links (describes (opening (moment % 2 ^ 32))))
+    → (outs ≡ outs_of r.id (lonely r link).area.links (describes (initial_description (moment % 2 ^ 32))))
     × (shown_at run.0 1 ≡ Some (from, ExStart)) × (shown_at new 1 ≡ Some (from, Exchange))
     × (answers ≡ outs_of r.id run.0.area.links (describes (reply later sequence (young_copies later run.0.area.database))))

@@ -21,7 +21,7 @@ use Rattle.conversations.specs.WorkedOwn.{beside}
 -- isn't at MaxSequenceNumber; nothing else is announced, no copy comes to MaxAge, and the neighbor was heard in time
 pub record IsDueAtTick (r : Router) (link : Link) (n : Neighbor) (moment : ℕ) (copy : Option DatabaseCopy) : Type 0 where
   pub nothing_ages : list_any (λ e. has_just_aged_out r.moment moment e.1) (finite.entries r.area.database) ≡ false
-  pub is_heard : has_passed n.heard link.interface.dead_interval moment ≡ false
+  pub is_heard : has_passed n.last_heard link.interface.dead_interval moment ≡ false
   pub nothing_announced : finite.keys r.announced ≡ []
   pub is_due_now : is_due moment r (router_key r.id) ≡ true
   pub is_over : interval_is_over moment (finite.get r.originated (router_key r.id)) ≡ true
@@ -38,7 +38,7 @@ waiting_acknowledgments link = numbered 1 (map Content.Acknowledges (finite.valu
 -- no own LSA is due, nothing is announced, no copy comes to MaxAge, and the neighbor was heard in time
 pub record IsNothingDue (r : Router) (link : Link) (n : Neighbor) (moment : ℕ) : Type 0 where
   pub nothing_ages : list_any (λ e. has_just_aged_out r.moment moment e.1) (finite.entries r.area.database) ≡ false
-  pub is_heard : has_passed n.heard link.interface.dead_interval moment ≡ false
+  pub is_heard : has_passed n.last_heard link.interface.dead_interval moment ≡ false
   pub nothing_announced : finite.keys r.announced ≡ []
   pub not_due : is_due moment r (router_key r.id) ≡ false
 

@@ -11,7 +11,7 @@ use Rattle.adjacency.specs.Contents.{Content}
 use Rattle.adjacency.specs.declared.state.State.TheVariants.{Full}
 use Rattle.adjacency.specs.Neighbors.{Neighbor}
 use Rattle.adjacency.specs.Requests.{requested}
-use Rattle.received.specs.Links.{Link, anybody_synchronizes, link_at}
+use Rattle.received.specs.Links.{Link, any_exchange_or_loading, link_at}
 use Rattle.received.specs.Outcomes.{Send}
 use Rattle.events.specs.declared.model.Out.{Out}
 use Rattle.events.specs.Events.{Happens}
@@ -21,7 +21,7 @@ use Rattle.events.specs.Routers.{Occurrence, Router}
 
 -- nobody is in Exchange or Loading, and no copy comes to MaxAge at this moment
 pub record IsAtRest (r : Router) (moment : ℕ) : Type 0 where
-  pub nobody : anybody_synchronizes r.area.links ≡ false
+  pub nobody : any_exchange_or_loading r.area.links ≡ false
   pub nothing_ages : list_any (λ e. has_just_aged_out r.moment moment e.1) (finite.entries r.area.database) ≡ false
 
 -- the interface of this number has this link, and its neighbor is Full

@@ -11,7 +11,7 @@ use Rattle.words.specs.declared.route.Route.{Route}
 use Rattle.received.specs.Links.{Link, change_link}
 use Rattle.received.specs.Outcomes.{on_links}
 use Rattle.events.specs.Originations.{external_key, flush, originate_anyway}
-use Rattle.events.specs.Progress.{Progress, on_area, on_router}
+use Rattle.events.specs.EventState.{EventState, on_area, on_router}
 use Rattle.events.specs.Routers.{Router}
 
 -- ---- destinations
@@ -53,32 +53,32 @@ abbrev pub unannounce : Key → Router → Router
 unannounce key r = record r { announced = finite.remove r.announced key; waiting = set.remove r.waiting key }
 
 -- the want ends, and the LSA is flushed
-abbrev pub end_want : ℕ → Key → Progress → Progress
+abbrev pub end_want : ℕ → Key → EventState → EventState
 end_want moment key p = flush moment key (on_router (unannounce key) p)
 
-abbrev pub announce_as : ℕ → Key → External → Progress → Progress
+abbrev pub announce_as : ℕ → Key → External → EventState → EventState
 announce_as moment key e p =
     if is_announced_as e (finite.get p.router.announced key) then p
     else originate_anyway moment key (on_router (announce key e) p)
 
 -- ---- the commands
 
-abbrev pub after_redistribute : ℕ → External → ℕ → ℕ → Progress → Progress
+abbrev pub after_redistribute : ℕ → External → ℕ → ℕ → EventState → EventState
 after_redistribute moment e tag price p =
     if nat_le infinity price then end_want moment (external_key p.router.id e.prefix) p
     else announce_as moment (external_key p.router.id e.prefix) (answered e tag price) p
 
-abbrev pub after_withdraw : ℕ → Network → Progress → Progress
+abbrev pub after_withdraw : ℕ → Network → EventState → EventState
 after_withdraw moment prefix p =
     if is_for prefix (finite.get p.router.announced (external_key p.router.id prefix)) then end_want moment (external_key p.router.id prefix) p
     else p
 
-abbrev pub after_install : List (Route × ℕ) → Progress → Progress
+abbrev pub after_install : List (Route × ℕ) → EventState → EventState
 after_install answers p = on_router (λ (r : Router). record r { answers = answers }) p
 
 -- the neighbor is Down; the interface stays
 abbrev pub taken_down : Link → Link
 taken_down link = record link { neighbor = None }
 
-abbrev pub after_link_down : ℕ → Progress → Progress
+abbrev pub after_link_down : ℕ → EventState → EventState
 after_link_down number p = on_area (on_links (change_link number taken_down)) p

@@ -11,10 +11,10 @@ use Rattle.lsdb.specs.Copies.{DatabaseCopy, has_just_aged_out, is_aged_out, lsa_
 use Rattle.adjacency.specs.Adjacencies as adjacencies
 use Rattle.adjacency.specs.Neighbors.{Neighbor}
 use Rattle.adjacency.specs.Requests.{request_next}
-use Rattle.received.specs.Links.{Area, Link, anybody_owes, anybody_synchronizes}
+use Rattle.received.specs.Links.{Area, Link, any_has_retransmission, any_exchange_or_loading}
 use Rattle.received.specs.Outcomes.{Outcome, each_neighbor, on_database, on_links}
 use Rattle.events.specs.Originations.{originate_or_wait, router_body, router_key, wait}
-use Rattle.events.specs.Progress.{Progress, flood_from_nobody, on_area, on_router}
+use Rattle.events.specs.EventState.{EventState, flood_from_nobody, on_area, on_router}
 use Rattle.events.specs.Routers.{Router}
 
 -- ---- ages (section 14)
@@ -27,20 +27,20 @@ abbrev pub with_ages : ℕ → ℕ → Outcome → Outcome
 with_ages before moment o = fold (with_age before moment) o (finite.entries o.area.database)
 
 -- nothing was sent yet
-abbrev pub begun : ℕ → Router → Progress
-begun moment old = on_area (with_ages old.moment moment) (record { router = old; sends = [] })
+abbrev pub start_event : ℕ → Router → EventState
+start_event moment old = on_area (with_ages old.moment moment) (record { router = old; sends = [] })
 
 -- ---- Loading to Full (section 10.3)
 
-abbrev pub filled_on : Option Neighbor → Option Neighbor
-filled_on None = None
-filled_on (Some n) = Some (adjacencies.filled n)
+abbrev pub loading_done_on : Option Neighbor → Option Neighbor
+loading_done_on None = None
+loading_done_on (Some n) = Some (adjacencies.loading_done n)
 
-abbrev pub fill : Link → Link
-fill link = record link { neighbor = filled_on link.neighbor }
+abbrev pub link_loading_done : Link → Link
+link_loading_done link = record link { neighbor = loading_done_on link.neighbor }
 
-abbrev pub filled : Progress → Progress
-filled p = on_area (on_links (map fill)) p
+abbrev pub loading_done : EventState → EventState
+loading_done p = on_area (on_links (map link_loading_done)) p
 
 -- ---- the router-LSA (section 12.4.1)
 
@@ -55,23 +55,23 @@ abbrev pub is_at : ℕ → Option ℕ → Bool
 is_at moment None = false
 is_at moment (Some at) = at == moment
 
-abbrev pub copy_says : Body → Option DatabaseCopy → Bool
-copy_says says None = false
-copy_says says (Some c) = same_body c.lsa.body says
+abbrev pub copy_has_body : Body → Option DatabaseCopy → Bool
+copy_has_body says None = false
+copy_has_body says (Some c) = same_body c.lsa.body says
 
 -- the present links were told in an instance that was originated at this moment
-abbrev pub is_said : ℕ → Router → Bool
-is_said moment r =
+abbrev pub is_current : ℕ → Router → Bool
+is_current moment r =
     is_at moment (finite.get r.originated (router_key r.id))
-    && copy_says (router_body r.area.links) (finite.get r.area.database (router_key r.id))
+    && copy_has_body (router_body r.area.links) (finite.get r.area.database (router_key r.id))
 
 -- at once, or at a Tick, where the links have changed in this event
-abbrev pub describe_router : List Link → ℕ → Progress → Progress
+abbrev pub describe_router : List Link → ℕ → EventState → EventState
 describe_router before moment p =
-    if links_differ before p.router.area.links && not (is_said moment p.router) then originate_or_wait moment (router_key p.router.id) p else p
+    if links_differ before p.router.area.links && not (is_current moment p.router) then originate_or_wait moment (router_key p.router.id) p else p
 
 -- what changes after that waits for a Tick
-abbrev pub describe_router_later : List Link → Progress → Progress
+abbrev pub describe_router_later : List Link → EventState → EventState
 describe_router_later before p =
     if links_differ before p.router.area.links then on_router (wait (router_key p.router.id)) p else p
 
@@ -83,22 +83,22 @@ request_all moment o = each_neighbor moment (λ number link n. request_next mome
 -- ---- removal (section 14)
 
 abbrev pub stays_as : ℕ → Bool → Option DatabaseCopy → Bool
-stays_as moment is_owed None = false
-stays_as moment is_owed (Some c) = not (is_aged_out moment c) || is_owed
+stays_as moment is_on_some_list None = false
+stays_as moment is_on_some_list (Some c) = not (is_aged_out moment c) || is_on_some_list
 
 abbrev pub stays : ℕ → Area → Key → Bool
-stays moment a key = stays_as moment (anybody_owes key a.links) (finite.get a.database key)
+stays moment a key = stays_as moment (any_has_retransmission key a.links) (finite.get a.database key)
 
 -- copies at MaxAge that are on no retransmission list leave, unless some neighbor is in Exchange or Loading
 abbrev pub remove_aged : ℕ → Outcome → Outcome
 remove_aged moment o =
-    if anybody_synchronizes o.area.links then o else on_database (λ db. finite.retain_keys db (stays moment o.area)) o
+    if any_exchange_or_loading o.area.links then o else on_database (λ db. finite.retain_keys db (stays moment o.area)) o
 
 -- ---- the whole end
 
 -- `old` is the router before the event
-abbrev pub finished : Router → ℕ → Progress → Progress
-finished old moment p =
-    let described : Progress = describe_router old.area.links moment (filled p) in
-    let refilled : Progress = describe_router_later described.router.area.links (filled described) in
+abbrev pub end_event : Router → ℕ → EventState → EventState
+end_event old moment p =
+    let described : EventState = describe_router old.area.links moment (loading_done p) in
+    let refilled : EventState = describe_router_later described.router.area.links (loading_done described) in
     on_router (λ (r : Router). record r { moment = moment }) (on_area (λ o. remove_aged moment (request_all moment o)) refilled)

@@ -4,16 +4,16 @@ use Rattle.std.specs.Prelude.{◌≡◌, ℕ, List, [], ◌∷◌}
 use Rattle.words.specs.declared.key.Key.{Key}
 use Rattle.packet.specs.declared.model.Packet.{Packet}
 use Rattle.packet.specs.Text.{PacketText}
-use Rattle.adjacency.specs.Adjacencies.{named}
-use Rattle.adjacency.specs.Contents.{quiet}
+use Rattle.adjacency.specs.Adjacencies.{two_way_received}
+use Rattle.adjacency.specs.Contents.{no_sends}
 use Rattle.events.specs.declared.model.Config.{Config}
 use Rattle.events.specs.declared.model.Out.{Out}
 use Rattle.events.specs.Commands.{after_install, after_link_down, after_redistribute, after_withdraw}
-use Rattle.events.specs.Endings.{begun, finished}
+use Rattle.events.specs.Endings.{start_event, end_event}
 use Rattle.events.specs.Originations.{due_keys, originate_or_wait, router_key}
 use Rattle.events.specs.Packets.{TwoWay, after_packet}
 use Rattle.events.specs.Packing.{outs_of}
-use Rattle.events.specs.Progress.{Progress}
+use Rattle.events.specs.EventState.{EventState}
 use Rattle.events.specs.Routers.{Occurrence, Router, unannounced}
 use Rattle.events.specs.Ticks.{after_tick}
 
@@ -23,16 +23,16 @@ pub record Rules : Type 0 where
   pub due : ℕ → Router → List Key
 
 abbrev pub whole : Rules
-whole = record { two_way = named; due = due_keys }
+whole = record { two_way = two_way_received; due = due_keys }
 
 -- the sender stays in Init, and nothing is originated
 abbrev pub hellos_alone : Rules
-hellos_alone = record { two_way = λ moment n. quiet n; due = λ moment r. [] }
+hellos_alone = record { two_way = λ moment n. no_sends n; due = λ moment r. [] }
 
 -- ---- an event
 
 -- the event's own part: from the progress before it to the one after it
-abbrev pub OwnPart : Rules → ℕ → Occurrence → Progress → Progress → Type 0
+abbrev pub OwnPart : Rules → ℕ → Occurrence → EventState → EventState → Type 0
 OwnPart rules moment (Occurrence.Packet number bytes) before after =
     (packet : Packet) × PacketText bytes packet × (after ≡ after_packet rules.two_way moment number packet before)
 OwnPart rules moment Occurrence.Tick before after = after ≡ after_tick rules.due moment before
@@ -43,10 +43,10 @@ OwnPart rules moment (Occurrence.LinkDown number) before after = after ≡ after
 
 -- from old, the event at this moment sends these and leaves new
 pub record HappensBy (rules : Rules) (old : Router) (moment : ℕ) (event : Occurrence) (outs : List Out) (new : Router) : Type 0 where
-  pub after : Progress
-  pub own : OwnPart rules moment event (begun moment old) after
-  pub router : new ≡ (finished old moment after).router
-  pub sent : outs ≡ outs_of old.id old.area.links (finished old moment after).sends
+  pub after : EventState
+  pub own : OwnPart rules moment event (start_event moment old) after
+  pub router : new ≡ (end_event old moment after).router
+  pub sent : outs ≡ outs_of old.id old.area.links (end_event old moment after).sends
 
 abbrev pub Happens : Router → ℕ → Occurrence → List Out → Router → Type 0
 Happens old moment event outs new = HappensBy whole old moment event outs new

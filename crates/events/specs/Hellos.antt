@@ -41,11 +41,11 @@ is_due moment interval None = true
 is_due moment interval (Some last) = has_passed last interval moment
 
 -- a Hello is sent at the first Tick, and where HelloInterval has passed since the last one
-abbrev pub greets : ℕ → Link → Bool
-greets moment link = is_due moment link.interface.hello_interval link.greeted
+abbrev pub hello_is_due : ℕ → Link → Bool
+hello_is_due moment link = is_due moment link.interface.hello_interval link.last_hello_sent
 
-abbrev pub greeted : ℕ → Link → Link
-greeted moment link = record link { greeted = if greets moment link then Some moment else link.greeted }
+abbrev pub with_hello_sent : ℕ → Link → Link
+with_hello_sent moment link = record link { last_hello_sent = if hello_is_due moment link then Some moment else link.last_hello_sent }
 
 abbrev pub heard_of : Option Neighbor → List ℕ
 heard_of None = []

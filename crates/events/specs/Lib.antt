@@ -1,6 +1,6 @@
 pub mod Routers
 pub mod Hellos
-pub mod Progress
+pub mod EventState
 pub mod Originations
 pub mod Packets
 pub mod Ticks
@@ -9,7 +9,7 @@ pub mod Endings
 pub mod Packing
 pub mod Events
 pub mod Refusals
-pub mod Names
+pub mod LsaInstances
 pub mod Taken
 pub mod Worlds
 pub mod Laws

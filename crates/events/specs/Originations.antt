@@ -20,7 +20,7 @@ use Rattle.adjacency.specs.Neighbors.{Neighbor, is_full}
 use Rattle.adjacency.specs.declared.interface.Interface.{Interface}
 use Rattle.received.specs.Links.{Link}
 use Rattle.received.specs.Outcomes.{Outcome, on_database}
-use Rattle.events.specs.Progress.{Progress, flood_from_nobody, on_area, on_router}
+use Rattle.events.specs.EventState.{EventState, flood_from_nobody, on_area, on_router}
 use Rattle.events.specs.Routers.{Router}
 
 -- ---- what is wanted
@@ -106,7 +106,7 @@ install_and_flood moment lsa o = flood_from_nobody moment lsa (on_database (inst
 abbrev pub as_originated : ℕ → Key → Router → Router
 as_originated moment key r = record r { waiting = set.remove r.waiting key; originated = finite.insert r.originated key moment }
 
-abbrev pub originate : ℕ → Key → Body → Progress → Progress
+abbrev pub originate : ℕ → Key → Body → EventState → EventState
 originate moment key says p =
     on_router (as_originated moment key) (on_area (install_and_flood moment (new_instance key (finite.get p.router.area.database key) says)) p)
 
@@ -118,7 +118,7 @@ flush_copy moment key None o = o
 flush_copy moment key (Some c) o =
     if is_aged_out moment c then o else flood_from_nobody moment (lsa_aged 3600 c.lsa) (on_database (age_out moment key) o)
 
-abbrev pub flush : ℕ → Key → Progress → Progress
+abbrev pub flush : ℕ → Key → EventState → EventState
 flush moment key p = on_area (flush_copy moment key (finite.get p.router.area.database key)) p
 
 -- ---- when a new instance may go out
@@ -149,7 +149,7 @@ wait key r = record r { waiting = set.insert r.waiting key }
 
 -- at once, if `may_now` and the five seconds allow it, else at a Tick; after MaxSequenceNumber the copy is flushed first, and the LSA is
 -- originated when it has left the database
-abbrev pub originate_body : Bool → ℕ → Key → Option Body → Progress → Progress
+abbrev pub originate_body : Bool → ℕ → Key → Option Body → EventState → EventState
 originate_body may_now moment key None p = p
 originate_body may_now moment key (Some says) p =
     if has_max_sequence (finite.get p.router.area.database key) then flush moment key p
@@ -157,11 +157,11 @@ originate_body may_now moment key (Some says) p =
     else on_router (wait key) p
 
 -- where there is room for it
-abbrev pub originate_or_wait : ℕ → Key → Progress → Progress
+abbrev pub originate_or_wait : ℕ → Key → EventState → EventState
 originate_or_wait moment key p = originate_body (has_room key p.router) moment key (wanted_body p.router key) p
 
 -- whether there is room or not, which a Redistribute asks afterwards
-abbrev pub originate_anyway : ℕ → Key → Progress → Progress
+abbrev pub originate_anyway : ℕ → Key → EventState → EventState
 originate_anyway moment key p = originate_body true moment key (wanted_body p.router key) p
 
 -- ---- at a Tick
@@ -177,8 +177,8 @@ is_due moment r key = set.contains r.waiting key || is_stale moment (finite.get 
 abbrev pub due_keys : ℕ → Router → List Key
 due_keys moment r = filter (is_due moment r) (wanted_keys r)
 
-abbrev pub originate_due : ℕ → List Key → Progress → Progress
-originate_due moment keys p = fold (λ (q : Progress) (key : Key). originate_or_wait moment key q) p keys
+abbrev pub originate_due : ℕ → List Key → EventState → EventState
+originate_due moment keys p = fold (λ (q : EventState) (key : Key). originate_or_wait moment key q) p keys
 
 -- own originations whose five seconds are over are forgotten
 abbrev pub is_recent : ℕ → Option ℕ → Bool
@@ -194,11 +194,11 @@ abbrev pub is_wanted : Option Body → Bool
 is_wanted None = false
 is_wanted (Some says) = true
 
-abbrev pub settle_wanted : Bool → ℕ → Key → Progress → Progress
-settle_wanted true moment key p = originate_or_wait moment key p
-settle_wanted false moment key p = flush moment key p
+abbrev pub originate_or_flush : Bool → ℕ → Key → EventState → EventState
+originate_or_flush true moment key p = originate_or_wait moment key p
+originate_or_flush false moment key p = flush moment key p
 
 -- a self-originated LSA that was installed: one that is wanted is originated again, one past its number; any other is flushed
-abbrev pub settle_own : ℕ → Lsa → Progress → Progress
-settle_own moment lsa p =
-    if lsa.header.advertising_router == p.router.id then settle_wanted (is_wanted (wanted_body p.router (lsa_key lsa))) moment (lsa_key lsa) p else p
+abbrev pub receive_self_originated : ℕ → Lsa → EventState → EventState
+receive_self_originated moment lsa p =
+    if lsa.header.advertising_router == p.router.id then originate_or_flush (is_wanted (wanted_body p.router (lsa_key lsa))) moment (lsa_key lsa) p else p

@@ -12,17 +12,17 @@ use Rattle.packet.specs.declared.model.Description.{Description}
 use Rattle.packet.specs.declared.model.Hello.{Hello}
 use Rattle.packet.specs.declared.model.Packet.{Packet}
 use Rattle.adjacency.specs.Adjacencies as adjacencies
-use Rattle.adjacency.specs.Contents.{Content, Step, quiet}
+use Rattle.adjacency.specs.Contents.{Content, Step, no_sends}
 use Rattle.adjacency.specs.Descriptions.{after_description}
-use Rattle.adjacency.specs.Neighbors.{Neighbor, takes_part}
+use Rattle.adjacency.specs.Neighbors.{Neighbor, is_exchange_or_later}
 use Rattle.adjacency.specs.Retransmissions.{after_acknowledgment, lsa_of}
 use Rattle.received.specs.Cases.{Case}
 use Rattle.received.specs.Links.{Link, change_link, link_at, neighbor_at}
 use Rattle.received.specs.Outcomes.{Outcome, numbered, on_links, one_neighbor, sending}
 use Rattle.received.specs.Updates.{after_case, case_at, goes_on}
 pub use Rattle.events.specs.Hellos.{accepts, agrees, is_foreign, may_be, names}
-use Rattle.events.specs.Originations.{settle_own}
-use Rattle.events.specs.Progress.{Progress, on_area}
+use Rattle.events.specs.Originations.{receive_self_originated}
+use Rattle.events.specs.EventState.{EventState, on_area}
 
 -- what a Hello that names this router makes of its sender, once it was heard
 abbrev pub TwoWay : Type 0
@@ -62,35 +62,35 @@ requested_from moment number keys o =
 -- ---- Updates (section 13)
 
 -- a self-originated LSA that was installed is settled
-abbrev pub settle : Case → ℕ → Lsa → Progress → Progress
-settle Case.Unreadable moment lsa p = p
-settle Case.NothingToFlush moment lsa p = p
-settle Case.TooSoon moment lsa p = p
-settle Case.Newer moment lsa p = settle_own moment lsa p
-settle Case.BadRequest moment lsa p = p
-settle Case.ImpliedAcknowledgment moment lsa p = p
-settle Case.Duplicate moment lsa p = p
-settle Case.SequenceWraps moment lsa p = p
-settle Case.SentJustNow moment lsa p = p
-settle Case.Older moment lsa p = p
+abbrev pub after_self_originated : Case → ℕ → Lsa → EventState → EventState
+after_self_originated Case.Unreadable moment lsa p = p
+after_self_originated Case.NothingToFlush moment lsa p = p
+after_self_originated Case.TooSoon moment lsa p = p
+after_self_originated Case.Newer moment lsa p = receive_self_originated moment lsa p
+after_self_originated Case.BadRequest moment lsa p = p
+after_self_originated Case.ImpliedAcknowledgment moment lsa p = p
+after_self_originated Case.Duplicate moment lsa p = p
+after_self_originated Case.SequenceWraps moment lsa p = p
+after_self_originated Case.SentJustNow moment lsa p = p
+after_self_originated Case.Older moment lsa p = p
 
-abbrev pub after_lsa : Case → ℕ → ℕ → Lsa → Progress → Progress
-after_lsa case moment number lsa p = settle case moment lsa (on_area (after_case case moment number lsa) p)
+abbrev pub after_lsa : Case → ℕ → ℕ → Lsa → EventState → EventState
+after_lsa case moment number lsa p = after_self_originated case moment lsa (on_area (after_case case moment number lsa) p)
 
 -- the case of the LSA that the bytes are: they are an LSA's text, or none's
-abbrev pub case_in : ℕ → ℕ → Option Lsa → Progress → Case
+abbrev pub case_in : ℕ → ℕ → Option Lsa → EventState → Case
 case_in moment number None p = Case.Unreadable
 case_in moment number (Some lsa) p = case_at moment number lsa p.router.area
 
-abbrev pub after_unread : ℕ → ℕ → Option Lsa → Progress → Progress
+abbrev pub after_unread : ℕ → ℕ → Option Lsa → EventState → EventState
 after_unread moment number None p = p
 after_unread moment number (Some lsa) p = after_lsa (case_at moment number lsa p.router.area) moment number lsa p
 
 -- the LSAs of an Update in order, up to a bad request
-abbrev pub after_lsas : ℕ → ℕ → List (List ℕ) → Progress → Progress
+abbrev pub after_lsas : ℕ → ℕ → List (List ℕ) → EventState → EventState
 after_lsas moment number [] p = p
 after_lsas moment number (bytes ∷ rest) p =
-    let q : Progress = after_unread moment number (lsa_in bytes) p in
+    let q : EventState = after_unread moment number (lsa_in bytes) p in
     if goes_on (case_in moment number (lsa_in bytes) p) then after_lsas moment number rest q else q
 
 -- ---- the whole
@@ -102,16 +102,16 @@ is_from from (Some n) = n.router == from
 
 abbrev pub is_in_exchange : Option Neighbor → Bool
 is_in_exchange None = false
-is_in_exchange (Some n) = takes_part n.state
+is_in_exchange (Some n) = is_exchange_or_later n.state
 
 abbrev pub describe_to : TwoWay → ℕ → ℕ → ℕ → Description → Outcome → Outcome
 describe_to two_way own moment number d o = one_neighbor moment number (after_description two_way own moment o.area.database d) o
 
 abbrev pub acknowledged_by : ℕ → ℕ → List Header → Outcome → Outcome
-acknowledged_by moment number headers o = one_neighbor moment number (λ n. quiet (after_acknowledgment moment headers n)) o
+acknowledged_by moment number headers o = one_neighbor moment number (λ n. no_sends (after_acknowledgment moment headers n)) o
 
 -- from the interface's neighbor; Requests, Updates and Acknowledgments count from Exchange on
-abbrev pub from_neighbor : TwoWay → ℕ → ℕ → ℕ → Bool → Body → Progress → Progress
+abbrev pub from_neighbor : TwoWay → ℕ → ℕ → ℕ → Bool → Body → EventState → EventState
 from_neighbor two_way moment number from in_exchange (body.Hello h) p = on_area (after_hello two_way p.router.id moment number from h) p
 from_neighbor two_way moment number from in_exchange (body.Description d) p = on_area (describe_to two_way p.router.id moment number d) p
 from_neighbor two_way moment number from in_exchange (body.Request keys) p = if in_exchange then on_area (requested_from moment number keys) p else p
@@ -129,7 +129,7 @@ is_hello (body.Acknowledgment headers) = false
 abbrev pub is_heard : ℕ → Packet → Option Neighbor → Bool
 is_heard own packet n = is_foreign own packet.router && (is_hello packet.body || is_from packet.router n)
 
-abbrev pub after_packet : TwoWay → ℕ → ℕ → Packet → Progress → Progress
+abbrev pub after_packet : TwoWay → ℕ → ℕ → Packet → EventState → EventState
 after_packet two_way moment number packet p =
     let n : Option Neighbor = neighbor_at number p.router.area.links in
     if is_heard p.router.id packet n then from_neighbor two_way moment number packet.router (is_in_exchange n) packet.body p else p

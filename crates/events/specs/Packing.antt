@@ -44,35 +44,35 @@ packed size start (x ∷ xs) = fill_on size start (start + size x) (x ∷ []) xs
 -- ---- the packets of one interface, by their types
 
 abbrev pub hellos : Content → Option Body
-hellos (Content.Greets h) = Some (body.Hello h)
+hellos (Content.SendsHello h) = Some (body.Hello h)
 hellos (Content.Describes d) = None
 hellos (Content.Requests keys) = None
 hellos (Content.Updates lsa) = None
 hellos (Content.Acknowledges h) = None
 
 abbrev pub descriptions : Content → Option Body
-descriptions (Content.Greets h) = None
+descriptions (Content.SendsHello h) = None
 descriptions (Content.Describes d) = Some (body.Description d)
 descriptions (Content.Requests keys) = None
 descriptions (Content.Updates lsa) = None
 descriptions (Content.Acknowledges h) = None
 
 abbrev pub requests : Content → Option (List Key)
-requests (Content.Greets h) = None
+requests (Content.SendsHello h) = None
 requests (Content.Describes d) = None
 requests (Content.Requests keys) = Some keys
 requests (Content.Updates lsa) = None
 requests (Content.Acknowledges h) = None
 
 abbrev pub updates : Content → Option Lsa
-updates (Content.Greets h) = None
+updates (Content.SendsHello h) = None
 updates (Content.Describes d) = None
 updates (Content.Requests keys) = None
 updates (Content.Updates lsa) = Some lsa
 updates (Content.Acknowledges h) = None
 
 abbrev pub acknowledgments : Content → Option Header
-acknowledgments (Content.Greets h) = None
+acknowledgments (Content.SendsHello h) = None
 acknowledgments (Content.Describes d) = None
 acknowledgments (Content.Requests keys) = None
 acknowledgments (Content.Updates lsa) = None

@@ -62,8 +62,8 @@ in_profile c =
 -- ---- the start
 
 -- a link on which nothing was heard or sent
-abbrev pub silent : Interface → Link
-silent i = record { interface = i; neighbor = None; acknowledgments = finite.empty; greeted = None }
+abbrev pub fresh_link : Interface → Link
+fresh_link i = record { interface = i; neighbor = None; acknowledgments = finite.empty; last_hello_sent = None }
 
 -- a router that keeps nothing but its links
 abbrev pub with_links : ℕ → List Link → ℕ → Router
@@ -79,7 +79,7 @@ with_links id links moment = record {
 
 -- before it has originated anything; the start counts as the moment of a last event
 abbrev pub unannounced : Config → Router
-unannounced c = with_links c.router (map silent c.interfaces) c.start
+unannounced c = with_links c.router (map fresh_link c.interfaces) c.start
 
 -- ---- what is shown
 

@@ -6,7 +6,7 @@ use Rattle.std.specs.FinMap as finite
 use Rattle.words.specs.declared.key.Key.{Key}
 use Rattle.lsa.specs.Reading.{lsa_in}
 use Rattle.lsdb.specs.Headers.{Header, Lsa, key_of, lsa_key}
-use Rattle.lsdb.specs.Instances.{Listed}
+use Rattle.lsdb.specs.Instances.{ListEntry}
 use Rattle.packet.specs.declared.model.Body.{Body}
 use Rattle.packet.specs.declared.model.Body.TheVariants as body
 use Rattle.packet.specs.declared.model.Packet.{Packet}
@@ -15,35 +15,35 @@ use Rattle.adjacency.specs.Retransmissions.{acknowledged}
 use Rattle.received.specs.Cases.{Case}
 use Rattle.received.specs.Links.{neighbor_at}
 use Rattle.received.specs.Updates.{goes_on}
-use Rattle.events.specs.Endings.{begun}
-use Rattle.events.specs.Names.{Name, names_told}
+use Rattle.events.specs.Endings.{start_event}
+use Rattle.events.specs.LsaInstances.{LsaInstance, instances_advertised}
 use Rattle.events.specs.Packets.{after_unread, case_in, is_heard, is_in_exchange}
-use Rattle.events.specs.Progress.{Progress}
+use Rattle.events.specs.EventState.{EventState}
 use Rattle.events.specs.Routers.{Router}
 
-abbrev pub entry_of : Key → Option Neighbor → Option Listed
+abbrev pub entry_of : Key → Option Neighbor → Option ListEntry
 entry_of key None = None
 entry_of key (Some n) = finite.get n.retransmissions key
 
 -- the instance that stood under the key before, where nothing stands there after
-abbrev pub gone : Key → Option Listed → Option Listed → Option Name
+abbrev pub gone : Key → Option ListEntry → Option ListEntry → Option LsaInstance
 gone key None after = None
 gone key (Some l) None = Some (record { key = key; sequence = l.header.sequence; checksum = l.header.checksum })
 gone key (Some l) (Some m) = None
 
 -- by the headers of an Acknowledgment, one after the other
-abbrev pub taken_by_headers : ℕ → List Header → Neighbor → List Name
+abbrev pub taken_by_headers : ℕ → List Header → Neighbor → List LsaInstance
 taken_by_headers moment [] n = []
 taken_by_headers moment (h ∷ hs) n =
     cons_option (gone (key_of h) (finite.get n.retransmissions (key_of h)) (finite.get (acknowledged moment n h).retransmissions (key_of h)))
     (taken_by_headers moment hs (acknowledged moment n h))
 
-abbrev pub taken_from : ℕ → List Header → Option Neighbor → List Name
+abbrev pub taken_from : ℕ → List Header → Option Neighbor → List LsaInstance
 taken_from moment headers None = []
 taken_from moment headers (Some n) = taken_by_headers moment headers n
 
 -- by an LSA that is an implied acknowledgment
-abbrev pub taken_in_case : Case → ℕ → ℕ → Lsa → Progress → Option Name
+abbrev pub taken_in_case : Case → ℕ → ℕ → Lsa → EventState → Option LsaInstance
 taken_in_case Case.ImpliedAcknowledgment moment number lsa p =
     gone (lsa_key lsa) (entry_of (lsa_key lsa) (neighbor_at number p.router.area.links))
     (entry_of (lsa_key lsa) (neighbor_at number (after_unread moment number (Some lsa) p).router.area.links))
@@ -57,18 +57,18 @@ taken_in_case Case.SequenceWraps moment number lsa p = None
 taken_in_case Case.SentJustNow moment number lsa p = None
 taken_in_case Case.Older moment number lsa p = None
 
-abbrev pub taken_by_lsa : ℕ → ℕ → Option Lsa → Progress → Option Name
+abbrev pub taken_by_lsa : ℕ → ℕ → Option Lsa → EventState → Option LsaInstance
 taken_by_lsa moment number None p = None
 taken_by_lsa moment number (Some lsa) p = taken_in_case (case_in moment number (Some lsa) p) moment number lsa p
 
 -- by those of an Update one after the other, up to a bad request
-abbrev pub taken_by_lsas : ℕ → ℕ → List (List ℕ) → Progress → List Name
+abbrev pub taken_by_lsas : ℕ → ℕ → List (List ℕ) → EventState → List LsaInstance
 taken_by_lsas moment number [] p = []
 taken_by_lsas moment number (bytes ∷ rest) p =
     cons_option (taken_by_lsa moment number (lsa_in bytes) p)
     (if goes_on (case_in moment number (lsa_in bytes) p) then taken_by_lsas moment number rest (after_unread moment number (lsa_in bytes) p) else [])
 
-abbrev pub taken_by_body : ℕ → ℕ → Body → Progress → List Name
+abbrev pub taken_by_body : ℕ → ℕ → Body → EventState → List LsaInstance
 taken_by_body moment number (body.Hello h) p = []
 taken_by_body moment number (body.Description d) p = []
 taken_by_body moment number (body.Request keys) p = []
@@ -76,13 +76,13 @@ taken_by_body moment number (body.Update lsas) p = taken_by_lsas moment number l
 taken_by_body moment number (body.Acknowledgment headers) p = taken_from moment headers (neighbor_at number p.router.area.links)
 
 -- by the packet that came in at the interface of this number
-abbrev pub taken_by : ℕ → ℕ → Packet → Router → List Name
+abbrev pub taken_by : ℕ → ℕ → Packet → Router → List LsaInstance
 taken_by moment number packet old =
-    let p : Progress = begun moment old in
+    let p : EventState = start_event moment old in
     let n : Option Neighbor = neighbor_at number p.router.area.links in
     if is_heard old.id packet n then (if is_in_exchange n then taken_by_body moment number packet.body p else []) else []
 
 -- what a packet takes off, the packet tells: the very instance, by key, sequence number and checksum
 abbrev pub WhatIsTakenOffWasTold : Type 0
-WhatIsTakenOffWasTold = (moment number : ℕ) (packet : Packet) (old : Router) (name : Name)
-    → Contains (taken_by moment number packet old) name → Contains (names_told packet.body) name
+WhatIsTakenOffWasTold = (moment number : ℕ) (packet : Packet) (old : Router) (name : LsaInstance)
+    → Contains (taken_by moment number packet old) name → Contains (instances_advertised packet.body) name

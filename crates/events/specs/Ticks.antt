@@ -3,16 +3,16 @@ use Rattle.std.specs.Prelude.{ℕ, if◌then◌else◌, List, [], ◌∷◌, map
 use Rattle.std.specs.List.{enumerate_from, flat_map}
 use Rattle.std.specs.FinMap as finite
 use Rattle.words.specs.declared.key.Key.{Key}
-use Rattle.adjacency.specs.Adjacencies.{still_heard}
+use Rattle.adjacency.specs.Adjacencies.{after_inactivity_timer}
 use Rattle.adjacency.specs.Contents.{Content}
 use Rattle.adjacency.specs.Descriptions.{without_old_description}
 use Rattle.adjacency.specs.Neighbors.{Neighbor}
 use Rattle.adjacency.specs.Retransmissions.{send_again}
 use Rattle.received.specs.Links.{Link}
 use Rattle.received.specs.Outcomes.{Outcome, Send, Stepping, each_neighbor, numbered, on_links, sending}
-pub use Rattle.events.specs.Hellos.{greeted, greets, hello_on, is_due}
+pub use Rattle.events.specs.Hellos.{with_hello_sent, hello_is_due, hello_on, is_due}
 use Rattle.events.specs.Originations.{forget_originations, originate_due}
-use Rattle.events.specs.Progress.{Progress, on_area, on_router}
+use Rattle.events.specs.EventState.{EventState, on_area, on_router}
 use Rattle.events.specs.Routers.{Router}
 
 -- ---- times that run out
@@ -24,7 +24,7 @@ settled_exchange moment dead (Some n) = Some (without_old_description moment dea
 -- an inactive neighbor is Down; a slave gives up its last Description
 abbrev pub run_out : ℕ → Link → Link
 run_out moment link = record link {
-  neighbor = settled_exchange moment link.interface.dead_interval (still_heard moment link.interface.dead_interval link.neighbor);
+  neighbor = settled_exchange moment link.interface.dead_interval (after_inactivity_timer moment link.interface.dead_interval link.neighbor);
 }
 
 -- ---- what is sent again
@@ -52,17 +52,17 @@ acknowledge_all moment o = sending moment (sends_of acknowledgments_on o.area.li
 
 -- ---- Hellos
 
-abbrev pub greeting_on : ℕ → Link → List Content
-greeting_on moment link = if greets moment link then Content.Greets (hello_on link) ∷ [] else []
+abbrev pub hello_sent_on : ℕ → Link → List Content
+hello_sent_on moment link = if hello_is_due moment link then Content.SendsHello (hello_on link) ∷ [] else []
 
-abbrev pub greet_all : ℕ → Outcome → Outcome
-greet_all moment o = sending moment (sends_of (greeting_on moment) o.area.links) (on_links (map (greeted moment)) o)
+abbrev pub send_hellos : ℕ → Outcome → Outcome
+send_hellos moment o = sending moment (sends_of (hello_sent_on moment) o.area.links) (on_links (map (with_hello_sent moment)) o)
 
 -- ---- the whole
 
 -- `due` are the own LSAs that a Tick originates
-abbrev pub after_tick : (ℕ → Router → List Key) → ℕ → Progress → Progress
+abbrev pub after_tick : (ℕ → Router → List Key) → ℕ → EventState → EventState
 after_tick due moment p =
-    let quiet : Progress = on_router (forget_originations moment) (on_area (on_links (map (run_out moment))) p) in
-    let renewed : Progress = originate_due moment (due moment quiet.router) quiet in
-    on_area (λ o. greet_all moment (acknowledge_all moment (send_all_again moment o))) renewed
+    let no_sends : EventState = on_router (forget_originations moment) (on_area (on_links (map (run_out moment))) p) in
+    let renewed : EventState = originate_due moment (due moment no_sends.router) no_sends in
+    on_area (λ o. send_hellos moment (acknowledge_all moment (send_all_again moment o))) renewed

@@ -3,7 +3,7 @@
 use Rattle.std.specs.Prelude.{◌≡◌, ℕ, ◌==◌, Bool, true, not, ◌&&◌, List, [], ◌∷◌, ◌++◌, map, Option, None, Some, slice_get, slice_set}
 use Rattle.std.specs.List.{Contains, flat_map, list_all, list_any}
 use Rattle.std.specs.FinMap as finite
-use Rattle.lsdb.specs.Instances.{Listed}
+use Rattle.lsdb.specs.Instances.{ListEntry}
 use Rattle.packet.specs.declared.model.Packet.{Packet}
 use Rattle.packet.specs.Text.{PacketText}
 use Rattle.adjacency.specs.Neighbors.{Neighbor}
@@ -11,44 +11,44 @@ use Rattle.received.specs.Links.{Link}
 use Rattle.events.specs.declared.model.Config.{Config}
 use Rattle.events.specs.declared.model.Out.{Out}
 use Rattle.events.specs.Events.{initial}
-use Rattle.events.specs.Names.{Name, lsa_name, name_of, names_brought, names_told}
+use Rattle.events.specs.LsaInstances.{LsaInstance, instance_of_lsa, instance_of_header, instances_received, instances_advertised}
 use Rattle.events.specs.Routers.{Occurrence, Router, in_profile}
 use Rattle.events.specs.Taken.{taken_by}
 
 -- ---- what a router holds
 
-abbrev pub names_owed : Option Neighbor → List Name
-names_owed None = []
-names_owed (Some n) = map (λ (l : Listed). name_of l.header) (finite.values n.retransmissions)
+abbrev pub instances_on_list : Option Neighbor → List LsaInstance
+instances_on_list None = []
+instances_on_list (Some n) = map (λ (l : ListEntry). instance_of_header l.header) (finite.values n.retransmissions)
 
-abbrev pub names_on_link : Link → List Name
-names_on_link link = names_owed link.neighbor ++ map name_of (finite.values link.acknowledgments)
+abbrev pub instances_on_link : Link → List LsaInstance
+instances_on_link link = instances_on_list link.neighbor ++ map instance_of_header (finite.values link.acknowledgments)
 
 -- in its database, on its retransmission lists and among its delayed acknowledgments
-abbrev pub names_held : Router → List Name
-names_held r = map (λ c. lsa_name c.lsa) (finite.values r.area.database) ++ flat_map names_on_link r.area.links
+abbrev pub instances_stored : Router → List LsaInstance
+instances_stored r = map (λ c. instance_of_lsa c.lsa) (finite.values r.area.database) ++ flat_map instances_on_link r.area.links
 
 -- ---- what a router's step keeps
 
 -- the instance was held before, came in the event's Update, or is one of the router's own that it originates
-pub data IsKnown (old : Router) (event : Occurrence) (originated : List Name) (name : Name) : Type 0 where
-  Held : Contains (names_held old) name → IsKnown old event originated name
+pub data IsKnown (old : Router) (event : Occurrence) (originated : List LsaInstance) (name : LsaInstance) : Type 0 where
+  Held : Contains (instances_stored old) name → IsKnown old event originated name
   Brought : (number : ℕ) (bytes : List ℕ) (packet : Packet) → event ≡ Occurrence.Packet number bytes → PacketText bytes packet
-      → Contains (names_brought packet.body) name → IsKnown old event originated name
+      → Contains (instances_received packet.body) name → IsKnown old event originated name
   Originated : Contains originated name → IsKnown old event originated name
 
 -- the packet is from the router itself, and each instance that it tells is known
-pub record IsLawfulOut (old : Router) (event : Occurrence) (originated : List Name) (out : Out) : Type 0 where
+pub record IsLawfulOut (old : Router) (event : Occurrence) (originated : List LsaInstance) (out : Out) : Type 0 where
   pub packet : Packet
   pub text : PacketText out.bytes packet
   pub own : packet.router ≡ old.id
-  pub known : (name : Name) → Contains (names_told packet.body) name → IsKnown old event originated name
+  pub known : (name : LsaInstance) → Contains (instances_advertised packet.body) name → IsKnown old event originated name
 
 -- all that holds of a router's step and that acknowledgments rest on
-pub record Keeps (old : Router) (moment : ℕ) (event : Occurrence) (outs : List Out) (new : Router) (originated : List Name) : Type 0 where
+pub record Keeps (old : Router) (moment : ℕ) (event : Occurrence) (outs : List Out) (new : Router) (originated : List LsaInstance) : Type 0 where
   pub same_router : new.id ≡ old.id
-  pub own : (name : Name) → Contains originated name → name.key.advertising_router ≡ old.id
-  pub held : (name : Name) → Contains (names_held new) name → IsKnown old event originated name
+  pub own : (name : LsaInstance) → Contains originated name → name.key.advertising_router ≡ old.id
+  pub held : (name : LsaInstance) → Contains (instances_stored new) name → IsKnown old event originated name
   pub sent : (out : Out) → Contains outs out → IsLawfulOut old event originated out
 
 -- ---- the world
@@ -65,7 +65,7 @@ pub record Datagram : Type 0 where
 -- that a router, by its Router ID, received or originated an instance
 pub record Knowledge : Type 0 where
   pub router : ℕ
-  pub name : Name
+  pub name : LsaInstance
 
 -- the routers, all that was ever sent, and all that was ever received or originated, in whatever life
 pub record World : Type 0 where
@@ -80,15 +80,15 @@ Joins = End → Option End
 abbrev pub sent_from : ℕ → Out → Datagram
 sent_from place o = record { from = record { router = place; interface = o.interface }; bytes = o.bytes }
 
-abbrev pub knows : ℕ → Name → Knowledge
+abbrev pub knows : ℕ → LsaInstance → Knowledge
 knows router name = record { router = router; name = name }
 
-abbrev pub known_as : ℕ → List Name → List Knowledge
+abbrev pub known_as : ℕ → List LsaInstance → List Knowledge
 known_as router names = map (knows router) names
 
 -- the instances that an event brings to a router
-abbrev pub Brings : Occurrence → List Name → Type 0
-Brings (Occurrence.Packet number bytes) names = (packet : Packet) × PacketText bytes packet × (names ≡ names_brought packet.body)
+abbrev pub Brings : Occurrence → List LsaInstance → Type 0
+Brings (Occurrence.Packet number bytes) names = (packet : Packet) × PacketText bytes packet × (names ≡ instances_received packet.body)
 Brings Occurrence.Tick names = names ≡ []
 Brings (Occurrence.Redistribute tagged tag priced price) names = names ≡ []
 Brings (Occurrence.Withdraw prefix) names = names ≡ []
@@ -111,9 +111,9 @@ pub record Lives (joins : Joins) (before : World) (place moment : ℕ) (event : 
   pub may : MayHappen joins before place event
   pub outs : List Out
   pub new : Router
-  pub brought : List Name
+  pub brought : List LsaInstance
   pub brings : Brings event brought
-  pub originated : List Name
+  pub originated : List LsaInstance
   pub keeps : Keeps old moment event outs new originated
   pub is : after ≡ record {
     routers = slice_set before.routers place new;
@@ -130,7 +130,7 @@ pub record Restarts (before : World) (place : ℕ) (after : World) : Type 0 wher
   pub same : config.router ≡ old.id
   pub is : after ≡ record before {
     routers = slice_set before.routers place (initial config);
-    known = before.known ++ known_as (initial config).id (names_held (initial config));
+    known = before.known ++ known_as (initial config).id (instances_stored (initial config));
   }
 
 pub data WorldStep (joins : Joins) (before after : World) : Type 0 where
@@ -148,7 +148,7 @@ have_names_apart [] = true
 have_names_apart (c ∷ others) = not (list_any (λ (d : Config). d.router == c.router) others) && have_names_apart others
 
 abbrev pub all_known : List Router → List Knowledge
-all_known routers = flat_map (λ (r : Router). known_as r.id (names_held r)) routers
+all_known routers = flat_map (λ (r : Router). known_as r.id (instances_stored r)) routers
 
 abbrev pub begun_with : List Config → World
 begun_with configs = record { routers = map initial configs; sent = []; known = all_known (map initial configs) }
@@ -160,4 +160,4 @@ AcknowledgedWasReceived = (joins : Joins) (configs : List Config) (steps : List 
     → have_names_apart configs ≡ true → list_all in_profile configs ≡ true → IsHistory joins (begun_with configs) steps w
     → (place moment number : ℕ) (bytes : List ℕ) (packet : Packet) → PacketText bytes packet
     → (lives : Lives joins w place moment (Occurrence.Packet number bytes) after)
-    → (name : Name) → Contains (taken_by moment number packet lives.old) name → Contains w.known (knows packet.router name)
+    → (name : LsaInstance) → Contains (taken_by moment number packet lives.old) name → Contains w.known (knows packet.router name)

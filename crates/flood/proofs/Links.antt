@@ -8,14 +8,14 @@ use Rattle.std.proofs.lemmas.List.Edits.{map_over_more}
 use Rattle.std.proofs.lemmas.List.Elements.{All-set}
 use Rattle.packet.specs.declared.model.Body.TheVariants as body
 use Rattle.packet.specs.declared.model.Packet.{Packet}
-use Rattle.adjacency.specs.Adjacencies.{heard_by}
+use Rattle.adjacency.specs.Adjacencies.{with_hello_heard}
 use Rattle.adjacency.specs.declared.interface.Interface.{Interface}
 use Rattle.adjacency.specs.Neighbors as neighbors
 use Rattle.received.specs.Links as links
 use Rattle.flood.specs.declared.link.Link.{Link}
 use Rattle.flood.specs.HelloPath.{after_body, after_packet, is_interface, ticked}
 use Rattle.events.specs.Hellos.{accepts}
-use Rattle.events.specs.Routers.{shown, shown_at, silent}
+use Rattle.events.specs.Routers.{shown, shown_at, fresh_link}
 use Rattle.flood.specs.Seen.{Kept, as_link, as_links, as_neighbor, as_router, fresh, link_at}
 
 -- a prefix length that a mask can have, on each link
@@ -32,7 +32,7 @@ chosen_interface false x y e = refl
 interface-after_packet : (own moment : ℕ) (p : Packet) (l : links.Link) → (after_packet own moment p l).interface ≡ l.interface
 interface-after_packet own moment p l =
     elim p.body as (λ b. (after_body own moment p.router b l).interface ≡ l.interface) [
-      | body.Hello h ↦ chosen_interface (accepts own p.router h l) (record l { neighbor = Some (heard_by p.router moment l.neighbor) }) l refl
+      | body.Hello h ↦ chosen_interface (accepts own p.router h l) (record l { neighbor = Some (with_hello_heard p.router moment l.neighbor) }) l refl
       | body.Description d ↦ refl
       | body.Request keys ↦ refl
       | body.Update lsas ↦ refl
@@ -90,9 +90,9 @@ as_links-set ls i l = map-set as_link ls i l
 
 -- ---- the start, and what is shown
 
-pub as_links_fresh : (is : List Interface) → as_links (map fresh is) ≡ map silent is
+pub as_links_fresh : (is : List Interface) → as_links (map fresh is) ≡ map fresh_link is
 as_links_fresh [] = refl
-as_links_fresh (i ∷ is) = ap (λ ls. silent i ∷ ls) (as_links_fresh is)
+as_links_fresh (i ∷ is) = ap (λ ls. fresh_link i ∷ ls) (as_links_fresh is)
 
 abbrev neighbor_of : Option Link → Option neighbors.Neighbor
 neighbor_of None = None

@@ -11,30 +11,30 @@ use Rattle.lsa.specs.declared.body.Body.{Body}
 use Rattle.lsa.specs.declared.body.Body.TheVariants as body
 use Rattle.lsdb.specs.Copies.{Database}
 use Rattle.lsdb.proofs.Empty.{no_entries, retained_none}
-use Rattle.adjacency.specs.Contents.{Step, quiet}
+use Rattle.adjacency.specs.Contents.{Step, no_sends}
 use Rattle.adjacency.specs.Neighbors.{Neighbor, fresh}
 use Rattle.adjacency.specs.Requests.{request_next}
 use Rattle.adjacency.specs.declared.interface.Interface.{Interface}
-use Rattle.received.specs.Links.{Link, anybody_synchronizes, synchronizes}
+use Rattle.received.specs.Links.{Link, any_exchange_or_loading, neighbor_is_exchange_or_loading}
 use Rattle.received.specs.Outcomes.{Outcome, Send, Stepping, each_neighbor, marked, numbered, on_database, sent_on, step_on}
 use Rattle.flood.specs.Bare.{bare, bare_link, bare_links, bare_neighbor, with_bare}
-use Rattle.events.specs.Endings.{begun, describe_router, describe_router_later, fill, filled, filled_on, finished, is_said, links_differ, remove_aged, request_all, same_body, stays, with_age}
+use Rattle.events.specs.Endings.{start_event, describe_router, describe_router_later, link_loading_done, loading_done, loading_done_on, end_event, is_current, links_differ, remove_aged, request_all, same_body, stays, with_age}
 use Rattle.events.specs.Originations.{links_of, originate_or_wait, point_to_point, router_body, router_key, stub, wait}
-use Rattle.events.specs.Progress.{Progress, on_area, on_router}
+use Rattle.events.specs.EventState.{EventState, on_area, on_router}
 use Rattle.events.specs.Routers.{Router}
 
 -- ---- steps of the neighbors that do nothing
 
 abbrev pub IsQuiet : Stepping → Type 0
-IsQuiet f = (number : ℕ) (link : Link) (router heard : ℕ) → f number link (fresh router None heard) ≡ quiet (fresh router None heard)
+IsQuiet f = (number : ℕ) (link : Link) (router last_heard : ℕ) → f number link (fresh router None last_heard) ≡ no_sends (fresh router None last_heard)
 
-step_quiet : (f : Neighbor → Step) → ((router heard : ℕ) → f (fresh router None heard) ≡ quiet (fresh router None heard)) → (o : Option Neighbor) → step_on f (bare_neighbor o) ≡ bare_neighbor o
+step_quiet : (f : Neighbor → Step) → ((router last_heard : ℕ) → f (fresh router None last_heard) ≡ no_sends (fresh router None last_heard)) → (o : Option Neighbor) → step_on f (bare_neighbor o) ≡ bare_neighbor o
 step_quiet f q None = refl
-step_quiet f q (Some n) = ap (λ (s : Step). Some s.neighbor) (q n.router n.heard)
+step_quiet f q (Some n) = ap (λ (s : Step). Some s.neighbor) (q n.router n.last_heard)
 
-sent_quiet : (f : Neighbor → Step) → ((router heard : ℕ) → f (fresh router None heard) ≡ quiet (fresh router None heard)) → (o : Option Neighbor) → sent_on f (bare_neighbor o) ≡ []
+sent_quiet : (f : Neighbor → Step) → ((router last_heard : ℕ) → f (fresh router None last_heard) ≡ no_sends (fresh router None last_heard)) → (o : Option Neighbor) → sent_on f (bare_neighbor o) ≡ []
 sent_quiet f q None = refl
-sent_quiet f q (Some n) = ap (λ (s : Step). s.sends) (q n.router n.heard)
+sent_quiet f q (Some n) = ap (λ (s : Step). s.sends) (q n.router n.last_heard)
 
 stepped_quiet : (f : Stepping) → IsQuiet f → (k : ℕ) (xs : List Link)
     → map (λ (e : ℕ × Link). record e.1 { neighbor = step_on (f e.0 e.1) e.1.neighbor }) (enumerate_from k (bare_links xs)) ≡ bare_links xs
@@ -61,25 +61,25 @@ each_quiet moment f q xs sends =
 
 -- ---- the beginning
 
-pub begins : (moment : ℕ) (r : Router) → begun moment (bare r) ≡ record { router = bare r; sends = [] }
+pub begins : (moment : ℕ) (r : Router) → start_event moment (bare r) ≡ record { router = bare r; sends = [] }
 begins moment r =
     let start : Outcome = quiet_area r.area.links [] in
     ap (λ es. on_area (λ o. fold (with_age r.moment moment) o es) (record { router = bare r; sends = [] })) no_entries
 
 -- ---- the end
 
-abbrev pub quiet_progress : Router → List Link → List Send → Progress
+abbrev pub quiet_progress : Router → List Link → List Send → EventState
 quiet_progress r xs sends = record { router = with_bare xs r; sends = sends }
 
-filled_bare : (o : Option Neighbor) → filled_on (bare_neighbor o) ≡ bare_neighbor o
+filled_bare : (o : Option Neighbor) → loading_done_on (bare_neighbor o) ≡ bare_neighbor o
 filled_bare None = refl
 filled_bare (Some n) = refl
 
-all_filled : (xs : List Link) → map fill (bare_links xs) ≡ bare_links xs
+all_filled : (xs : List Link) → map link_loading_done (bare_links xs) ≡ bare_links xs
 all_filled [] = refl
 all_filled (x ∷ xs) = λ i. record (bare_link x) { neighbor = filled_bare x.neighbor i } ∷ all_filled xs i
 
-filled_quiet : (r : Router) (xs : List Link) (sends : List Send) → filled (quiet_progress r xs sends) ≡ quiet_progress r xs sends
+filled_quiet : (r : Router) (xs : List Link) (sends : List Send) → loading_done (quiet_progress r xs sends) ≡ quiet_progress r xs sends
 filled_quiet r xs sends =
     λ i. record { router = record (with_bare xs r) { area = record { links = all_filled xs i; database = finite.empty } }; sends = sends }
 
@@ -89,17 +89,17 @@ same_itself b = ap is_eq (tied_itself nat_list_cmp_total (body_text b))
 pub differ_not : (a b : List Link) → router_body a ≡ router_body b → links_differ a b ≡ false
 differ_not a b e = ap (λ c. not (same_body c (router_body b))) e ∙ ap not (same_itself (router_body b))
 
-describe_quiet : (before : List Link) (moment : ℕ) (p : Progress) → links_differ before p.router.area.links ≡ false → describe_router before moment p ≡ p
-describe_quiet before moment p e = ap (λ b. cond (b && not (is_said moment p.router)) (originate_or_wait moment (router_key p.router.id) p) p) e
+describe_quiet : (before : List Link) (moment : ℕ) (p : EventState) → links_differ before p.router.area.links ≡ false → describe_router before moment p ≡ p
+describe_quiet before moment p e = ap (λ b. cond (b && not (is_current moment p.router)) (originate_or_wait moment (router_key p.router.id) p) p) e
 
-describe_later_quiet : (p : Progress) → describe_router_later p.router.area.links p ≡ p
+describe_later_quiet : (p : EventState) → describe_router_later p.router.area.links p ≡ p
 describe_later_quiet p = ap (λ b. cond b (on_router (wait (router_key p.router.id)) p) p) (differ_not p.router.area.links p.router.area.links refl)
 
-nobody : (o : Option Neighbor) → synchronizes (bare_neighbor o) ≡ false
+nobody : (o : Option Neighbor) → neighbor_is_exchange_or_loading (bare_neighbor o) ≡ false
 nobody None = refl
 nobody (Some n) = refl
 
-nobody_synchronizes : (xs : List Link) → anybody_synchronizes (bare_links xs) ≡ false
+nobody_synchronizes : (xs : List Link) → any_exchange_or_loading (bare_links xs) ≡ false
 nobody_synchronizes [] = refl
 nobody_synchronizes (x ∷ xs) = λ i. nobody x.neighbor i || nobody_synchronizes xs i
 
@@ -110,24 +110,24 @@ removed_quiet moment xs sends =
     ∙ ap (λ (db : Database). record { area = record { links = bare_links xs; database = db }; sends = sends }) (retained_none (stays moment o.area))
 
 -- requests and removal
-last : ℕ → Progress → Progress
+last : ℕ → EventState → EventState
 last moment p = on_router (λ (r : Router). record r { moment = moment }) (on_area (λ o. remove_aged moment (request_all moment o)) p)
 
 last_quiet : (moment : ℕ) (r : Router) (xs : List Link) (sends : List Send) → last moment (quiet_progress r xs sends) ≡ quiet_progress (record r { moment = moment }) xs sends
 unfolding last
 last_quiet moment r xs sends =
-    let asked : request_all moment (quiet_area xs sends) ≡ quiet_area xs sends = each_quiet moment (λ number link n. request_next moment n) (λ number link router heard. refl) xs sends in
+    let asked : request_all moment (quiet_area xs sends) ≡ quiet_area xs sends = each_quiet moment (λ number link n. request_next moment n) (λ number link router last_heard. refl) xs sends in
     ap (λ (o : Outcome). record { router = record r { area = o.area; originated = finite.empty; moment = moment }; sends = o.sends })
     (ap (remove_aged moment) asked ∙ removed_quiet moment xs sends)
 
 -- an event that leaves its links bare and its router-LSA's content ends with nothing more
 pub ends : (old : Router) (moment : ℕ) (r : Router) (xs : List Link) (sends : List Send) → router_body old.area.links ≡ router_body (bare_links xs)
-    → finished old moment (quiet_progress r xs sends) ≡ quiet_progress (record r { moment = moment }) xs sends
+    → end_event old moment (quiet_progress r xs sends) ≡ quiet_progress (record r { moment = moment }) xs sends
 unfolding last
 ends old moment r xs sends same =
-    let p : Progress = quiet_progress r xs sends in
-    let rest : Progress → Progress = λ q. last moment (describe_router_later q.router.area.links (filled q)) in
-    let full : filled p ≡ p = filled_quiet r xs sends in
+    let p : EventState = quiet_progress r xs sends in
+    let rest : EventState → EventState = λ q. last moment (describe_router_later q.router.area.links (loading_done q)) in
+    let full : loading_done p ≡ p = filled_quiet r xs sends in
     ap (λ q. rest (describe_router old.area.links moment q)) full
     ∙ ap rest (describe_quiet old.area.links moment p (differ_not old.area.links (bare_links xs) same))
     ∙ ap (λ q. last moment (describe_router_later p.router.area.links q)) full

@@ -7,10 +7,10 @@ use Rattle.events.specs.Routers.{Router}
 
 abbrev pub bare_neighbor : Option Neighbor → Option Neighbor
 bare_neighbor None = None
-bare_neighbor (Some n) = Some (fresh n.router None n.heard)
+bare_neighbor (Some n) = Some (fresh n.router None n.last_heard)
 
 abbrev pub bare_link : Link → Link
-bare_link link = record { interface = link.interface; neighbor = bare_neighbor link.neighbor; acknowledgments = finite.empty; greeted = link.greeted }
+bare_link link = record { interface = link.interface; neighbor = bare_neighbor link.neighbor; acknowledgments = finite.empty; last_hello_sent = link.last_hello_sent }
 
 abbrev pub bare_links : List Link → List Link
 bare_links links = map bare_link links

@@ -8,23 +8,23 @@ use Rattle.packet.specs.declared.model.Packet.{Packet}
 use Rattle.packet.specs.declared.refusal.Fault.{Fault}
 use Rattle.packet.specs.Reading.{fault_of}
 use Rattle.packet.specs.Text.{PacketText, canonical}
-use Rattle.adjacency.specs.Adjacencies.{heard_by, still_heard}
+use Rattle.adjacency.specs.Adjacencies.{with_hello_heard, after_inactivity_timer}
 use Rattle.received.specs.Links.{Link}
 use Rattle.events.specs.declared.model.CoreError.{CoreError}
 use Rattle.events.specs.declared.model.CoreError.TheVariants as error
 use Rattle.events.specs.declared.model.Event.{Event}
 use Rattle.events.specs.declared.model.Event.TheVariants as event
 use Rattle.events.specs.declared.model.Out.{Out}
-pub use Rattle.events.specs.Hellos.{accepts, agrees, greeted, greets, heard_of, hello_on, hello_packet, is_due, is_foreign, may_be}
+pub use Rattle.events.specs.Hellos.{accepts, agrees, with_hello_sent, hello_is_due, heard_of, hello_on, hello_packet, is_due, is_foreign, may_be}
 pub use Rattle.events.specs.Refusals.{bad_packet, is_clock_back, is_interface}
 use Rattle.events.specs.Routers.{Occurrence, Router}
 
 -- ---- received packets
 
--- Down becomes Init, and the inactivity time starts again; a Hello that isn't accepted is discarded
+-- Down becomes Init, and the inactivity timer starts again; a Hello that isn't accepted is discarded
 abbrev pub after_hello : ℕ → ℕ → ℕ → Hello → Link → Link
 after_hello own moment from h link =
-    if accepts own from h link then record link { neighbor = Some (heard_by from moment link.neighbor) } else link
+    if accepts own from h link then record link { neighbor = Some (with_hello_heard from moment link.neighbor) } else link
 
 -- every other packet is discarded
 abbrev pub after_body : ℕ → ℕ → ℕ → Body → Link → Link
@@ -41,15 +41,15 @@ after_packet own moment p link = after_body own moment p.router p.body link
 
 -- the neighbor is Down after RouterDeadInterval without a Hello
 abbrev pub aged : ℕ → Link → Link
-aged moment link = record link { neighbor = still_heard moment link.interface.dead_interval link.neighbor }
+aged moment link = record link { neighbor = after_inactivity_timer moment link.interface.dead_interval link.neighbor }
 
 abbrev pub ticked : ℕ → Link → Link
-ticked moment link = greeted moment (aged moment link)
+ticked moment link = with_hello_sent moment (aged moment link)
 
 -- what a Tick sends at the interface of this number
-abbrev pub greeting : ℕ → ℕ → ℕ → Link → List Out
-greeting own moment number link =
-    if greets moment link then record { interface = number; bytes = canonical (hello_packet own (aged moment link)) } ∷ [] else []
+abbrev pub hello_sent : ℕ → ℕ → ℕ → Link → List Out
+hello_sent own moment number link =
+    if hello_is_due moment link then record { interface = number; bytes = canonical (hello_packet own (aged moment link)) } ∷ [] else []
 
 -- ---- the two events
 
@@ -69,7 +69,7 @@ pub record Receives (old : Router) (moment : ℕ) (number : ℕ) (bytes : List �
 -- each inactive neighbor goes Down, and each Hello that is due is sent
 pub record Ticks (old : Router) (moment : ℕ) (outs : List Out) (new : Router) : Type 0 where
   pub after : new ≡ with_links_at (map (ticked moment) old.area.links) moment old
-  pub sent : outs ≡ flat_map (λ (e : ℕ × Link). greeting old.id moment e.0 e.1) (enumerate_from 1 old.area.links)
+  pub sent : outs ≡ flat_map (λ (e : ℕ × Link). hello_sent old.id moment e.0 e.1) (enumerate_from 1 old.area.links)
 
 -- from old, the event at this moment sends these and leaves new
 abbrev pub Happens : Router → ℕ → Event → List Out → Router → Type 0

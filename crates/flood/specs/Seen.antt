@@ -18,10 +18,10 @@ pub record Kept : Type 0 where
 -- in Init, with nothing of an exchange
 abbrev pub as_neighbor : Option Neighbor → Option neighbors.Neighbor
 as_neighbor None = None
-as_neighbor (Some n) = Some (neighbors.fresh n.router None n.heard)
+as_neighbor (Some n) = Some (neighbors.fresh n.router None n.last_heard)
 
 abbrev pub as_link : Link → links.Link
-as_link l = record { interface = l.interface; neighbor = as_neighbor l.neighbor; acknowledgments = finite.empty; greeted = l.greeted }
+as_link l = record { interface = l.interface; neighbor = as_neighbor l.neighbor; acknowledgments = finite.empty; last_hello_sent = l.last_hello_sent }
 
 abbrev pub as_links : List Link → List links.Link
 as_links ls = map as_link ls
@@ -31,7 +31,7 @@ as_router k = with_links k.id (as_links k.links) k.moment
 
 -- a link on which nothing was heard or sent
 abbrev pub fresh : Interface → Link
-fresh i = record { interface = i; neighbor = None; greeted = None }
+fresh i = record { interface = i; neighbor = None; last_hello_sent = None }
 
 -- ---- what is shown of it
 

@@ -3,9 +3,9 @@ ghost use Rattle.std.specs.Prelude.{◌≡◌, ◌≤◌, ◌^◌, ◌<◌, All,
 ghost use Rattle.std.specs.List.{flat_map, enumerate_from};
 ghost use Rattle.words.specs.Prefixes.{mask_of};
 ghost use Rattle.packet.specs.Text.{canonical};
-ghost use Rattle.adjacency.specs.Adjacencies.{has_passed, heard_by, still_heard};
-ghost use Rattle.flood.specs.HelloPath.{after_hello, after_packet, aged, greeting, ticked};
-ghost use Rattle.events.specs.Hellos.{accepts, agrees, greeted, greets, heard_of, hello_packet, is_due, is_foreign, may_be};
+ghost use Rattle.adjacency.specs.Adjacencies.{has_passed, with_hello_heard, after_inactivity_timer};
+ghost use Rattle.flood.specs.HelloPath.{after_hello, after_packet, aged, hello_sent, ticked};
+ghost use Rattle.events.specs.Hellos.{accepts, agrees, with_hello_sent, hello_is_due, heard_of, hello_packet, is_due, is_foreign, may_be};
 ghost use Rattle.flood.specs.Seen.{as_link, as_links, as_neighbor};
 
 use crate::link::{Link, Neighbor};
@@ -43,16 +43,16 @@ fn may_be(neighbor: Option<Neighbor>, from: RouterId) -> bool
     }
 }
 
-// Down becomes Init, and the inactivity time starts again.
-fn heard_by(from: RouterId, moment: Second, neighbor: Option<Neighbor>) -> Neighbor
-    ensures { as_neighbor (Some result) ≡ Some (heard_by from moment (as_neighbor neighbor)) }
+// Down becomes Init, and the inactivity timer starts again.
+fn with_hello_heard(from: RouterId, moment: Second, neighbor: Option<Neighbor>) -> Neighbor
+    ensures { as_neighbor (Some result) ≡ Some (with_hello_heard from moment (as_neighbor neighbor)) }
 {
     match neighbor {
         None => Neighbor {
             router: from,
-            heard: moment,
+            last_heard: moment,
         },
-        Some(n) => Neighbor { heard: moment, ..n },
+        Some(n) => Neighbor { last_heard: moment, ..n },
     }
 }
 
@@ -63,7 +63,7 @@ fn after_hello(own: RouterId, moment: Second, from: RouterId, hello: &Hello, lin
     if !(is_foreign(own, from) && agrees(link, hello) && may_be(link.neighbor, from)) {
         return link;
     }
-    let neighbor = heard_by(from, moment, link.neighbor);
+    let neighbor = with_hello_heard(from, moment, link.neighbor);
     Link {
         neighbor: Some(neighbor),
         ..link
@@ -83,13 +83,13 @@ pub fn after_packet(own: RouterId, moment: Second, packet: &Packet, link: Link) 
     }
 }
 
-fn still_heard(moment: Second, dead: u32, neighbor: Option<Neighbor>) -> Option<Neighbor>
-    ensures { as_neighbor result ≡ still_heard moment dead (as_neighbor neighbor) }
+fn after_inactivity_timer(moment: Second, dead: u32, neighbor: Option<Neighbor>) -> Option<Neighbor>
+    ensures { as_neighbor result ≡ after_inactivity_timer moment dead (as_neighbor neighbor) }
 {
     match neighbor {
         None => None,
         Some(n) => {
-            if has_passed(n.heard, u64::from(dead), moment) {
+            if has_passed(n.last_heard, u64::from(dead), moment) {
                 None
             } else {
                 Some(n)
@@ -101,7 +101,7 @@ fn still_heard(moment: Second, dead: u32, neighbor: Option<Neighbor>) -> Option<
 fn aged(moment: Second, link: Link) -> Link
     ensures { as_link result ≡ aged moment (as_link link) }
 {
-    let neighbor = still_heard(moment, link.interface.dead_interval, link.neighbor);
+    let neighbor = after_inactivity_timer(moment, link.interface.dead_interval, link.neighbor);
     Link { neighbor, ..link }
 }
 
@@ -114,14 +114,14 @@ fn is_due(moment: Second, interval: u16, last: Option<Second>) -> bool
     }
 }
 
-fn greets(moment: Second, link: Link) -> bool
-    ensures { result ≡ greets moment (as_link link) }
+fn hello_is_due(moment: Second, link: Link) -> bool
+    ensures { result ≡ hello_is_due moment (as_link link) }
 {
-    is_due(moment, link.interface.hello_interval, link.greeted)
+    is_due(moment, link.interface.hello_interval, link.last_hello_sent)
 }
 
 // When the last Hello went out, once a Tick has passed.
-fn greeted_at(moment: Second, interval: u16, last: Option<Second>) -> Option<Second>
+fn last_hello_sent_at(moment: Second, interval: u16, last: Option<Second>) -> Option<Second>
     ensures { result ≡ (if is_due moment interval last then Some moment else last) }
 {
     match last {
@@ -136,12 +136,12 @@ fn greeted_at(moment: Second, interval: u16, last: Option<Second>) -> Option<Sec
     }
 }
 
-fn greeted(moment: Second, link: Link) -> Link
-    ensures { as_link result ≡ greeted moment (as_link link) }
+fn with_hello_sent(moment: Second, link: Link) -> Link
+    ensures { as_link result ≡ with_hello_sent moment (as_link link) }
 {
-    let at = greeted_at(moment, link.interface.hello_interval, link.greeted);
+    let at = last_hello_sent_at(moment, link.interface.hello_interval, link.last_hello_sent);
     Link {
-        greeted: at,
+        last_hello_sent: at,
         ..link
     }
 }
@@ -149,7 +149,7 @@ fn greeted(moment: Second, link: Link) -> Link
 fn ticked(moment: Second, link: Link) -> Link
     ensures { as_link result ≡ ticked moment (as_link link) }
 {
-    greeted(moment, aged(moment, link))
+    with_hello_sent(moment, aged(moment, link))
 }
 
 /// Lets a Tick pass at each link.
@@ -222,12 +222,12 @@ pub fn greetings(
 ) -> Result<Vec<Out>, AllocError>
     requires few { length links.now ≤ 63 }
     requires lawful { All (λ link. link.interface.length ≤ 32) links.now }
-    ensures { IfOk result (λ outs. outs.items ≡ flat_map (λ e. greeting own moment e.0 e.1) (enumerate_from 1 (as_links links.now))) }
+    ensures { IfOk result (λ outs. outs.items ≡ flat_map (λ e. hello_sent own moment e.0 e.1) (enumerate_from 1 (as_links links.now))) }
 {
     let mut outs = Vec::new(alloc);
     for i in 0..links.len() {
         let link = links[i];
-        if greets(moment, link) {
+        if hello_is_due(moment, link) {
             outs.push(out(alloc, own, moment, i as u16 + 1, link)?)?;
         }
     }

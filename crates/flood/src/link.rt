@@ -6,8 +6,8 @@ use words::{RouterId, Second};
 #[derive(Clone, Copy, Debug, PartialEq, Eq)]
 pub struct Neighbor {
     pub router: RouterId,
-    /// When it was last heard of: since then the inactivity time runs.
-    pub heard: Second,
+    /// When it was last heard of: since then the inactivity timer runs.
+    pub last_heard: Second,
 }
 
 /// An interface, its neighbor, and when its Hellos went out.
@@ -16,5 +16,5 @@ pub struct Link {
     pub interface: Interface,
     pub neighbor: Option<Neighbor>,
     /// When the last Hello was sent, if one was.
-    pub greeted: Option<Second>,
+    pub last_hello_sent: Option<Second>,
 }

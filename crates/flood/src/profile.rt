@@ -70,7 +70,7 @@ pub fn links_of(alloc: Global, interfaces: &[Interface]) -> Result<Vec<Link>, Al
         .map(|i| Link {
             interface: *i,
             neighbor: None,
-            greeted: None,
+            last_hello_sent: None,
         })
         .collect(alloc)
 }

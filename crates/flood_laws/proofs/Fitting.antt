@@ -94,12 +94,12 @@ links_fill_all bytes (suc n) at e =
 
 router_filled : (bytes : List ℕ) → router_fills bytes ≡ true → 20 + length (body_text (body.Router (router_of bytes))) ≡ length bytes
 router_filled bytes e =
-    let fill : Bool = links_fill bytes (field bytes 22 2) 24 in
-    let filled = (and_parts (eqb (field bytes 21 1) 0) fill (and_parts (nat_le 24 (length bytes)) (eqb (field bytes 21 1) 0 && fill) e).1).1 in
+    let link_loading_done : Bool = links_fill bytes (field bytes 22 2) 24 in
+    let loading_done = (and_parts (eqb (field bytes 21 1) 0) link_loading_done (and_parts (nat_le 24 (length bytes)) (eqb (field bytes 21 1) 0 && link_loading_done) e).1).1 in
     omega (
       arith,
       length-append (fields (router_fields (router_of bytes))) (flat_map link_text (links_at bytes (field bytes 22 2) 24)),
-      links_fill_all bytes (field bytes 22 2) 24 filled,
+      links_fill_all bytes (field bytes 22 2) 24 loading_done,
     )
 
 network_filled : (bytes : List ℕ) → network_fills bytes ≡ true → 20 + length (body_text (body.Network (network_of bytes))) ≡ length bytes
@@ -141,9 +141,9 @@ read_length : (bytes : List ℕ) → fault_of bytes ≡ None → (length (text (
 unfolding fault_of
 read_length bytes none =
     let h = all_fail (faults bytes) none in
-    let filled : 20 + length (body_text (body_of (field bytes 3 1) bytes)) ≡ length bytes =
+    let loading_done : 20 + length (body_text (body_of (field bytes 3 1) bytes)) ≡ length bytes =
     body_filled (eqb (field bytes 3 1) 1) (eqb (field bytes 3 1) 2) bytes (not_false (body_fills (field bytes 3 1) bytes) h.1.1.1.1.1.1.0) in (
-      length-append (header_text (header_at bytes 0)) (body_text (body_of (field bytes 3 1) bytes)) ∙ filled,
+      length-append (header_text (header_at bytes 0)) (body_text (body_of (field bytes 3 1) bytes)) ∙ loading_done,
       eqb-true (field bytes 18 2) (length bytes) (not_false (eqb (field bytes 18 2) (length bytes)) h.1.0),
     )
 

@@ -10,7 +10,7 @@ use Rattle.lsa.specs.Reading.{lsa_in}
 use Rattle.lsa.specs.declared.body.Body.{Body as LsaBody}
 use Rattle.lsdb.specs.Copies.{DatabaseCopy}
 use Rattle.lsdb.specs.Headers.{Lsa}
-use Rattle.lsdb.specs.Instances.{Listed}
+use Rattle.lsdb.specs.Instances.{ListEntry}
 use Rattle.packet.specs.declared.model.Body.{Body}
 use Rattle.packet.specs.declared.model.Body.TheVariants as body
 use Rattle.packet.specs.declared.model.Packet.{Packet}
@@ -26,14 +26,14 @@ use Rattle.received.specs.Outcomes.{Send}
 use Rattle.received.proofs.Told.{OfArea, OfLink, OfLinks, OfSend, OfWaiting}
 use Rattle.events.specs.declared.model.Config.{Config}
 use Rattle.events.specs.declared.model.Out.{Out}
-use Rattle.events.specs.Endings.{finished}
+use Rattle.events.specs.Endings.{end_event}
 use Rattle.events.specs.Events.{HappensBy, Rules, Run, Step, hellos_alone, initial, whole}
-use Rattle.flood_laws.specs.Known.{AnnouncesItsOwn, EventsHoldOnlyWhatIsKnown, HoldsWhatIsKnown, IsNewInstance, IsOutOf, names_in_content, names_in_send, names_in_sends}
-use Rattle.events.specs.Names.{Name, lsa_name, name_of, names_brought, names_in_update}
+use Rattle.flood_laws.specs.Known.{AnnouncesItsOwn, EventsHoldOnlyWhatIsKnown, HoldsWhatIsKnown, IsNewInstance, IsOutOf, instances_in_content, instances_in_send, instances_in_sends}
+use Rattle.events.specs.LsaInstances.{LsaInstance, instance_of_lsa, instance_of_header, instances_received, instances_in_update}
 use Rattle.events.specs.Originations.{is_due, new_instance, router_key, wanted_keys}
-use Rattle.events.specs.Progress.{Progress}
-use Rattle.events.specs.Routers.{Occurrence, Router, silent, unannounced}
-use Rattle.events.specs.Worlds.{IsKnown, names_held, names_on_link, names_owed}
+use Rattle.events.specs.EventState.{EventState}
+use Rattle.events.specs.Routers.{Occurrence, Router, fresh_link, unannounced}
+use Rattle.events.specs.Worlds.{IsKnown, instances_stored, instances_on_link, instances_on_list}
 use Rattle.flood_laws.proofs.Packed.{outs_bear}
 use Rattle.flood_laws.proofs.Told.{IfRead, IsOwn, IsOwnKey, OfBrought, OfBytes, OfProgress, event_told, originate_or_wait_told}
 use Rattle.flood_laws.proofs.Worlds.{one_more}
@@ -70,17 +70,17 @@ each_all : {X : Type 0} (P Q : X → Type 0) → ((x : X) → P x → Q x) → (
 each_all P Q so [] h = tt
 each_all P Q so (x ∷ xs) h = (so x h.0, each_all P Q so xs h.1)
 
-named_sends : (K : Name → Type 0) (sends : List Send) → AllByRecursion K (names_in_sends sends) → AllByRecursion (λ (s : Send). AllByRecursion K (names_in_content s.content)) sends
+named_sends : (K : LsaInstance → Type 0) (sends : List Send) → AllByRecursion K (instances_in_sends sends) → AllByRecursion (λ (s : Send). AllByRecursion K (instances_in_content s.content)) sends
 named_sends K [] h = tt
-named_sends K (s ∷ sends) h = (left_all K (names_in_send s) (names_in_sends sends) h, named_sends K sends (right_all K (names_in_send s) (names_in_sends sends) h))
+named_sends K (s ∷ sends) h = (left_all K (instances_in_send s) (instances_in_sends sends) h, named_sends K sends (right_all K (instances_in_send s) (instances_in_sends sends) h))
 
 -- ---- what is so of a name, of all that bears it
 
-module _ (K : Name → Type 0) (count : ℕ) where
+module _ (K : LsaInstance → Type 0) (count : ℕ) where
   abbrev pub named_by : Telling
   named_by = record {
-    of_lsa = λ lsa. K (lsa_name lsa);
-    of_header = λ h. K (name_of h);
+    of_lsa = λ lsa. K (instance_of_lsa lsa);
+    of_header = λ h. K (instance_of_header h);
     of_key = λ key. Unit {0};
     aged = λ age l le h. h;
     header = λ l h. h;
@@ -88,83 +88,83 @@ module _ (K : Name → Type 0) (count : ℕ) where
     count = count;
   }
 
-  values_named : {X : Type 0} (f : X → Name) (es : List (Key × X)) → AllByRecursion (OfEntry (λ k x. K (f x))) es → AllByRecursion K (map f (map (λ e. e.1) es))
+  values_named : {X : Type 0} (f : X → LsaInstance) (es : List (Key × X)) → AllByRecursion (OfEntry (λ k x. K (f x))) es → AllByRecursion K (map f (map (λ e. e.1) es))
   values_named f [] h = tt
   values_named f (e ∷ es) h = (h.0, values_named f es h.1)
 
-  named_values : {X : Type 0} (f : X → Name) (es : List (Key × X)) → AllByRecursion K (map f (map (λ e. e.1) es)) → AllByRecursion (OfEntry (λ k x. K (f x))) es
+  named_values : {X : Type 0} (f : X → LsaInstance) (es : List (Key × X)) → AllByRecursion K (map f (map (λ e. e.1) es)) → AllByRecursion (OfEntry (λ k x. K (f x))) es
   named_values f [] h = tt
   named_values f (e ∷ es) h = (h.0, named_values f es h.1)
 
-  owed_named : (o : Option Neighbor) → OfOwedIfAny named_by o → AllByRecursion K (names_owed o)
+  owed_named : (o : Option Neighbor) → OfOwedIfAny named_by o → AllByRecursion K (instances_on_list o)
   owed_named None h = tt
-  owed_named (Some n) h = values_named (λ (l : Listed). name_of l.header) (finite.entries n.retransmissions) (entries_in (OfListed named_by) n.retransmissions h)
+  owed_named (Some n) h = values_named (λ (l : ListEntry). instance_of_header l.header) (finite.entries n.retransmissions) (entries_in (OfListed named_by) n.retransmissions h)
 
-  named_owed : (o : Option Neighbor) → AllByRecursion K (names_owed o) → OfOwedIfAny named_by o
+  named_owed : (o : Option Neighbor) → AllByRecursion K (instances_on_list o) → OfOwedIfAny named_by o
   named_owed None h = tt
-  named_owed (Some n) h = of_entries (OfListed named_by) n.retransmissions (named_values (λ (l : Listed). name_of l.header) (finite.entries n.retransmissions) h)
+  named_owed (Some n) h = of_entries (OfListed named_by) n.retransmissions (named_values (λ (l : ListEntry). instance_of_header l.header) (finite.entries n.retransmissions) h)
 
-  link_named : (link : Link) → OfLink named_by link → AllByRecursion K (names_on_link link)
+  link_named : (link : Link) → OfLink named_by link → AllByRecursion K (instances_on_link link)
   link_named link h =
-      both_all K (names_owed link.neighbor) (map name_of (finite.values link.acknowledgments)) (owed_named link.neighbor h.neighbor)
-      (values_named name_of (finite.entries link.acknowledgments) (entries_in (OfWaiting named_by) link.acknowledgments h.acknowledgments))
+      both_all K (instances_on_list link.neighbor) (map instance_of_header (finite.values link.acknowledgments)) (owed_named link.neighbor h.neighbor)
+      (values_named instance_of_header (finite.entries link.acknowledgments) (entries_in (OfWaiting named_by) link.acknowledgments h.acknowledgments))
 
-  named_link : (link : Link) → AllByRecursion K (names_on_link link) → OfLink named_by link
+  named_link : (link : Link) → AllByRecursion K (instances_on_link link) → OfLink named_by link
   named_link link h = record {
-    neighbor = named_owed link.neighbor (left_all K (names_owed link.neighbor) (map name_of (finite.values link.acknowledgments)) h);
+    neighbor = named_owed link.neighbor (left_all K (instances_on_list link.neighbor) (map instance_of_header (finite.values link.acknowledgments)) h);
     acknowledgments = of_entries (OfWaiting named_by) link.acknowledgments
-        (named_values name_of (finite.entries link.acknowledgments) (right_all K (names_owed link.neighbor) (map name_of (finite.values link.acknowledgments)) h));
+        (named_values instance_of_header (finite.entries link.acknowledgments) (right_all K (instances_on_list link.neighbor) (map instance_of_header (finite.values link.acknowledgments)) h));
   }
 
-  links_named : (links : List Link) → OfLinks named_by links → AllByRecursion K (flat_map names_on_link links)
+  links_named : (links : List Link) → OfLinks named_by links → AllByRecursion K (flat_map instances_on_link links)
   links_named [] h = tt
-  links_named (link ∷ links) h = both_all K (names_on_link link) (flat_map names_on_link links) (link_named link h.0) (links_named links h.1)
+  links_named (link ∷ links) h = both_all K (instances_on_link link) (flat_map instances_on_link links) (link_named link h.0) (links_named links h.1)
 
-  named_links : (links : List Link) → AllByRecursion K (flat_map names_on_link links) → OfLinks named_by links
+  named_links : (links : List Link) → AllByRecursion K (flat_map instances_on_link links) → OfLinks named_by links
   named_links [] h = tt
   named_links (link ∷ links) h =
-      (named_link link (left_all K (names_on_link link) (flat_map names_on_link links) h), named_links links (right_all K (names_on_link link) (flat_map names_on_link links) h))
+      (named_link link (left_all K (instances_on_link link) (flat_map instances_on_link links) h), named_links links (right_all K (instances_on_link link) (flat_map instances_on_link links) h))
 
-  content_named : (c : Content) → OfContent named_by c → AllByRecursion K (names_in_content c)
-  content_named (Content.Greets hello) h = tt
+  content_named : (c : Content) → OfContent named_by c → AllByRecursion K (instances_in_content c)
+  content_named (Content.SendsHello hello) h = tt
   content_named (Content.Describes d) h = tt
   content_named (Content.Requests keys) h = tt
   content_named (Content.Updates lsa) h = (h, tt)
   content_named (Content.Acknowledges header) h = (h, tt)
 
-  sends_named : (sends : List Send) → AllByRecursion (OfSend named_by) sends → AllByRecursion K (names_in_sends sends)
+  sends_named : (sends : List Send) → AllByRecursion (OfSend named_by) sends → AllByRecursion K (instances_in_sends sends)
   sends_named [] h = tt
-  sends_named (s ∷ sends) h = both_all K (names_in_send s) (names_in_sends sends) (content_named s.content h.0) (sends_named sends h.1)
+  sends_named (s ∷ sends) h = both_all K (instances_in_send s) (instances_in_sends sends) (content_named s.content h.0) (sends_named sends h.1)
 
-  pub held_named : (r : Router) (sends : List Send) → OfArea named_by r.area sends → AllByRecursion K (names_held r ++ names_in_sends sends)
+  pub held_named : (r : Router) (sends : List Send) → OfArea named_by r.area sends → AllByRecursion K (instances_stored r ++ instances_in_sends sends)
   held_named r sends h =
-      both_all K (names_held r) (names_in_sends sends)
-      (both_all K (map (λ c. lsa_name c.lsa) (finite.values r.area.database)) (flat_map names_on_link r.area.links)
-      (values_named (λ (c : DatabaseCopy). lsa_name c.lsa) (finite.entries r.area.database) (entries_in (OfCopy named_by) r.area.database h.copies))
+      both_all K (instances_stored r) (instances_in_sends sends)
+      (both_all K (map (λ c. instance_of_lsa c.lsa) (finite.values r.area.database)) (flat_map instances_on_link r.area.links)
+      (values_named (λ (c : DatabaseCopy). instance_of_lsa c.lsa) (finite.entries r.area.database) (entries_in (OfCopy named_by) r.area.database h.copies))
       (links_named r.area.links h.links))
       (sends_named sends h.sent)
 
-  pub named_held : (r : Router) → length r.area.links ≡ count → AllByRecursion K (names_held r) → OfArea named_by r.area []
+  pub named_held : (r : Router) → length r.area.links ≡ count → AllByRecursion K (instances_stored r) → OfArea named_by r.area []
   named_held r few h = record {
     copies = of_entries (OfCopy named_by) r.area.database
-        (named_values (λ (c : DatabaseCopy). lsa_name c.lsa) (finite.entries r.area.database)
-        (left_all K (map (λ c. lsa_name c.lsa) (finite.values r.area.database)) (flat_map names_on_link r.area.links) h));
-    links = named_links r.area.links (right_all K (map (λ c. lsa_name c.lsa) (finite.values r.area.database)) (flat_map names_on_link r.area.links) h);
+        (named_values (λ (c : DatabaseCopy). instance_of_lsa c.lsa) (finite.entries r.area.database)
+        (left_all K (map (λ c. instance_of_lsa c.lsa) (finite.values r.area.database)) (flat_map instances_on_link r.area.links) h));
+    links = named_links r.area.links (right_all K (map (λ c. instance_of_lsa c.lsa) (finite.values r.area.database)) (flat_map instances_on_link r.area.links) h);
     few = few;
     sent = tt;
   }
 
   -- the readable LSAs of an Update
-  lsas_brought : (lsas : List (List ℕ)) → AllByRecursion K (names_in_update lsas) → AllByRecursion (OfBytes named_by) lsas
+  lsas_brought : (lsas : List (List ℕ)) → AllByRecursion K (instances_in_update lsas) → AllByRecursion (OfBytes named_by) lsas
   lsas_brought [] h = tt
   lsas_brought (bytes ∷ rest) h = one_of (lsa_in bytes) h (λ more. lsas_brought rest more)
     where
-      one_of : (o : Option Lsa) → AllByRecursion K (map lsa_name (cons_option o (filter_map lsa_in rest)))
-          → (AllByRecursion K (names_in_update rest) → AllByRecursion (OfBytes named_by) rest) → IfRead named_by o × AllByRecursion (OfBytes named_by) rest
+      one_of : (o : Option Lsa) → AllByRecursion K (map instance_of_lsa (cons_option o (filter_map lsa_in rest)))
+          → (AllByRecursion K (instances_in_update rest) → AllByRecursion (OfBytes named_by) rest) → IfRead named_by o × AllByRecursion (OfBytes named_by) rest
       one_of None all more = (tt, more all)
       one_of (Some lsa) all more = (all.0, more all.1)
 
-  pub body_brought : (b : Body) → AllByRecursion K (names_brought b) → OfBrought named_by b
+  pub body_brought : (b : Body) → AllByRecursion K (instances_received b) → OfBrought named_by b
   body_brought (body.Hello hello) h = tt
   body_brought (body.Description d) h = tt
   body_brought (body.Request keys) h = tt
@@ -173,31 +173,31 @@ module _ (K : Name → Type 0) (count : ℕ) where
 
 -- ---- why a name is known
 
-pub data IsExplained (old : Router) (event : Occurrence) (name : Name) : Type 0 where
-  Held : Contains (names_held old) name → IsExplained old event name
+pub data IsExplained (old : Router) (event : Occurrence) (name : LsaInstance) : Type 0 where
+  Held : Contains (instances_stored old) name → IsExplained old event name
   Brought : (number : ℕ) (bytes : List ℕ) (packet : Packet) → event ≡ Occurrence.Packet number bytes → PacketText bytes packet
-      → Contains (names_brought packet.body) name → IsExplained old event name
+      → Contains (instances_received packet.body) name → IsExplained old event name
   New : IsNewInstance old.id name → IsExplained old event name
 
-own_name : (key : Key) (copy : Option DatabaseCopy) (says : LsaBody) → (lsa_name (new_instance key copy says)).key.advertising_router ≡ key.advertising_router
+own_name : (key : Key) (copy : Option DatabaseCopy) (says : LsaBody) → (instance_of_lsa (new_instance key copy says)).key.advertising_router ≡ key.advertising_router
 unfolding sealed_lsa
 own_name key copy says = refl
 
-own_if_new : (id : ℕ) (name : Name) → IsNewInstance id name → name.key.advertising_router ≡ id
-own_if_new id name n = sym (ap (λ (m : Name). m.key.advertising_router) n.is) ∙ own_name n.key n.copy n.says ∙ n.own
+own_if_new : (id : ℕ) (name : LsaInstance) → IsNewInstance id name → name.key.advertising_router ≡ id
+own_if_new id name n = sym (ap (λ (m : LsaInstance). m.key.advertising_router) n.is) ∙ own_name n.key n.copy n.says ∙ n.own
 
 module _ (old : Router) (event : Occurrence) where
   -- those that are new
-  new_one : (name : Name) → IsExplained old event name → Option Name
+  new_one : (name : LsaInstance) → IsExplained old event name → Option LsaInstance
   new_one name (IsExplained.Held c) = None
   new_one name (IsExplained.Brought number bytes packet is text c) = None
   new_one name (IsExplained.New n) = Some name
 
-  new_ones : (names : List Name) → AllByRecursion (IsExplained old event) names → List Name
+  new_ones : (names : List LsaInstance) → AllByRecursion (IsExplained old event) names → List LsaInstance
   new_ones [] h = []
   new_ones (name ∷ names) h = cons_option (new_one name h.0) (new_ones names h.1)
 
-  all_new : (names : List Name) (h : AllByRecursion (IsExplained old event) names) → AllByRecursion (IsNewInstance old.id) (new_ones names h)
+  all_new : (names : List LsaInstance) (h : AllByRecursion (IsExplained old event) names) → AllByRecursion (IsNewInstance old.id) (new_ones names h)
   unfolding new_ones new_one
   all_new [] h = tt
   all_new (name ∷ names) h = with_first h.0 (all_new names h.1)
@@ -208,12 +208,12 @@ module _ (old : Router) (event : Occurrence) where
       with_first (IsExplained.Brought number bytes packet is text c) rest = rest
       with_first (IsExplained.New n) rest = (n, rest)
 
-  known_more : (more : List Name) (x name : Name) → IsKnown old event more name → IsKnown old event (x ∷ more) name
+  known_more : (more : List LsaInstance) (x name : LsaInstance) → IsKnown old event more name → IsKnown old event (x ∷ more) name
   known_more more x name (IsKnown.Held c) = IsKnown.Held c
   known_more more x name (IsKnown.Brought number bytes packet is text c) = IsKnown.Brought number bytes packet is text c
   known_more more x name (IsKnown.Originated c) = IsKnown.Originated (one_more x more name c)
 
-  all_known : (names : List Name) (h : AllByRecursion (IsExplained old event) names) → AllByRecursion (IsKnown old event (new_ones names h)) names
+  all_known : (names : List LsaInstance) (h : AllByRecursion (IsExplained old event) names) → AllByRecursion (IsKnown old event (new_ones names h)) names
   unfolding new_ones new_one
   all_known [] h = tt
   all_known (name ∷ names) h = with_first h.0 (all_known names h.1)
@@ -269,21 +269,21 @@ module _ (rules : Rules) (two_way_told : (t : Telling) → OfTwoWay t rules.two_
   event_known : (old : Router) (moment : ℕ) (event : Occurrence) (outs : List Out) (new : Router) → HappensBy rules old moment event outs new
       → AnnouncesItsOwn old → AnnouncesItsOwn new × HoldsWhatIsKnown old event outs new
   event_known old moment event outs new happens own =
-      let p : Progress = finished old moment happens.after in
-      let held : AllByRecursion (IsExplained old event) (names_held old) = of_members (IsExplained old event) (names_held old) (λ name c. IsExplained.Held c) in
+      let p : EventState = end_event old moment happens.after in
+      let held : AllByRecursion (IsExplained old event) (instances_stored old) = of_members (IsExplained old event) (instances_stored old) (λ name c. IsExplained.Held c) in
       let end : OfProgress (named_by (IsExplained old event) (length old.area.links)) old.id p =
       event_told (named_by (IsExplained old event) (length old.area.links)) old.id (λ key copy says its wants. IsExplained.New (record { key = key; copy = copy; says = says; own = its.0; is = refl })) tt
       rules (two_way_told (named_by (IsExplained old event) (length old.area.links))) (due_own (named_by (IsExplained old event) (length old.area.links)) old.id tt) old moment event happens.after
       (λ number bytes packet is text.
       body_brought (IsExplained old event) (length old.area.links) packet.body
-      (of_members (IsExplained old event) (names_brought packet.body) (λ name c. IsExplained.Brought number bytes packet is text c)))
+      (of_members (IsExplained old event) (instances_received packet.body) (λ name c. IsExplained.Brought number bytes packet is text c)))
       (λ tagged tag priced price is. tt)
       happens.own (named_held (IsExplained old event) (length old.area.links) old refl held) refl (all_own (named_by (IsExplained old event) (length old.area.links)) (λ key. tt) old own) in
-      let all : AllByRecursion (IsExplained old event) (names_held p.router ++ names_in_sends p.sends) = held_named (IsExplained old event) (length old.area.links) p.router p.sends end.area in
-      let originated : List Name = new_ones old event (names_held p.router ++ names_in_sends p.sends) all in
-      let known : AllByRecursion (IsKnown old event originated) (names_held p.router ++ names_in_sends p.sends) =
-      all_known old event (names_held p.router ++ names_in_sends p.sends) all in
-      let fresh : AllByRecursion (IsNewInstance old.id) originated = all_new old event (names_held p.router ++ names_in_sends p.sends) all in (
+      let all : AllByRecursion (IsExplained old event) (instances_stored p.router ++ instances_in_sends p.sends) = held_named (IsExplained old event) (length old.area.links) p.router p.sends end.area in
+      let originated : List LsaInstance = new_ones old event (instances_stored p.router ++ instances_in_sends p.sends) all in
+      let known : AllByRecursion (IsKnown old event originated) (instances_stored p.router ++ instances_in_sends p.sends) =
+      all_known old event (instances_stored p.router ++ instances_in_sends p.sends) all in
+      let fresh : AllByRecursion (IsNewInstance old.id) originated = all_new old event (instances_stored p.router ++ instances_in_sends p.sends) all in (
         subst AnnouncesItsOwn (sym happens.router)
             (announces (named_by (IsExplained old event) (length old.area.links)) p.router (subst (λ id. AllIn (IsOwn (named_by (IsExplained old event) (length old.area.links)) id) p.router.announced) (sym end.same) end.announced)),
         record {
@@ -292,13 +292,13 @@ module _ (rules : Rules) (two_way_told : (t : Telling) → OfTwoWay t rules.two_
           same_router = ap (λ (r : Router). r.id) happens.router ∙ end.same;
           own = λ name c. own_if_new old.id name (of_member (IsNewInstance old.id) originated fresh name c);
           held = λ name c.
-              of_member (IsKnown old event originated) (names_held p.router) (left_all (IsKnown old event originated) (names_held p.router) (names_in_sends p.sends) known) name
-              (subst (λ (r : Router). Contains (names_held r) name) happens.router c);
+              of_member (IsKnown old event originated) (instances_stored p.router) (left_all (IsKnown old event originated) (instances_stored p.router) (instances_in_sends p.sends) known) name
+              (subst (λ (r : Router). Contains (instances_stored r) name) happens.router c);
           sent = λ out c.
               of_member (IsOutOf (IsKnown old event originated) old.id) outs
               (subst (λ os. AllByRecursion (IsOutOf (IsKnown old event originated) old.id) os) (sym happens.sent)
               (outs_bear (IsKnown old event originated) old.id p.sends
-              (named_sends (IsKnown old event originated) p.sends (right_all (IsKnown old event originated) (names_held p.router) (names_in_sends p.sends) known)) 1
+              (named_sends (IsKnown old event originated) p.sends (right_all (IsKnown old event originated) (instances_stored p.router) (instances_in_sends p.sends) known)) 1
               old.area.links))
               out c;
         },
@@ -306,16 +306,16 @@ module _ (rules : Rules) (two_way_told : (t : Telling) → OfTwoWay t rules.two_
 
 -- ---- the start, and every run
 
-pub none_on : (t : Telling) (is : List Interface) → OfLinks t (map silent is)
+pub none_on : (t : Telling) (is : List Interface) → OfLinks t (map fresh_link is)
 none_on t [] = tt
 none_on t (i ∷ is) = (record { neighbor = tt; acknowledgments = none_in (OfWaiting t) }, none_on t is)
 
 abbrev anything : Config → Telling
-anything c = named_by (λ name. Unit {0}) (length (map silent c.interfaces))
+anything c = named_by (λ name. Unit {0}) (length (map fresh_link c.interfaces))
 
 first_own : (c : Config) → AnnouncesItsOwn (initial c)
 first_own c =
-    let start : Progress = record { router = unannounced c; sends = [] } in
+    let start : EventState = record { router = unannounced c; sends = [] } in
     let at : OfProgress (anything c) c.router start = record {
       area = record { copies = none_in (OfCopy (anything c)); links = none_on (anything c) c.interfaces; few = refl; sent = tt };
       same = refl;

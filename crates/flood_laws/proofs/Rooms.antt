@@ -82,7 +82,7 @@ canonical_length p = length-append (fields (header (type_of p.body) (24 + length
 
 hello_room : (c : Content) → HasRoom c → AllByRecursion HasFewBytes (cons_option (hellos c) [])
 unfolding HasFewBytes
-hello_room (Content.Greets h) room =
+hello_room (Content.SendsHello h) room =
     let wide : length (flat_map router_text h.neighbors) ≡ 4 * length h.neighbors = length-records_text router_at router_text IsRouter 4 router-wide h.neighbors in
     let size : length (fields (hello closed h) ++ flat_map router_text h.neighbors) ≡ 20 + length (flat_map router_text h.neighbors) = length-append (fields (hello closed h)) (flat_map router_text h.neighbors) in
     let few : 24 + length (fields (hello closed h) ++ flat_map router_text h.neighbors) ≤ 8192 = omega (arith, wide, size, room) in
@@ -94,7 +94,7 @@ hello_room (Content.Acknowledges h) room = tt
 
 description_room : (c : Content) → HasRoom c → AllByRecursion HasFewBytes (cons_option (descriptions c) [])
 unfolding HasFewBytes
-description_room (Content.Greets h) room = tt
+description_room (Content.SendsHello h) room = tt
 description_room (Content.Describes d) room =
     let wide : length (flat_map header_text d.headers) ≡ 20 * length d.headers = length-records_text header_at header_text IsHeader 20 header-wide d.headers in
     let size : length (fields (description d) ++ flat_map header_text d.headers) ≡ 8 + length (flat_map header_text d.headers) = length-append (fields (description d)) (flat_map header_text d.headers) in
@@ -109,7 +109,7 @@ IsShort keys = length keys ≤ 680
 
 request_room : (c : Content) → HasRoom c → AllByRecursion IsShort (cons_option (requests c) [])
 unfolding IsShort
-request_room (Content.Greets h) room = tt
+request_room (Content.SendsHello h) room = tt
 request_room (Content.Describes d) room = tt
 request_room (Content.Requests keys) room = (room, tt)
 request_room (Content.Updates lsa) room = tt
@@ -126,7 +126,7 @@ IsSized lsa = (length (lsa_text.text lsa) ≡ lsa_size lsa) × (28 + lsa_size ls
 
 update_room : (c : Content) → HasRoom c → AllByRecursion IsSized (cons_option (updates c) [])
 unfolding IsSized
-update_room (Content.Greets h) room = tt
+update_room (Content.SendsHello h) room = tt
 update_room (Content.Describes d) room = tt
 update_room (Content.Requests keys) room = tt
 update_room (Content.Updates lsa) room = (room, tt)

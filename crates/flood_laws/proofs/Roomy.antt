@@ -26,7 +26,7 @@ use Rattle.packet.specs.declared.model.Body.TheVariants as body
 use Rattle.packet.specs.declared.model.Hello.{Hello}
 use Rattle.packet.specs.declared.model.Packet.{Packet}
 use Rattle.adjacency.specs.Adjacencies as adjacencies
-use Rattle.adjacency.specs.Contents.{Content, Step as NeighborStep, quiet}
+use Rattle.adjacency.specs.Contents.{Content, Step as NeighborStep, no_sends}
 use Rattle.adjacency.specs.Descriptions.{after_description}
 use Rattle.adjacency.specs.Neighbors.{Neighbor}
 use Rattle.adjacency.specs.declared.interface.Interface.{Interface}
@@ -37,7 +37,7 @@ use Rattle.adjacency.proofs.Kept.{chosen}
 use Rattle.adjacency.proofs.Roomy.{acknowledgment_roomy, again_roomy, aged_fits, copies_fit, description_roomy, filled_roomy, hello_roomy, mismatched_roomy, named_roomy, now_fits, old_description_roomy, quiet_roomy, request_roomy, still_heard_roomy, unnamed_roomy, updates_room}
 use Rattle.received.specs.Cases.{Case}
 use Rattle.received.specs.Holds.{Holds, HoldsOfEach}
-use Rattle.received.specs.Links.{Link, anybody_synchronizes, link_at, neighbor_on}
+use Rattle.received.specs.Links.{Link, any_exchange_or_loading, link_at, neighbor_on}
 use Rattle.received.specs.Outcomes.{Outcome, numbered, on_database, on_links, one_neighbor, sending}
 use Rattle.received.specs.Updates.{after_case, case_at, goes_on}
 use Rattle.received.proofs.Holding.{each_link_keeps, one_holds}
@@ -45,15 +45,15 @@ use Rattle.received.proofs.Roomy.{FitsIfThere, HasRoomFor, IsRoomyOutcome, SendH
 use Rattle.events.specs.declared.model.Config.{Config}
 use Rattle.events.specs.declared.model.Out.{Out}
 use Rattle.events.specs.Commands.{after_redistribute, after_withdraw, announce, announce_as, answered, end_want, infinity, is_announced_as, is_for, taken_down, unannounce}
-use Rattle.events.specs.Endings.{begun, describe_router, describe_router_later, fill, filled, filled_on, finished, is_said, links_differ, remove_aged, request_all, stays, with_age}
+use Rattle.events.specs.Endings.{start_event, describe_router, describe_router_later, link_loading_done, loading_done, loading_done_on, end_event, is_current, links_differ, remove_aged, request_all, stays, with_age}
 use Rattle.events.specs.Events.{HappensBy, OwnPart, Rules, Run, Step, hellos_alone, initial, whole}
-use Rattle.events.specs.Hellos.{accepts, greets, heard_of, hello_on, names}
-use Rattle.events.specs.Originations.{external_key, flush, flush_copy, forget_originations, has_max_sequence, has_room, is_wanted, may_originate, new_instance, originate, originate_anyway, originate_body, originate_due, originate_or_wait, router_key, settle_own, settle_wanted, wait, wanted_body}
-use Rattle.events.specs.Packets.{acknowledged_by, after_lsa, after_lsas, after_packet, after_unread, case_in, from_neighbor, hear, heard_on, is_heard, is_in_exchange, is_there, requested_from, requested_lsas, settle, with_neighbor}
-use Rattle.events.specs.Progress.{Progress, flood_from_nobody, on_area, on_router}
+use Rattle.events.specs.Hellos.{accepts, hello_is_due, heard_of, hello_on, names}
+use Rattle.events.specs.Originations.{external_key, flush, flush_copy, forget_originations, has_max_sequence, has_room, is_wanted, may_originate, new_instance, originate, originate_anyway, originate_body, originate_due, originate_or_wait, router_key, receive_self_originated, originate_or_flush, wait, wanted_body}
+use Rattle.events.specs.Packets.{acknowledged_by, after_lsa, after_lsas, after_packet, after_unread, case_in, from_neighbor, hear, heard_on, is_heard, is_in_exchange, is_there, requested_from, requested_lsas, after_self_originated, with_neighbor}
+use Rattle.events.specs.EventState.{EventState, flood_from_nobody, on_area, on_router}
 use Rattle.flood_laws.specs.RoomLaws.{EveryPacketHasRoom, HaveRoom, IsRoomy}
-use Rattle.events.specs.Routers.{Occurrence, Router, in_profile, silent, unannounced}
-use Rattle.events.specs.Ticks.{acknowledge_all, acknowledgments_on, after_tick, again, greet_all, greeted, greeting_on, run_out, send_all_again, sends_of, settled_exchange, without_acknowledgments}
+use Rattle.events.specs.Routers.{Occurrence, Router, in_profile, fresh_link, unannounced}
+use Rattle.events.specs.Ticks.{acknowledge_all, acknowledgments_on, after_tick, again, send_hellos, with_hello_sent, hello_sent_on, run_out, send_all_again, sends_of, settled_exchange, without_acknowledgments}
 use Rattle.flood_laws.proofs.Fitting.{BringsShort, FitsIfRead, IsFewIfAny, IsShort, originated_fits, packet_short, read_fits, wanted_few}
 use Rattle.flood_laws.proofs.Rooms.{ordered_and_packed}
 
@@ -108,7 +108,7 @@ retained_fit db p all =
 
 -- ---- in the midst of an event
 
-abbrev InProgress : Progress → Type 0
+abbrev InProgress : EventState → Type 0
 InProgress p = HasRoomFor p.router.area p.sends
 
 -- ---- the beginning, and the router's own LSAs
@@ -121,7 +121,7 @@ ages_roomy before moment (e ∷ es) o fits h =
     (chosen IsRoomyOutcome (has_just_aged_out before moment e.1) (flood_from_nobody moment (lsa_now moment e.1) o) o
     (λ is. flood_roomy moment None (lsa_now moment e.1) o (now_fits moment e.1 fits.0) h) (λ is. h))
 
-begun_roomy : (moment : ℕ) (r : Router) → IsRoomy r → InProgress (begun moment r)
+begun_roomy : (moment : ℕ) (r : Router) → IsRoomy r → InProgress (start_event moment r)
 begun_roomy moment r h =
     ages_roomy r.moment moment (finite.entries r.area.database) (record { area = r.area; sends = [] }) (entries_fit r.area.database h.fit)
     (record { fit = h.fit; lists = h.lists; few = h.few; sent = tt })
@@ -136,11 +136,11 @@ copy_flushed moment key (Some c) o fits h =
     chosen IsRoomyOutcome (is_aged_out moment c) o (flood_from_nobody moment (lsa_aged 3600 c.lsa) aged)
     (λ is. h) (λ is. flood_roomy moment None (lsa_aged 3600 c.lsa) aged (aged_fits 3600 c.lsa fits) old)
 
-flush_roomy : (moment : ℕ) (key : Key) (p : Progress) → InProgress p → InProgress (flush moment key p)
+flush_roomy : (moment : ℕ) (key : Key) (p : EventState) → InProgress p → InProgress (flush moment key p)
 flush_roomy moment key p h =
     copy_flushed moment key (finite.get p.router.area.database key) (record { area = p.router.area; sends = p.sends }) (fits_at p.router.area.database h.fit key) h
 
-originate_roomy : (moment : ℕ) (key : Key) (says : LsaBody) (p : Progress) → IsFewIfAny (Some says) → InProgress p → InProgress (originate moment key says p)
+originate_roomy : (moment : ℕ) (key : Key) (says : LsaBody) (p : EventState) → IsFewIfAny (Some says) → InProgress p → InProgress (originate moment key says p)
 originate_roomy moment key says p few h =
     let lsa : Lsa = new_instance key (finite.get p.router.area.database key) says in
     let fits : Fits lsa = originated_fits key (finite.get p.router.area.database key) says few in
@@ -149,7 +149,7 @@ originate_roomy moment key says p few h =
     (on_database_roomy (install_originated moment lsa) o
     (inserted_fit p.router.area.database (lsa_key lsa) (record { lsa = lsa; stored = moment; installed = None; sent = None }) h.fit fits) h)
 
-body_roomy : (may_now : Bool) (moment : ℕ) (key : Key) (says : Option LsaBody) (p : Progress) → IsFewIfAny says → InProgress p
+body_roomy : (may_now : Bool) (moment : ℕ) (key : Key) (says : Option LsaBody) (p : EventState) → IsFewIfAny says → InProgress p
     → InProgress (originate_body may_now moment key says p)
 body_roomy may_now moment key None p few h = h
 body_roomy may_now moment key (Some says) p few h =
@@ -159,26 +159,26 @@ body_roomy may_now moment key (Some says) p few h =
     (λ is. chosen InProgress (may_now && may_originate moment key p.router) (originate moment key says p) (on_router (wait key) p)
     (λ may. originate_roomy moment key says p few h) (λ may. h))
 
-originate_or_wait_roomy : (moment : ℕ) (key : Key) (p : Progress) → InProgress p → InProgress (originate_or_wait moment key p)
+originate_or_wait_roomy : (moment : ℕ) (key : Key) (p : EventState) → InProgress p → InProgress (originate_or_wait moment key p)
 originate_or_wait_roomy moment key p h = body_roomy (has_room key p.router) moment key (wanted_body p.router key) p (wanted_few p.router key h.few) h
 
-due_roomy : (moment : ℕ) (keys : List Key) (p : Progress) → InProgress p → InProgress (originate_due moment keys p)
+due_roomy : (moment : ℕ) (keys : List Key) (p : EventState) → InProgress p → InProgress (originate_due moment keys p)
 due_roomy moment [] p h = h
 due_roomy moment (key ∷ keys) p h = due_roomy moment keys (originate_or_wait moment key p) (originate_or_wait_roomy moment key p h)
 
-wanted_settled : (b : Bool) (moment : ℕ) (key : Key) (p : Progress) → InProgress p → InProgress (settle_wanted b moment key p)
+wanted_settled : (b : Bool) (moment : ℕ) (key : Key) (p : EventState) → InProgress p → InProgress (originate_or_flush b moment key p)
 wanted_settled true moment key p h = originate_or_wait_roomy moment key p h
 wanted_settled false moment key p h = flush_roomy moment key p h
 
-own_settled : (moment : ℕ) (lsa : Lsa) (p : Progress) → InProgress p → InProgress (settle_own moment lsa p)
+own_settled : (moment : ℕ) (lsa : Lsa) (p : EventState) → InProgress p → InProgress (receive_self_originated moment lsa p)
 own_settled moment lsa p h =
     let wanted : Bool = is_wanted (wanted_body p.router (lsa_key lsa)) in
-    chosen InProgress (lsa.header.advertising_router == p.router.id) (settle_wanted wanted moment (lsa_key lsa) p) p
+    chosen InProgress (lsa.header.advertising_router == p.router.id) (originate_or_flush wanted moment (lsa_key lsa) p) p
     (λ is. wanted_settled wanted moment (lsa_key lsa) p h) (λ is. h)
 
 -- ---- packets
 
-settled : (case : Case) (moment : ℕ) (lsa : Lsa) (p : Progress) → InProgress p → InProgress (settle case moment lsa p)
+settled : (case : Case) (moment : ℕ) (lsa : Lsa) (p : EventState) → InProgress p → InProgress (after_self_originated case moment lsa p)
 settled Case.Unreadable moment lsa p h = h
 settled Case.NothingToFlush moment lsa p h = h
 settled Case.TooSoon moment lsa p h = h
@@ -190,18 +190,18 @@ settled Case.SequenceWraps moment lsa p h = h
 settled Case.SentJustNow moment lsa p h = h
 settled Case.Older moment lsa p h = h
 
-lsa_roomy : (case : Case) (moment number : ℕ) (lsa : Lsa) (p : Progress) → Fits lsa → InProgress p → InProgress (after_lsa case moment number lsa p)
+lsa_roomy : (case : Case) (moment number : ℕ) (lsa : Lsa) (p : EventState) → Fits lsa → InProgress p → InProgress (after_lsa case moment number lsa p)
 lsa_roomy case moment number lsa p fits h =
     settled case moment lsa (on_area (after_case case moment number lsa) p) (case_roomy case moment number lsa (record { area = p.router.area; sends = p.sends }) fits h)
 
-unread_roomy : (moment number : ℕ) (o : Option Lsa) (p : Progress) → FitsIfRead o → InProgress p → InProgress (after_unread moment number o p)
+unread_roomy : (moment number : ℕ) (o : Option Lsa) (p : EventState) → FitsIfRead o → InProgress p → InProgress (after_unread moment number o p)
 unread_roomy moment number None p fits h = h
 unread_roomy moment number (Some lsa) p fits h = lsa_roomy (case_at moment number lsa p.router.area) moment number lsa p fits h
 
-lsas_roomy : (moment number : ℕ) (lsas : List (List ℕ)) (p : Progress) → AllByRecursion IsShort lsas → InProgress p → InProgress (after_lsas moment number lsas p)
+lsas_roomy : (moment number : ℕ) (lsas : List (List ℕ)) (p : EventState) → AllByRecursion IsShort lsas → InProgress p → InProgress (after_lsas moment number lsas p)
 lsas_roomy moment number [] p short h = h
 lsas_roomy moment number (bytes ∷ rest) p short h =
-    let q : Progress = after_unread moment number (lsa_in bytes) p in
+    let q : EventState = after_unread moment number (lsa_in bytes) p in
     let then_so : InProgress q = unread_roomy moment number (lsa_in bytes) p (read_fits bytes short.0) h in
     chosen InProgress (goes_on (case_in moment number (lsa_in bytes) p)) (after_lsas moment number rest q) q (λ is. lsas_roomy moment number rest q short.1 then_so) (λ is. then_so)
 
@@ -227,7 +227,7 @@ module _ (rules : Rules) (two_way_roomy : IsRoomyTwoWay rules.two_way) where
       sending_roomy moment (numbered number s.sends) _ (numbered_roomy number s.sends so.sends) (changed_roomy number (with_neighbor s.neighbor) (λ l at. so.neighbor) o h))
       (λ is. h)
 
-  from_neighbor_roomy : (moment number from : ℕ) (in_exchange : Bool) (b : Body) (p : Progress) → BringsShort b → InProgress p
+  from_neighbor_roomy : (moment number from : ℕ) (in_exchange : Bool) (b : Body) (p : EventState) → BringsShort b → InProgress p
       → InProgress (from_neighbor rules.two_way moment number from in_exchange b p)
   from_neighbor_roomy moment number from in_exchange (body.Hello hello) p short h =
       hello_heard p.router.id moment number from hello (link_at number p.router.area.links) (record { area = p.router.area; sends = p.sends })
@@ -242,11 +242,11 @@ module _ (rules : Rules) (two_way_roomy : IsRoomyTwoWay rules.two_way) where
   from_neighbor_roomy moment number from in_exchange (body.Acknowledgment headers) p short h =
       chosen InProgress in_exchange (on_area (acknowledged_by moment number headers) p) p
       (λ is.
-      one_roomy moment number (λ n. quiet (after_acknowledgment moment headers n))
+      one_roomy moment number (λ n. no_sends (after_acknowledgment moment headers n))
       (λ n at. quiet_roomy (after_acknowledgment moment headers n) (acknowledgment_roomy moment headers n at)) (record { area = p.router.area; sends = p.sends }) h)
       (λ is. h)
 
-  packet_roomy : (moment number : ℕ) (packet : Packet) (p : Progress) → BringsShort packet.body → InProgress p → InProgress (after_packet rules.two_way moment number packet p)
+  packet_roomy : (moment number : ℕ) (packet : Packet) (p : EventState) → BringsShort packet.body → InProgress p → InProgress (after_packet rules.two_way moment number packet p)
   packet_roomy moment number packet p short h =
       let n : Option Neighbor = neighbor_on (link_at number p.router.area.links) in
       chosen InProgress (is_heard p.router.id packet n) (from_neighbor rules.two_way moment number packet.router (is_in_exchange n) packet.body p) p
@@ -267,7 +267,7 @@ module _ (rules : Rules) (two_way_roomy : IsRoomyTwoWay rules.two_way) where
   run_out_roomy moment o h =
       each_link_roomy (run_out moment)
       (λ link at.
-      exchange_settled moment link.interface.dead_interval (adjacencies.still_heard moment link.interface.dead_interval link.neighbor)
+      exchange_settled moment link.interface.dead_interval (adjacencies.after_inactivity_timer moment link.interface.dead_interval link.neighbor)
       (still_heard_roomy moment link.interface.dead_interval link.neighbor at)) o h
 
   sent_again : (moment : ℕ) (o : Outcome) → IsRoomyOutcome o → IsRoomyOutcome (send_all_again moment o)
@@ -296,19 +296,19 @@ module _ (rules : Rules) (two_way_roomy : IsRoomyTwoWay rules.two_way) where
   one_named None = omega arith
   one_named (Some n) = omega arith
 
-  greeting_room : (moment : ℕ) (link : Link) → AllByRecursion HasRoom (greeting_on moment link)
+  greeting_room : (moment : ℕ) (link : Link) → AllByRecursion HasRoom (hello_sent_on moment link)
   greeting_room moment link =
-      chosen (AllByRecursion HasRoom) (greets moment link) (Content.Greets (hello_on link) ∷ []) [] (λ is. (one_named link.neighbor, tt)) (λ is. tt)
+      chosen (AllByRecursion HasRoom) (hello_is_due moment link) (Content.SendsHello (hello_on link) ∷ []) [] (λ is. (one_named link.neighbor, tt)) (λ is. tt)
 
-  all_greeted : (moment : ℕ) (o : Outcome) → IsRoomyOutcome o → IsRoomyOutcome (greet_all moment o)
+  all_greeted : (moment : ℕ) (o : Outcome) → IsRoomyOutcome o → IsRoomyOutcome (send_hellos moment o)
   all_greeted moment o h =
-      sending_roomy moment (sends_of (greeting_on moment) o.area.links) (on_links (map (greeted moment)) o) (sends_roomy (greeting_on moment) (greeting_room moment) 1 o.area.links)
-      (each_link_roomy (greeted moment) (λ link at. at) o h)
+      sending_roomy moment (sends_of (hello_sent_on moment) o.area.links) (on_links (map (with_hello_sent moment)) o) (sends_roomy (hello_sent_on moment) (greeting_room moment) 1 o.area.links)
+      (each_link_roomy (with_hello_sent moment) (λ link at. at) o h)
 
-  tick_roomy : (moment : ℕ) (p : Progress) → InProgress p → InProgress (after_tick rules.due moment p)
+  tick_roomy : (moment : ℕ) (p : EventState) → InProgress p → InProgress (after_tick rules.due moment p)
   tick_roomy moment p h =
-      let quietened : Progress = on_router (forget_originations moment) (on_area (on_links (map (run_out moment))) p) in
-      let renewed : Progress = originate_due moment (rules.due moment quietened.router) quietened in
+      let quietened : EventState = on_router (forget_originations moment) (on_area (on_links (map (run_out moment))) p) in
+      let renewed : EventState = originate_due moment (rules.due moment quietened.router) quietened in
       let o : Outcome = record { area = renewed.router.area; sends = renewed.sends } in
       let so : IsRoomyOutcome o =
       due_roomy moment (rules.due moment quietened.router) quietened (run_out_roomy moment (record { area = p.router.area; sends = p.sends }) h) in
@@ -316,27 +316,27 @@ module _ (rules : Rules) (two_way_roomy : IsRoomyTwoWay rules.two_way) where
 
   -- ---- the event's own part
 
-  want_ended : (moment : ℕ) (key : Key) (p : Progress) → InProgress p → InProgress (end_want moment key p)
+  want_ended : (moment : ℕ) (key : Key) (p : EventState) → InProgress p → InProgress (end_want moment key p)
   want_ended moment key p h = flush_roomy moment key (on_router (unannounce key) p) h
 
-  announced_roomy : (moment : ℕ) (key : Key) (e : External) (p : Progress) → InProgress p → InProgress (announce_as moment key e p)
+  announced_roomy : (moment : ℕ) (key : Key) (e : External) (p : EventState) → InProgress p → InProgress (announce_as moment key e p)
   announced_roomy moment key e p h =
-      let q : Progress = on_router (announce key e) p in
+      let q : EventState = on_router (announce key e) p in
       chosen InProgress (is_announced_as e (finite.get p.router.announced key)) p (originate_anyway moment key q) (λ is. h)
       (λ is. body_roomy true moment key (wanted_body q.router key) q (wanted_few q.router key h.few) h)
 
-  redistributed : (moment : ℕ) (e : External) (tag price : ℕ) (p : Progress) → InProgress p → InProgress (after_redistribute moment e tag price p)
+  redistributed : (moment : ℕ) (e : External) (tag price : ℕ) (p : EventState) → InProgress p → InProgress (after_redistribute moment e tag price p)
   redistributed moment e tag price p h =
       let key : Key = external_key p.router.id e.prefix in
       chosen InProgress (nat_le infinity price) (end_want moment key p) (announce_as moment key (answered e tag price) p)
       (λ is. want_ended moment key p h) (λ is. announced_roomy moment key (answered e tag price) p h)
 
-  withdrawn : (moment : ℕ) (prefix : Network) (p : Progress) → InProgress p → InProgress (after_withdraw moment prefix p)
+  withdrawn : (moment : ℕ) (prefix : Network) (p : EventState) → InProgress p → InProgress (after_withdraw moment prefix p)
   withdrawn moment prefix p h =
       let key : Key = external_key p.router.id prefix in
       chosen InProgress (is_for prefix (finite.get p.router.announced key)) (end_want moment key p) p (λ is. want_ended moment key p h) (λ is. h)
 
-  own_roomy : (moment : ℕ) (event : Occurrence) (before after : Progress) → OwnPart rules moment event before after → InProgress before → InProgress after
+  own_roomy : (moment : ℕ) (event : Occurrence) (before after : EventState) → OwnPart rules moment event before after → InProgress before → InProgress after
   own_roomy moment (Occurrence.Packet number bytes) before after is h =
       subst InProgress (sym is.2) (packet_roomy moment number is.0 before (packet_short bytes is.0 is.1) h)
   own_roomy moment Occurrence.Tick before after is h = subst InProgress (sym is) (tick_roomy moment before h)
@@ -348,19 +348,19 @@ module _ (rules : Rules) (two_way_roomy : IsRoomyTwoWay rules.two_way) where
 
   -- ---- the end
 
-  filled_on_roomy : (o : Option Neighbor) → Holds HasRoomyLists o → Holds HasRoomyLists (filled_on o)
+  filled_on_roomy : (o : Option Neighbor) → Holds HasRoomyLists o → Holds HasRoomyLists (loading_done_on o)
   filled_on_roomy None h = tt
   filled_on_roomy (Some n) h = filled_roomy n h
 
-  all_filled : (p : Progress) → InProgress p → InProgress (filled p)
-  all_filled p h = each_link_roomy fill (λ link at. filled_on_roomy link.neighbor at) (record { area = p.router.area; sends = p.sends }) h
+  all_filled : (p : EventState) → InProgress p → InProgress (loading_done p)
+  all_filled p h = each_link_roomy link_loading_done (λ link at. filled_on_roomy link.neighbor at) (record { area = p.router.area; sends = p.sends }) h
 
-  described : (before : List Link) (moment : ℕ) (p : Progress) → InProgress p → InProgress (describe_router before moment p)
+  described : (before : List Link) (moment : ℕ) (p : EventState) → InProgress p → InProgress (describe_router before moment p)
   described before moment p h =
-      chosen InProgress (links_differ before p.router.area.links && not (is_said moment p.router)) (originate_or_wait moment (router_key p.router.id) p) p
+      chosen InProgress (links_differ before p.router.area.links && not (is_current moment p.router)) (originate_or_wait moment (router_key p.router.id) p) p
       (λ is. originate_or_wait_roomy moment (router_key p.router.id) p h) (λ is. h)
 
-  described_later : (before : List Link) (p : Progress) → InProgress p → InProgress (describe_router_later before p)
+  described_later : (before : List Link) (p : EventState) → InProgress p → InProgress (describe_router_later before p)
   described_later before p h = chosen InProgress (links_differ before p.router.area.links) (on_router (wait (router_key p.router.id)) p) p (λ is. h) (λ is. h)
 
   asked : (moment : ℕ) (o : Outcome) → IsRoomyOutcome o → IsRoomyOutcome (request_all moment o)
@@ -369,15 +369,15 @@ module _ (rules : Rules) (two_way_roomy : IsRoomyTwoWay rules.two_way) where
   aged_removed : (moment : ℕ) (o : Outcome) → IsRoomyOutcome o → IsRoomyOutcome (remove_aged moment o)
   aged_removed moment o h =
       let stay : Database → Database = λ db. finite.retain_keys db (stays moment o.area) in
-      chosen IsRoomyOutcome (anybody_synchronizes o.area.links) o (on_database stay o) (λ is. h)
+      chosen IsRoomyOutcome (any_exchange_or_loading o.area.links) o (on_database stay o) (λ is. h)
       (λ is. on_database_roomy stay o (retained_fit o.area.database (stays moment o.area) h.fit) h)
 
-  finished_roomy : (old : Router) (moment : ℕ) (p : Progress) → InProgress p → InProgress (finished old moment p)
+  finished_roomy : (old : Router) (moment : ℕ) (p : EventState) → InProgress p → InProgress (end_event old moment p)
   finished_roomy old moment p h =
-      let said : Progress = describe_router old.area.links moment (filled p) in
-      let refilled : Progress = describe_router_later said.router.area.links (filled said) in
+      let said : EventState = describe_router old.area.links moment (loading_done p) in
+      let refilled : EventState = describe_router_later said.router.area.links (loading_done said) in
       let o : Outcome = record { area = refilled.router.area; sends = refilled.sends } in
-      let so : IsRoomyOutcome o = described_later said.router.area.links (filled said) (all_filled said (described old.area.links moment (filled p) (all_filled p h))) in
+      let so : IsRoomyOutcome o = described_later said.router.area.links (loading_done said) (all_filled said (described old.area.links moment (loading_done p) (all_filled p h))) in
       aged_removed moment (request_all moment o) (asked moment o so)
 
   -- ---- the whole event
@@ -385,8 +385,8 @@ module _ (rules : Rules) (two_way_roomy : IsRoomyTwoWay rules.two_way) where
   event_roomy : (old : Router) (moment : ℕ) (event : Occurrence) (outs : List Out) (new : Router) → HappensBy rules old moment event outs new
       → IsRoomy old → IsRoomy new × HaveRoom outs
   event_roomy old moment event outs new happens h =
-      let p : Progress = finished old moment happens.after in
-      let end : InProgress p = finished_roomy old moment happens.after (own_roomy moment event (begun moment old) happens.after happens.own (begun_roomy moment old h)) in
+      let p : EventState = end_event old moment happens.after in
+      let end : InProgress p = finished_roomy old moment happens.after (own_roomy moment event (start_event moment old) happens.after happens.own (begun_roomy moment old h)) in
       let after : IsRoomy p.router = record { fit = end.fit; lists = end.lists; few = end.few } in (
         subst IsRoomy (sym happens.router) after,
         subst HaveRoom (sym happens.sent) (ordered_and_packed.bytes old.id old.area.links p.sends end.sent),
@@ -398,7 +398,7 @@ and_parts : (a b : Bool) → (a && b) ≡ true → (a ≡ true) × (b ≡ true)
 and_parts true b e = (refl, e)
 and_parts false b e = absurd cc
 
-silent_so : (is : List Interface) → HoldsOfEach HasRoomyLists (map silent is)
+silent_so : (is : List Interface) → HoldsOfEach HasRoomyLists (map fresh_link is)
 silent_so [] = tt
 silent_so (i ∷ is) = (tt, silent_so is)
 
@@ -411,8 +411,8 @@ first_roomy c e =
     let b = and_parts _ _ a.0 in
     let d = and_parts _ _ b.0 in
     let few : length c.interfaces ≤ 63 = leb-true (length c.interfaces) 63 d.1 in
-    let still : length (map silent c.interfaces) ≤ 63 = subst (λ n. n ≤ 63) (sym (length-map c.interfaces silent)) few in
-    let start : Progress = record { router = unannounced c; sends = [] } in
+    let still : length (map fresh_link c.interfaces) ≤ 63 = subst (λ n. n ≤ 63) (sym (length-map c.interfaces fresh_link)) few in
+    let start : EventState = record { router = unannounced c; sends = [] } in
     let at : InProgress start = record {
       fit = all_fit (finite.empty {X = DatabaseCopy} {R = key_cmp}) none_there;
       lists = silent_so c.interfaces;

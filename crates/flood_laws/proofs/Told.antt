@@ -19,7 +19,7 @@ use Rattle.packet.specs.declared.model.Hello.{Hello}
 use Rattle.packet.specs.declared.model.Packet.{Packet}
 use Rattle.packet.specs.Text.{PacketText}
 use Rattle.adjacency.specs.Adjacencies as adjacencies
-use Rattle.adjacency.specs.Contents.{Content, Step as NeighborStep, quiet}
+use Rattle.adjacency.specs.Contents.{Content, Step as NeighborStep, no_sends}
 use Rattle.adjacency.specs.Descriptions.{after_description}
 use Rattle.adjacency.specs.Neighbors.{Neighbor}
 use Rattle.adjacency.specs.Requests.{request_next}
@@ -28,19 +28,19 @@ use Rattle.adjacency.proofs.Kept.{chosen}
 use Rattle.adjacency.proofs.Maps.{AllIn, IfThere, OfEntry, entries_in, inserted_in, none_in, removed_in, retained_in}
 use Rattle.adjacency.proofs.Told.{OfContent, OfCopy, OfOwedIfAny, OfStep, OfTwoWay, Telling, acknowledgment_told, again_told, copies_told, description_told, filled_told, hello_told, lsa_now_told, mismatched_told, old_description_told, quiet_told, request_told, still_heard_told, updates_told}
 use Rattle.received.specs.Cases.{Case}
-use Rattle.received.specs.Links.{Link, anybody_synchronizes, link_at, neighbor_on}
+use Rattle.received.specs.Links.{Link, any_exchange_or_loading, link_at, neighbor_on}
 use Rattle.received.specs.Outcomes.{Outcome, numbered, on_database, on_links, one_neighbor, sending}
 use Rattle.received.specs.Updates.{after_case, case_at, goes_on}
 use Rattle.received.proofs.Told.{OfArea, OfLink, OfLinks, OfOutcome, OfSend, OfWaiting, case_told, change_told, changed_told, each_link_told, each_told, flood_told, joined, numbered_told, on_database_told, on_links_told, one_neighbor_told, one_told, sending_told}
 use Rattle.events.specs.Commands.{after_redistribute, after_withdraw, announce, announce_as, answered, end_want, infinity, is_announced_as, is_for, taken_down, unannounce}
-use Rattle.events.specs.Endings.{begun, describe_router, describe_router_later, fill, filled, filled_on, finished, is_said, links_differ, remove_aged, request_all, stays, with_age}
+use Rattle.events.specs.Endings.{start_event, describe_router, describe_router_later, link_loading_done, loading_done, loading_done_on, end_event, is_current, links_differ, remove_aged, request_all, stays, with_age}
 use Rattle.events.specs.Events.{OwnPart, Rules}
-use Rattle.events.specs.Hellos.{accepts, greets, hello_on, names}
-use Rattle.events.specs.Originations.{external_key, flush, flush_copy, forget_originations, has_max_sequence, has_room, is_wanted, may_originate, new_instance, originate, originate_anyway, originate_body, originate_due, originate_or_wait, router_key, settle_own, settle_wanted, wait, wanted_body}
-use Rattle.events.specs.Packets.{acknowledged_by, after_lsa, after_lsas, after_packet, after_unread, case_in, from_neighbor, hear, heard_on, is_heard, is_in_exchange, is_there, requested_from, requested_lsas, settle, with_neighbor}
-use Rattle.events.specs.Progress.{Progress, flood_from_nobody, on_area, on_router}
+use Rattle.events.specs.Hellos.{accepts, hello_is_due, hello_on, names}
+use Rattle.events.specs.Originations.{external_key, flush, flush_copy, forget_originations, has_max_sequence, has_room, is_wanted, may_originate, new_instance, originate, originate_anyway, originate_body, originate_due, originate_or_wait, router_key, receive_self_originated, originate_or_flush, wait, wanted_body}
+use Rattle.events.specs.Packets.{acknowledged_by, after_lsa, after_lsas, after_packet, after_unread, case_in, from_neighbor, hear, heard_on, is_heard, is_in_exchange, is_there, requested_from, requested_lsas, after_self_originated, with_neighbor}
+use Rattle.events.specs.EventState.{EventState, flood_from_nobody, on_area, on_router}
 use Rattle.events.specs.Routers.{Occurrence, Router}
-use Rattle.events.specs.Ticks.{acknowledge_all, acknowledgments_on, after_tick, again, greet_all, greeted, greeting_on, run_out, send_all_again, sends_of, settled_exchange, without_acknowledgments}
+use Rattle.events.specs.Ticks.{acknowledge_all, acknowledgments_on, after_tick, again, send_hellos, with_hello_sent, hello_sent_on, run_out, send_all_again, sends_of, settled_exchange, without_acknowledgments}
 
 -- ---- what an event brings, and what is the router's own
 
@@ -65,7 +65,7 @@ abbrev pub IsOwn : Telling → ℕ → Key → External → Type 0
 IsOwn t id key e = IsOwnKey t id key
 
 -- in the midst of an event of the router with this Router ID
-pub record OfProgress (t : Telling) (id : ℕ) (p : Progress) : Type 0 where
+pub record OfProgress (t : Telling) (id : ℕ) (p : EventState) : Type 0 where
   pub area : OfArea t p.router.area p.sends
   pub same : p.router.id ≡ id
   pub announced : AllIn (IsOwn t id) p.router.announced
@@ -77,10 +77,10 @@ IsWanted t key copy says =
 
 module _ (t : Telling) (id : ℕ) (news : (key : Key) (copy : Option DatabaseCopy) (says : LsaBody) → IsOwnKey t id key → IsWanted t key copy says → t.of_lsa (new_instance key copy says))
     (router_told : t.of_key (router_key id)) where
-  abbrev pub InProgress : Progress → Type 0
+  abbrev pub InProgress : EventState → Type 0
   InProgress p = OfProgress t id p
 
-  on_area_told : (f : Outcome → Outcome) (p : Progress) → (OfArea t p.router.area p.sends → OfOutcome t (f (record { area = p.router.area; sends = p.sends })))
+  on_area_told : (f : Outcome → Outcome) (p : EventState) → (OfArea t p.router.area p.sends → OfOutcome t (f (record { area = p.router.area; sends = p.sends })))
       → InProgress p → InProgress (on_area f p)
   on_area_told f p keeps h = record { area = keeps h.area; same = h.same; announced = h.announced }
 
@@ -94,7 +94,7 @@ module _ (t : Telling) (id : ℕ) (news : (key : Key) (copy : Option DatabaseCop
       (chosen (OfOutcome t) (has_just_aged_out before moment e.1) (flood_from_nobody moment (lsa_now moment e.1) o) o
       (λ is. flood_told t moment None (lsa_now moment e.1) o (lsa_now_told t moment e.1 so.0) h) (λ is. h))
 
-  pub begun_told : (moment : ℕ) (r : Router) → OfArea t r.area [] → r.id ≡ id → AllIn (IsOwn t id) r.announced → InProgress (begun moment r)
+  pub begun_told : (moment : ℕ) (r : Router) → OfArea t r.area [] → r.id ≡ id → AllIn (IsOwn t id) r.announced → InProgress (start_event moment r)
   begun_told moment r h same announced = record {
     area = ages_told r.moment moment (finite.entries r.area.database) (record { area = r.area; sends = [] }) (entries_in (OfCopy t) r.area.database h.copies) h;
     same = same;
@@ -111,12 +111,12 @@ module _ (t : Telling) (id : ℕ) (news : (key : Key) (copy : Option DatabaseCop
       chosen (OfOutcome t) (is_aged_out moment c) o (flood_from_nobody moment (lsa_aged 3600 c.lsa) aged)
       (λ is. h) (λ is. flood_told t moment None (lsa_aged 3600 c.lsa) aged (t.aged 3600 c.lsa (omega arith) so) old)
 
-  flush_told : (moment : ℕ) (key : Key) (p : Progress) → InProgress p → InProgress (flush moment key p)
+  flush_told : (moment : ℕ) (key : Key) (p : EventState) → InProgress p → InProgress (flush moment key p)
   flush_told moment key p h =
       on_area_told (flush_copy moment key (finite.get p.router.area.database key)) p
       (λ a. copy_flushed moment key (finite.get p.router.area.database key) (record { area = p.router.area; sends = p.sends }) (a.copies key) a) h
 
-  originate_told : (moment : ℕ) (key : Key) (says : LsaBody) (p : Progress) → IsOwnKey t id key → has_max_sequence (finite.get p.router.area.database key) ≡ false
+  originate_told : (moment : ℕ) (key : Key) (says : LsaBody) (p : EventState) → IsOwnKey t id key → has_max_sequence (finite.get p.router.area.database key) ≡ false
       → (r : Router) × (length r.area.links ≡ t.count) × (wanted_body r key ≡ Some says) → InProgress p → InProgress (originate moment key says p)
   originate_told moment key says p own goes wants h =
       let lsa : Lsa = new_instance key (finite.get p.router.area.database key) says in
@@ -131,10 +131,10 @@ module _ (t : Telling) (id : ℕ) (news : (key : Key) (copy : Option DatabaseCop
       }
 
   -- what changes neither the links nor the database, nor what is announced
-  waits_told : (key : Key) (p : Progress) → InProgress p → InProgress (on_router (wait key) p)
+  waits_told : (key : Key) (p : EventState) → InProgress p → InProgress (on_router (wait key) p)
   waits_told key p h = record { area = h.area; same = h.same; announced = h.announced }
 
-  body_told : (may_now : Bool) (moment : ℕ) (key : Key) (says : Option LsaBody) (p : Progress) → IsOwnKey t id key
+  body_told : (may_now : Bool) (moment : ℕ) (key : Key) (says : Option LsaBody) (p : EventState) → IsOwnKey t id key
       → (r : Router) × (length r.area.links ≡ t.count) × (wanted_body r key ≡ says) → InProgress p → InProgress (originate_body may_now moment key says p)
   body_told may_now moment key None p own wants h = h
   body_told may_now moment key (Some says) p own wants h =
@@ -144,26 +144,26 @@ module _ (t : Telling) (id : ℕ) (news : (key : Key) (copy : Option DatabaseCop
       (λ is. chosen InProgress (may_now && may_originate moment key p.router) (originate moment key says p) (on_router (wait key) p)
       (λ may. originate_told moment key says p own is wants h) (λ may. waits_told key p h))
 
-  pub originate_or_wait_told : (moment : ℕ) (key : Key) (p : Progress) → IsOwnKey t id key → InProgress p → InProgress (originate_or_wait moment key p)
+  pub originate_or_wait_told : (moment : ℕ) (key : Key) (p : EventState) → IsOwnKey t id key → InProgress p → InProgress (originate_or_wait moment key p)
   originate_or_wait_told moment key p own h = body_told (has_room key p.router) moment key (wanted_body p.router key) p own (p.router, h.area.few, refl) h
 
-  due_told : (moment : ℕ) (keys : List Key) (p : Progress) → AllByRecursion (IsOwnKey t id) keys → InProgress p → InProgress (originate_due moment keys p)
+  due_told : (moment : ℕ) (keys : List Key) (p : EventState) → AllByRecursion (IsOwnKey t id) keys → InProgress p → InProgress (originate_due moment keys p)
   due_told moment [] p own h = h
   due_told moment (key ∷ keys) p own h = due_told moment keys (originate_or_wait moment key p) own.1 (originate_or_wait_told moment key p own.0 h)
 
-  wanted_settled : (b : Bool) (moment : ℕ) (key : Key) (p : Progress) → IsOwnKey t id key → InProgress p → InProgress (settle_wanted b moment key p)
+  wanted_settled : (b : Bool) (moment : ℕ) (key : Key) (p : EventState) → IsOwnKey t id key → InProgress p → InProgress (originate_or_flush b moment key p)
   wanted_settled true moment key p own h = originate_or_wait_told moment key p own h
   wanted_settled false moment key p own h = flush_told moment key p h
 
-  own_settled : (moment : ℕ) (lsa : Lsa) (p : Progress) → t.of_lsa lsa → InProgress p → InProgress (settle_own moment lsa p)
+  own_settled : (moment : ℕ) (lsa : Lsa) (p : EventState) → t.of_lsa lsa → InProgress p → InProgress (receive_self_originated moment lsa p)
   own_settled moment lsa p so h =
       let wanted : Bool = is_wanted (wanted_body p.router (lsa_key lsa)) in
-      chosen InProgress (lsa.header.advertising_router == p.router.id) (settle_wanted wanted moment (lsa_key lsa) p) p
+      chosen InProgress (lsa.header.advertising_router == p.router.id) (originate_or_flush wanted moment (lsa_key lsa) p) p
       (λ is. wanted_settled wanted moment (lsa_key lsa) p (eqb-true lsa.header.advertising_router p.router.id is ∙ h.same, t.key lsa so) h) (λ is. h)
 
   -- ---- packets
 
-  settled : (case : Case) (moment : ℕ) (lsa : Lsa) (p : Progress) → t.of_lsa lsa → InProgress p → InProgress (settle case moment lsa p)
+  settled : (case : Case) (moment : ℕ) (lsa : Lsa) (p : EventState) → t.of_lsa lsa → InProgress p → InProgress (after_self_originated case moment lsa p)
   settled Case.Unreadable moment lsa p so h = h
   settled Case.NothingToFlush moment lsa p so h = h
   settled Case.TooSoon moment lsa p so h = h
@@ -175,19 +175,19 @@ module _ (t : Telling) (id : ℕ) (news : (key : Key) (copy : Option DatabaseCop
   settled Case.SentJustNow moment lsa p so h = h
   settled Case.Older moment lsa p so h = h
 
-  lsa_told : (case : Case) (moment number : ℕ) (lsa : Lsa) (p : Progress) → t.of_lsa lsa → InProgress p → InProgress (after_lsa case moment number lsa p)
+  lsa_told : (case : Case) (moment number : ℕ) (lsa : Lsa) (p : EventState) → t.of_lsa lsa → InProgress p → InProgress (after_lsa case moment number lsa p)
   lsa_told case moment number lsa p so h =
       settled case moment lsa (on_area (after_case case moment number lsa) p) so
       (on_area_told (after_case case moment number lsa) p (λ a. case_told t case moment number lsa (record { area = p.router.area; sends = p.sends }) so a) h)
 
-  unread_told : (moment number : ℕ) (o : Option Lsa) (p : Progress) → IfRead t o → InProgress p → InProgress (after_unread moment number o p)
+  unread_told : (moment number : ℕ) (o : Option Lsa) (p : EventState) → IfRead t o → InProgress p → InProgress (after_unread moment number o p)
   unread_told moment number None p so h = h
   unread_told moment number (Some lsa) p so h = lsa_told (case_at moment number lsa p.router.area) moment number lsa p so h
 
-  lsas_told : (moment number : ℕ) (lsas : List (List ℕ)) (p : Progress) → AllByRecursion (OfBytes t) lsas → InProgress p → InProgress (after_lsas moment number lsas p)
+  lsas_told : (moment number : ℕ) (lsas : List (List ℕ)) (p : EventState) → AllByRecursion (OfBytes t) lsas → InProgress p → InProgress (after_lsas moment number lsas p)
   lsas_told moment number [] p so h = h
   lsas_told moment number (bytes ∷ rest) p so h =
-      let q : Progress = after_unread moment number (lsa_in bytes) p in
+      let q : EventState = after_unread moment number (lsa_in bytes) p in
       let then_so : InProgress q = unread_told moment number (lsa_in bytes) p so.0 h in
       chosen InProgress (goes_on (case_in moment number (lsa_in bytes) p)) (after_lsas moment number rest q) q (λ is. lsas_told moment number rest q so.1 then_so) (λ is. then_so)
 
@@ -215,7 +215,7 @@ module _ (t : Telling) (id : ℕ) (news : (key : Key) (copy : Option DatabaseCop
         (change_told t number (with_neighbor s.neighbor) (λ l at. record { neighbor = so.neighbor; acknowledgments = at.acknowledgments }) o h))
         (λ is. h)
 
-    from_neighbor_told : (moment number from : ℕ) (in_exchange : Bool) (b : Body) (p : Progress) → OfBrought t b → InProgress p
+    from_neighbor_told : (moment number from : ℕ) (in_exchange : Bool) (b : Body) (p : EventState) → OfBrought t b → InProgress p
         → InProgress (from_neighbor rules.two_way moment number from in_exchange b p)
     from_neighbor_told moment number from in_exchange (body.Hello hello) p so h = record {
       area = hello_heard p.router.id moment number from hello (link_at number p.router.area.links) (record { area = p.router.area; sends = p.sends })
@@ -238,11 +238,11 @@ module _ (t : Telling) (id : ℕ) (news : (key : Key) (copy : Option DatabaseCop
         chosen InProgress in_exchange (on_area (acknowledged_by moment number headers) p) p
         (λ is.
         on_area_told (acknowledged_by moment number headers) p
-        (λ a. one_neighbor_told t moment number (λ n. quiet (after_acknowledgment moment headers n))
+        (λ a. one_neighbor_told t moment number (λ n. no_sends (after_acknowledgment moment headers n))
         (λ n at. quiet_told t (after_acknowledgment moment headers n) (acknowledgment_told t moment headers n at)) (record { area = p.router.area; sends = p.sends }) a) h)
         (λ is. h)
 
-    packet_told : (moment number : ℕ) (packet : Packet) (p : Progress) → OfBrought t packet.body → InProgress p → InProgress (after_packet rules.two_way moment number packet p)
+    packet_told : (moment number : ℕ) (packet : Packet) (p : EventState) → OfBrought t packet.body → InProgress p → InProgress (after_packet rules.two_way moment number packet p)
     packet_told moment number packet p so h =
         let n : Option Neighbor = neighbor_on (link_at number p.router.area.links) in
         chosen InProgress (is_heard p.router.id packet n) (from_neighbor rules.two_way moment number packet.router (is_in_exchange n) packet.body p) p
@@ -261,7 +261,7 @@ module _ (t : Telling) (id : ℕ) (news : (key : Key) (copy : Option DatabaseCop
     run_out_told moment o h =
         each_link (run_out moment)
         (λ link at. record {
-          neighbor = exchange_settled moment link.interface.dead_interval (adjacencies.still_heard moment link.interface.dead_interval link.neighbor)
+          neighbor = exchange_settled moment link.interface.dead_interval (adjacencies.after_inactivity_timer moment link.interface.dead_interval link.neighbor)
               (still_heard_told t moment link.interface.dead_interval link.neighbor at.neighbor);
           acknowledgments = at.acknowledgments;
         }) o h
@@ -289,20 +289,20 @@ module _ (t : Telling) (id : ℕ) (news : (key : Key) (copy : Option DatabaseCop
         (λ link at. acknowledgments_told (finite.entries link.acknowledgments) (entries_in (OfWaiting t) link.acknowledgments at.acknowledgments)) 1 o.area.links h.links)
         (each_link without_acknowledgments (λ link at. record { neighbor = at.neighbor; acknowledgments = none_in (OfWaiting t) }) o h)
 
-    greeting_told : (moment : ℕ) (link : Link) → AllByRecursion (OfContent t) (greeting_on moment link)
+    greeting_told : (moment : ℕ) (link : Link) → AllByRecursion (OfContent t) (hello_sent_on moment link)
     greeting_told moment link =
-        chosen (AllByRecursion (OfContent t)) (greets moment link) (Content.Greets (hello_on link) ∷ []) [] (λ is. (tt, tt)) (λ is. tt)
+        chosen (AllByRecursion (OfContent t)) (hello_is_due moment link) (Content.SendsHello (hello_on link) ∷ []) [] (λ is. (tt, tt)) (λ is. tt)
 
-    all_greeted : (moment : ℕ) (o : Outcome) → OfOutcome t o → OfOutcome t (greet_all moment o)
+    all_greeted : (moment : ℕ) (o : Outcome) → OfOutcome t o → OfOutcome t (send_hellos moment o)
     all_greeted moment o h =
-        sending_told t moment (sends_of (greeting_on moment) o.area.links) (on_links (map (greeted moment)) o)
-        (sends_told (greeting_on moment) (λ link at. greeting_told moment link) 1 o.area.links h.links)
-        (each_link (greeted moment) (λ link at. record { neighbor = at.neighbor; acknowledgments = at.acknowledgments }) o h)
+        sending_told t moment (sends_of (hello_sent_on moment) o.area.links) (on_links (map (with_hello_sent moment)) o)
+        (sends_told (hello_sent_on moment) (λ link at. greeting_told moment link) 1 o.area.links h.links)
+        (each_link (with_hello_sent moment) (λ link at. record { neighbor = at.neighbor; acknowledgments = at.acknowledgments }) o h)
 
-    tick_told : (moment : ℕ) (p : Progress) → InProgress p → InProgress (after_tick rules.due moment p)
+    tick_told : (moment : ℕ) (p : EventState) → InProgress p → InProgress (after_tick rules.due moment p)
     tick_told moment p h =
-        let quietened : Progress = on_router (forget_originations moment) (on_area (on_links (map (run_out moment))) p) in
-        let renewed : Progress = originate_due moment (rules.due moment quietened.router) quietened in
+        let quietened : EventState = on_router (forget_originations moment) (on_area (on_links (map (run_out moment))) p) in
+        let renewed : EventState = originate_due moment (rules.due moment quietened.router) quietened in
         let o : Outcome = record { area = renewed.router.area; sends = renewed.sends } in
         let still : InProgress quietened = record {
           area = run_out_told moment (record { area = p.router.area; sends = p.sends }) h.area;
@@ -318,31 +318,31 @@ module _ (t : Telling) (id : ℕ) (news : (key : Key) (copy : Option DatabaseCop
 
     -- ---- the event's own part
 
-    want_ended : (moment : ℕ) (key : Key) (p : Progress) → InProgress p → InProgress (end_want moment key p)
+    want_ended : (moment : ℕ) (key : Key) (p : EventState) → InProgress p → InProgress (end_want moment key p)
     want_ended moment key p h =
         flush_told moment key (on_router (unannounce key) p)
         (record { area = h.area; same = h.same; announced = removed_in (IsOwn t id) p.router.announced key h.announced })
 
-    announced_told : (moment : ℕ) (key : Key) (e : External) (p : Progress) → IsOwnKey t id key → InProgress p → InProgress (announce_as moment key e p)
+    announced_told : (moment : ℕ) (key : Key) (e : External) (p : EventState) → IsOwnKey t id key → InProgress p → InProgress (announce_as moment key e p)
     announced_told moment key e p own h =
-        let q : Progress = on_router (announce key e) p in
+        let q : EventState = on_router (announce key e) p in
         let so : InProgress q = record { area = h.area; same = h.same; announced = inserted_in (IsOwn t id) p.router.announced key e h.announced own } in
         chosen InProgress (is_announced_as e (finite.get p.router.announced key)) p (originate_anyway moment key q) (λ is. h)
         (λ is. body_told true moment key (wanted_body q.router key) q own (q.router, so.area.few, refl) so)
 
-    redistributed : (moment : ℕ) (e : External) (tag price : ℕ) (p : Progress) → t.of_key (external_key id e.prefix) → InProgress p → InProgress (after_redistribute moment e tag price p)
+    redistributed : (moment : ℕ) (e : External) (tag price : ℕ) (p : EventState) → t.of_key (external_key id e.prefix) → InProgress p → InProgress (after_redistribute moment e tag price p)
     redistributed moment e tag price p so h =
         let key : Key = external_key p.router.id e.prefix in
         chosen InProgress (nat_le infinity price) (end_want moment key p) (announce_as moment key (answered e tag price) p)
         (λ is. want_ended moment key p h) (λ is. announced_told moment key (answered e tag price) p (h.same, subst (λ (i : ℕ). t.of_key (external_key i e.prefix)) (sym h.same) so) h)
 
-    withdrawn : (moment : ℕ) (prefix : Network) (p : Progress) → InProgress p → InProgress (after_withdraw moment prefix p)
+    withdrawn : (moment : ℕ) (prefix : Network) (p : EventState) → InProgress p → InProgress (after_withdraw moment prefix p)
     withdrawn moment prefix p h =
         let key : Key = external_key p.router.id prefix in
         chosen InProgress (is_for prefix (finite.get p.router.announced key)) (end_want moment key p) p (λ is. want_ended moment key p h) (λ is. h)
 
     -- what a text brings is so
-    own_told : (moment : ℕ) (event : Occurrence) (before after : Progress)
+    own_told : (moment : ℕ) (event : Occurrence) (before after : EventState)
         → ((number : ℕ) (bytes : List ℕ) (packet : Packet) → event ≡ Occurrence.Packet number bytes → PacketText bytes packet → OfBrought t packet.body)
         → ((tagged : External) (tag : ℕ) (priced : External) (price : ℕ) → event ≡ Occurrence.Redistribute tagged tag priced price → t.of_key (external_key id priced.prefix))
         → OwnPart rules moment event before after → InProgress before → InProgress after
@@ -361,24 +361,24 @@ module _ (t : Telling) (id : ℕ) (news : (key : Key) (copy : Option DatabaseCop
 
     -- ---- the end
 
-    filled_on_told : (o : Option Neighbor) → OfOwedIfAny t o → OfOwedIfAny t (filled_on o)
+    filled_on_told : (o : Option Neighbor) → OfOwedIfAny t o → OfOwedIfAny t (loading_done_on o)
     filled_on_told None h = tt
     filled_on_told (Some n) h = filled_told t n h
 
-    all_filled : (p : Progress) → InProgress p → InProgress (filled p)
+    all_filled : (p : EventState) → InProgress p → InProgress (loading_done p)
     all_filled p h = record {
-      area = each_link fill (λ link at. record { neighbor = filled_on_told link.neighbor at.neighbor; acknowledgments = at.acknowledgments })
+      area = each_link link_loading_done (λ link at. record { neighbor = filled_on_told link.neighbor at.neighbor; acknowledgments = at.acknowledgments })
           (record { area = p.router.area; sends = p.sends }) h.area;
       same = h.same;
       announced = h.announced;
     }
 
-    described : (before : List Link) (moment : ℕ) (p : Progress) → InProgress p → InProgress (describe_router before moment p)
+    described : (before : List Link) (moment : ℕ) (p : EventState) → InProgress p → InProgress (describe_router before moment p)
     described before moment p h =
-        chosen InProgress (links_differ before p.router.area.links && not (is_said moment p.router)) (originate_or_wait moment (router_key p.router.id) p) p
+        chosen InProgress (links_differ before p.router.area.links && not (is_current moment p.router)) (originate_or_wait moment (router_key p.router.id) p) p
         (λ is. originate_or_wait_told moment (router_key p.router.id) p (h.same, subst (λ (i : ℕ). t.of_key (router_key i)) (sym h.same) router_told) h) (λ is. h)
 
-    described_later : (before : List Link) (p : Progress) → InProgress p → InProgress (describe_router_later before p)
+    described_later : (before : List Link) (p : EventState) → InProgress p → InProgress (describe_router_later before p)
     described_later before p h =
         chosen InProgress (links_differ before p.router.area.links) (on_router (wait (router_key p.router.id)) p) p (λ is. waits_told (router_key p.router.id) p h) (λ is. h)
 
@@ -388,15 +388,15 @@ module _ (t : Telling) (id : ℕ) (news : (key : Key) (copy : Option DatabaseCop
     aged_removed : (moment : ℕ) (o : Outcome) → OfOutcome t o → OfOutcome t (remove_aged moment o)
     aged_removed moment o h =
         let stay : Database → Database = λ db. finite.retain_keys db (stays moment o.area) in
-        chosen (OfOutcome t) (anybody_synchronizes o.area.links) o (on_database stay o) (λ is. h)
+        chosen (OfOutcome t) (any_exchange_or_loading o.area.links) o (on_database stay o) (λ is. h)
         (λ is. on_database_told t stay o (retained_in (OfCopy t) o.area.database (stays moment o.area) h.copies) h)
 
-    finished_told : (old : Router) (moment : ℕ) (p : Progress) → InProgress p → InProgress (finished old moment p)
+    finished_told : (old : Router) (moment : ℕ) (p : EventState) → InProgress p → InProgress (end_event old moment p)
     finished_told old moment p h =
-        let said : Progress = describe_router old.area.links moment (filled p) in
-        let refilled : Progress = describe_router_later said.router.area.links (filled said) in
+        let said : EventState = describe_router old.area.links moment (loading_done p) in
+        let refilled : EventState = describe_router_later said.router.area.links (loading_done said) in
         let o : Outcome = record { area = refilled.router.area; sends = refilled.sends } in
-        let so : InProgress refilled = described_later said.router.area.links (filled said) (all_filled said (described old.area.links moment (filled p) (all_filled p h))) in
+        let so : InProgress refilled = described_later said.router.area.links (loading_done said) (all_filled said (described old.area.links moment (loading_done p) (all_filled p h))) in
         record {
           area = aged_removed moment (request_all moment o) (asked moment o so.area);
           same = so.same;
@@ -405,9 +405,9 @@ module _ (t : Telling) (id : ℕ) (news : (key : Key) (copy : Option DatabaseCop
 
     -- ---- the whole event
 
-    pub event_told : (old : Router) (moment : ℕ) (event : Occurrence) (after : Progress)
+    pub event_told : (old : Router) (moment : ℕ) (event : Occurrence) (after : EventState)
         → ((number : ℕ) (bytes : List ℕ) (packet : Packet) → event ≡ Occurrence.Packet number bytes → PacketText bytes packet → OfBrought t packet.body)
         → ((tagged : External) (tag : ℕ) (priced : External) (price : ℕ) → event ≡ Occurrence.Redistribute tagged tag priced price → t.of_key (external_key id priced.prefix))
-        → OwnPart rules moment event (begun moment old) after → OfArea t old.area [] → old.id ≡ id → AllIn (IsOwn t id) old.announced → InProgress (finished old moment after)
+        → OwnPart rules moment event (start_event moment old) after → OfArea t old.area [] → old.id ≡ id → AllIn (IsOwn t id) old.announced → InProgress (end_event old moment after)
     event_told old moment event after brought redistributes own held same announced =
-        finished_told old moment after (own_told moment event (begun moment old) after brought redistributes own (begun_told moment old held same announced))
+        finished_told old moment after (own_told moment event (start_event moment old) after brought redistributes own (begun_told moment old held same announced))

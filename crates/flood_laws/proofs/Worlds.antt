@@ -9,8 +9,8 @@ use Rattle.packet.proofs.Whole.{one_packet}
 use Rattle.events.specs.declared.model.Config.{Config}
 use Rattle.events.specs.Events.{initial}
 use Rattle.events.specs.Routers.{Occurrence, Router}
-use Rattle.events.specs.Names.{Name, names_brought, names_told}
-use Rattle.events.specs.Worlds.{AcknowledgedWasReceived, Brings, Datagram, IsHistory, IsKnown, IsLawfulOut, Joins, Knowledge, Lives, Restarts, World, WorldStep, all_known, begun_with, known_as, knows, names_held, sent_from}
+use Rattle.events.specs.LsaInstances.{LsaInstance, instances_received, instances_advertised}
+use Rattle.events.specs.Worlds.{AcknowledgedWasReceived, Brings, Datagram, IsHistory, IsKnown, IsLawfulOut, Joins, Knowledge, Lives, Restarts, World, WorldStep, all_known, begun_with, known_as, knows, instances_stored, sent_from}
 use Rattle.flood_laws.proofs.Taken.{taken_was_told}
 
 -- ---- lists
@@ -52,18 +52,18 @@ changed_place (z ∷ zs) (suc i) (suc j) x y e = changed_place zs i j x y e
 -- ---- what holds of a world
 
 record IsKnowing (w : World) : Type 0 where
-  held : (place : ℕ) (r : Router) → slice_get w.routers place ≡ Some r → (name : Name) → Contains (names_held r) name → Contains w.known (knows r.id name)
-  told : (d : Datagram) → Contains w.sent d → (packet : Packet) → PacketText d.bytes packet → (name : Name) → Contains (names_told packet.body) name → Contains w.known (knows packet.router name)
+  held : (place : ℕ) (r : Router) → slice_get w.routers place ≡ Some r → (name : LsaInstance) → Contains (instances_stored r) name → Contains w.known (knows r.id name)
+  told : (d : Datagram) → Contains w.sent d → (packet : Packet) → PacketText d.bytes packet → (name : LsaInstance) → Contains (instances_advertised packet.body) name → Contains w.known (knows packet.router name)
 
 -- at the beginning
-known_at : (rs : List Router) (place : ℕ) (r : Router) → slice_get rs place ≡ Some r → (name : Name) → Contains (names_held r) name → Contains (all_known rs) (knows r.id name)
+known_at : (rs : List Router) (place : ℕ) (r : Router) → slice_get rs place ≡ Some r → (name : LsaInstance) → Contains (instances_stored r) name → Contains (all_known rs) (knows r.id name)
 known_at [] place r e name c = absurd (cc)
 known_at (s ∷ rs) zero r e name c =
     let it : r ≡ s = cc in
-    subst (λ (t : Router). Contains (known_as t.id (names_held t) ++ all_known rs) (knows r.id name)) it
-    (Contains-append_left (known_as r.id (names_held r)) (all_known rs) (knows r.id name) (mapped (knows r.id) (names_held r) name c))
+    subst (λ (t : Router). Contains (known_as t.id (instances_stored t) ++ all_known rs) (knows r.id name)) it
+    (Contains-append_left (known_as r.id (instances_stored r)) (all_known rs) (knows r.id name) (mapped (knows r.id) (instances_stored r) name c))
 known_at (s ∷ rs) (suc place) r e name c =
-    Contains-append_right (known_as s.id (names_held s)) (all_known rs) (knows r.id name) (known_at rs place r e name c)
+    Contains-append_right (known_as s.id (instances_stored s)) (all_known rs) (knows r.id name) (known_at rs place r e name c)
 
 knows_first : (configs : List Config) → IsKnowing (begun_with configs)
 knows_first configs = record {
@@ -75,14 +75,14 @@ knows_first configs = record {
 
 module _ (joins : Joins) (w : World) (knowing : IsKnowing w) where
   -- what an event makes known
-  learnt : (place moment : ℕ) (event : Occurrence) (after : World) (l : Lives joins w place moment event after) (name : Name)
+  learnt : (place moment : ℕ) (event : Occurrence) (after : World) (l : Lives joins w place moment event after) (name : LsaInstance)
       → IsKnown l.old event l.originated name → Contains (w.known ++ known_as l.old.id (l.brought ++ l.originated)) (knows l.old.id name)
   learnt place moment event after l name (IsKnown.Held c) =
       Contains-append_left w.known (known_as l.old.id (l.brought ++ l.originated)) (knows l.old.id name) (knowing.held place l.old l.here name c)
   learnt place moment event after l name (IsKnown.Brought number bytes packet is text c) =
       let given : Brings (Occurrence.Packet number bytes) l.brought = subst (λ e. Brings e l.brought) is l.brings in
       let same : given.0 ≡ packet = one_packet bytes given.0 packet given.1 text in
-      let there : Contains l.brought name = subst (λ names. Contains names name) (sym (given.2 ∙ ap (λ (p : Packet). names_brought p.body) same)) c in
+      let there : Contains l.brought name = subst (λ names. Contains names name) (sym (given.2 ∙ ap (λ (p : Packet). instances_received p.body) same)) c in
       Contains-append_right w.known (known_as l.old.id (l.brought ++ l.originated)) (knows l.old.id name)
       (mapped (knows l.old.id) (l.brought ++ l.originated) name (Contains-append_left l.brought l.originated name there))
   learnt place moment event after l name (IsKnown.Originated c) =
@@ -95,17 +95,17 @@ module _ (joins : Joins) (w : World) (knowing : IsKnowing w) where
       more : List Knowledge
       more = known_as l.old.id (l.brought ++ l.originated)
 
-      held_by : (p : ℕ) (r : Router) (name : Name) → Contains (names_held r) name → (l.new ≡ r) ⊎ (slice_get w.routers p ≡ Some r) → Contains (w.known ++ more) (knows r.id name)
+      held_by : (p : ℕ) (r : Router) (name : LsaInstance) → Contains (instances_stored r) name → (l.new ≡ r) ⊎ (slice_get w.routers p ≡ Some r) → Contains (w.known ++ more) (knows r.id name)
       held_by p r name c (inl same) =
           subst (λ (t : Router). Contains (w.known ++ more) (knows t.id name)) same
           (subst (λ id. Contains (w.known ++ more) (knows id name)) (sym l.keeps.same_router)
-          (learnt place moment event after l name (l.keeps.held name (subst (λ (t : Router). Contains (names_held t) name) (sym same) c))))
+          (learnt place moment event after l name (l.keeps.held name (subst (λ (t : Router). Contains (instances_stored t) name) (sym same) c))))
       held_by p r name c (inr there) = Contains-append_left w.known more (knows r.id name) (knowing.held p r there name c)
 
-      held_after : (p : ℕ) (r : Router) → slice_get (set w.routers place l.new) p ≡ Some r → (name : Name) → Contains (names_held r) name → Contains (w.known ++ more) (knows r.id name)
+      held_after : (p : ℕ) (r : Router) → slice_get (set w.routers place l.new) p ≡ Some r → (name : LsaInstance) → Contains (instances_stored r) name → Contains (w.known ++ more) (knows r.id name)
       held_after p r e name c = held_by p r name c (changed_place w.routers place p l.new r e)
 
-      told_by : (d : Datagram) (packet : Packet) → PacketText d.bytes packet → (name : Name) → Contains (names_told packet.body) name
+      told_by : (d : Datagram) (packet : Packet) → PacketText d.bytes packet → (name : LsaInstance) → Contains (instances_advertised packet.body) name
           → Contains w.sent d ⊎ Contains (map (sent_from place) l.outs) d → Contains (w.known ++ more) (knows packet.router name)
       told_by d packet text name c (inl before) = Contains-append_left w.known more (knows packet.router name) (knowing.told d before packet text name c)
       told_by d packet text name c (inr now) =
@@ -115,10 +115,10 @@ module _ (joins : Joins) (w : World) (knowing : IsKnowing w) where
           let same : lawful.packet ≡ packet = one_packet d.bytes lawful.packet packet its text in
           subst (λ (p : Packet). Contains (w.known ++ more) (knows p.router name)) same
           (subst (λ id. Contains (w.known ++ more) (knows id name)) (sym lawful.own)
-          (learnt place moment event after l name (lawful.known name (subst (λ (p : Packet). Contains (names_told p.body) name) (sym same) c))))
+          (learnt place moment event after l name (lawful.known name (subst (λ (p : Packet). Contains (instances_advertised p.body) name) (sym same) c))))
 
-      told_after : (d : Datagram) → Contains (w.sent ++ map (sent_from place) l.outs) d → (packet : Packet) → PacketText d.bytes packet → (name : Name)
-          → Contains (names_told packet.body) name → Contains (w.known ++ more) (knows packet.router name)
+      told_after : (d : Datagram) → Contains (w.sent ++ map (sent_from place) l.outs) d → (packet : Packet) → PacketText d.bytes packet → (name : LsaInstance)
+          → Contains (instances_advertised packet.body) name → Contains (w.known ++ more) (knows packet.router name)
       told_after d c packet text name told = told_by d packet text name told (Contains-append_cases w.sent (map (sent_from place) l.outs) d c)
 
   restarted : (place : ℕ) (after : World) → Restarts w place after → IsKnowing after
@@ -128,20 +128,20 @@ module _ (joins : Joins) (w : World) (knowing : IsKnowing w) where
       again = initial s.config
 
       more : List Knowledge
-      more = known_as (initial s.config).id (names_held (initial s.config))
+      more = known_as (initial s.config).id (instances_stored (initial s.config))
 
-      held_by : (p : ℕ) (r : Router) (name : Name) → Contains (names_held r) name → (initial s.config ≡ r) ⊎ (slice_get w.routers p ≡ Some r) → Contains (w.known ++ more) (knows r.id name)
+      held_by : (p : ℕ) (r : Router) (name : LsaInstance) → Contains (instances_stored r) name → (initial s.config ≡ r) ⊎ (slice_get w.routers p ≡ Some r) → Contains (w.known ++ more) (knows r.id name)
       held_by p r name c (inl same) =
           subst (λ (t : Router). Contains (w.known ++ more) (knows t.id name)) same
           (Contains-append_right w.known more (knows (initial s.config).id name)
-          (mapped (knows (initial s.config).id) (names_held (initial s.config)) name (subst (λ (t : Router). Contains (names_held t) name) (sym same) c)))
+          (mapped (knows (initial s.config).id) (instances_stored (initial s.config)) name (subst (λ (t : Router). Contains (instances_stored t) name) (sym same) c)))
       held_by p r name c (inr there) = Contains-append_left w.known more (knows r.id name) (knowing.held p r there name c)
 
-      held_after : (p : ℕ) (r : Router) → slice_get (set w.routers place (initial s.config)) p ≡ Some r → (name : Name) → Contains (names_held r) name → Contains (w.known ++ more) (knows r.id name)
+      held_after : (p : ℕ) (r : Router) → slice_get (set w.routers place (initial s.config)) p ≡ Some r → (name : LsaInstance) → Contains (instances_stored r) name → Contains (w.known ++ more) (knows r.id name)
       held_after p r e name c = held_by p r name c (changed_place w.routers place p (initial s.config) r e)
 
-      told_after : (d : Datagram) → Contains w.sent d → (packet : Packet) → PacketText d.bytes packet → (name : Name)
-          → Contains (names_told packet.body) name → Contains (w.known ++ more) (knows packet.router name)
+      told_after : (d : Datagram) → Contains w.sent d → (packet : Packet) → PacketText d.bytes packet → (name : LsaInstance)
+          → Contains (instances_advertised packet.body) name → Contains (w.known ++ more) (knows packet.router name)
       told_after d c packet text name told = Contains-append_left w.known more (knows packet.router name) (knowing.told d c packet text name told)
 
 -- ---- a history

@@ -17,50 +17,50 @@ use Rattle.received.specs.Outcomes.{Send}
 use Rattle.events.specs.declared.model.Config.{Config}
 use Rattle.events.specs.declared.model.Out.{Out}
 use Rattle.events.specs.Events.{Happens, HappensBy, Run, Step, hellos_alone, initial}
-use Rattle.events.specs.Names.{Name, lsa_name, name_of, names_in_update}
+use Rattle.events.specs.LsaInstances.{LsaInstance, instance_of_lsa, instance_of_header, instances_in_update}
 use Rattle.events.specs.Originations.{new_instance}
 use Rattle.events.specs.Packing.{out_of}
 use Rattle.events.specs.Routers.{Occurrence, Router}
-use Rattle.events.specs.Worlds.{IsKnown, names_held}
+use Rattle.events.specs.Worlds.{IsKnown, instances_stored}
 
 -- a new instance of an LSA whose Advertising Router is this one
-pub record IsNewInstance (id : ℕ) (name : Name) : Type 0 where
+pub record IsNewInstance (id : ℕ) (name : LsaInstance) : Type 0 where
   pub key : Key
   pub copy : Option DatabaseCopy
   pub says : LsaBody
   pub own : key.advertising_router ≡ id
-  pub is : lsa_name (new_instance key copy says) ≡ name
+  pub is : instance_of_lsa (new_instance key copy says) ≡ name
 
 -- the instances that an Update or an Acknowledgment is to name
-abbrev pub names_in_content : Content → List Name
-names_in_content (Content.Greets hello) = []
-names_in_content (Content.Describes d) = []
-names_in_content (Content.Requests keys) = []
-names_in_content (Content.Updates lsa) = lsa_name lsa ∷ []
-names_in_content (Content.Acknowledges header) = name_of header ∷ []
+abbrev pub instances_in_content : Content → List LsaInstance
+instances_in_content (Content.SendsHello hello) = []
+instances_in_content (Content.Describes d) = []
+instances_in_content (Content.Requests keys) = []
+instances_in_content (Content.Updates lsa) = instance_of_lsa lsa ∷ []
+instances_in_content (Content.Acknowledges header) = instance_of_header header ∷ []
 
-abbrev pub names_in_send : Send → List Name
-names_in_send s = names_in_content s.content
+abbrev pub instances_in_send : Send → List LsaInstance
+instances_in_send s = instances_in_content s.content
 
-abbrev pub names_in_sends : List Send → List Name
-names_in_sends sends = flat_map names_in_send sends
+abbrev pub instances_in_sends : List Send → List LsaInstance
+instances_in_sends sends = flat_map instances_in_send sends
 
 -- an LSA's text, its name one of which this holds
-pub record IsTextOf (K : Name → Type 0) (bytes : List ℕ) : Type 0 where
+pub record IsTextOf (K : LsaInstance → Type 0) (bytes : List ℕ) : Type 0 where
   pub lsa : Lsa
   pub is : bytes ≡ text lsa
-  pub known : K (lsa_name lsa)
+  pub known : K (instance_of_lsa lsa)
 
 -- what an Update or an Acknowledgment bears
-abbrev pub Bears : (Name → Type 0) → Body → Type 0
+abbrev pub Bears : (LsaInstance → Type 0) → Body → Type 0
 Bears K (packets.Hello h) = Unit {0}
 Bears K (packets.Description d) = Unit {0}
 Bears K (packets.Request keys) = Unit {0}
 Bears K (packets.Update lsas) = AllByRecursion (IsTextOf K) lsas
-Bears K (packets.Acknowledgment headers) = AllByRecursion (λ h. K (name_of h)) headers
+Bears K (packets.Acknowledgment headers) = AllByRecursion (λ h. K (instance_of_header h)) headers
 
 -- the canonical text of a packet of this router
-pub record IsOutOf (K : Name → Type 0) (own : ℕ) (out : Out) : Type 0 where
+pub record IsOutOf (K : LsaInstance → Type 0) (own : ℕ) (out : Out) : Type 0 where
   pub number : ℕ
   pub says : Body
   pub is : out ≡ out_of own number says
@@ -72,11 +72,11 @@ AnnouncesItsOwn r = (key : Key) (e : External) → finite.get r.announced key �
 
 pub record HoldsWhatIsKnown (old : Router) (event : Occurrence) (outs : List Out) (new : Router) : Type 0 where
   -- what the event originates
-  pub originated : List Name
+  pub originated : List LsaInstance
   pub new_instances : AllByRecursion (IsNewInstance old.id) originated
   pub same_router : new.id ≡ old.id
-  pub own : (name : Name) → Contains originated name → name.key.advertising_router ≡ old.id
-  pub held : (name : Name) → Contains (names_held new) name → IsKnown old event originated name
+  pub own : (name : LsaInstance) → Contains originated name → name.key.advertising_router ≡ old.id
+  pub held : (name : LsaInstance) → Contains (instances_stored new) name → IsKnown old event originated name
   pub sent : (out : Out) → Contains outs out → IsOutOf (IsKnown old event originated) old.id out
 
 pub record EventsHoldOnlyWhatIsKnown : Type 0 where
@@ -93,4 +93,4 @@ pub record EventsHoldOnlyWhatIsKnown : Type 0 where
 -- an Update of the texts of LSAs whose headers' numbers are in their ranges names none but those LSAs
 abbrev pub UpdatesTellWhatTheyBear : Type 0
 UpdatesTellWhatTheyBear = (lsas : List Lsa) → AllByRecursion (λ l. IsHeader l.header) lsas
-    → (name : Name) → Contains (names_in_update (map (λ l. text l) lsas)) name → Contains (map lsa_name lsas) name
+    → (name : LsaInstance) → Contains (instances_in_update (map (λ l. text l) lsas)) name → Contains (map instance_of_lsa lsas) name

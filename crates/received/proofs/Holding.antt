@@ -5,10 +5,10 @@ use Rattle.std.specs.List.{enumerate_from}
 use Rattle.lsdb.specs.Headers.{Lsa, lsa_key}
 use Rattle.lsdb.specs.Copies.{DatabaseCopy, install_flooded}
 use Rattle.adjacency.specs.Adjacencies.{mismatched}
-use Rattle.adjacency.specs.Contents.{Step, Updates, quiet}
-use Rattle.adjacency.specs.Neighbors.{Neighbor, takes_part}
+use Rattle.adjacency.specs.Contents.{Step, Updates, no_sends}
+use Rattle.adjacency.specs.Neighbors.{Neighbor, is_exchange_or_later}
 use Rattle.adjacency.specs.Requests.{without_request}
-use Rattle.adjacency.specs.Retransmissions.{owed, released}
+use Rattle.adjacency.specs.Retransmissions.{add_retransmission, remove_retransmission}
 use Rattle.adjacency.proofs.Kept.{Fact, IsKept, Of, chosen, met_kept, mismatched_kept, owed_kept, released_kept}
 use Rattle.received.specs.Cases.{Case}
 use Rattle.received.specs.Flooding.{flood, flood_to, gets, meets, request_of, without_met_request}
@@ -69,12 +69,12 @@ module _ (Q : Fact) (kept : IsKept Q) where
   pub flood_to_kept : (moment : ℕ) (sender : Option ℕ) (lsa : Lsa) (number : ℕ) (link : Link) (n : Neighbor) → Of Q n → Of Q (flood_to moment sender lsa number link n).neighbor
   flood_to_kept moment sender lsa number link n h =
       let m : Neighbor = without_met_request moment lsa n in
-      let got : Step = record { neighbor = owed moment lsa.header m; sends = Updates lsa ∷ [] } in
-      let not_got : Step = quiet (released (lsa_key lsa) m) in
-      chosen (λ (s : Step). Of Q s.neighbor) (takes_part n.state) (cond (gets moment sender number lsa n) got not_got) (quiet n)
+      let got : Step = record { neighbor = add_retransmission moment lsa.header m; sends = Updates lsa ∷ [] } in
+      let not_got : Step = no_sends (remove_retransmission (lsa_key lsa) m) in
+      chosen (λ (s : Step). Of Q s.neighbor) (is_exchange_or_later n.state) (cond (gets moment sender number lsa n) got not_got) (no_sends n)
       (λ part.
-      let both : Of Q m × (takes_part m.state ≡ true) =
-      chosen (λ (l : Neighbor). Of Q l × (takes_part l.state ≡ true)) (meets moment lsa (request_of n lsa)) (without_request (lsa_key lsa) n) n
+      let both : Of Q m × (is_exchange_or_later m.state ≡ true) =
+      chosen (λ (l : Neighbor). Of Q l × (is_exchange_or_later l.state ≡ true)) (meets moment lsa (request_of n lsa)) (without_request (lsa_key lsa) n) n
       (λ e. (met_kept Q kept (lsa_key lsa) n h, part)) (λ e. (h, part)) in
       chosen (λ (s : Step). Of Q s.neighbor) (gets moment sender number lsa n) got not_got
       (λ e. owed_kept Q kept moment lsa.header m both.1 both.0) (λ e. released_kept Q kept (lsa_key lsa) m both.0))
@@ -99,7 +99,7 @@ module _ (Q : Fact) (kept : IsKept Q) where
   case_kept Case.Newer moment number lsa o h = install_kept moment number lsa o h
   case_kept Case.BadRequest moment number lsa o h = one_keeps (Of Q) moment number (mismatched moment) (mismatched_kept Q kept moment) o h
   case_kept Case.ImpliedAcknowledgment moment number lsa o h =
-      one_keeps (Of Q) moment number (λ n. quiet (released (lsa_key lsa) n)) (λ n at. released_kept Q kept (lsa_key lsa) n at) o h
+      one_keeps (Of Q) moment number (λ n. no_sends (remove_retransmission (lsa_key lsa) n)) (λ n at. released_kept Q kept (lsa_key lsa) n at) o h
   case_kept Case.Duplicate moment number lsa o h = h
   case_kept Case.SequenceWraps moment number lsa o h = h
   case_kept Case.SentJustNow moment number lsa o h = h

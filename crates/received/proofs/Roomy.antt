@@ -12,10 +12,10 @@ use Rattle.lsdb.specs.Headers.{Lsa, lsa_key}
 use Rattle.lsdb.specs.Keys.{key_cmp}
 use Rattle.lsdb.proofs.Keys.{keys_total}
 use Rattle.adjacency.specs.Adjacencies.{mismatched}
-use Rattle.adjacency.specs.Contents.{Acknowledges, Content, Step, Updates, quiet}
-use Rattle.adjacency.specs.Neighbors.{Neighbor, takes_part}
+use Rattle.adjacency.specs.Contents.{Acknowledges, Content, Step, Updates, no_sends}
+use Rattle.adjacency.specs.Neighbors.{Neighbor, is_exchange_or_later}
 use Rattle.adjacency.specs.Requests.{without_request}
-use Rattle.adjacency.specs.Retransmissions.{owed, released}
+use Rattle.adjacency.specs.Retransmissions.{add_retransmission, remove_retransmission}
 use Rattle.adjacency.specs.Rooms.{AllFit, Fits, HasRoom, HasRoomyLists, IsRoomyStep}
 use Rattle.adjacency.proofs.Kept.{chosen}
 use Rattle.adjacency.proofs.Roomy.{met_roomy, mismatched_roomy, now_fits, owed_roomy, quiet_roomy, released_roomy}
@@ -78,7 +78,7 @@ changed_fit key change keeps db all = by_copy (finite.get db key) (fits_at db al
     by_copy (Some c) fits = inserted_fit db key (change c) all (keeps c fits)
 
 marked_fit : (moment : ℕ) (says : Content) (db : Database) → AllFit db → AllFit (marked moment db says)
-marked_fit moment (Content.Greets h) db all = all
+marked_fit moment (Content.SendsHello h) db all = all
 marked_fit moment (Content.Describes d) db all = all
 marked_fit moment (Content.Requests keys) db all = all
 marked_fit moment (Content.Updates lsa) db all = changed_fit (lsa_key lsa) (λ c. record c { sent = Some moment }) (λ c fits. fits) db all
@@ -160,13 +160,13 @@ flood_to_roomy : (moment : ℕ) (sender : Option ℕ) (lsa : Lsa) → Fits lsa �
     → IsRoomyStep (flood_to moment sender lsa number link n)
 flood_to_roomy moment sender lsa fits number link n h =
     let m : Neighbor = without_met_request moment lsa n in
-    let got : Step = record { neighbor = owed moment lsa.header m; sends = Updates lsa ∷ [] } in
-    let not_got : Step = quiet (released (lsa_key lsa) m) in
+    let got : Step = record { neighbor = add_retransmission moment lsa.header m; sends = Updates lsa ∷ [] } in
+    let not_got : Step = no_sends (remove_retransmission (lsa_key lsa) m) in
     let met : HasRoomyLists m = chosen HasRoomyLists (meets moment lsa (request_of n lsa)) (without_request (lsa_key lsa) n) n (λ is. met_roomy (lsa_key lsa) n h) (λ is. h) in
-    chosen IsRoomyStep (takes_part n.state) (cond (gets moment sender number lsa n) got not_got) (quiet n)
+    chosen IsRoomyStep (is_exchange_or_later n.state) (cond (gets moment sender number lsa n) got not_got) (no_sends n)
     (λ part.
     chosen IsRoomyStep (gets moment sender number lsa n) got not_got
-    (λ is. record { neighbor = owed_roomy moment lsa.header m met; sends = (fits, tt) }) (λ is. quiet_roomy (released (lsa_key lsa) m) (released_roomy (lsa_key lsa) m met)))
+    (λ is. record { neighbor = owed_roomy moment lsa.header m met; sends = (fits, tt) }) (λ is. quiet_roomy (remove_retransmission (lsa_key lsa) m) (released_roomy (lsa_key lsa) m met)))
     (λ part. quiet_roomy n h)
 
 pub flood_roomy : (moment : ℕ) (sender : Option ℕ) (lsa : Lsa) (o : Outcome) → Fits lsa → IsRoomyOutcome o → IsRoomyOutcome (flood moment sender lsa o)
@@ -196,7 +196,7 @@ case_roomy Case.TooSoon moment number lsa o fits h = h
 case_roomy Case.Newer moment number lsa o fits h = install_roomy moment number lsa o fits h
 case_roomy Case.BadRequest moment number lsa o fits h = one_roomy moment number (mismatched moment) (mismatched_roomy moment) o h
 case_roomy Case.ImpliedAcknowledgment moment number lsa o fits h =
-    one_roomy moment number (λ n. quiet (released (lsa_key lsa) n)) (λ n at. quiet_roomy (released (lsa_key lsa) n) (released_roomy (lsa_key lsa) n at)) o h
+    one_roomy moment number (λ n. no_sends (remove_retransmission (lsa_key lsa) n)) (λ n at. quiet_roomy (remove_retransmission (lsa_key lsa) n) (released_roomy (lsa_key lsa) n at)) o h
 case_roomy Case.Duplicate moment number lsa o fits h = at_once_roomy moment number lsa o h
 case_roomy Case.SequenceWraps moment number lsa o fits h = h
 case_roomy Case.SentJustNow moment number lsa o fits h = h

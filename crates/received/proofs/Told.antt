@@ -8,10 +8,10 @@ use Rattle.words.specs.declared.key.Key.{Key}
 use Rattle.lsdb.specs.Copies.{Database, DatabaseCopy, install_flooded, lsa_now}
 use Rattle.lsdb.specs.Headers.{Header, Lsa, key_of, lsa_key}
 use Rattle.adjacency.specs.Adjacencies.{mismatched}
-use Rattle.adjacency.specs.Contents.{Acknowledges, Content, Step, Updates, quiet}
-use Rattle.adjacency.specs.Neighbors.{Neighbor, takes_part}
+use Rattle.adjacency.specs.Contents.{Acknowledges, Content, Step, Updates, no_sends}
+use Rattle.adjacency.specs.Neighbors.{Neighbor, is_exchange_or_later}
 use Rattle.adjacency.specs.Requests.{without_request}
-use Rattle.adjacency.specs.Retransmissions.{owed, released}
+use Rattle.adjacency.specs.Retransmissions.{add_retransmission, remove_retransmission}
 use Rattle.adjacency.proofs.Kept.{chosen}
 use Rattle.adjacency.proofs.Maps.{AllIn, IfThere, inserted_in}
 use Rattle.adjacency.proofs.Told.{OfContent, OfCopies, OfCopy, OfOwed, OfOwedIfAny, OfStep, Telling, lsa_now_told, mismatched_told, owed_told, quiet_told, released_told}
@@ -68,7 +68,7 @@ module _ (t : Telling) where
       by_copy (Some c) so = inserted_in (OfCopy t) db key (change c) all (keeps c so)
 
   marked_told : (moment : ℕ) (says : Content) (db : Database) → OfCopies t db → OfCopies t (marked moment db says)
-  marked_told moment (Content.Greets h) db all = all
+  marked_told moment (Content.SendsHello h) db all = all
   marked_told moment (Content.Describes d) db all = all
   marked_told moment (Content.Requests keys) db all = all
   marked_told moment (Content.Updates lsa) db all = changed_told (lsa_key lsa) (λ c. record c { sent = Some moment }) (λ c so. so) db all
@@ -170,14 +170,14 @@ module _ (t : Telling) where
       → OfStep t (flood_to moment sender lsa number link n)
   flood_to_told moment sender lsa so number link n h =
       let m : Neighbor = without_met_request moment lsa n in
-      let got : Step = record { neighbor = owed moment lsa.header m; sends = Updates lsa ∷ [] } in
-      let not_got : Step = quiet (released (lsa_key lsa) m) in
+      let got : Step = record { neighbor = add_retransmission moment lsa.header m; sends = Updates lsa ∷ [] } in
+      let not_got : Step = no_sends (remove_retransmission (lsa_key lsa) m) in
       let met : OfOwed t m = chosen (OfOwed t) (meets moment lsa (request_of n lsa)) (without_request (lsa_key lsa) n) n (λ is. h) (λ is. h) in
-      chosen (OfStep t) (takes_part n.state) (cond (gets moment sender number lsa n) got not_got) (quiet n)
+      chosen (OfStep t) (is_exchange_or_later n.state) (cond (gets moment sender number lsa n) got not_got) (no_sends n)
       (λ part.
       chosen (OfStep t) (gets moment sender number lsa n) got not_got
       (λ is. record { neighbor = owed_told t moment lsa.header m (t.header lsa so) met; sends = (so, tt) })
-      (λ is. quiet_told t (released (lsa_key lsa) m) (released_told t (lsa_key lsa) m met)))
+      (λ is. quiet_told t (remove_retransmission (lsa_key lsa) m) (released_told t (lsa_key lsa) m met)))
       (λ part. quiet_told t n h)
 
   pub flood_told : (moment : ℕ) (sender : Option ℕ) (lsa : Lsa) (o : Outcome) → t.of_lsa lsa → OfOutcome t o → OfOutcome t (flood moment sender lsa o)
@@ -212,7 +212,7 @@ module _ (t : Telling) where
   case_told Case.Newer moment number lsa o so h = install_told moment number lsa o so h
   case_told Case.BadRequest moment number lsa o so h = one_neighbor_told moment number (mismatched moment) (mismatched_told t moment) o h
   case_told Case.ImpliedAcknowledgment moment number lsa o so h =
-      one_neighbor_told moment number (λ n. quiet (released (lsa_key lsa) n)) (λ n at. quiet_told t (released (lsa_key lsa) n) (released_told t (lsa_key lsa) n at)) o h
+      one_neighbor_told moment number (λ n. no_sends (remove_retransmission (lsa_key lsa) n)) (λ n at. quiet_told t (remove_retransmission (lsa_key lsa) n) (released_told t (lsa_key lsa) n at)) o h
   case_told Case.Duplicate moment number lsa o so h = at_once_told moment number lsa o so h
   case_told Case.SequenceWraps moment number lsa o so h = h
   case_told Case.SentJustNow moment number lsa o so h = h

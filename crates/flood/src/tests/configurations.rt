@@ -153,8 +153,8 @@ fn a_router_has_1_to_63_interfaces(rt: HostRuntime) -> Result<(), Fail> {
 fn a_copy_goes_its_own_way(rt: HostRuntime) -> Result<(), Fail> {
     let config = configured(rt.alloc(), 3)?.copy()?;
     let mut core = Core::new(rt.alloc(), config)?;
-    let heard = packet(rt.alloc(), 1, packets::HEARD)?.copy()?;
-    assert_eq!(rt; stepped(&mut core, 3, &heard)?.len(), 0);
+    let last_heard = packet(rt.alloc(), 1, packets::HEARD)?.copy()?;
+    assert_eq!(rt; stepped(&mut core, 3, &last_heard)?.len(), 0);
     let mut copy = core.copy()?;
     assert_eq!(rt; copy.neighbor(1), Some((peer(), State::Init)));
     let tick = Event::Tick.copy()?;

@@ -4,8 +4,8 @@ use super::{packets, *};
 #[test]
 fn hears_greets_and_forgets(rt: HostRuntime) -> Result<(), Fail> {
     let mut core = started(rt.alloc())?;
-    let heard = packet(rt.alloc(), 1, packets::HEARD)?;
-    assert_eq!(rt; stepped(&mut core, 0, &heard)?.len(), 0);
+    let last_heard = packet(rt.alloc(), 1, packets::HEARD)?;
+    assert_eq!(rt; stepped(&mut core, 0, &last_heard)?.len(), 0);
     assert_eq!(rt; core.neighbor(1), Some((peer(), State::Init)));
     for moment in [0, 39] {
         let outs = stepped(&mut core, moment, &Event::Tick)?;
@@ -32,9 +32,9 @@ fn hears_greets_and_forgets(rt: HostRuntime) -> Result<(), Fail> {
 #[test]
 fn each_hello_starts_the_inactivity_time_again(rt: HostRuntime) -> Result<(), Fail> {
     let mut core = started(rt.alloc())?;
-    let heard = packet(rt.alloc(), 1, packets::HEARD)?;
+    let last_heard = packet(rt.alloc(), 1, packets::HEARD)?;
     for moment in [0, 30] {
-        assert_eq!(rt; stepped(&mut core, moment, &heard)?.len(), 0);
+        assert_eq!(rt; stepped(&mut core, moment, &last_heard)?.len(), 0);
     }
     for (moment, sent, neighbor) in [(40, 1, true), (49, 0, true), (69, 1, true), (70, 0, false)] {
         let outs = stepped(&mut core, moment, &Event::Tick)?;
@@ -74,9 +74,9 @@ fn other_hellos_are_discarded(rt: HostRuntime) -> Result<(), Fail> {
 #[test]
 fn a_second_neighbor_is_not_heard(rt: HostRuntime) -> Result<(), Fail> {
     let mut core = started(rt.alloc())?;
-    let heard = packet(rt.alloc(), 1, packets::HEARD)?;
+    let last_heard = packet(rt.alloc(), 1, packets::HEARD)?;
     let second = packet(rt.alloc(), 1, packets::SECOND)?;
-    assert_eq!(rt; stepped(&mut core, 0, &heard)?.len(), 0);
+    assert_eq!(rt; stepped(&mut core, 0, &last_heard)?.len(), 0);
     assert_eq!(rt; stepped(&mut core, 30, &second)?.len(), 0);
     assert_eq!(rt; core.neighbor(1), Some((peer(), State::Init)));
     assert_eq!(rt; stepped(&mut core, 40, &Event::Tick)?.len(), 1);
@@ -102,8 +102,8 @@ fn sixty_three_interfaces_greet_in_order(rt: HostRuntime) -> Result<(), Fail> {
         interfaces: Sequence::from_vec(interfaces),
     };
     let mut core = Core::new(rt.alloc(), config)?;
-    let heard = packet(rt.alloc(), 63, packets::HEARD)?;
-    assert_eq!(rt; stepped(&mut core, 0, &heard)?.len(), 0);
+    let last_heard = packet(rt.alloc(), 63, packets::HEARD)?;
+    assert_eq!(rt; stepped(&mut core, 0, &last_heard)?.len(), 0);
     for (moment, sent) in [(0, 63), (9, 0), (10, 63), (19, 0), (20, 63)] {
         let outs = stepped(&mut core, moment, &Event::Tick)?;
         assert_eq!(rt; outs.len(), sent, "at {moment}");

@@ -5,15 +5,15 @@ use Rattle.received.specs.Flooding.{flood}
 use Rattle.received.specs.Outcomes.{Outcome, Send}
 use Rattle.events.specs.Routers.{Router}
 
-pub record Progress : Type 0 where
+pub record EventState : Type 0 where
   pub router : Router
   pub sends : List Send
 
-abbrev pub on_router : (Router → Router) → Progress → Progress
+abbrev pub on_router : (Router → Router) → EventState → EventState
 on_router f p = record p { router = f p.router }
 
 -- a change of the links and the database, and what it sends
-abbrev pub on_area : (Outcome → Outcome) → Progress → Progress
+abbrev pub on_area : (Outcome → Outcome) → EventState → EventState
 on_area f p =
     let o : Outcome = f (record { area = p.router.area; sends = p.sends }) in
     record { router = record p.router { area = o.area }; sends = o.sends }

@@ -1,0 +1,40 @@
+-- Instances of LSAs by name, and those that packets bring and tell.
+use Rattle.std.specs.Prelude.{ℕ, ℤ, List, [], map}
+use Rattle.std.specs.List.{filter_map}
+use Rattle.words.specs.declared.key.Key.{Key}
+use Rattle.lsa.specs.Reading.{lsa_in}
+use Rattle.lsdb.specs.Headers.{Header, Lsa, key_of}
+use Rattle.packet.specs.declared.model.Body.{Body}
+use Rattle.packet.specs.declared.model.Body.TheVariants as body
+
+-- an instance of an LSA, whatever its age
+pub record LsaInstance : Type 0 where
+  pub key : Key
+  pub sequence : ℤ
+  pub checksum : ℕ
+
+abbrev pub instance_of_header : Header → LsaInstance
+instance_of_header h = record { key = key_of h; sequence = h.sequence; checksum = h.checksum }
+
+abbrev pub instance_of_lsa : Lsa → LsaInstance
+instance_of_lsa lsa = instance_of_header lsa.header
+
+-- the readable LSAs of an Update
+abbrev pub instances_in_update : List (List ℕ) → List LsaInstance
+instances_in_update lsas = map instance_of_lsa (filter_map lsa_in lsas)
+
+-- the instances that an Update brings
+abbrev pub instances_received : Body → List LsaInstance
+instances_received (body.Hello h) = []
+instances_received (body.Description d) = []
+instances_received (body.Request keys) = []
+instances_received (body.Update lsas) = instances_in_update lsas
+instances_received (body.Acknowledgment headers) = []
+
+-- the instances that an Update or an Acknowledgment names
+abbrev pub instances_advertised : Body → List LsaInstance
+instances_advertised (body.Hello h) = []
+instances_advertised (body.Description d) = []
+instances_advertised (body.Request keys) = []
+instances_advertised (body.Update lsas) = instances_in_update lsas
+instances_advertised (body.Acknowledgment headers) = map instance_of_header headers
