@@ -265,13 +265,13 @@ all_aged : (moment : ℕ) (xs : List Link) → bare_links (map (path.aged moment
 all_aged moment [] = refl
 all_aged moment (x ∷ xs) = λ i. sym (aged_bare moment x) i ∷ all_aged moment xs i
 
-all_ticked : (moment : ℕ) (xs : List Link) → bare_links (map (path.last_hello_sent moment) (map (path.aged moment) xs)) ≡ map (path.ticked moment) (bare_links xs)
+all_ticked : (moment : ℕ) (xs : List Link) → bare_links (map (path.with_hello_sent moment) (map (path.aged moment) xs)) ≡ map (path.ticked moment) (bare_links xs)
 all_ticked moment [] = refl
-all_ticked moment (x ∷ xs) = λ i. path.last_hello_sent moment (sym (aged_bare moment x) i) ∷ all_ticked moment xs i
+all_ticked moment (x ∷ xs) = λ i. path.with_hello_sent moment (sym (aged_bare moment x) i) ∷ all_ticked moment xs i
 
-all_greeted : (moment : ℕ) (xs : List Link) → map (path.last_hello_sent moment) (bare_links xs) ≡ bare_links (map (path.last_hello_sent moment) xs)
+all_greeted : (moment : ℕ) (xs : List Link) → map (path.with_hello_sent moment) (bare_links xs) ≡ bare_links (map (path.with_hello_sent moment) xs)
 all_greeted moment [] = refl
-all_greeted moment (x ∷ xs) = ap (λ rest. path.last_hello_sent moment (bare_link x) ∷ rest) (all_greeted moment xs)
+all_greeted moment (x ∷ xs) = ap (λ rest. path.with_hello_sent moment (bare_link x) ∷ rest) (all_greeted moment xs)
 
 all_acknowledged : (xs : List Link) → map ticks.without_acknowledgments (bare_links xs) ≡ bare_links xs
 all_acknowledged [] = refl
@@ -312,7 +312,7 @@ unmarked moment k db (x ∷ xs) = one (path.hello_is_due moment x) ∙ unmarked 
     one false = refl
 
 greets_alone : (r : Router) (moment : ℕ) (xs : List Link) → ticks.after_tick (λ m router. []) moment (quiet_progress r xs [])
-    ≡ quiet_progress r (map (path.last_hello_sent moment) (map (path.aged moment) xs)) (greetings_from moment 1 (bare_links (map (path.aged moment) xs)))
+    ≡ quiet_progress r (map (path.with_hello_sent moment) (map (path.aged moment) xs)) (greetings_from moment 1 (bare_links (map (path.aged moment) xs)))
 unfolding marking greetings_from
 greets_alone r moment xs =
     let ys : List Link = map (path.aged moment) xs in
@@ -323,13 +323,13 @@ greets_alone r moment xs =
     each_quiet moment (ticks.again moment (quiet_area ys [])) (λ number link router last_heard. again_quiet moment link.interface.retransmit_interval finite.empty router last_heard) ys [] in
     let acknowledged : ticks.acknowledge_all moment (quiet_area ys []) ≡ quiet_area ys [] =
     λ i. record { area = record { links = all_acknowledged ys i; database = marking moment finite.empty (no_acknowledgments 1 ys i) }; sends = no_acknowledgments 1 ys i } in
-    let last_hello_sent : ticks.send_hellos moment (quiet_area ys []) ≡ quiet_area (map (path.last_hello_sent moment) ys) (greetings_from moment 1 (bare_links ys)) =
+    let with_hello_sent : ticks.send_hellos moment (quiet_area ys []) ≡ quiet_area (map (path.with_hello_sent moment) ys) (greetings_from moment 1 (bare_links ys)) =
     λ i. record { area = record { links = all_greeted moment ys i; database = unmarked moment 1 finite.empty (bare_links ys) i }; sends = greetings_from moment 1 (bare_links ys) } in
     ap sending_on run
     ∙ ap (λ (o : Outcome). record { router = record r { area = o.area; originated = finite.empty }; sends = o.sends })
     (ap (λ o. ticks.send_hellos moment (ticks.acknowledge_all moment o)) again ∙ ap (ticks.send_hellos moment) acknowledged ∙ with_hello_sent)
 
-interfaces_ticked : (moment : ℕ) (xs : List Link) → map (λ (l : Link). l.interface) xs ≡ map (λ (l : Link). l.interface) (map (path.last_hello_sent moment) (map (path.aged moment) xs))
+interfaces_ticked : (moment : ℕ) (xs : List Link) → map (λ (l : Link). l.interface) xs ≡ map (λ (l : Link). l.interface) (map (path.with_hello_sent moment) (map (path.aged moment) xs))
 interfaces_ticked moment [] = refl
 interfaces_ticked moment (x ∷ xs) = ap (λ rest. x.interface ∷ rest) (interfaces_ticked moment xs)
 
@@ -339,7 +339,7 @@ tick_by : (r : Router) (moment : ℕ) (outs : List Out) (new : Router) → path.
 unfolding greetings_from
 tick_by r moment outs new a =
     let xs : List Link = r.area.links in
-    let zs : List Link = map (path.last_hello_sent moment) (map (path.aged moment) xs) in
+    let zs : List Link = map (path.with_hello_sent moment) (map (path.aged moment) xs) in
     let sends : List Send = greetings_from moment 1 (bare_links (map (path.aged moment) xs)) in
     let ended : end_event (bare r) moment (quiet_progress r zs sends) ≡ quiet_progress (record r { moment = moment }) zs sends =
     ends (bare r) moment r zs sends (same_router xs zs (interfaces_ticked moment xs)) in

@@ -52,7 +52,10 @@ fn with_hello_heard(from: RouterId, moment: Second, neighbor: Option<Neighbor>) 
             router: from,
             last_heard: moment,
         },
-        Some(n) => Neighbor { last_heard: moment, ..n },
+        Some(n) => Neighbor {
+            last_heard: moment,
+            ..n
+        },
     }
 }
 
