@@ -5,8 +5,6 @@ mod commands;
 pub mod laws;
 mod reading;
 mod requests;
-#[cfg(test)]
-mod tests;
 
 pub use reading::{parse, unread};
 pub use requests::Request;

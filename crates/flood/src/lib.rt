@@ -9,8 +9,6 @@ pub mod laws;
 mod link;
 mod profile;
 mod router;
-#[cfg(test)]
-mod tests;
 
 pub use events::{Config, ConfigError, CoreError, Event, Interface, Out, State};
 pub use router::Core;

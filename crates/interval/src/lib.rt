@@ -8,6 +8,3 @@ mod results;
 mod value;
 
 pub use value::Interval;
-
-#[cfg(test)]
-mod tests;

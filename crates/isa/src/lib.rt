@@ -26,6 +26,3 @@ pub use instruction::{
 };
 pub use map::Map;
 pub use register::Register;
-
-#[cfg(test)]
-mod tests;

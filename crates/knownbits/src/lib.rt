@@ -8,6 +8,3 @@ mod sum;
 mod value;
 
 pub use value::KnownBits;
-
-#[cfg(test)]
-mod tests;

@@ -25,6 +25,3 @@ pub use reading::read;
 pub use stack::StackBytes;
 pub use statement::Statement;
 pub use writing::write;
-
-#[cfg(test)]
-mod tests;

@@ -10,8 +10,6 @@ pub mod laws;
 mod model;
 mod reading;
 mod refusal;
-#[cfg(test)]
-mod tests;
 mod writing;
 
 pub use lsa::Header;

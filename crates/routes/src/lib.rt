@@ -5,8 +5,6 @@ mod graph;
 pub mod laws;
 mod root;
 mod search;
-#[cfg(test)]
-mod tests;
 
 pub use graph::{Kind, Link, Vertex, Way, is_graph};
 pub use root::Root;

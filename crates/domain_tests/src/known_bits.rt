@@ -1,6 +1,6 @@
-use crate::KnownBits;
 use absdom::{Domain, UnaryOperation};
 use isa::{ByteOrder, Operation, SwapWidth, Test, Width};
+use knownbits::KnownBits;
 
 // Generic code sees the domain alone.
 fn applied<D: Domain>(operation: Operation, width: Width, left: D, right: D) -> D {

@@ -1,14 +1,9 @@
-use crate::error::ReadError;
-use crate::kind::Kind;
-use crate::number::StatedNumber;
-use crate::object::Object;
-use crate::offset::{ContextOffset, StackOffset};
-use crate::rank::{Rank, RankTerm};
-use crate::reading::read;
-use crate::stack::StackBytes;
-use crate::statement::Statement;
-use crate::writing::write;
+//! Object files, and the values that they hold.
 use isa::{Hook, Map};
+use object::{
+    ContextOffset, Kind, Object, Rank, RankTerm, ReadError, StackBytes, StackOffset, StatedNumber,
+    Statement, read, write,
+};
 use std::alloc::Global;
 use std::process::Abort;
 use std::test::Fail;

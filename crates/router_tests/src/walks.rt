@@ -1,5 +1,5 @@
 //! Examples of the search for least walks, their answers counted by hand.
-use crate::{Kind, Link, Vertex, Way, is_graph, least_ways};
+use routes::{Kind, Link, Vertex, Way, is_graph, least_ways};
 use std::alloc::{AllocError, Global};
 
 fn link(to: usize, cost: u16, interface: u8) -> Link {

@@ -1,5 +1,5 @@
-use crate::Interval;
 use absdom::{Domain, Pair, UnaryOperation};
+use interval::Interval;
 use isa::{ByteOrder, Extension, Operation, SwapWidth, Test, Width};
 
 fn interval(low: u64, high: u64) -> Interval {

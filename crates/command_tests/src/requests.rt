@@ -1,7 +1,7 @@
 //! Words, and what they ask for.
 
-use crate::{Request, parse, unread};
 use clap::error::ErrorKind;
+use command_line::{Request, parse, unread};
 use isa::Hook;
 use std::io;
 use std::test::Fail;

@@ -4,7 +4,7 @@ mod hellos;
 mod packets;
 mod refusals;
 
-use super::*;
+use flood::{Config, ConfigError, Core, CoreError, Event, Interface, Out, State};
 use std::alloc::{AllocError, Global};
 use std::test::Fail;
 use words::{Address, RouterId, Second, Sequence};

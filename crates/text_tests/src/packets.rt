@@ -1,5 +1,5 @@
 //! Worked packets, whose bytes and checksums another program computed.
-use super::*;
+use packet::{Body, read, write};
 use std::alloc::{AllocError, Global};
 use std::test::Fail;
 use words::RouterId;

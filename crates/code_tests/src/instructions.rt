@@ -1,0 +1,16 @@
+//! Instructions, their numbers and bytes, and code.
+mod building;
+mod opcodes;
+mod refusals;
+
+use isa::{
+    BuildError, ByteOrder, CodeBuilder, DecodeError, DecodeFault, Extension, Hook, Instruction,
+    LoadSize, Map, Operation, Register, Slot, Source, StoreSize, SwapWidth, Test, Width, decode,
+    encode,
+};
+use std::process::Abort;
+use std::test::Fail;
+
+fn register(rt: &impl Abort, number: u8) -> Register {
+    Register::new(number).expect(rt, "a register")
+}

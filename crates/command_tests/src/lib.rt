@@ -1,0 +1,5 @@
+//! Tests of `command_line` by its public calls. They stand above, since a crate is proved once more for its tests.
+#![tactic(auto)]
+
+#[cfg(test)]
+mod requests;

@@ -1,0 +1,9 @@
+//! Tests of `lsdb`, `routes` and `flood` by their public calls. They stand above, since a crate is proved once more for its tests.
+#![tactic(auto)]
+
+#[cfg(test)]
+mod hello_protocol;
+#[cfg(test)]
+mod instances;
+#[cfg(test)]
+mod walks;

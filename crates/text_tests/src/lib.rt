@@ -1,0 +1,9 @@
+//! Tests of `words`, `lsa` and `packet` by their public calls. They stand above, since a crate is proved once more for its tests.
+#![tactic(auto)]
+
+#[cfg(test)]
+mod advertisements;
+#[cfg(test)]
+mod names;
+#[cfg(test)]
+mod packets;
