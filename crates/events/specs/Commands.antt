@@ -2,6 +2,7 @@
 use Rattle.std.specs.Prelude.{ℕ, ◌%◌, ◌^◌, ◌==◌, Bool, true, false, ◌&&◌, nat_le, if◌then◌else◌, List, Option, None, Some}
 use Rattle.std.specs.FinMap as finite
 use Rattle.std.specs.FinSet as set
+use Rattle.words.specs.Numbers.{InterfaceNumber, Moment}
 use Rattle.words.specs.Prefixes.{Network}
 use Rattle.words.specs.declared.key.Key.{Key}
 use Rattle.words.specs.declared.route.External.{External}
@@ -53,22 +54,22 @@ abbrev pub unannounce : Key → Router → Router
 unannounce key r = record r { announced = finite.remove r.announced key; waiting = set.remove r.waiting key }
 
 -- the want ends, and the LSA is flushed
-abbrev pub end_want : ℕ → Key → EventState → EventState
+abbrev pub end_want : Moment → Key → EventState → EventState
 end_want moment key p = flush moment key (on_router (unannounce key) p)
 
-abbrev pub announce_as : ℕ → Key → External → EventState → EventState
+abbrev pub announce_as : Moment → Key → External → EventState → EventState
 announce_as moment key e p =
     if is_announced_as e (finite.get p.router.announced key) then p
     else originate_anyway moment key (on_router (announce key e) p)
 
 -- ---- the commands
 
-abbrev pub after_redistribute : ℕ → External → ℕ → ℕ → EventState → EventState
+abbrev pub after_redistribute : Moment → External → ℕ → ℕ → EventState → EventState
 after_redistribute moment e tag price p =
     if nat_le infinity price then end_want moment (external_key p.router.id e.prefix) p
     else announce_as moment (external_key p.router.id e.prefix) (answered e tag price) p
 
-abbrev pub after_withdraw : ℕ → Network → EventState → EventState
+abbrev pub after_withdraw : Moment → Network → EventState → EventState
 after_withdraw moment prefix p =
     if is_for prefix (finite.get p.router.announced (external_key p.router.id prefix)) then end_want moment (external_key p.router.id prefix) p
     else p
@@ -80,5 +81,5 @@ after_install answers p = on_router (λ (r : Router). record r { answers = answe
 abbrev pub taken_down : Link → Link
 taken_down link = record link { neighbor = None }
 
-abbrev pub after_link_down : ℕ → EventState → EventState
+abbrev pub after_link_down : InterfaceNumber → EventState → EventState
 after_link_down number p = on_area (on_links (change_link number taken_down)) p

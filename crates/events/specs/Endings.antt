@@ -4,6 +4,7 @@ use Rattle.std.specs.List.{fold}
 use Rattle.std.specs.Cmp.Lexicographic.{slice_cmp}
 use Rattle.std.specs.FinMap as finite
 use Rattle.std.specs.Ordering.{is_eq, nat_cmp}
+use Rattle.words.specs.Numbers.{Moment}
 use Rattle.words.specs.declared.key.Key.{Key}
 use Rattle.lsa.specs.Text.{body_text}
 use Rattle.lsa.specs.declared.body.Body.{Body}
@@ -20,14 +21,14 @@ use Rattle.events.specs.Routers.{Router}
 -- ---- ages (section 14)
 
 -- a copy that has come to MaxAge since the moment before is flooded
-abbrev pub with_age : ℕ → ℕ → Outcome → (Key × DatabaseCopy) → Outcome
+abbrev pub with_age : (before : Moment) → (moment : Moment) → Outcome → (Key × DatabaseCopy) → Outcome
 with_age before moment o e = if has_just_aged_out before moment e.1 then flood_from_nobody moment (lsa_now moment e.1) o else o
 
-abbrev pub with_ages : ℕ → ℕ → Outcome → Outcome
+abbrev pub with_ages : (before : Moment) → (moment : Moment) → Outcome → Outcome
 with_ages before moment o = fold (with_age before moment) o (finite.entries o.area.database)
 
 -- nothing was sent yet
-abbrev pub start_event : ℕ → Router → EventState
+abbrev pub start_event : Moment → Router → EventState
 start_event moment old = on_area (with_ages old.moment moment) (record { router = old; sends = [] })
 
 -- ---- Loading to Full (section 10.3)
@@ -51,7 +52,7 @@ same_body a b = is_eq (slice_cmp nat_cmp (body_text a) (body_text b))
 abbrev pub links_differ : List Link → List Link → Bool
 links_differ a b = not (same_body (router_body a) (router_body b))
 
-abbrev pub is_at : ℕ → Option ℕ → Bool
+abbrev pub is_at : Moment → Option Moment → Bool
 is_at moment None = false
 is_at moment (Some at) = at == moment
 
@@ -60,13 +61,13 @@ copy_has_body says None = false
 copy_has_body says (Some c) = same_body c.lsa.body says
 
 -- the present links were told in an instance that was originated at this moment
-abbrev pub is_current : ℕ → Router → Bool
+abbrev pub is_current : Moment → Router → Bool
 is_current moment r =
     is_at moment (finite.get r.originated (router_key r.id))
     && copy_has_body (router_body r.area.links) (finite.get r.area.database (router_key r.id))
 
 -- at once, or at a Tick, where the links have changed in this event
-abbrev pub describe_router : List Link → ℕ → EventState → EventState
+abbrev pub describe_router : List Link → Moment → EventState → EventState
 describe_router before moment p =
     if links_differ before p.router.area.links && not (is_current moment p.router) then originate_or_wait moment (router_key p.router.id) p else p
 
@@ -77,27 +78,27 @@ describe_router_later before p =
 
 -- ---- requests (section 10.9)
 
-abbrev pub request_all : ℕ → Outcome → Outcome
+abbrev pub request_all : Moment → Outcome → Outcome
 request_all moment o = each_neighbor moment (λ number link n. request_next moment n) o
 
 -- ---- removal (section 14)
 
-abbrev pub stays_as : ℕ → Bool → Option DatabaseCopy → Bool
+abbrev pub stays_as : Moment → Bool → Option DatabaseCopy → Bool
 stays_as moment is_on_some_list None = false
 stays_as moment is_on_some_list (Some c) = not (is_aged_out moment c) || is_on_some_list
 
-abbrev pub stays : ℕ → Area → Key → Bool
+abbrev pub stays : Moment → Area → Key → Bool
 stays moment a key = stays_as moment (any_has_retransmission key a.links) (finite.get a.database key)
 
 -- copies at MaxAge that are on no retransmission list leave, unless some neighbor is in Exchange or Loading
-abbrev pub remove_aged : ℕ → Outcome → Outcome
+abbrev pub remove_aged : Moment → Outcome → Outcome
 remove_aged moment o =
     if any_exchange_or_loading o.area.links then o else on_database (λ db. finite.retain_keys db (stays moment o.area)) o
 
 -- ---- the whole end
 
 -- `old` is the router before the event
-abbrev pub end_event : Router → ℕ → EventState → EventState
+abbrev pub end_event : Router → Moment → EventState → EventState
 end_event old moment p =
     let described : EventState = describe_router old.area.links moment (loading_done p) in
     let refilled : EventState = describe_router_later described.router.area.links (loading_done described) in

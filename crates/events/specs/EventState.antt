@@ -1,5 +1,6 @@
 -- An event in the making: the router as it is by now, and what was sent, in the order in which it arose.
-use Rattle.std.specs.Prelude.{ℕ, List, None}
+use Rattle.std.specs.Prelude.{List, None}
+use Rattle.words.specs.Numbers.{Moment}
 use Rattle.lsdb.specs.Headers.{Lsa}
 use Rattle.received.specs.Flooding.{flood}
 use Rattle.received.specs.Outcomes.{Outcome, Send}
@@ -19,5 +20,5 @@ on_area f p =
     record { router = record p.router { area = o.area }; sends = o.sends }
 
 -- flooded to every neighbor, as if from nobody
-abbrev pub flood_from_nobody : ℕ → Lsa → Outcome → Outcome
+abbrev pub flood_from_nobody : Moment → Lsa → Outcome → Outcome
 flood_from_nobody moment lsa o = flood moment None lsa o

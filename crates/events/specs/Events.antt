@@ -1,6 +1,7 @@
 -- What an event makes of a router, and what the router sends: ages, the event's own part, the end that all events share, and the outs.
 -- Each part is a function; only "these bytes are a text of this packet" is a relation, and a text is of one packet.
-use Rattle.std.specs.Prelude.{◌≡◌, ℕ, List, [], ◌∷◌}
+use Rattle.std.specs.Prelude.{◌≡◌, List, [], ◌∷◌}
+use Rattle.words.specs.Numbers.{Moment}
 use Rattle.words.specs.declared.key.Key.{Key}
 use Rattle.packet.specs.declared.model.Packet.{Packet}
 use Rattle.packet.specs.Text.{PacketText}
@@ -20,7 +21,7 @@ use Rattle.events.specs.Ticks.{after_tick}
 -- what a Hello that names this router makes of its sender, and which own LSAs a Tick originates
 pub record Rules : Type 0 where
   pub two_way : TwoWay
-  pub due : ℕ → Router → List Key
+  pub due : Moment → Router → List Key
 
 abbrev pub whole : Rules
 whole = record { two_way = two_way_received; due = due_keys }
@@ -32,7 +33,7 @@ hellos_alone = record { two_way = λ moment n. no_sends n; due = λ moment r. []
 -- ---- an event
 
 -- the event's own part: from the progress before it to the one after it
-abbrev pub OwnPart : Rules → ℕ → Occurrence → EventState → EventState → Type 0
+abbrev pub OwnPart : Rules → Moment → Occurrence → EventState → EventState → Type 0
 OwnPart rules moment (Occurrence.Packet number bytes) before after =
     (packet : Packet) × PacketText bytes packet × (after ≡ after_packet rules.two_way moment number packet before)
 OwnPart rules moment Occurrence.Tick before after = after ≡ after_tick rules.due moment before
@@ -42,19 +43,19 @@ OwnPart rules moment (Occurrence.Install answers) before after = after ≡ after
 OwnPart rules moment (Occurrence.LinkDown number) before after = after ≡ after_link_down number before
 
 -- from old, the event at this moment sends these and leaves new
-pub record HappensBy (rules : Rules) (old : Router) (moment : ℕ) (event : Occurrence) (outs : List Out) (new : Router) : Type 0 where
+pub record HappensBy (rules : Rules) (old : Router) (moment : Moment) (event : Occurrence) (outs : List Out) (new : Router) : Type 0 where
   pub after : EventState
   pub own : OwnPart rules moment event (start_event moment old) after
   pub router : new ≡ (end_event old moment after).router
   pub sent : outs ≡ outs_of old.id old.area.links (end_event old moment after).sends
 
-abbrev pub Happens : Router → ℕ → Occurrence → List Out → Router → Type 0
+abbrev pub Happens : Router → Moment → Occurrence → List Out → Router → Type 0
 Happens old moment event outs new = HappensBy whole old moment event outs new
 
 -- ---- a run
 
 pub record Step : Type 0 where
-  pub moment : ℕ
+  pub moment : Moment
   pub event : Occurrence
   pub outs : List Out
 

@@ -1,6 +1,7 @@
 -- Hellos: which are accepted, when one is due, and what it says (RFC 2328, sections 8.2, 9.5 and 10.5).
 use Rattle.std.specs.Prelude.{ℕ, Bool, true, not, ◌&&◌, ◌==◌, bit_and, if◌then◌else◌, List, [], ◌∷◌, Option, None, Some}
 use Rattle.std.specs.List.{list_any}
+use Rattle.words.specs.Numbers.{Moment, RouterNumber, Seconds}
 use Rattle.words.specs.Prefixes.{mask_of}
 use Rattle.packet.specs.declared.model.Body.TheVariants as body
 use Rattle.packet.specs.declared.model.Hello.{Hello}
@@ -12,7 +13,7 @@ use Rattle.received.specs.Links.{Link}
 -- ---- received Hellos
 
 -- a packet of no router, and one of this router's own, isn't a neighbor's
-abbrev pub is_foreign : ℕ → ℕ → Bool
+abbrev pub is_foreign : (own : RouterNumber) → (from : RouterNumber) → Bool
 is_foreign own from = not (from == 0) && not (from == own)
 
 -- HelloInterval, RouterDeadInterval and the E bit are those of the interface
@@ -23,28 +24,28 @@ agrees link h =
     && not (bit_and h.options 2 == 0)
 
 -- another router is heard only where the neighbor is Down
-abbrev pub may_be : Option Neighbor → ℕ → Bool
+abbrev pub may_be : Option Neighbor → RouterNumber → Bool
 may_be None from = true
 may_be (Some n) from = n.router == from
 
-abbrev pub accepts : ℕ → ℕ → Hello → Link → Bool
+abbrev pub accepts : (own : RouterNumber) → (from : RouterNumber) → Hello → Link → Bool
 accepts own from h link = is_foreign own from && (agrees link h && may_be link.neighbor from)
 
 -- the Hello names this router
-abbrev pub names : ℕ → Hello → Bool
+abbrev pub names : RouterNumber → Hello → Bool
 names own h = list_any (λ (router : ℕ). router == own) h.neighbors
 
 -- ---- sent Hellos
 
-abbrev pub is_due : ℕ → ℕ → Option ℕ → Bool
+abbrev pub is_due : Moment → Seconds → Option Moment → Bool
 is_due moment interval None = true
 is_due moment interval (Some last) = has_passed last interval moment
 
 -- a Hello is sent at the first Tick, and where HelloInterval has passed since the last one
-abbrev pub hello_is_due : ℕ → Link → Bool
+abbrev pub hello_is_due : Moment → Link → Bool
 hello_is_due moment link = is_due moment link.interface.hello_interval link.last_hello_sent
 
-abbrev pub with_hello_sent : ℕ → Link → Link
+abbrev pub with_hello_sent : Moment → Link → Link
 with_hello_sent moment link = record link { last_hello_sent = if hello_is_due moment link then Some moment else link.last_hello_sent }
 
 abbrev pub heard_of : Option Neighbor → List ℕ
@@ -61,5 +62,5 @@ hello_on link = record {
   neighbors = heard_of link.neighbor;
 }
 
-abbrev pub hello_packet : ℕ → Link → Packet
+abbrev pub hello_packet : RouterNumber → Link → Packet
 hello_packet own link = record { router = own; body = body.Hello (hello_on link) }

@@ -4,6 +4,7 @@ use Rattle.std.specs.List.{filter, flat_map, fold}
 use Rattle.std.specs.FinMap as finite
 use Rattle.std.specs.FinSet as set
 use Rattle.std.specs.Ordering.{int_cmp, is_eq}
+use Rattle.words.specs.Numbers.{Moment, RouterNumber}
 use Rattle.words.specs.Prefixes.{Network, mask_of, network_address}
 use Rattle.words.specs.declared.key.Key.{Key}
 use Rattle.words.specs.declared.route.External.{External}
@@ -25,11 +26,11 @@ use Rattle.events.specs.Routers.{Router}
 
 -- ---- what is wanted
 
-abbrev pub router_key : ℕ → Key
+abbrev pub router_key : RouterNumber → Key
 router_key id = record { ls_type = 1; link_state_id = id; advertising_router = id }
 
 -- the address of the destination is the Link State ID
-abbrev pub external_key : ℕ → Network → Key
+abbrev pub external_key : RouterNumber → Network → Key
 external_key id prefix = record { ls_type = 5; link_state_id = prefix.address; advertising_router = id }
 
 abbrev pub point_to_point : Interface → Option Neighbor → List RouterLink
@@ -99,42 +100,42 @@ new_instance key copy says = sealed_lsa (record {
   body = says;
 })
 
-abbrev pub install_and_flood : ℕ → Lsa → Outcome → Outcome
+abbrev pub install_and_flood : Moment → Lsa → Outcome → Outcome
 install_and_flood moment lsa o = flood_from_nobody moment lsa (on_database (install_originated moment lsa) o)
 
 -- it waits for no Tick any more, and its five seconds run
-abbrev pub as_originated : ℕ → Key → Router → Router
+abbrev pub as_originated : Moment → Key → Router → Router
 as_originated moment key r = record r { waiting = set.remove r.waiting key; originated = finite.insert r.originated key moment }
 
-abbrev pub originate : ℕ → Key → Body → EventState → EventState
+abbrev pub originate : Moment → Key → Body → EventState → EventState
 originate moment key says p =
     on_router (as_originated moment key) (on_area (install_and_flood moment (new_instance key (finite.get p.router.area.database key) says)) p)
 
 -- ---- flushing (section 14.1)
 
 -- a copy that is younger than MaxAge gets that age, and is flooded
-abbrev pub flush_copy : ℕ → Key → Option DatabaseCopy → Outcome → Outcome
+abbrev pub flush_copy : Moment → Key → Option DatabaseCopy → Outcome → Outcome
 flush_copy moment key None o = o
 flush_copy moment key (Some c) o =
     if is_aged_out moment c then o else flood_from_nobody moment (lsa_aged 3600 c.lsa) (on_database (age_out moment key) o)
 
-abbrev pub flush : ℕ → Key → EventState → EventState
+abbrev pub flush : Moment → Key → EventState → EventState
 flush moment key p = on_area (flush_copy moment key (finite.get p.router.area.database key)) p
 
 -- ---- when a new instance may go out
 
 -- MinLSInterval, 5 seconds, has passed since the last own instance of this key
-abbrev pub interval_is_over : ℕ → Option ℕ → Bool
+abbrev pub interval_is_over : Moment → Option Moment → Bool
 interval_is_over moment None = true
 interval_is_over moment (Some last) = has_passed last 5 moment
 
-abbrev pub may_originate : ℕ → Key → Router → Bool
+abbrev pub may_originate : Moment → Key → Router → Bool
 may_originate moment key r = interval_is_over moment (finite.get r.originated key)
 
-abbrev pub is_own_external : ℕ → Key → Bool
+abbrev pub is_own_external : RouterNumber → Key → Bool
 is_own_external id key = key.ls_type == 5 && key.advertising_router == id
 
-abbrev pub own_externals : ℕ → Database → ℕ
+abbrev pub own_externals : RouterNumber → Database → ℕ
 own_externals id db = length (filter (is_own_external id) (finite.keys db))
 
 -- an LSA of this key passes no limit: it takes the place of its copy, or there are fewer than 16,384 LSAs, and, if it is an external one,
@@ -149,7 +150,7 @@ wait key r = record r { waiting = set.insert r.waiting key }
 
 -- at once, if `may_now` and the five seconds allow it, else at a Tick; after MaxSequenceNumber the copy is flushed first, and the LSA is
 -- originated when it has left the database
-abbrev pub originate_body : Bool → ℕ → Key → Option Body → EventState → EventState
+abbrev pub originate_body : Bool → Moment → Key → Option Body → EventState → EventState
 originate_body may_now moment key None p = p
 originate_body may_now moment key (Some says) p =
     if has_max_sequence (finite.get p.router.area.database key) then flush moment key p
@@ -157,34 +158,34 @@ originate_body may_now moment key (Some says) p =
     else on_router (wait key) p
 
 -- where there is room for it
-abbrev pub originate_or_wait : ℕ → Key → EventState → EventState
+abbrev pub originate_or_wait : Moment → Key → EventState → EventState
 originate_or_wait moment key p = originate_body (has_room key p.router) moment key (wanted_body p.router key) p
 
 -- whether there is room or not, which a Redistribute asks afterwards
-abbrev pub originate_anyway : ℕ → Key → EventState → EventState
+abbrev pub originate_anyway : Moment → Key → EventState → EventState
 originate_anyway moment key p = originate_body true moment key (wanted_body p.router key) p
 
 -- ---- at a Tick
 
 -- the LSA has left the database, or its copy is of LSRefreshTime, 1800 seconds, or more
-abbrev pub is_stale : ℕ → Option DatabaseCopy → Bool
+abbrev pub is_stale : Moment → Option DatabaseCopy → Bool
 is_stale moment None = true
 is_stale moment (Some c) = nat_le 1800 (age_now moment c)
 
-abbrev pub is_due : ℕ → Router → Key → Bool
+abbrev pub is_due : Moment → Router → Key → Bool
 is_due moment r key = set.contains r.waiting key || is_stale moment (finite.get r.area.database key)
 
-abbrev pub due_keys : ℕ → Router → List Key
+abbrev pub due_keys : Moment → Router → List Key
 due_keys moment r = filter (is_due moment r) (wanted_keys r)
 
-abbrev pub originate_due : ℕ → List Key → EventState → EventState
+abbrev pub originate_due : Moment → List Key → EventState → EventState
 originate_due moment keys p = fold (λ (q : EventState) (key : Key). originate_or_wait moment key q) p keys
 
 -- own originations whose five seconds are over are forgotten
-abbrev pub is_recent : ℕ → Option ℕ → Bool
+abbrev pub is_recent : Moment → Option Moment → Bool
 is_recent moment at = not (interval_is_over moment at)
 
-abbrev pub forget_originations : ℕ → Router → Router
+abbrev pub forget_originations : Moment → Router → Router
 forget_originations moment r =
     record r { originated = finite.retain_keys r.originated (λ key. is_recent moment (finite.get r.originated key)) }
 
@@ -194,11 +195,11 @@ abbrev pub is_wanted : Option Body → Bool
 is_wanted None = false
 is_wanted (Some says) = true
 
-abbrev pub originate_or_flush : Bool → ℕ → Key → EventState → EventState
+abbrev pub originate_or_flush : Bool → Moment → Key → EventState → EventState
 originate_or_flush true moment key p = originate_or_wait moment key p
 originate_or_flush false moment key p = flush moment key p
 
 -- a self-originated LSA that was installed: one that is wanted is originated again, one past its number; any other is flushed
-abbrev pub receive_self_originated : ℕ → Lsa → EventState → EventState
+abbrev pub receive_self_originated : Moment → Lsa → EventState → EventState
 receive_self_originated moment lsa p =
     if lsa.header.advertising_router == p.router.id then originate_or_flush (is_wanted (wanted_body p.router (lsa_key lsa))) moment (lsa_key lsa) p else p

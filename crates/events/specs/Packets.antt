@@ -2,6 +2,7 @@
 use Rattle.std.specs.Prelude.{ℕ, ◌==◌, Bool, true, false, ◌&&◌, ◌||◌, if◌then◌else◌, List, [], ◌∷◌, map, Option, None, Some}
 use Rattle.std.specs.List.{filter_map, list_all}
 use Rattle.std.specs.FinMap as finite
+use Rattle.words.specs.Numbers.{InterfaceNumber, Moment, RouterNumber}
 use Rattle.words.specs.declared.key.Key.{Key}
 use Rattle.lsa.specs.Reading.{lsa_in}
 use Rattle.lsdb.specs.Copies.{Database}
@@ -26,22 +27,22 @@ use Rattle.events.specs.EventState.{EventState, on_area}
 
 -- what a Hello that names this router makes of its sender, once it was heard
 abbrev pub TwoWay : Type 0
-TwoWay = ℕ → Neighbor → Step
+TwoWay = Moment → Neighbor → Step
 
 -- ---- Hellos (section 10.5)
 
 abbrev pub with_neighbor : Neighbor → Link → Link
 with_neighbor n link = record link { neighbor = Some n }
 
-abbrev pub hear : ℕ → ℕ → Step → Outcome → Outcome
+abbrev pub hear : Moment → InterfaceNumber → Step → Outcome → Outcome
 hear moment number s o = sending moment (numbered number s.sends) (on_links (change_link number (with_neighbor s.neighbor)) o)
 
-abbrev pub heard_on : TwoWay → ℕ → ℕ → ℕ → ℕ → Hello → Option Link → Outcome → Outcome
+abbrev pub heard_on : TwoWay → (own : RouterNumber) → Moment → InterfaceNumber → (from : RouterNumber) → Hello → Option Link → Outcome → Outcome
 heard_on two_way own moment number from h None o = o
 heard_on two_way own moment number from h (Some link) o =
     if accepts own from h link then hear moment number (adjacencies.after_hello two_way moment from (names own h) link.neighbor) o else o
 
-abbrev pub after_hello : TwoWay → ℕ → ℕ → ℕ → ℕ → Hello → Outcome → Outcome
+abbrev pub after_hello : TwoWay → (own : RouterNumber) → Moment → InterfaceNumber → (from : RouterNumber) → Hello → Outcome → Outcome
 after_hello two_way own moment number from h o = heard_on two_way own moment number from h (link_at number o.area.links) o
 
 -- ---- Requests (section 10.7)
@@ -49,11 +50,11 @@ after_hello two_way own moment number from h o = heard_on two_way own moment num
 abbrev pub is_there : Database → Key → Bool
 is_there db key = finite.contains_key db key
 
-abbrev pub requested_lsas : ℕ → Database → List Key → List Lsa
+abbrev pub requested_lsas : Moment → Database → List Key → List Lsa
 requested_lsas moment db keys = filter_map (λ (key : Key). lsa_of moment (finite.get db key)) keys
 
 -- the LSAs are sent and go on no list; where one is missing, none is
-abbrev pub requested_from : ℕ → ℕ → List Key → Outcome → Outcome
+abbrev pub requested_from : Moment → InterfaceNumber → List Key → Outcome → Outcome
 requested_from moment number keys o =
     if list_all (is_there o.area.database) keys
     then sending moment (numbered number (map Content.Updates (requested_lsas moment o.area.database keys))) o
@@ -62,7 +63,7 @@ requested_from moment number keys o =
 -- ---- Updates (section 13)
 
 -- a self-originated LSA that was installed is settled
-abbrev pub after_self_originated : Case → ℕ → Lsa → EventState → EventState
+abbrev pub after_self_originated : Case → Moment → Lsa → EventState → EventState
 after_self_originated Case.Unreadable moment lsa p = p
 after_self_originated Case.NothingToFlush moment lsa p = p
 after_self_originated Case.TooSoon moment lsa p = p
@@ -74,20 +75,20 @@ after_self_originated Case.SequenceWraps moment lsa p = p
 after_self_originated Case.SentJustNow moment lsa p = p
 after_self_originated Case.Older moment lsa p = p
 
-abbrev pub after_lsa : Case → ℕ → ℕ → Lsa → EventState → EventState
+abbrev pub after_lsa : Case → Moment → InterfaceNumber → Lsa → EventState → EventState
 after_lsa case moment number lsa p = after_self_originated case moment lsa (on_area (after_case case moment number lsa) p)
 
 -- the case of the LSA that the bytes are: they are an LSA's text, or none's
-abbrev pub case_in : ℕ → ℕ → Option Lsa → EventState → Case
+abbrev pub case_in : Moment → InterfaceNumber → Option Lsa → EventState → Case
 case_in moment number None p = Case.Unreadable
 case_in moment number (Some lsa) p = case_at moment number lsa p.router.area
 
-abbrev pub after_unread : ℕ → ℕ → Option Lsa → EventState → EventState
+abbrev pub after_unread : Moment → InterfaceNumber → Option Lsa → EventState → EventState
 after_unread moment number None p = p
 after_unread moment number (Some lsa) p = after_lsa (case_at moment number lsa p.router.area) moment number lsa p
 
 -- the LSAs of an Update in order, up to a bad request
-abbrev pub after_lsas : ℕ → ℕ → List (List ℕ) → EventState → EventState
+abbrev pub after_lsas : Moment → InterfaceNumber → List (List ℕ) → EventState → EventState
 after_lsas moment number [] p = p
 after_lsas moment number (bytes ∷ rest) p =
     let q : EventState = after_unread moment number (lsa_in bytes) p in
@@ -96,7 +97,7 @@ after_lsas moment number (bytes ∷ rest) p =
 -- ---- the whole
 
 -- the interface's neighbor is this router
-abbrev pub is_from : ℕ → Option Neighbor → Bool
+abbrev pub is_from : RouterNumber → Option Neighbor → Bool
 is_from from None = false
 is_from from (Some n) = n.router == from
 
@@ -104,14 +105,14 @@ abbrev pub is_in_exchange : Option Neighbor → Bool
 is_in_exchange None = false
 is_in_exchange (Some n) = is_exchange_or_later n.state
 
-abbrev pub describe_to : TwoWay → ℕ → ℕ → ℕ → Description → Outcome → Outcome
+abbrev pub describe_to : TwoWay → RouterNumber → Moment → InterfaceNumber → Description → Outcome → Outcome
 describe_to two_way own moment number d o = one_neighbor moment number (after_description two_way own moment o.area.database d) o
 
-abbrev pub acknowledged_by : ℕ → ℕ → List Header → Outcome → Outcome
+abbrev pub acknowledged_by : Moment → InterfaceNumber → List Header → Outcome → Outcome
 acknowledged_by moment number headers o = one_neighbor moment number (λ n. no_sends (after_acknowledgment moment headers n)) o
 
 -- from the interface's neighbor; Requests, Updates and Acknowledgments count from Exchange on
-abbrev pub from_neighbor : TwoWay → ℕ → ℕ → ℕ → Bool → Body → EventState → EventState
+abbrev pub from_neighbor : TwoWay → Moment → InterfaceNumber → RouterNumber → Bool → Body → EventState → EventState
 from_neighbor two_way moment number from in_exchange (body.Hello h) p = on_area (after_hello two_way p.router.id moment number from h) p
 from_neighbor two_way moment number from in_exchange (body.Description d) p = on_area (describe_to two_way p.router.id moment number d) p
 from_neighbor two_way moment number from in_exchange (body.Request keys) p = if in_exchange then on_area (requested_from moment number keys) p else p
@@ -126,10 +127,10 @@ is_hello (body.Update lsas) = false
 is_hello (body.Acknowledgment headers) = false
 
 -- a packet of no router or of this one is discarded, and one other than a Hello that isn't from the interface's neighbor
-abbrev pub is_heard : ℕ → Packet → Option Neighbor → Bool
+abbrev pub is_heard : RouterNumber → Packet → Option Neighbor → Bool
 is_heard own packet n = is_foreign own packet.router && (is_hello packet.body || is_from packet.router n)
 
-abbrev pub after_packet : TwoWay → ℕ → ℕ → Packet → EventState → EventState
+abbrev pub after_packet : TwoWay → Moment → InterfaceNumber → Packet → EventState → EventState
 after_packet two_way moment number packet p =
     let n : Option Neighbor = neighbor_at number p.router.area.links in
     if is_heard p.router.id packet n then from_neighbor two_way moment number packet.router (is_in_exchange n) packet.body p else p

@@ -2,6 +2,7 @@
 use Rattle.std.specs.Prelude.{ℕ, ◌+◌, Bool, nat_le, ◌==◌, min, if◌then◌else◌, List, [], ◌∷◌, ◌++◌, map, Option, None, Some}
 use Rattle.std.specs.List.{enumerate_from, filter_map, flat_map}
 use Rattle.std.specs.Ordering.{is_gt}
+use Rattle.words.specs.Numbers.{InterfaceNumber, RouterNumber, Seconds}
 use Rattle.words.specs.declared.key.Key.{Key}
 use Rattle.lsa.specs.Text.{text}
 use Rattle.lsdb.specs.Headers.{Header, Lsa, key_of, lsa_aged, lsa_key}
@@ -84,7 +85,7 @@ first_key [] = record { ls_type = 0; link_state_id = 0; advertising_router = 0 }
 first_key (key ∷ keys) = key
 
 -- the age of a sent LSA grows by InfTransDelay, at most to MaxAge
-abbrev pub sent_lsa : ℕ → Lsa → Lsa
+abbrev pub sent_lsa : Seconds → Lsa → Lsa
 sent_lsa delay lsa = lsa_aged (min 3600 (lsa.header.age + delay)) lsa
 
 abbrev pub lsa_size : Lsa → ℕ
@@ -94,10 +95,10 @@ abbrev pub header_size : Header → ℕ
 header_size h = 20
 
 -- an Update has 28 bytes before its first LSA, an Acknowledgment 24 before its first header
-abbrev pub update_of : ℕ → List Lsa → Body
+abbrev pub update_of : Seconds → List Lsa → Body
 update_of delay lsas = body.Update (map (λ (l : Lsa). text (sent_lsa delay l)) lsas)
 
-abbrev pub bodies : ℕ → List Content → List Body
+abbrev pub bodies : Seconds → List Content → List Body
 bodies delay contents =
     filter_map hellos contents
     ++ filter_map descriptions contents
@@ -107,17 +108,17 @@ bodies delay contents =
 
 -- ---- all interfaces in order
 
-abbrev pub at_interface : ℕ → Send → Option Content
+abbrev pub at_interface : InterfaceNumber → Send → Option Content
 at_interface number s = if s.number == number then Some s.content else None
 
-abbrev pub packet_of : ℕ → Body → Packet
+abbrev pub packet_of : RouterNumber → Body → Packet
 packet_of own says = record { router = own; body = says }
 
-abbrev pub out_of : ℕ → ℕ → Body → Out
+abbrev pub out_of : RouterNumber → InterfaceNumber → Body → Out
 out_of own number says = record { interface = number; bytes = canonical (packet_of own says) }
 
-abbrev pub outs_at : ℕ → List Send → ℕ → Link → List Out
+abbrev pub outs_at : RouterNumber → List Send → InterfaceNumber → Link → List Out
 outs_at own sends number link = map (out_of own number) (bodies link.interface.delay (filter_map (at_interface number) sends))
 
-abbrev pub outs_of : ℕ → List Link → List Send → List Out
+abbrev pub outs_of : RouterNumber → List Link → List Send → List Out
 outs_of own links sends = flat_map (λ (e : ℕ × Link). outs_at own sends e.0 e.1) (enumerate_from 1 links)

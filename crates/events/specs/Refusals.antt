@@ -1,6 +1,7 @@
 -- When an event is refused, and why, in the order in which the reasons are tried.
 use Rattle.std.specs.Prelude.{◌≡◌, ℕ, ◌^◌, Bool, true, false, not, ◌&&◌, ◌||◌, nat_le, nat_lt, if◌then◌else◌, List, length, Option, None, Some, Result, Ok, Err}
 use Rattle.std.specs.FinMap as finite
+use Rattle.words.specs.Numbers.{InterfaceNumber, Moment}
 use Rattle.packet.specs.declared.refusal.Fault.{Fault}
 use Rattle.packet.specs.Reading.{fault_of}
 use Rattle.words.specs.Prefixes.{Network}
@@ -14,14 +15,14 @@ use Rattle.events.specs.Originations.{external_key, own_externals}
 use Rattle.events.specs.Routers.{Occurrence, Router}
 
 -- the clock goes back, or is out of range
-abbrev pub is_clock_back : ℕ → Router → Bool
+abbrev pub is_clock_back : Moment → Router → Bool
 is_clock_back moment old = nat_lt moment old.moment || nat_le (2 ^ 62) moment
 
 abbrev pub bad_packet : Option Fault → Option CoreError
 bad_packet None = None
 bad_packet (Some f) = Some (error.BadPacket f)
 
-abbrev pub is_interface : ℕ → Router → Bool
+abbrev pub is_interface : InterfaceNumber → Router → Bool
 is_interface number r = nat_le 1 number && nat_le number (length r.area.links)
 
 -- another announced prefix has this Link State ID
@@ -33,7 +34,7 @@ is_taken prefix (Some e) = not (is_for prefix (Some e))
 abbrev pub clashes : Router → External → External → Bool
 clashes old tagged priced = not (same_external tagged priced) || is_taken priced.prefix (finite.get old.announced (external_key old.id priced.prefix))
 
-abbrev pub no_interface : ℕ → Router → Option CoreError → Option CoreError
+abbrev pub no_interface : InterfaceNumber → Router → Option CoreError → Option CoreError
 no_interface number old otherwise = if is_interface number old then otherwise else Some error.NoInterface
 
 abbrev pub of_event : Router → Occurrence → Option CoreError
@@ -45,7 +46,7 @@ of_event old (Occurrence.Install answers) = None
 of_event old (Occurrence.LinkDown number) = no_interface number old None
 
 -- the first reason that holds, the limits aside
-abbrev pub first_refusal : Router → ℕ → Occurrence → Option CoreError
+abbrev pub first_refusal : Router → Moment → Occurrence → Option CoreError
 first_refusal old moment event = if is_clock_back moment old then Some error.ClockBack else of_event old event
 
 -- ---- limits

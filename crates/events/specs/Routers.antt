@@ -3,6 +3,7 @@ use Rattle.std.specs.Prelude.{◌^◌, ℕ, Bool, true, not, ◌&&◌, ◌==◌,
 use Rattle.std.specs.List.{list_all, list_any}
 use Rattle.std.specs.FinMap as finite
 use Rattle.std.specs.FinSet as set
+use Rattle.words.specs.Numbers.{InterfaceNumber, Moment, RouterNumber}
 use Rattle.words.specs.Prefixes.{Network}
 use Rattle.words.specs.declared.route.External.{External}
 use Rattle.words.specs.declared.route.Route.{Route}
@@ -15,7 +16,7 @@ use Rattle.events.specs.declared.model.Config.{Config}
 
 pub record Router : Type 0 where
   -- the own Router ID
-  pub id : ℕ
+  pub id : RouterNumber
   -- the links, interface n at place n - 1, and the database
   pub area : Area
   -- the external destinations that are announced, by the keys of their LSAs, with the metric and the tag that were answered
@@ -23,24 +24,24 @@ pub record Router : Type 0 where
   -- the own LSAs that wait for a Tick
   pub waiting : KeySet
   -- when an own LSA was last originated, for five seconds
-  pub originated : ByKey ℕ
+  pub originated : ByKey Moment
   -- the routes that the last Install was asked for, with the words that answer
   pub answers : List (Route × ℕ)
   -- the moment of the last event
-  pub moment : ℕ
+  pub moment : Moment
 
 -- ---- what may happen
 
 pub data Occurrence : Type 0 where
   -- these bytes came in at the interface of this number
-  Packet : (interface : ℕ) (bytes : List ℕ) → Occurrence
+  Packet : (interface : InterfaceNumber) (bytes : List ℕ) → Occurrence
   Tick : Occurrence
   -- a destination is to be announced: a word on its tag and one on its metric, each with the destination that it answers for
   Redistribute : (tagged : External) (tag : ℕ) (priced : External) (price : ℕ) → Occurrence
   Withdraw : (prefix : Network) → Occurrence
   -- the routes that were offered, each with the word that answers for it
   Install : (answers : List (Route × ℕ)) → Occurrence
-  LinkDown : (interface : ℕ) → Occurrence
+  LinkDown : (interface : InterfaceNumber) → Occurrence
 
 -- ---- which configurations a router takes
 
@@ -66,7 +67,7 @@ abbrev pub fresh_link : Interface → Link
 fresh_link i = record { interface = i; neighbor = None; acknowledgments = finite.empty; last_hello_sent = None }
 
 -- a router that keeps nothing but its links
-abbrev pub with_links : ℕ → List Link → ℕ → Router
+abbrev pub with_links : RouterNumber → List Link → Moment → Router
 with_links id links moment = record {
   id = id;
   area = record { links = links; database = finite.empty };
@@ -88,5 +89,5 @@ shown None = None
 shown (Some n) = Some (n.router, n.state)
 
 -- the Router ID and the state of the neighbor at the interface of this number, unless it is Down or there is no such interface
-abbrev pub shown_at : Router → ℕ → Option (ℕ × State)
+abbrev pub shown_at : Router → InterfaceNumber → Option (ℕ × State)
 shown_at r number = shown (neighbor_at number r.area.links)

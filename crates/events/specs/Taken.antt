@@ -3,6 +3,7 @@
 use Rattle.std.specs.Prelude.{ℕ, if◌then◌else◌, List, [], ◌∷◌, Option, None, Some}
 use Rattle.std.specs.List.{Contains, cons_option}
 use Rattle.std.specs.FinMap as finite
+use Rattle.words.specs.Numbers.{InterfaceNumber, Moment}
 use Rattle.words.specs.declared.key.Key.{Key}
 use Rattle.lsa.specs.Reading.{lsa_in}
 use Rattle.lsdb.specs.Headers.{Header, Lsa, key_of, lsa_key}
@@ -32,18 +33,18 @@ gone key (Some l) None = Some (record { key = key; sequence = l.header.sequence;
 gone key (Some l) (Some m) = None
 
 -- by the headers of an Acknowledgment, one after the other
-abbrev pub taken_by_headers : ℕ → List Header → Neighbor → List LsaInstance
+abbrev pub taken_by_headers : Moment → List Header → Neighbor → List LsaInstance
 taken_by_headers moment [] n = []
 taken_by_headers moment (h ∷ hs) n =
     cons_option (gone (key_of h) (finite.get n.retransmissions (key_of h)) (finite.get (acknowledged moment n h).retransmissions (key_of h)))
     (taken_by_headers moment hs (acknowledged moment n h))
 
-abbrev pub taken_from : ℕ → List Header → Option Neighbor → List LsaInstance
+abbrev pub taken_from : Moment → List Header → Option Neighbor → List LsaInstance
 taken_from moment headers None = []
 taken_from moment headers (Some n) = taken_by_headers moment headers n
 
 -- by an LSA that is an implied acknowledgment
-abbrev pub taken_in_case : Case → ℕ → ℕ → Lsa → EventState → Option LsaInstance
+abbrev pub taken_in_case : Case → Moment → InterfaceNumber → Lsa → EventState → Option LsaInstance
 taken_in_case Case.ImpliedAcknowledgment moment number lsa p =
     gone (lsa_key lsa) (entry_of (lsa_key lsa) (neighbor_at number p.router.area.links))
     (entry_of (lsa_key lsa) (neighbor_at number (after_unread moment number (Some lsa) p).router.area.links))
@@ -57,18 +58,18 @@ taken_in_case Case.SequenceWraps moment number lsa p = None
 taken_in_case Case.SentJustNow moment number lsa p = None
 taken_in_case Case.Older moment number lsa p = None
 
-abbrev pub taken_by_lsa : ℕ → ℕ → Option Lsa → EventState → Option LsaInstance
+abbrev pub taken_by_lsa : Moment → InterfaceNumber → Option Lsa → EventState → Option LsaInstance
 taken_by_lsa moment number None p = None
 taken_by_lsa moment number (Some lsa) p = taken_in_case (case_in moment number (Some lsa) p) moment number lsa p
 
 -- by those of an Update one after the other, up to a bad request
-abbrev pub taken_by_lsas : ℕ → ℕ → List (List ℕ) → EventState → List LsaInstance
+abbrev pub taken_by_lsas : Moment → InterfaceNumber → List (List ℕ) → EventState → List LsaInstance
 taken_by_lsas moment number [] p = []
 taken_by_lsas moment number (bytes ∷ rest) p =
     cons_option (taken_by_lsa moment number (lsa_in bytes) p)
     (if goes_on (case_in moment number (lsa_in bytes) p) then taken_by_lsas moment number rest (after_unread moment number (lsa_in bytes) p) else [])
 
-abbrev pub taken_by_body : ℕ → ℕ → Body → EventState → List LsaInstance
+abbrev pub taken_by_body : Moment → InterfaceNumber → Body → EventState → List LsaInstance
 taken_by_body moment number (body.Hello h) p = []
 taken_by_body moment number (body.Description d) p = []
 taken_by_body moment number (body.Request keys) p = []
@@ -76,7 +77,7 @@ taken_by_body moment number (body.Update lsas) p = taken_by_lsas moment number l
 taken_by_body moment number (body.Acknowledgment headers) p = taken_from moment headers (neighbor_at number p.router.area.links)
 
 -- by the packet that came in at the interface of this number
-abbrev pub taken_by : ℕ → ℕ → Packet → Router → List LsaInstance
+abbrev pub taken_by : Moment → InterfaceNumber → Packet → Router → List LsaInstance
 taken_by moment number packet old =
     let p : EventState = start_event moment old in
     let n : Option Neighbor = neighbor_at number p.router.area.links in

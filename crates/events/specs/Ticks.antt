@@ -2,6 +2,7 @@
 use Rattle.std.specs.Prelude.{ℕ, if◌then◌else◌, List, [], ◌∷◌, map, Option, None, Some}
 use Rattle.std.specs.List.{enumerate_from, flat_map}
 use Rattle.std.specs.FinMap as finite
+use Rattle.words.specs.Numbers.{Moment, Seconds}
 use Rattle.words.specs.declared.key.Key.{Key}
 use Rattle.adjacency.specs.Adjacencies.{after_inactivity_timer}
 use Rattle.adjacency.specs.Contents.{Content}
@@ -17,12 +18,12 @@ use Rattle.events.specs.Routers.{Router}
 
 -- ---- times that run out
 
-abbrev pub settled_exchange : ℕ → ℕ → Option Neighbor → Option Neighbor
+abbrev pub settled_exchange : Moment → Seconds → Option Neighbor → Option Neighbor
 settled_exchange moment dead None = None
 settled_exchange moment dead (Some n) = Some (without_old_description moment dead n)
 
 -- an inactive neighbor is Down; a slave gives up its last Description
-abbrev pub run_out : ℕ → Link → Link
+abbrev pub run_out : Moment → Link → Link
 run_out moment link = record link {
   neighbor = settled_exchange moment link.interface.dead_interval (after_inactivity_timer moment link.interface.dead_interval link.neighbor);
 }
@@ -32,7 +33,7 @@ run_out moment link = record link {
 abbrev pub again : ℕ → Outcome → Stepping
 again moment o number link n = send_again moment link.interface.retransmit_interval o.area.database n
 
-abbrev pub send_all_again : ℕ → Outcome → Outcome
+abbrev pub send_all_again : Moment → Outcome → Outcome
 send_all_again moment o = each_neighbor moment (again moment o) o
 
 -- ---- delayed acknowledgments
@@ -47,21 +48,21 @@ without_acknowledgments link = record link { acknowledgments = finite.empty }
 abbrev pub sends_of : (Link → List Content) → List Link → List Send
 sends_of f links = flat_map (λ (e : ℕ × Link). numbered e.0 (f e.1)) (enumerate_from 1 links)
 
-abbrev pub acknowledge_all : ℕ → Outcome → Outcome
+abbrev pub acknowledge_all : Moment → Outcome → Outcome
 acknowledge_all moment o = sending moment (sends_of acknowledgments_on o.area.links) (on_links (map without_acknowledgments) o)
 
 -- ---- Hellos
 
-abbrev pub hello_sent_on : ℕ → Link → List Content
+abbrev pub hello_sent_on : Moment → Link → List Content
 hello_sent_on moment link = if hello_is_due moment link then Content.SendsHello (hello_on link) ∷ [] else []
 
-abbrev pub send_hellos : ℕ → Outcome → Outcome
+abbrev pub send_hellos : Moment → Outcome → Outcome
 send_hellos moment o = sending moment (sends_of (hello_sent_on moment) o.area.links) (on_links (map (with_hello_sent moment)) o)
 
 -- ---- the whole
 
 -- `due` are the own LSAs that a Tick originates
-abbrev pub after_tick : (ℕ → Router → List Key) → ℕ → EventState → EventState
+abbrev pub after_tick : (ℕ → Router → List Key) → Moment → EventState → EventState
 after_tick due moment p =
     let no_sends : EventState = on_router (forget_originations moment) (on_area (on_links (map (run_out moment))) p) in
     let renewed : EventState = originate_due moment (due moment no_sends.router) no_sends in

@@ -3,6 +3,7 @@
 use Rattle.std.specs.Prelude.{◌≡◌, ℕ, ◌==◌, Bool, true, not, ◌&&◌, List, [], ◌∷◌, ◌++◌, map, Option, None, Some, slice_get, slice_set}
 use Rattle.std.specs.List.{Contains, flat_map, list_all, list_any}
 use Rattle.std.specs.FinMap as finite
+use Rattle.words.specs.Numbers.{InterfaceNumber, RouterNumber}
 use Rattle.lsdb.specs.Instances.{ListEntry}
 use Rattle.packet.specs.declared.model.Packet.{Packet}
 use Rattle.packet.specs.Text.{PacketText}
@@ -77,13 +78,13 @@ pub record World : Type 0 where
 abbrev pub Joins : Type 0
 Joins = End → Option End
 
-abbrev pub sent_from : ℕ → Out → Datagram
+abbrev pub sent_from : InterfaceNumber → Out → Datagram
 sent_from place o = record { from = record { router = place; interface = o.interface }; bytes = o.bytes }
 
-abbrev pub knows : ℕ → LsaInstance → Knowledge
+abbrev pub knows : RouterNumber → LsaInstance → Knowledge
 knows router name = record { router = router; name = name }
 
-abbrev pub known_as : ℕ → List LsaInstance → List Knowledge
+abbrev pub known_as : RouterNumber → List LsaInstance → List Knowledge
 known_as router names = map (knows router) names
 
 -- the instances that an event brings to a router
@@ -96,7 +97,7 @@ Brings (Occurrence.Install answers) names = names ≡ []
 Brings (Occurrence.LinkDown number) names = names ≡ []
 
 -- bytes come in that were ever sent at the other end of the link; all else may happen at any time
-abbrev pub MayHappen : Joins → World → ℕ → Occurrence → Type 0
+abbrev pub MayHappen : Joins → World → InterfaceNumber → Occurrence → Type 0
 MayHappen joins w place (Occurrence.Packet number bytes) = (d : Datagram) × Contains w.sent d × (joins (record { router = place; interface = number }) ≡ Some d.from) × (bytes ≡ d.bytes)
 MayHappen joins w place Occurrence.Tick = Unit {0}
 MayHappen joins w place (Occurrence.Redistribute tagged tag priced price) = Unit {0}
