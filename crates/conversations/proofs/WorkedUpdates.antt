@@ -12,7 +12,7 @@ use Rattle.lsdb.specs.Copies.{Database, DatabaseCopy, copy_now, has_just_aged_ou
 use Rattle.lsdb.specs.Headers.{Lsa, lsa_key}
 use Rattle.lsdb.specs.Instances.{instance_of}
 use Rattle.lsdb.specs.Keys.{ByKey, key_cmp}
-use Rattle.lsdb.specs.Order.{age_at, compare_ages, compare_instances, is_max_age, max_age_difference}
+use Rattle.lsdb.specs.Order.{age_at, compare_ages, compare_instances, is_max_age, max_age_diff}
 use Rattle.lsdb.proofs.Keys.{keys_total}
 use Rattle.packet.specs.declared.model.Body.TheVariants as body
 use Rattle.packet.specs.declared.model.Packet.{Packet}
@@ -113,8 +113,8 @@ is_young age young = grind (arith, young)
 
 pub ages_itself : (a : ℕ) → compare_ages a a ≡ Equal
 ages_itself a =
-    (λ i. cond (not_both_ways (is_max_age a) i) Greater (cond (not_both_ways (is_max_age a) i) Less (cond (nat_lt max_age_difference ((a - a) + (a - a))) (tied_itself nat_cmp_total a i) Equal)))
-    ∙ chosen (nat_lt max_age_difference ((a - a) + (a - a))) Equal
+    (λ i. cond (not_both_ways (is_max_age a) i) Greater (cond (not_both_ways (is_max_age a) i) Less (cond (nat_lt max_age_diff ((a - a) + (a - a))) (tied_itself nat_cmp_total a i) Equal)))
+    ∙ chosen (nat_lt max_age_diff ((a - a) + (a - a))) Equal
 
 pub alike : (lsa : Lsa) (c : DatabaseCopy) (moment : ℕ) → c.lsa ≡ lsa → c.stored ≡ moment → lsa.header.age < 3600 → compare_instances (instance_of lsa.header) (copy_now moment c) ≡ Equal
 alike lsa c moment same now young =

@@ -11,7 +11,7 @@ use Rattle.received.specs.Links.{Link}
 use Rattle.received.specs.Outcomes.{Send, numbered}
 use Rattle.events.specs.declared.model.Out.{Out}
 use Rattle.events.specs.Events.{Happens}
-use Rattle.events.specs.Originations.{has_max_sequence, has_room, initial_sequence, interval_is_over, is_due, new_instance, next_sequence, router_body, router_key}
+use Rattle.events.specs.Originations.{has_max_sequence, has_room, initial_sequence_number, interval_is_over, is_due, new_instance, next_sequence, router_body, router_key}
 use Rattle.events.specs.Packing.{outs_of}
 use Rattle.events.specs.Routers.{Occurrence, Router}
 use Rattle.conversations.specs.WorkedFlush.{full}
@@ -44,7 +44,7 @@ pub record IsNothingDue (r : Router) (link : Link) (n : Neighbor) (moment : ℕ)
 
 pub record ATickOriginates : Type 0 where
   -- without a copy the number is InitialSequenceNumber, else the next one
-  pub first_number : (r : Router) (link : Link) (n : Neighbor) → (originated_lsa r link n None).header.sequence ≡ initial_sequence
+  pub first_number : (r : Router) (link : Link) (n : Neighbor) → (originated_lsa r link n None).header.sequence ≡ initial_sequence_number
   pub next_number : (r : Router) (link : Link) (n : Neighbor) (c : DatabaseCopy) → (originated_lsa r link n (Some c)).header.sequence ≡ next_sequence (Some c)
   -- among what is sent are first an Update with the new router-LSA, and then all acknowledgments that wait
   pub sends : (r new : Router) (link : Link) (n : Neighbor) (moment : ℕ) (copy : Option DatabaseCopy) (outs : List Out)

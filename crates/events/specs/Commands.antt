@@ -2,6 +2,7 @@
 use Rattle.std.specs.Prelude.{ℕ, ◌%◌, ◌^◌, ◌==◌, Bool, true, false, ◌&&◌, nat_le, if◌then◌else◌, List, Option, None, Some}
 use Rattle.std.specs.FinMap as finite
 use Rattle.std.specs.FinSet as set
+pub use Rattle.words.specs.Constants.{ls_infinity}
 use Rattle.words.specs.Numbers.{InterfaceNumber, Moment}
 use Rattle.words.specs.Prefixes.{Network}
 use Rattle.words.specs.declared.key.Key.{Key}
@@ -28,10 +29,6 @@ same_kind Type2 Type2 = true
 
 abbrev pub same_external : External → External → Bool
 same_external a b = same_network a.prefix b.prefix && a.metric == b.metric && same_kind a.kind b.kind && a.tag == b.tag
-
--- LSInfinity (appendix B): a metric of this or more withholds the destination
-abbrev pub infinity : ℕ
-infinity = 0xffffff
 
 -- the destination with the metric that was answered, and the low 32 bits of the tag
 abbrev pub answered : External → ℕ → ℕ → External
@@ -66,7 +63,7 @@ announce_as moment key e p =
 
 abbrev pub after_redistribute : Moment → External → ℕ → ℕ → EventState → EventState
 after_redistribute moment e tag price p =
-    if nat_le infinity price then end_want moment (external_key p.router.id e.prefix) p
+    if nat_le ls_infinity price then end_want moment (external_key p.router.id e.prefix) p
     else announce_as moment (external_key p.router.id e.prefix) (answered e tag price) p
 
 abbrev pub after_withdraw : Moment → Network → EventState → EventState

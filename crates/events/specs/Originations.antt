@@ -1,9 +1,12 @@
 -- The router's own LSAs: what is wanted, new instances, what waits for a Tick, and flushing (RFC 2328, sections 12.1.6, 12.4, 13.4, 14 and 14.1).
-use Rattle.std.specs.Prelude.{ℕ, ℤ, pos, negsuc, ◌+ℤ◌, ◌==◌, Bool, true, false, not, ◌&&◌, ◌||◌, nat_le, nat_lt, if◌then◌else◌, List, [], ◌∷◌, ◌++◌, length, Option, None, Some}
+use Rattle.std.specs.Prelude.{ℕ, ℤ, pos, ◌+ℤ◌, ◌==◌, Bool, true, false, not, ◌&&◌, ◌||◌, nat_le, nat_lt, if◌then◌else◌, List, [], ◌∷◌, ◌++◌, length, Option, None, Some}
 use Rattle.std.specs.List.{filter, flat_map, fold}
 use Rattle.std.specs.FinMap as finite
 use Rattle.std.specs.FinSet as set
 use Rattle.std.specs.Ordering.{int_cmp, is_eq}
+pub use Rattle.words.specs.Constants.{max_sequence_number}
+pub use Rattle.words.specs.Constants.{initial_sequence_number}
+use Rattle.words.specs.Constants.{ls_refresh_time, max_age, min_ls_interval, most_lsas, most_own_externals}
 use Rattle.words.specs.Numbers.{Moment, RouterNumber}
 use Rattle.words.specs.Prefixes.{Network, mask_of, network_address}
 use Rattle.words.specs.declared.key.Key.{Key}
@@ -68,21 +71,14 @@ wanted_keys r = router_key r.id ∷ finite.keys r.announced
 
 -- ---- a new instance
 
--- InitialSequenceNumber, 0x80000001, and MaxSequenceNumber, 0x7fffffff (section 12.1.6)
-abbrev pub initial_sequence : ℤ
-initial_sequence = negsuc 2147483646
-
-abbrev pub max_sequence : ℤ
-max_sequence = pos 2147483647
-
 -- the number after that of the copy
 abbrev pub next_sequence : Option DatabaseCopy → ℤ
-next_sequence None = initial_sequence
+next_sequence None = initial_sequence_number
 next_sequence (Some c) = c.lsa.header.sequence +ℤ pos 1
 
 abbrev pub has_max_sequence : Option DatabaseCopy → Bool
 has_max_sequence None = false
-has_max_sequence (Some c) = is_eq (int_cmp c.lsa.header.sequence max_sequence)
+has_max_sequence (Some c) = is_eq (int_cmp c.lsa.header.sequence max_sequence_number)
 
 -- of age 0; its type, length and checksum are those of its body
 abbrev pub new_instance : Key → Option DatabaseCopy → Body → Lsa
@@ -117,7 +113,7 @@ originate moment key says p =
 abbrev pub flush_copy : Moment → Key → Option DatabaseCopy → Outcome → Outcome
 flush_copy moment key None o = o
 flush_copy moment key (Some c) o =
-    if is_aged_out moment c then o else flood_from_nobody moment (lsa_aged 3600 c.lsa) (on_database (age_out moment key) o)
+    if is_aged_out moment c then o else flood_from_nobody moment (lsa_aged max_age c.lsa) (on_database (age_out moment key) o)
 
 abbrev pub flush : Moment → Key → EventState → EventState
 flush moment key p = on_area (flush_copy moment key (finite.get p.router.area.database key)) p
@@ -127,7 +123,7 @@ flush moment key p = on_area (flush_copy moment key (finite.get p.router.area.da
 -- MinLSInterval, 5 seconds, has passed since the last own instance of this key
 abbrev pub interval_is_over : Moment → Option Moment → Bool
 interval_is_over moment None = true
-interval_is_over moment (Some last) = has_passed last 5 moment
+interval_is_over moment (Some last) = has_passed last min_ls_interval moment
 
 abbrev pub may_originate : Moment → Key → Router → Bool
 may_originate moment key r = interval_is_over moment (finite.get r.originated key)
@@ -143,7 +139,7 @@ own_externals id db = length (filter (is_own_external id) (finite.keys db))
 abbrev pub has_room : Key → Router → Bool
 has_room key r =
     finite.contains_key r.area.database key
-    || (nat_lt (finite.len r.area.database) 16384 && (not (is_own_external r.id key) || nat_lt (own_externals r.id r.area.database) 4096))
+    || (nat_lt (finite.len r.area.database) most_lsas && (not (is_own_external r.id key) || nat_lt (own_externals r.id r.area.database) most_own_externals))
 
 abbrev pub wait : Key → Router → Router
 wait key r = record r { waiting = set.insert r.waiting key }
@@ -170,7 +166,7 @@ originate_anyway moment key p = originate_body true moment key (wanted_body p.ro
 -- the LSA has left the database, or its copy is of LSRefreshTime, 1800 seconds, or more
 abbrev pub is_stale : Moment → Option DatabaseCopy → Bool
 is_stale moment None = true
-is_stale moment (Some c) = nat_le 1800 (age_now moment c)
+is_stale moment (Some c) = nat_le ls_refresh_time (age_now moment c)
 
 abbrev pub is_due : Moment → Router → Key → Bool
 is_due moment r key = set.contains r.waiting key || is_stale moment (finite.get r.area.database key)

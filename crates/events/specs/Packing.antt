@@ -2,6 +2,7 @@
 use Rattle.std.specs.Prelude.{ℕ, ◌+◌, Bool, nat_le, ◌==◌, min, if◌then◌else◌, List, [], ◌∷◌, ◌++◌, map, Option, None, Some}
 use Rattle.std.specs.List.{enumerate_from, filter_map, flat_map}
 use Rattle.std.specs.Ordering.{is_gt}
+use Rattle.words.specs.Constants.{largest_packet, max_age}
 use Rattle.words.specs.Numbers.{InterfaceNumber, RouterNumber, Seconds}
 use Rattle.words.specs.declared.key.Key.{Key}
 use Rattle.lsa.specs.Text.{text}
@@ -35,7 +36,7 @@ in_key_order key (x ∷ xs) = put key x (in_key_order key xs)
 abbrev pub fill_on : {X : Type 0} → (X → ℕ) → ℕ → ℕ → List X → List X → List (List X)
 fill_on size start used taken [] = taken ∷ []
 fill_on size start used taken (x ∷ xs) =
-    if nat_le (used + size x) 8192 then fill_on size start (used + size x) (taken ++ (x ∷ [])) xs
+    if nat_le (used + size x) largest_packet then fill_on size start (used + size x) (taken ++ (x ∷ [])) xs
     else taken ∷ fill_on size start (start + size x) (x ∷ []) xs
 
 abbrev pub packed : {X : Type 0} → (X → ℕ) → ℕ → List X → List (List X)
@@ -86,7 +87,7 @@ first_key (key ∷ keys) = key
 
 -- the age of a sent LSA grows by InfTransDelay, at most to MaxAge
 abbrev pub sent_lsa : Seconds → Lsa → Lsa
-sent_lsa delay lsa = lsa_aged (min 3600 (lsa.header.age + delay)) lsa
+sent_lsa delay lsa = lsa_aged (min max_age (lsa.header.age + delay)) lsa
 
 abbrev pub lsa_size : Lsa → ℕ
 lsa_size lsa = lsa.header.length

@@ -1,6 +1,7 @@
 -- When an event is refused, and why, in the order in which the reasons are tried.
-use Rattle.std.specs.Prelude.{◌≡◌, ℕ, ◌^◌, Bool, true, false, not, ◌&&◌, ◌||◌, nat_le, nat_lt, if◌then◌else◌, List, length, Option, None, Some, Result, Ok, Err}
+use Rattle.std.specs.Prelude.{◌≡◌, ℕ, Bool, true, false, not, ◌&&◌, ◌||◌, nat_le, nat_lt, if◌then◌else◌, List, length, Option, None, Some, Result, Ok, Err}
 use Rattle.std.specs.FinMap as finite
+use Rattle.words.specs.Constants.{clock_end, most_lsas, most_own_externals}
 use Rattle.words.specs.Numbers.{InterfaceNumber, Moment}
 use Rattle.packet.specs.declared.refusal.Fault.{Fault}
 use Rattle.packet.specs.Reading.{fault_of}
@@ -16,7 +17,7 @@ use Rattle.events.specs.Routers.{Occurrence, Router}
 
 -- the clock goes back, or is out of range
 abbrev pub is_clock_back : Moment → Router → Bool
-is_clock_back moment old = nat_lt moment old.moment || nat_le (2 ^ 62) moment
+is_clock_back moment old = nat_lt moment old.moment || nat_le clock_end moment
 
 abbrev pub bad_packet : Option Fault → Option CoreError
 bad_packet None = None
@@ -53,7 +54,7 @@ first_refusal old moment event = if is_clock_back moment old then Some error.Clo
 
 -- more than 16,384 LSAs, or more than 4,096 own externals among them
 abbrev pub exceeds : Router → Bool
-exceeds r = nat_lt 16384 (finite.len r.area.database) || nat_lt 4096 (own_externals r.id r.area.database)
+exceeds r = nat_lt most_lsas (finite.len r.area.database) || nat_lt most_own_externals (own_externals r.id r.area.database)
 
 -- nothing else is wrong with the event, and what it leaves would pass a limit
 pub record WouldExceed (old : Router) (moment : ℕ) (event : Occurrence) : Type 0 where

@@ -1,8 +1,9 @@
 -- What a router keeps, what may happen to it, and how it begins.
-use Rattle.std.specs.Prelude.{◌^◌, ℕ, Bool, true, not, ◌&&◌, ◌==◌, nat_le, nat_lt, List, [], ◌∷◌, length, map, Option, None, Some}
+use Rattle.std.specs.Prelude.{ℕ, Bool, true, not, ◌&&◌, ◌==◌, nat_le, nat_lt, List, [], ◌∷◌, length, map, Option, None, Some}
 use Rattle.std.specs.List.{list_all, list_any}
 use Rattle.std.specs.FinMap as finite
 use Rattle.std.specs.FinSet as set
+use Rattle.words.specs.Constants.{clock_end, max_age, most_interfaces}
 use Rattle.words.specs.Numbers.{InterfaceNumber, Moment, RouterNumber}
 use Rattle.words.specs.Prefixes.{Network}
 use Rattle.words.specs.declared.route.External.{External}
@@ -48,7 +49,7 @@ pub data Occurrence : Type 0 where
 abbrev pub is_lawful : Interface → Bool
 is_lawful i =
     nat_le i.length 32 && nat_le 1 i.cost && nat_le 1 i.hello_interval && nat_le 1 i.dead_interval && nat_le 1 i.retransmit_interval
-    && nat_le 1 i.delay && nat_le i.delay 3600
+    && nat_le 1 i.delay && nat_le i.delay max_age
 
 -- no two have one address
 abbrev pub are_distinct : List Interface → Bool
@@ -57,7 +58,7 @@ are_distinct (i ∷ others) = not (list_any (λ j. j.address == i.address) other
 
 abbrev pub in_profile : Config → Bool
 in_profile c =
-    not (c.router == 0) && nat_lt c.start (2 ^ 62) && nat_le 1 (length c.interfaces) && nat_le (length c.interfaces) 63
+    not (c.router == 0) && nat_lt c.start clock_end && nat_le 1 (length c.interfaces) && nat_le (length c.interfaces) most_interfaces
     && list_all is_lawful c.interfaces && are_distinct c.interfaces
 
 -- ---- the start

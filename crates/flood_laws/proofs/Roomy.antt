@@ -44,7 +44,7 @@ use Rattle.received.proofs.Holding.{each_link_keeps, one_holds}
 use Rattle.received.proofs.Roomy.{FitsIfThere, HasRoomFor, IsRoomyOutcome, SendHasRoom, all_fit, case_roomy, changed_fit, changed_roomy, each_roomy, fits_at, flood_roomy, inserted_fit, joined, numbered_roomy, on_database_roomy, on_links_roomy, one_roomy, sending_roomy}
 use Rattle.events.specs.declared.model.Config.{Config}
 use Rattle.events.specs.declared.model.Out.{Out}
-use Rattle.events.specs.Commands.{after_redistribute, after_withdraw, announce, announce_as, answered, end_want, infinity, is_announced_as, is_for, taken_down, unannounce}
+use Rattle.events.specs.Commands.{after_redistribute, after_withdraw, announce, announce_as, answered, end_want, ls_infinity, is_announced_as, is_for, taken_down, unannounce}
 use Rattle.events.specs.Endings.{start_event, describe_router, describe_router_later, link_loading_done, loading_done, loading_done_on, end_event, is_current, links_differ, remove_aged, request_all, stays, with_age}
 use Rattle.events.specs.Events.{HappensBy, OwnPart, Rules, Run, Step, hellos_alone, initial, whole}
 use Rattle.events.specs.Hellos.{accepts, hello_is_due, heard_of, hello_on, names}
@@ -328,7 +328,7 @@ module _ (rules : Rules) (two_way_roomy : IsRoomyTwoWay rules.two_way) where
   redistributed : (moment : ℕ) (e : External) (tag price : ℕ) (p : EventState) → InProgress p → InProgress (after_redistribute moment e tag price p)
   redistributed moment e tag price p h =
       let key : Key = external_key p.router.id e.prefix in
-      chosen InProgress (nat_le infinity price) (end_want moment key p) (announce_as moment key (answered e tag price) p)
+      chosen InProgress (nat_le ls_infinity price) (end_want moment key p) (announce_as moment key (answered e tag price) p)
       (λ is. want_ended moment key p h) (λ is. announced_roomy moment key (answered e tag price) p h)
 
   withdrawn : (moment : ℕ) (prefix : Network) (p : EventState) → InProgress p → InProgress (after_withdraw moment prefix p)

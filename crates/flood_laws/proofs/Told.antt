@@ -32,7 +32,7 @@ use Rattle.received.specs.Links.{Link, any_exchange_or_loading, link_at, neighbo
 use Rattle.received.specs.Outcomes.{Outcome, numbered, on_database, on_links, one_neighbor, sending}
 use Rattle.received.specs.Updates.{after_case, case_at, goes_on}
 use Rattle.received.proofs.Told.{OfArea, OfLink, OfLinks, OfOutcome, OfSend, OfWaiting, case_told, change_told, changed_told, each_link_told, each_told, flood_told, joined, numbered_told, on_database_told, on_links_told, one_neighbor_told, one_told, sending_told}
-use Rattle.events.specs.Commands.{after_redistribute, after_withdraw, announce, announce_as, answered, end_want, infinity, is_announced_as, is_for, taken_down, unannounce}
+use Rattle.events.specs.Commands.{after_redistribute, after_withdraw, announce, announce_as, answered, end_want, ls_infinity, is_announced_as, is_for, taken_down, unannounce}
 use Rattle.events.specs.Endings.{start_event, describe_router, describe_router_later, link_loading_done, loading_done, loading_done_on, end_event, is_current, links_differ, remove_aged, request_all, stays, with_age}
 use Rattle.events.specs.Events.{OwnPart, Rules}
 use Rattle.events.specs.Hellos.{accepts, hello_is_due, hello_on, names}
@@ -333,7 +333,7 @@ module _ (t : Telling) (id : ℕ) (news : (key : Key) (copy : Option DatabaseCop
     redistributed : (moment : ℕ) (e : External) (tag price : ℕ) (p : EventState) → t.of_key (external_key id e.prefix) → InProgress p → InProgress (after_redistribute moment e tag price p)
     redistributed moment e tag price p so h =
         let key : Key = external_key p.router.id e.prefix in
-        chosen InProgress (nat_le infinity price) (end_want moment key p) (announce_as moment key (answered e tag price) p)
+        chosen InProgress (nat_le ls_infinity price) (end_want moment key p) (announce_as moment key (answered e tag price) p)
         (λ is. want_ended moment key p h) (λ is. announced_told moment key (answered e tag price) p (h.same, subst (λ (i : ℕ). t.of_key (external_key i e.prefix)) (sym h.same) so) h)
 
     withdrawn : (moment : ℕ) (prefix : Network) (p : EventState) → InProgress p → InProgress (after_withdraw moment prefix p)

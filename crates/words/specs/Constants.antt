@@ -1,0 +1,58 @@
+-- The constants of OSPF by their names in RFC 2328, appendix B, and beside them this project's own limits.
+use Rattle.std.specs.Prelude.{ℕ, ◌^◌, ℤ, pos, negsuc}
+
+-- MaxAge: at this age an LSA is no longer used, in seconds
+abbrev pub max_age : ℕ
+max_age = 3600
+
+-- MaxAgeDiff: ages that differ by more are of different instances, in seconds
+abbrev pub max_age_diff : ℕ
+max_age_diff = 900
+
+-- LSRefreshTime: an own LSA of this age is originated again, in seconds
+abbrev pub ls_refresh_time : ℕ
+ls_refresh_time = 1800
+
+-- MinLSInterval: the least time between two own instances of one LSA, in seconds
+abbrev pub min_ls_interval : ℕ
+min_ls_interval = 5
+
+-- LSInfinity: a metric of this or more announces nothing
+abbrev pub ls_infinity : ℕ
+ls_infinity = 0xffffff
+
+-- InitialSequenceNumber, 0x80000001 read as a signed number
+abbrev pub initial_sequence_number : ℤ
+initial_sequence_number = negsuc 2147483646
+
+-- MaxSequenceNumber, 0x7fffffff
+abbrev pub max_sequence_number : ℤ
+max_sequence_number = pos 2147483647
+
+-- a packet has at most so many bytes (own); the MTU that Descriptions tell
+abbrev pub largest_packet : ℕ
+largest_packet = 8192
+
+-- one Description has room for so many headers
+abbrev pub most_headers_described : ℕ
+most_headers_described = 408
+
+-- one Request has room for so many keys
+abbrev pub most_keys_requested : ℕ
+most_keys_requested = 680
+
+-- the database has at most so many LSAs (own)
+abbrev pub most_lsas : ℕ
+most_lsas = 16384
+
+-- so many of them at most are own AS-external-LSAs (own)
+abbrev pub most_own_externals : ℕ
+most_own_externals = 4096
+
+-- a router has at most so many interfaces (own)
+abbrev pub most_interfaces : ℕ
+most_interfaces = 63
+
+-- moments are below this (own)
+abbrev pub clock_end : ℕ
+clock_end = 2 ^ 62
