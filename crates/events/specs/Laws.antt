@@ -1,11 +1,13 @@
 -- Laws of events.
-use Rattle.std.specs.Prelude.{◌≡◌, ℕ, List}
+use Rattle.std.specs.Prelude.{◌≡◌, ℕ, true, List, None}
 use Rattle.words.specs.declared.route.Route.{Route}
-use Rattle.received.specs.Links.{Area}
+use Rattle.received.specs.Cases.{Case}
+use Rattle.received.specs.Updates.{goes_on}
 use Rattle.events.specs.declared.model.Out.{Out}
 use Rattle.events.specs.Commands.{after_install}
 use Rattle.events.specs.Events.{HappensBy, Rules}
 use Rattle.events.specs.EventState.{EventState}
+use Rattle.events.specs.Packets.{after_unread, case_in}
 use Rattle.events.specs.Routers.{Occurrence, Router}
 
 -- an event has one outcome: nothing is left to choose
@@ -17,3 +19,9 @@ EventsAreDetermined = (rules : Rules) (old : Router) (moment : ℕ) (event : Occ
 abbrev pub AnswersLeaveTheArea : Type 0
 AnswersLeaveTheArea = (answers : List (Route × ℕ)) (before : EventState)
     → ((after_install answers before).router.area ≡ before.router.area) × ((after_install answers before).sends ≡ before.sends)
+
+-- bytes of an Update that are no LSA are skipped, and the LSAs behind them are taken
+abbrev pub WhatIsNoLsaIsSkipped : Type 0
+WhatIsNoLsaIsSkipped = (moment number : ℕ) (before : EventState)
+    → (case_in moment number None before ≡ Case.Unreadable)
+    × (after_unread moment number None before ≡ before) × (goes_on Case.Unreadable ≡ true)

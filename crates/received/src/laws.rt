@@ -1,6 +1,7 @@
 //! Laws of flooding, each carried by a function with an empty body.
 ghost use Rattle.received.specs.Laws.{ExactlyOneCaseApplies, FloodingReplacesOlderInstances};
 ghost use Rattle.received.specs.Worked.{WorkedCases};
+ghost use Rattle.received.specs.WorkedTable.{WorkedTable};
 
 /// After an LSA was flooded, the only instance of its key on the retransmission list of a neighbor in Exchange or later is the LSA
 /// itself, and exactly where the neighbor got it: no older one stays (RFC 2328, sections 13 and 13.3).
@@ -16,4 +17,10 @@ pub fn exactly_one_case_applies()
 /// An LSA at MaxAge without a copy: acknowledged alone where all neighbors are Full, installed where one is in Loading.
 pub fn worked_cases()
     ensures { WorkedCases }
+{}
+
+/// The table of received LSAs, row by row, on instances of one LSA: newer than a copy of this second, newer, asked for, an implied
+/// acknowledgment, a duplicate, and a newer copy that wraps, was just sent or is sent back (RFC 2328, section 13).
+pub fn the_table_of_received_lsas()
+    ensures { WorkedTable }
 {}

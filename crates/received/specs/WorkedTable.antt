@@ -1,0 +1,66 @@
+-- The table of received LSAs, row by row, on instances of one LSA: what comes in has sequence number 5
+-- and age 10 at moment 100.
+use Rattle.std.specs.Prelude.{◌≡◌, ℤ, pos, Bool, true, false, Option, Some}
+use Rattle.words.specs.Constants.{max_age, max_sequence_number}
+use Rattle.words.specs.Numbers.{Moment, Seconds}
+use Rattle.lsa.specs.declared.body.Body.{Body}
+use Rattle.lsdb.specs.Copies.{DatabaseCopy}
+use Rattle.lsdb.specs.Headers.{Lsa}
+use Rattle.adjacency.specs.Neighbors.{Neighbor}
+use Rattle.received.specs.Cases.{Case, case_of_readable, is_on_senders_list, was_requested}
+
+-- an AS-external-LSA of 9.9.9.9 for 203.0.113.0
+abbrev pub external_lsa : Body → ℤ → Seconds → Lsa
+external_lsa says sequence age = record {
+  header = record {
+    age = age;
+    options = 2;
+    ls_type = 5;
+    link_state_id = 0xcb007100;
+    advertising_router = 0x09090909;
+    sequence = sequence;
+    checksum = 0x5429;
+    length = 36;
+  };
+  body = says;
+}
+
+-- a copy of it that flooding installed and that was sent at these moments, with its age at moment 90
+abbrev pub copy_of_it : Body → ℤ → Seconds → Moment → Moment → Option DatabaseCopy
+copy_of_it says sequence age installed sent =
+    Some (record { lsa = external_lsa says sequence age; stored = 90; installed = Some installed; sent = Some sent })
+
+-- what comes in
+abbrev pub arrival : Body → Lsa
+arrival says = external_lsa says (pos 5) 10
+
+-- whether the sender was asked for it, and whether it has still to acknowledge this instance
+pub record IsSender (says : Body) (from : Option Neighbor) (asked listed : Bool) : Type 0 where
+  pub is_asked : was_requested from (arrival says) ≡ asked
+  pub is_listed : is_on_senders_list 100 from (arrival says) ≡ listed
+
+-- the case of what comes in at moment 100 from a sender, while nobody is in Exchange or Loading or somebody is
+abbrev pub comes_in : Body → Option DatabaseCopy → Option Neighbor → Bool → Case
+comes_in says copy from synchronizing = case_of_readable 100 copy from synchronizing (arrival says)
+
+pub record WorkedTable : Type 0 where
+  -- newer than a copy that was installed in this second, and than one installed ten seconds ago
+  pub too_soon : (b : Body) (from : Option Neighbor) (s : Bool)
+      → comes_in b (copy_of_it b (pos 4) 0 100 90) from s ≡ Case.TooSoon
+  pub newer : (b : Body) (from : Option Neighbor) (s : Bool)
+      → comes_in b (copy_of_it b (pos 4) 0 90 90) from s ≡ Case.Newer
+  -- not newer, and yet asked for
+  pub bad_request : (b : Body) (from : Option Neighbor) (s listed : Bool) → IsSender b from true listed
+      → comes_in b (copy_of_it b (pos 5) 0 90 90) from s ≡ Case.BadRequest
+  -- the same instance, which the sender has to acknowledge or hasn't
+  pub implied : (b : Body) (from : Option Neighbor) (s : Bool) → IsSender b from false true
+      → comes_in b (copy_of_it b (pos 5) 0 90 90) from s ≡ Case.ImpliedAcknowledgment
+  pub duplicate : (b : Body) (from : Option Neighbor) (s : Bool) → IsSender b from false false
+      → comes_in b (copy_of_it b (pos 5) 0 90 90) from s ≡ Case.Duplicate
+  -- the copy is newer: about to be flushed after its last number; sent in this second; neither
+  pub wraps : (b : Body) (from : Option Neighbor) (s listed : Bool) → IsSender b from false listed
+      → comes_in b (copy_of_it b max_sequence_number max_age 90 100) from s ≡ Case.SequenceWraps
+  pub just_sent : (b : Body) (from : Option Neighbor) (s listed : Bool) → IsSender b from false listed
+      → comes_in b (copy_of_it b (pos 6) 0 90 100) from s ≡ Case.SentJustNow
+  pub older : (b : Body) (from : Option Neighbor) (s listed : Bool) → IsSender b from false listed
+      → comes_in b (copy_of_it b (pos 6) 0 90 90) from s ≡ Case.Older
