@@ -1,0 +1,26 @@
+-- Registers that are known to hold numbers.
+use Rattle.std.specs.Prelude.{ℕ, ◌<◌, List, slice_index_or}
+use Rattle.isa.specs.declared.instruction.Source.{Source}
+use Rattle.isa.specs.declared.instruction.Source.TheVariants as sources
+use Rattle.kinds.specs.declared.state.Kind.{Kind}
+use Rattle.kinds.specs.declared.state.Kind.TheVariants as kinds
+use Rattle.kinds.specs.declared.state.State.{State}
+
+-- the kind is one of numbers
+abbrev pub IsNumber : {D : Type 0} → Kind D → Type 0
+IsNumber (kinds.Number value) = Unit {0}
+IsNumber other = ⊥
+
+-- what is known of the register in a list of kinds
+abbrev pub kind_in : {D : Type 0} → List (Kind D) → ℕ → Kind D
+kind_in known r = slice_index_or known r kinds.Empty
+
+-- the register is one of r0 to r9 and is known to hold a number
+pub record IsFilled {D : Type 0} (state : State D) (r : ℕ) : Type 0 where
+  pub low : r < 10
+  pub number : IsNumber (kind_in state.kinds.items r)
+
+-- the operand is known to be a number
+abbrev pub IsFilledOperand : {D : Type 0} → State D → Source → Type 0
+IsFilledOperand state (sources.Immediate number) = Unit {0}
+IsFilledOperand state (sources.Register r) = IsFilled state r
