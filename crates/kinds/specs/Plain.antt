@@ -1,7 +1,8 @@
 -- Registers that are known to hold numbers.
 use Rattle.std.specs.Prelude.{ℕ, ◌<◌, List, slice_index_or}
+use Rattle.std.specs.List.{AllByRecursion}
 use Rattle.isa.specs.declared.instruction.Source.{Source}
-use Rattle.isa.specs.declared.instruction.Source.TheVariants as sources
+use Rattle.isa.specs.Flow.{source_registers}
 use Rattle.kinds.specs.declared.state.Kind.{Kind}
 use Rattle.kinds.specs.declared.state.Kind.TheVariants as kinds
 use Rattle.kinds.specs.declared.state.State.{State}
@@ -20,7 +21,6 @@ pub record IsFilled {D : Type 0} (state : State D) (r : ℕ) : Type 0 where
   pub low : r < 10
   pub number : IsNumber (kind_in state.kinds.items r)
 
--- the operand is known to be a number
+-- the operand is known to be a number: the register, if it is one, is
 abbrev pub IsFilledOperand : {D : Type 0} → State D → Source → Type 0
-IsFilledOperand state (sources.Immediate number) = Unit {0}
-IsFilledOperand state (sources.Register r) = IsFilled state r
+IsFilledOperand state source = AllByRecursion (IsFilled state) (source_registers source)

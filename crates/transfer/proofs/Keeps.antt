@@ -1,15 +1,19 @@
 -- Registers that are known to hold numbers, and go on to.
-use Rattle.std.proofs.Common.{◌≡◌, ◌≢◌, ℕ, ◌<◌, ◌≤◌, List, length, get_or, refl, sym, subst, ◌∙◌, arith, ⊎_elim}
+use Rattle.std.proofs.Common.{◌≡◌, ◌≢◌, ℕ, ◌<◌, ◌≤◌, List, ◌∷◌, length, get_or, Option, Some, refl, sym, subst, ◌∙◌, arith, ⊎_elim}
 use Rattle.std.specs.Prelude.{slice_set}
 use Rattle.std.proofs.Math.ListN.{get_or-eq_default}
 use Rattle.std.proofs.lemmas.List.{get_or-set_same, get_or-set_other, length-set}
 use Rattle.std.proofs.lemmas.Bool.{cases_lt}
 use Rattle.isa.specs.declared.instruction.Instruction.{Instruction}
+use Rattle.isa.specs.declared.instruction.Operation.{Operation}
+use Rattle.isa.specs.declared.instruction.Operation.TheVariants as operations
+use Rattle.isa.specs.declared.instruction.Source.{Source}
 use Rattle.kinds.specs.declared.state.Kind.{Kind}
 use Rattle.kinds.specs.declared.state.Kind.TheVariants.{Empty}
 use Rattle.kinds.specs.declared.state.State.{State}
 use Rattle.kinds.specs.Plain.{IsNumber, IsFilled}
-use Rattle.transfer.specs.Plain.{WritesRegister, FillsNumber, KeepsFilled}
+use Rattle.isa.specs.Flow.{register_written, operation_registers, source_registers}
+use Rattle.transfer.specs.Plain.{FillsNumber, KeepsFilled}
 
 -- where a number is put, numbers stay numbers
 pub number_set : {D : Type 0} (xs : List (Kind D)) (i : ℕ) (kind : Kind D) → IsNumber kind → (r : ℕ) → IsNumber (get_or xs r Empty)
@@ -38,14 +42,35 @@ filled_set state after i kind new is r filled = record {
   number = rw is (number_set state.kinds.items i kind new r filled.number);
 }
 
+same_register : (written : Option ℕ) (a b : ℕ) → written ≡ Some a → written ≡ Some b → a ≡ b
+same_register written a b e f = cc
+
 -- an instruction that fills its target with a number keeps all numbers
-pub keeps : {D : Type 0} (instruction : Instruction) (state after : State D) (target : ℕ) → ((r : ℕ) → WritesRegister instruction r → r ≡ target)
+pub keeps : {D : Type 0} (instruction : Instruction) (state after : State D) (target : ℕ) → register_written instruction ≡ Some target
     → FillsNumber state target after → length state.kinds.items ≡ 10 → KeepsFilled instruction state after
-keeps instruction state after target only fills ten =
+keeps instruction state after target names fills ten =
     let within : target < length state.kinds.items = omega (arith, fills.low, ten) in
     let here : IsNumber (get_or after.kinds.items target Empty) = rw (fills.items, get_or-set_same state.kinds.items target fills.kind Empty within) fills.number in
     record {
       ten = rw fills.items (length-set state.kinds.items target fills.kind ∙ ten);
-      written = λ r writes. let same : r ≡ target = only r writes in subst (λ k. IsFilled after k) (sym same) (record { low = fills.low; number = here });
+      written = λ r writes. let same : target ≡ r = same_register (register_written instruction) target r names writes in subst (λ k. IsFilled after k) same (record { low = fills.low; number = here });
       others = λ r filled. filled_set state after target fills.kind fills.number fills.items r filled;
     }
+
+-- every operation but MOV reads its target too
+pub reads_both : (operation : Operation) (target : ℕ) (source : Source) → (operation ≡ operations.Move → ⊥)
+    → operation_registers operation target source ≡ target ∷ source_registers source
+reads_both operations.Move target source other = absurd (other refl)
+reads_both operations.Add target source other = refl
+reads_both operations.Subtract target source other = refl
+reads_both operations.Multiply target source other = refl
+reads_both operations.Divide target source other = refl
+reads_both operations.SignedDivide target source other = refl
+reads_both operations.Or target source other = refl
+reads_both operations.And target source other = refl
+reads_both operations.ShiftLeft target source other = refl
+reads_both operations.ShiftRight target source other = refl
+reads_both operations.Modulo target source other = refl
+reads_both operations.SignedModulo target source other = refl
+reads_both operations.Xor target source other = refl
+reads_both operations.ArithmeticShiftRight target source other = refl
