@@ -10,18 +10,21 @@ use Rattle.lsa.specs.declared.body.Body.TheVariants as body
 use Rattle.lsa.specs.declared.body.Link.{Link}
 use Rattle.lsa.specs.declared.body.LinkKind.{LinkKind}
 use Rattle.lsa.specs.declared.body.LinkKind.TheVariants.{PointToPoint, Stub, Transit, Virtual}
-use Rattle.lsdb.specs.Copies.{Database}
-use Rattle.routes.specs.Candidates.{AreCandidates, IsBefore, IsBest, IsCandidate, IsNoLater, Offers}
-use Rattle.routes.specs.Candidates.IsNoLater.{ByTag}
-use Rattle.routes.specs.Links.{Leads, Node}
-use Rattle.routes.specs.Links.Node.{ANetwork, ARouter}
-use Rattle.routes.specs.Offers.{Attaches, IsNoWorse, IsPrefix, Offer, OffersWithin, intra}
-use Rattle.routes.specs.Offers.IsNoWorse.{ByDistance}
+use Rattle.routes.specs.Candidates.{AreCandidates, IsBest, IsCandidate, Offers}
+use Rattle.routes.specs.Routes.IsNoLater.{ByTag}
+use Rattle.routes.specs.Links.{Leads}
+use Rattle.routes.specs.declared.node.Node.{Node}
+use Rattle.routes.specs.declared.node.Node.TheVariants.{ANetwork, ARouter}
+use Rattle.routes.specs.Offers.{Attaches, IsPrefix, OffersWithin, intra}
+use Rattle.routes.specs.declared.offer.Offer.{Offer}
+use Rattle.routes.specs.Routes.IsNoWorse.{ByDistance}
 use Rattle.routes.specs.Paths.{IsWay, Way}
 use Rattle.route_laws.specs.Worked.{Entries, database}
 use Rattle.routes.specs.declared.root.Root.{Root}
 use Rattle.routes.proofs.Determined.{one_candidate, one_way}
-use Rattle.route_laws.proofs.Entries.{all_pass, has_link, is_no_network, kept, links_of, said, sayings}
+use Rattle.route_laws.proofs.Entries.{all_pass, has_link, is_no_network, kept, links_of, is_said, sayings}
+use Rattle.routes.specs.Said.{Said, said_at}
+use Rattle.routes.specs.Routes.{IsBefore, IsBestAmong, IsNoLater, IsNoWorse, IsRouteAmong}
 
 -- ---- candidates
 
@@ -32,12 +35,15 @@ pub no_worse_itself : (o : Offer) → IsNoWorse o o
 no_worse_itself o = ByDistance refl refl (omega arith)
 
 -- another offer of its prefix is the same one, or is worse
-abbrev pub IsAlone : ℕ → Database → Root → Offer → Type 0
-IsAlone moment db root o = (other : Offer) → Offers moment db root other → other.prefix ≡ o.prefix → (other ≡ o) ⊎ (IsNoWorse o other × (IsNoWorse other o → ⊥))
+abbrev pub IsAloneAmong : (Offer → Type 0) → Offer → Type 0
+IsAloneAmong IsOffered o = (other : Offer) → IsOffered other → other.prefix ≡ o.prefix → (other ≡ o) ⊎ (IsNoWorse o other × (IsNoWorse other o → ⊥))
 
-pub alone : (moment : ℕ) (db : Database) (root : Root) (o : Offer) → Offers moment db root o → IsAlone moment db root o → IsCandidate moment db root (route_of o)
-alone moment db root o offered only =
-    let best : IsBest moment db root o.prefix o = record {
+abbrev pub IsAlone : Said → Root → Offer → Type 0
+IsAlone said root = IsAloneAmong (Offers said root)
+
+pub alone_among : (IsOffered : Offer → Type 0) (o : Offer) → IsOffered o → IsAloneAmong IsOffered o → IsRouteAmong IsOffered (route_of o)
+alone_among IsOffered o offered only =
+    let best : IsBestAmong IsOffered o.prefix o = record {
       offered = offered;
       is_for = refl;
       best = λ other offers for.
@@ -46,7 +52,7 @@ alone moment db root o offered only =
             | inr worse ↦ worse.0
           ];
     } in
-    let no_other : (other : Offer) → IsBest moment db root o.prefix other → other ≡ o = λ other is.
+    let no_other : (other : Offer) → IsBestAmong IsOffered o.prefix other → other ≡ o = λ other is.
     elim (only other is.offered is.is_for) [
       | inl e ↦ e
       | inr worse ↦ absurd (worse.1 (is.best o offered refl))
@@ -65,16 +71,19 @@ alone moment db root o offered only =
       );
     }
 
+pub alone : (said : Said) (root : Root) (o : Offer) → Offers said root o → IsAlone said root o → IsCandidate said root (route_of o)
+alone said root o offered only = alone_among (Offers said root) o offered only
+
 -- routes that are candidates, one for each prefix that is offered
-pub all_candidates : (moment : ℕ) (db : Database) (root : Root) (routes : List Route) → ((r : Route) → Contains routes r → IsCandidate moment db root r)
-    → ((o : Offer) → Offers moment db root o → (s : Route) × Contains routes s × (s.prefix ≡ o.prefix))
-    → AllPairs (λ (a : Route) (b : Route). IsBefore a.prefix b.prefix) routes → AreCandidates moment db root routes
-all_candidates moment db root routes sound offered ascending = record {
+pub all_candidates : (said : Said) (root : Root) (routes : List Route) → ((r : Route) → Contains routes r → IsCandidate said root r)
+    → ((o : Offer) → Offers said root o → (s : Route) × Contains routes s × (s.prefix ≡ o.prefix))
+    → AllPairs (λ (a : Route) (b : Route). IsBefore a.prefix b.prefix) routes → AreCandidates said root routes
+all_candidates said root routes sound offered ascending = record {
   each = λ r. (
     sound r,
     (λ k.
         let s = offered k.first k.is_best.offered in
-        let same : s.0 ≡ r = one_candidate moment db root s.0 r (sound s.0 s.1) k (s.2 ∙ k.is_best.is_for) in
+        let same : s.0 ≡ r = one_candidate said root s.0 r (sound s.0 s.1) k (s.2 ∙ k.is_best.is_for) in
         let P : Route → Type 0 = λ x. Contains routes x in
         subst P same s.1),
   );
@@ -126,9 +135,9 @@ abbrev pub is_stub : ℕ × Link → Bool
 is_stub x = kind_is_stub x.1.kind
 
 -- a stub link of a router whose way is known
-pub record StubOffer (moment : ℕ) (db : Database) (root : Root) (router : ℕ) (l : Link) (length : ℕ) (o : Offer) : Type 0 where
+pub record StubOffer (said : Said) (root : Root) (router : ℕ) (l : Link) (length : ℕ) (o : Offer) : Type 0 where
   pub way : Way
-  pub reached : IsWay (Leads moment db root) (ARouter root.router) (ARouter router) way
+  pub reached : IsWay (Leads said root) (ARouter root.router) (ARouter router) way
   pub within : length ≤ 32
   pub mask : l.link_data ≡ mask_of length
   pub hops : ℕ
@@ -139,18 +148,18 @@ pub record StubOffer (moment : ℕ) (db : Database) (root : Root) (router : ℕ)
 module _ (moment : ℕ) (es : Entries) (root : Root) (P : Offer → Type 0) where
   -- where each stub link has an offer of which P holds, P holds of all offers within the area
   abbrev pub Known : ℕ → Link → Type 0
-  Known router l = (length : ℕ) × (o : Offer) × StubOffer moment (database es) root router l length o × P o
+  Known router l = (length : ℕ) × (o : Offer) × StubOffer (said_at moment (database es)) root router l length o × P o
 
   by_node : list_all is_no_network (sayings es) ≡ true → ((router : ℕ) (l : Link) → Contains (filter is_stub (links_of (sayings es))) (router, l) → Known router l)
-      → (node : Node) (prefix : Network) (more : ℕ) → Attaches moment (database es) node prefix more → (way : Way) → IsWay (Leads moment (database es) root) (ARouter root.router) node way
+      → (node : Node) (prefix : Network) (more : ℕ) → Attaches (said_at moment (database es)) node prefix more → (way : Way) → IsWay (Leads (said_at moment (database es)) root) (ARouter root.router) node way
       → (hops : ℕ) → (node ≡ ARouter root.router → hops ≡ 1) → ((node ≡ ARouter root.router → ⊥) → hops ≡ way.hops) → P (intra prefix (way.distance + more) hops)
   by_node routers known (ANetwork id by) prefix more a way reached hops by_root by_others =
-      absurd (let e : false ≡ true = all_pass is_no_network (sayings es) routers (record { ls_type = 2; link_state_id = id; advertising_router = by }, body.Network a.0) (said moment es _ (body.Network a.0) a.1) in cc)
+      absurd (let e : false ≡ true = all_pass is_no_network (sayings es) routers (record { ls_type = 2; link_state_id = id; advertising_router = by }, body.Network a.0) (is_said moment es _ (body.Network a.0) a.1) in cc)
   by_node routers known (ARouter router) prefix more a way reached hops by_root by_others =
       let l : Link = a.0 in
       let k = known router l (kept is_stub (links_of (sayings es)) (router, l) (has_link moment es router l a.1) (ap kind_is_stub a.2)) in
       let p : record { address = network_address k.0 l.link_id; length = k.0 } ≡ prefix = one_prefix l.link_id l.link_data k.0 prefix k.2.within k.2.mask a.3 in
-      let w : k.2.way ≡ way = one_way (Leads moment (database es) root) (ARouter root.router) (ARouter router) k.2.way way k.2.reached reached in
+      let w : k.2.way ≡ way = one_way (Leads (said_at moment (database es)) root) (ARouter root.router) (ARouter router) k.2.way way k.2.reached reached in
       let m : l.metric ≡ more = sym a.4 in
       let h : k.2.hops ≡ hops =
       elim (cases_eq router root.router) [
@@ -161,6 +170,6 @@ module _ (moment : ℕ) (es : Entries) (root : Root) (P : Offer → Type 0) wher
       subst P same k.3
 
   pub each_within : list_all is_no_network (sayings es) ≡ true → ((router : ℕ) (l : Link) → Contains (filter is_stub (links_of (sayings es))) (router, l) → Known router l)
-      → (o : Offer) → OffersWithin moment (database es) root o → P o
+      → (o : Offer) → OffersWithin (said_at moment (database es)) root o → P o
   each_within routers known o x =
       subst P (sym x.is) (by_node routers known x.node x.prefix x.more x.attached x.way x.reached x.hops x.by_root x.by_others)

@@ -1,5 +1,5 @@
 -- What a database says that is given as a list of copies.
-use Rattle.std.proofs.Common.{◌≡◌, ℕ, inl, inr, Bool, true, false, cond, ◌&&◌, List, [], ◌∷◌, ◌++◌, map, filter, Some, arith, refl, sym, ◌∙◌, ap, subst}
+use Rattle.std.proofs.Common.{◌≡◌, ℕ, inl, inr, Bool, true, false, cond, ◌&&◌, List, [], ◌∷◌, ◌++◌, map, filter, Option, None, Some, arith, refl, sym, ◌∙◌, ap, subst}
 use Rattle.std.specs.Cmp.{Equal-is}
 use Rattle.std.specs.FinMap as finite
 use Rattle.std.specs.List.{Contains, list_all}
@@ -10,12 +10,13 @@ use Rattle.lsa.specs.declared.body.Body.{Body}
 use Rattle.lsa.specs.declared.body.Body.TheVariants as body
 use Rattle.lsa.specs.declared.body.Link.{Link}
 use Rattle.lsa.specs.declared.body.RouterLsa.{RouterLsa}
-use Rattle.lsdb.specs.Copies.{DatabaseCopy}
+use Rattle.lsdb.specs.Copies.{DatabaseCopy, is_aged_out}
 use Rattle.lsdb.specs.Keys.{key_cmp}
 use Rattle.lsdb.proofs.Keys.{keys_exact, keys_total}
 use Rattle.routes.specs.Links.{HasLink, Says}
 use Rattle.route_laws.specs.Worked.{Entries, database}
 use Rattle.routes.proofs.Lists.{first_is, later_is, of_cons, of_empty}
+use Rattle.routes.specs.Said.{said_at, said_by}
 
 -- ---- lists
 
@@ -73,8 +74,24 @@ Sayings = List (Key × Body)
 abbrev pub sayings : Entries → Sayings
 sayings es = map (λ (e : Key × DatabaseCopy). (e.0, e.1.lsa.body)) es
 
-pub said : (moment : ℕ) (es : Entries) (k : Key) (says : Body) → Says moment (database es) k says → Contains (sayings es) (k, says)
-said moment es k says s =
+-- the copy that says it
+pub record IsHeard (moment : ℕ) (o : Option DatabaseCopy) (says : Body) : Type 0 where
+  pub copy : DatabaseCopy
+  pub stands : o ≡ Some copy
+  pub young : is_aged_out moment copy ≡ false
+  pub is_body : copy.lsa.body ≡ says
+
+pub heard : (moment : ℕ) (o : Option DatabaseCopy) (says : Body) → said_by moment o ≡ Some says → IsHeard moment o says
+heard moment None says e = absurd (cc)
+heard moment (Some c) says e = by_age (is_aged_out moment c) refl e
+  where
+    by_age : (aged : Bool) → is_aged_out moment c ≡ aged → cond aged None (Some c.lsa.body) ≡ Some says → IsHeard moment (Some c) says
+    by_age true is f = absurd (cc)
+    by_age false is f = record { copy = c; stands = refl; young = is; is_body = cc }
+
+pub is_said : (moment : ℕ) (es : Entries) (k : Key) (says : Body) → Says (said_at moment (database es)) k says → Contains (sayings es) (k, says)
+is_said moment es k says e =
+    let s = heard moment (finite.get (database es) k) says e in
     let among : Contains es (k, s.copy) = found k es s.copy (sym (finite.get-from_entries keys_total es k) ∙ s.stands) in
     let P : Body → Type 0 = λ b. Contains (sayings es) (k, b) in
     subst P s.is_body (mapped (λ (e : Key × DatabaseCopy). (e.0, e.1.lsa.body)) es (k, s.copy) among)
@@ -100,8 +117,8 @@ linked (s ∷ ss) k r l t among =
       | inr later ↦ Contains-append_right (links_by s.0 s.1) (links_of ss) (k.link_state_id, l) (linked ss k r l later among)
     ]
 
-pub has_link : (moment : ℕ) (es : Entries) (router : ℕ) (l : Link) → HasLink moment (database es) router l → Contains (links_of (sayings es)) (router, l)
-has_link moment es router l h = linked (sayings es) (record { ls_type = 1; link_state_id = router; advertising_router = router }) h.lsa l (said moment es _ (body.Router h.lsa) h.its) h.among
+pub has_link : (moment : ℕ) (es : Entries) (router : ℕ) (l : Link) → HasLink (said_at moment (database es)) router l → Contains (links_of (sayings es)) (router, l)
+has_link moment es router l h = linked (sayings es) (record { ls_type = 1; link_state_id = router; advertising_router = router }) h.lsa l (is_said moment es _ (body.Router h.lsa) h.its) h.among
 
 -- no copy is a network-LSA
 abbrev pub is_no_network : Key × Body → Bool

@@ -1,5 +1,5 @@
 -- The worked external destinations: what each external LSA offers, if it offers anything, and the candidates.
-use Rattle.std.proofs.Common.{◌≡◌, ◌≢◌, ℕ, ◌<◌, ◌≤◌, ◌⊎◌, inl, inr, Bool, true, false, not, ◌&&◌, IsTrue, nat_eq, eq-eqb, List, [], ◌∷◌, ◌++◌, Some, arith, refl, sym, ◌∙◌, ap}
+use Rattle.std.proofs.Common.{◌≡◌, ◌≢◌, ℕ, ◌<◌, ◌≤◌, ◌⊎◌, inl, inr, Bool, true, false, not, ◌&&◌, IsTrue, nat_eq, eq-eqb, List, [], ◌∷◌, ◌++◌, None, Some, arith, refl, sym, ◌∙◌, ap, subst}
 use Rattle.std.specs.FinMap as finite
 use Rattle.std.specs.List.{AllByRecursion, AllPairs, Contains}
 use Rattle.words.specs.Interfaces.{has_interface}
@@ -10,32 +10,34 @@ use Rattle.words.specs.declared.route.Route.{Route}
 use Rattle.lsa.specs.declared.body.Body.{Body}
 use Rattle.lsa.specs.declared.body.Body.TheVariants as body
 use Rattle.lsa.specs.declared.body.ExternalLsa.{ExternalLsa}
-use Rattle.lsdb.specs.Copies.{Database, DatabaseCopy, is_aged_out}
 use Rattle.lsdb.proofs.Keys.{keys_total}
-use Rattle.routes.specs.Candidates.{IsBefore, IsCandidate, IsExternalWay, IsForwarded, Offers, external_offer}
-use Rattle.routes.specs.Candidates.IsBefore.{ByAddress}
+use Rattle.routes.specs.Candidates.{IsCandidate, IsExternalWay, Offers, external_offer}
+use Rattle.routes.specs.Routes.IsBefore.{ByAddress}
 use Rattle.routes.specs.Candidates.Offers.{External, Within}
 use Rattle.routes.specs.Links.{Leads, Says}
-use Rattle.routes.specs.Links.Node.{ARouter}
-use Rattle.routes.specs.Offers.{IsNoWorse, IsPrefix, MatchesWithin, Offer, OffersWithin, ReachesBoundaryRouter}
-use Rattle.routes.specs.Offers.IsNoWorse.{ByCost, ByKind}
+use Rattle.routes.specs.declared.node.Node.TheVariants.{ARouter}
+use Rattle.routes.specs.Offers.{IsPrefix, OffersWithin, ReachesBoundaryRouter}
+use Rattle.routes.specs.declared.offer.Offer.{Offer}
+use Rattle.routes.specs.Routes.IsNoWorse.{ByCost, ByKind}
 use Rattle.routes.specs.Paths.{Way}
 use Rattle.route_laws.specs.Worked.{Entries, database, dotted, far_links, key, mask_24, near_router, network_24, next_network, own_network, router_lsa}
 use Rattle.route_laws.specs.WorkedExternals.{WorkedExternals, announced, at_max_age, by_next_network, by_other, by_own_network, destinations, external, of_first_type, passed_over}
-use Rattle.route_laws.proofs.Alone.{IsAlone, all_candidates, alone, each_within, no_worse_itself, one_prefix}
+use Rattle.route_laws.proofs.Alone.{IsAlone, all_candidates, alone, alone_among, each_within, no_worse_itself, one_prefix, route_of}
 use Rattle.routes.proofs.Determined.{one_way}
-use Rattle.route_laws.proofs.Entries.{all_pass, said, sayings}
+use Rattle.route_laws.proofs.Entries.{all_pass, is_said, sayings}
 use Rattle.route_laws.proofs.Forwarding.{one_forward}
 use Rattle.route_laws.proofs.Labels.{AreChecked, not_both}
 use Rattle.route_laws.proofs.Made.{says}
 use Rattle.route_laws.proofs.Parts.{apart, in_front, nobody, one_below, one_of}
 use Rattle.route_laws.proofs.TwoRouters.{IsWithin, dearer, distance, far, far_is, far_says, far_way, hops, known, near, next_is_offered, next_offer, other_offer, own_is_offered, own_offer}
+use Rattle.routes.specs.Said.{Said, said_at, said_by}
+use Rattle.routes.specs.Routes.{IsBefore, IsForwarded, IsNoWorse, IsRouteAmong}
 
 abbrev others : Entries
 others = announced ++ passed_over
 
-abbrev db : Database
-db = database destinations
+abbrev said : Said
+said = said_at 0 (database destinations)
 
 labels : AreChecked near_router (sayings destinations) distance hops
 labels = record { start = refl; routers = refl; links = refl }
@@ -51,7 +53,7 @@ next_net = network_24 10 0 2
 abbrev nearby : List Offer
 nearby = own_offer ∷ other_offer ∷ next_offer ∷ []
 
-within : (o : Offer) → OffersWithin 0 db near_router o → Contains nearby o
+within : (o : Offer) → OffersWithin said near_router o → Contains nearby o
 within o x =
     elim (each_within 0 destinations near_router IsWithin refl (known others labels) o x) [
       | inl e ↦ (0, omega arith, e)
@@ -61,10 +63,10 @@ within o x =
       ]
     ]
 
-own_there : OffersWithin 0 db near_router own_offer
+own_there : OffersWithin said near_router own_offer
 own_there = own_is_offered others labels
 
-next_there : OffersWithin 0 db near_router next_offer
+next_there : OffersWithin said near_router next_offer
 next_there = next_is_offered others labels
 
 -- ---- forwarding addresses
@@ -75,60 +77,46 @@ next_way = record { distance = 15; hops = 2 }
 abbrev own_way : Way
 own_way = record { distance = 10; hops = 1 }
 
-next_matches : MatchesWithin 0 db near_router (dotted 10 0 2 9) next_offer
-next_matches = record {
-  offered = next_there;
-  under = refl;
-  best = λ o offered e.
-      one_of (λ (x : Offer). x.prefix ≡ next_net → IsNoWorse next_offer x) nearby
-      ((λ f. absurd (apart near_net next_net refl f)), ((λ f. absurd (apart near_net next_net refl f)), ((λ f. no_worse_itself next_offer), tt))) o (within o offered) e;
-}
+-- every offer within the area has such a prefix
+lengths : (r : Route) → IsRouteAmong (OffersWithin said near_router) r → r.prefix.length ≤ 24
+lengths r k =
+    let fits : k.first.prefix.length ≤ 24 = one_of (λ (x : Offer). x.prefix.length ≤ 24) nearby (omega arith, (omega arith, (omega arith, tt))) k.first (within k.first k.is_best.offered) in
+    let same : k.first.prefix.length ≡ r.prefix.length = ap (λ (n : Network). n.length) k.is_best.is_for in
+    omega (arith, fits, same)
 
-next_forwarded : IsForwarded 0 db near_router (dotted 10 0 2 9) next_way
+next_forwarded : IsForwarded (OffersWithin said near_router) (dotted 10 0 2 9) next_way
 next_forwarded = record {
-  by = next_offer;
-  matches = next_matches;
-  longest = λ o m. one_of (λ (x : Offer). x.prefix.length ≤ 24) nearby (omega arith, (omega arith, (omega arith, tt))) o (within o m.offered);
-  distance = refl;
-  hops = λ i. (
-    (λ t. (next_offer, next_matches, refl, t)),
-    (λ h.
-        one_of (λ (x : Offer). x.prefix ≡ next_net → IsTrue (has_interface x.hops i) → IsTrue (has_interface 2 i)) nearby
-        ((λ f t. absurd (apart near_net next_net refl f)), ((λ f t. absurd (apart near_net next_net refl f)), ((λ f t. t), tt))) h.0 (within h.0 h.1.offered) h.2 h.3),
-  );
-}
-
-own_matches : MatchesWithin 0 db near_router (dotted 10 0 1 9) own_offer
-own_matches = record {
-  offered = own_there;
+  by = route_of next_offer;
+  is_route =
+      alone_among (OffersWithin said near_router) next_offer next_there (λ o offered e.
+      one_of (λ (x : Offer). x.prefix ≡ next_net → (x ≡ next_offer) ⊎ (IsNoWorse next_offer x × (IsNoWorse x next_offer → ⊥))) nearby
+      ((λ f. absurd (apart near_net next_net refl f)), ((λ f. absurd (apart near_net next_net refl f)), ((λ f. inl refl), tt))) o (within o offered) e);
   under = refl;
-  best = λ o offered e.
-      one_of (λ (x : Offer). x.prefix ≡ near_net → IsNoWorse own_offer x) nearby
-      ((λ f. no_worse_itself own_offer), ((λ f. ByCost refl (omega arith)), ((λ f. absurd (apart next_net near_net refl f)), tt))) o (within o offered) e;
+  longest = λ r k u. lengths r k;
+  is = refl;
 }
 
-own_forwarded : IsForwarded 0 db near_router (dotted 10 0 1 9) own_way
+own_forwarded : IsForwarded (OffersWithin said near_router) (dotted 10 0 1 9) own_way
 own_forwarded = record {
-  by = own_offer;
-  matches = own_matches;
-  longest = λ o m. one_of (λ (x : Offer). x.prefix.length ≤ 24) nearby (omega arith, (omega arith, (omega arith, tt))) o (within o m.offered);
-  distance = refl;
-  hops = λ i. (
-    (λ t. (own_offer, own_matches, refl, t)),
-    (λ h.
-        one_of (λ (x : Offer). MatchesWithin 0 db near_router (dotted 10 0 1 9) x → x.prefix ≡ near_net → IsTrue (has_interface x.hops i) → IsTrue (has_interface 1 i)) nearby
-        ((λ m f t. t), ((λ m f t. absurd (dearer own_offer other_offer refl (omega arith) (m.best own_offer own_there refl))), ((λ m f t. absurd (apart next_net near_net refl f)), tt)))
-        h.0 (within h.0 h.1.offered) h.1 h.2 h.3),
-  );
+  by = route_of own_offer;
+  is_route =
+      alone_among (OffersWithin said near_router) own_offer own_there (λ o offered e.
+      one_of (λ (x : Offer). x.prefix ≡ near_net → (x ≡ own_offer) ⊎ (IsNoWorse own_offer x × (IsNoWorse x own_offer → ⊥))) nearby
+      ((λ f. inl refl), ((λ f. inr (ByCost refl (omega arith), dearer own_offer other_offer refl (omega arith))), ((λ f. absurd (apart next_net near_net refl f)), tt))) o (within o offered) e);
+  under = refl;
+  longest = λ r k u. lengths r k;
+  is = refl;
 }
 
 not_under : (n : Network) → not (nat_eq (network_address n.length (dotted 172 16 0 1)) n.address) ≡ true → IsUnder (dotted 172 16 0 1) n → ⊥
 not_under n other u = not_both (nat_eq (network_address n.length (dotted 172 16 0 1)) n.address) other (eq-eqb (network_address n.length (dotted 172 16 0 1)) n.address u)
 
-no_forward : (way : Way) → IsForwarded 0 db near_router (dotted 172 16 0 1) way → ⊥
+no_forward : (way : Way) → IsForwarded (OffersWithin said near_router) (dotted 172 16 0 1) way → ⊥
 no_forward way f =
+    let k = f.is_route in
+    let P : Network → Type 0 = λ n. IsUnder (dotted 172 16 0 1) n in
     one_of (λ (x : Offer). IsUnder (dotted 172 16 0 1) x.prefix → ⊥) nearby (not_under near_net refl, (not_under near_net refl, (not_under next_net refl, tt)))
-    f.by (within f.by f.matches.offered) f.matches.under
+    k.first (within k.first k.is_best.offered) (subst P (sym k.is_best.is_for) f.under)
 
 -- ---- what an external LSA offers
 
@@ -139,7 +127,7 @@ record Given (id originator : ℕ) (lsa : ExternalLsa) (o : Offer) : Type 0 wher
   prefix : Network
   is_prefix : IsPrefix id lsa.mask prefix
   way : Way
-  is_way : IsExternalWay 0 db near_router originator lsa way
+  is_way : IsExternalWay said near_router originator lsa way
   is : o ≡ external_offer lsa.kind prefix lsa originator way
 
 abbrev net_of : ℕ → Network
@@ -147,15 +135,15 @@ net_of id = record { address = network_address 24 id; length = 24 }
 
 direct_known : (id : ℕ) (lsa : ExternalLsa) → lsa.mask ≡ mask_24 → lsa.forwarding ≡ 0 → (o : Offer) → Given id far lsa o → external_offer lsa.kind (net_of id) lsa far far_way ≡ o
 direct_known id lsa mask none o g =
-    let boundary : far_way ≡ g.is_way.boundary = one_way (Leads 0 db near_router) (ARouter near) (ARouter far) far_way g.is_way.boundary (far_is others labels) g.is_way.reaches.reached in
+    let boundary : far_way ≡ g.is_way.boundary = one_way (Leads said near_router) (ARouter near) (ARouter far) far_way g.is_way.boundary (far_is others labels) g.is_way.reaches.reached in
     let w : far_way ≡ g.way = boundary ∙ sym (g.is_way.direct none) in
     let p : net_of id ≡ g.prefix = one_prefix id lsa.mask 24 g.prefix (omega arith) mask g.is_prefix in
     (λ i. external_offer lsa.kind (p i) lsa far (w i)) ∙ sym g.is
 
-forward_known : (id : ℕ) (lsa : ExternalLsa) (way : Way) → lsa.mask ≡ mask_24 → lsa.forwarding ≢ 0 → IsForwarded 0 db near_router lsa.forwarding way → (o : Offer) → Given id far lsa o
+forward_known : (id : ℕ) (lsa : ExternalLsa) (way : Way) → lsa.mask ≡ mask_24 → lsa.forwarding ≢ 0 → IsForwarded (OffersWithin said near_router) lsa.forwarding way → (o : Offer) → Given id far lsa o
     → external_offer lsa.kind (net_of id) lsa far way ≡ o
 forward_known id lsa way mask some is o g =
-    let w : way ≡ g.way = one_forward 0 db near_router lsa.forwarding way g.way is (g.is_way.forwarded some) in
+    let w : way ≡ g.way = one_forward (OffersWithin said near_router) lsa.forwarding way g.way is (g.is_way.forwarded some) in
     let p : net_of id ≡ g.prefix = one_prefix id lsa.mask 24 g.prefix (omega arith) mask g.is_prefix in
     (λ i. external_offer lsa.kind (p i) lsa far (w i)) ∙ sym g.is
 
@@ -191,7 +179,7 @@ offers = own_offer ∷ other_offer ∷ next_offer ∷ cheap_offer ∷ first_offe
 abbrev IsKnown : Key → Body → Type 0
 IsKnown k (body.Router r) = Unit {0}
 IsKnown k (body.Network n) = Unit {0}
-IsKnown k (body.External lsa) = Says 0 db k (body.External lsa) → (o : Offer) → Given k.link_state_id k.advertising_router lsa o → Contains offers o
+IsKnown k (body.External lsa) = Says said k (body.External lsa) → (o : Offer) → Given k.link_state_id k.advertising_router lsa o → Contains offers o
 
 -- ---- those that offer nothing
 
@@ -216,16 +204,14 @@ is_of_another s = not (nat_eq s.0.ls_type 1 && nat_eq s.0.link_state_id nobody_i
 by_nobody : IsKnown (key 5 (dotted 198 18 3 0) nobody_id) (body.External (external Type1 20 0 0))
 by_nobody s o g =
     let says_so = g.is_way.reaches.its in
-    absurd (let e : false ≡ true = all_pass is_of_another (sayings destinations) refl (key 1 nobody_id nobody_id, body.Router g.is_way.reaches.lsa) (said 0 destinations _ (body.Router g.is_way.reaches.lsa) says_so) in cc)
+    absurd (let e : false ≡ true = all_pass is_of_another (sayings destinations) refl (key 1 nobody_id nobody_id, body.Router g.is_way.reaches.lsa) (is_said 0 destinations _ (body.Router g.is_way.reaches.lsa) says_so) in cc)
 
-abbrev old_copy : DatabaseCopy
-old_copy = (at_max_age (by_other (dotted 198 18 4 0) (external Type1 20 0 0))).1
+abbrev old_lsa : ExternalLsa
+old_lsa = external Type1 20 0 0
 
-too_old : IsKnown (key 5 (dotted 198 18 4 0) far) (body.External (external Type1 20 0 0))
+too_old : IsKnown (key 5 (dotted 198 18 4 0) far) (body.External old_lsa)
 too_old s o g =
-    let there : Some old_copy ≡ Some s.copy = sym (finite.get-from_entries keys_total destinations (key 5 (dotted 198 18 4 0) far)) ∙ s.stands in
-    let same : old_copy ≡ s.copy = cc in
-    let e : true ≡ false = ap (λ c. is_aged_out 0 c) same ∙ s.young in
+    let e : None ≡ Some (body.External old_lsa) = sym (ap (said_by 0) (finite.get-from_entries keys_total destinations (key 5 (dotted 198 18 4 0) far))) ∙ s in
     absurd (cc)
 
 abbrev is_no_mask : ℕ → Bool
@@ -254,18 +240,18 @@ own_known s o g = (6, omega arith, forward_known (dotted 192 0 2 0) own_lsa own_
 all_known : AllByRecursion (λ (s : Key × Body). IsKnown s.0 s.1) (sayings destinations)
 all_known = (tt, (tt, (cheap_known, (first_known, (next_known, (own_known, (unforwarded, (unreachable, (by_itself, (by_nobody, (too_old, (unmasked, tt))))))))))))
 
-complete : (o : Offer) → Offers 0 db near_router o → Contains offers o
+complete : (o : Offer) → Offers said near_router o → Contains offers o
 complete o (Within x) = one_of (λ (y : Offer). Contains offers y) nearby ((0, omega arith, refl), ((1, omega arith, refl), ((2, omega arith, refl), tt))) o (within o x)
 complete o (External x) =
-    one_of (λ (s : Key × Body). IsKnown s.0 s.1) (sayings destinations) all_known (key 5 x.id x.originator, body.External x.lsa) (said 0 destinations _ (body.External x.lsa) x.its) x.its o
+    one_of (λ (s : Key × Body). IsKnown s.0 s.1) (sayings destinations) all_known (key 5 x.id x.originator, body.External x.lsa) (is_said 0 destinations _ (body.External x.lsa) x.its) x.its o
     (record { reachable = x.reachable; of_another = x.of_another; prefix = x.prefix; is_prefix = x.is_prefix; way = x.way; is_way = x.is_way; is = x.is })
 
 -- ---- the best ones are offered
 
-reaches_far : ReachesBoundaryRouter 0 db near_router far far_way
+reaches_far : ReachesBoundaryRouter said near_router far far_way
 reaches_far = record { lsa = router_lsa far_links; its = far_says others labels; has_e = refl; reached = far_is others labels }
 
-first_offered : Offers 0 db near_router first_offer
+first_offered : Offers said near_router first_offer
 first_offered = External (record {
   id = dotted 203 0 113 1;
   originator = far;
@@ -280,7 +266,7 @@ first_offered = External (record {
   is = refl;
 })
 
-by_next_offered : Offers 0 db near_router by_next_offer
+by_next_offered : Offers said near_router by_next_offer
 by_next_offered = External (record {
   id = dotted 198 51 100 0;
   originator = far;
@@ -295,7 +281,7 @@ by_next_offered = External (record {
   is = refl;
 })
 
-by_own_offered : Offers 0 db near_router by_own_offer
+by_own_offered : Offers said near_router by_own_offer
 by_own_offered = External (record {
   id = dotted 192 0 2 0;
   originator = far;
@@ -327,10 +313,10 @@ no_kind_before (ByKind p) = omega (arith, p)
 no_kind_before (ByCost p q) = omega (arith, p)
 no_kind_before (IsNoWorse.ByDistance p q r) = omega (arith, p)
 
-beaten : (c : Offer) → AllByRecursion (IsBeaten c) offers → IsAlone 0 db near_router c
+beaten : (c : Offer) → AllByRecursion (IsBeaten c) offers → IsAlone said near_router c
 beaten c all o offered e = one_of (IsBeaten c) offers all o (complete o offered) e
 
-own_alone : IsAlone 0 db near_router own_offer
+own_alone : IsAlone said near_router own_offer
 own_alone = beaten own_offer (
   itself own_offer,
   (
@@ -351,7 +337,7 @@ own_alone = beaten own_offer (
   ),
 )
 
-next_alone : IsAlone 0 db near_router next_offer
+next_alone : IsAlone said near_router next_offer
 next_alone = beaten next_offer (
   elsewhere next_offer own_offer refl,
   (
@@ -372,7 +358,7 @@ next_alone = beaten next_offer (
   ),
 )
 
-first_alone : IsAlone 0 db near_router first_offer
+first_alone : IsAlone said near_router first_offer
 first_alone = beaten first_offer (
   elsewhere first_offer own_offer refl,
   (
@@ -393,7 +379,7 @@ first_alone = beaten first_offer (
   ),
 )
 
-by_next_alone : IsAlone 0 db near_router by_next_offer
+by_next_alone : IsAlone said near_router by_next_offer
 by_next_alone = beaten by_next_offer (
   elsewhere by_next_offer own_offer refl,
   (
@@ -414,7 +400,7 @@ by_next_alone = beaten by_next_offer (
   ),
 )
 
-by_own_alone : IsAlone 0 db near_router by_own_offer
+by_own_alone : IsAlone said near_router by_own_offer
 by_own_alone = beaten by_own_offer (
   elsewhere by_own_offer own_offer refl,
   (
@@ -438,16 +424,16 @@ by_own_alone = beaten by_own_offer (
 abbrev routes : List Route
 routes = own_network ∷ next_network ∷ by_own_network ∷ by_next_network ∷ of_first_type ∷ []
 
-sound : AllByRecursion (λ (r : Route). IsCandidate 0 db near_router r) routes
+sound : AllByRecursion (λ (r : Route). IsCandidate said near_router r) routes
 sound = (
-  alone 0 db near_router own_offer (Within own_there) own_alone,
+  alone said near_router own_offer (Within own_there) own_alone,
   (
-    alone 0 db near_router next_offer (Within next_there) next_alone,
+    alone said near_router next_offer (Within next_there) next_alone,
     (
-      alone 0 db near_router by_own_offer by_own_offered by_own_alone,
+      alone said near_router by_own_offer by_own_offered by_own_alone,
       (
-        alone 0 db near_router by_next_offer by_next_offered by_next_alone,
-        (alone 0 db near_router first_offer first_offered first_alone, tt),
+        alone said near_router by_next_offer by_next_offered by_next_alone,
+        (alone said near_router first_offer first_offered first_alone, tt),
       ),
     ),
   ),
@@ -490,5 +476,5 @@ ascending =
 
 pub worked : WorkedExternals
 worked =
-    all_candidates 0 db near_router routes (λ r t. one_of (λ (x : Route). IsCandidate 0 db near_router x) routes sound r t)
+    all_candidates said near_router routes (λ r t. one_of (λ (x : Route). IsCandidate said near_router x) routes sound r t)
     (λ o offered. one_of HasRoute offers covered o (complete o offered)) ascending

@@ -8,13 +8,15 @@ use Rattle.lsa.specs.declared.body.Body.TheVariants as body
 use Rattle.lsa.specs.declared.body.Link.{Link}
 use Rattle.lsa.specs.declared.body.LinkKind.{LinkKind}
 use Rattle.lsa.specs.declared.body.LinkKind.TheVariants.{PointToPoint, Stub, Transit, Virtual}
-use Rattle.routes.specs.Links.{Counts, Leads, LeadsTo, ListsRouter, Node}
-use Rattle.routes.specs.Links.Node.{ANetwork, ARouter}
+use Rattle.routes.specs.Links.{Counts, Leads, LeadsTo, ListsRouter}
+use Rattle.routes.specs.declared.node.Node.{Node}
+use Rattle.routes.specs.declared.node.Node.TheVariants.{ANetwork, ARouter}
 use Rattle.routes.specs.Paths.{IsLeastWalk, IsWalk, IsWay, Step, price_of}
 use Rattle.route_laws.specs.Worked.{Entries, database}
 use Rattle.routes.specs.declared.root.Root.{Root}
 use Rattle.routes.proofs.Determined.{bit_of_member, is_member}
-use Rattle.route_laws.proofs.Entries.{Sayings, all_pass, both_true, has_link, is_no_network, links_of, said, sayings}
+use Rattle.route_laws.proofs.Entries.{Sayings, all_pass, both_true, has_link, is_no_network, links_of, is_said, sayings}
+use Rattle.routes.specs.Said.{said_at}
 
 -- ---- labels over any links
 
@@ -127,12 +129,12 @@ record Facts (root : Root) (distance hops : ℕ → ℕ) (v w : Node) (price exi
   exits : v ≡ ARouter root.router → at_node distance w ≡ at_node distance v + price → IsTrue (has_interface (at_node hops w) exit)
 
 module _ (root : Root) (moment : ℕ) (es : Entries) (distance hops : ℕ → ℕ) (are : AreChecked root (sayings es) distance hops) where
-  no_network : (id by router : ℕ) → ListsRouter moment (database es) id by router → ⊥
+  no_network : (id by router : ℕ) → ListsRouter (said_at moment (database es)) id by router → ⊥
   no_network id by router l =
-      let e : false ≡ true = all_pass is_no_network (sayings es) are.routers (record { ls_type = 2; link_state_id = id; advertising_router = by }, body.Network l.lsa) (said moment es _ (body.Network l.lsa) l.its) in
+      let e : false ≡ true = all_pass is_no_network (sayings es) are.routers (record { ls_type = 2; link_state_id = id; advertising_router = by }, body.Network l.lsa) (is_said moment es _ (body.Network l.lsa) l.its) in
       cc
 
-  fits_it : (router : ℕ) (c : ℕ) (price exit : ℕ) (k : Counts moment (database es) root router PointToPoint c price exit) → fits_link root distance hops router k.link ≡ true
+  fits_it : (router : ℕ) (c : ℕ) (price exit : ℕ) (k : Counts (said_at moment (database es)) root router PointToPoint c price exit) → fits_link root distance hops router k.link ≡ true
   fits_it router c price exit k =
       let e : fits root distance hops (router, k.link) ≡ true = all_pass (fits root distance hops) (links_of (sayings es)) are.links (router, k.link) (has_link moment es router k.link k.its) in
       elim (either_true (not (is_point k.link.kind)) (fits_link root distance hops router k.link) e) [
@@ -140,7 +142,7 @@ module _ (root : Root) (moment : ℕ) (es : Entries) (distance hops : ℕ → �
         | inr f ↦ f
       ]
 
-  link_facts : (router c price exit : ℕ) (k : Counts moment (database es) root router PointToPoint c price exit) → fits_link root distance hops router k.link ≡ true → Facts root distance hops (ARouter router) (ARouter k.link.link_id) k.link.metric exit
+  link_facts : (router c price exit : ℕ) (k : Counts (said_at moment (database es)) root router PointToPoint c price exit) → fits_link root distance hops router k.link ≡ true → Facts root distance hops (ARouter router) (ARouter k.link.link_id) k.link.metric exit
   link_facts router c price exit k e =
       let l : Link = k.link in
       elim (either_true (nat_lt (distance l.link_id) (distance router + l.metric)) (nat_eq (distance l.link_id) (distance router + l.metric) && carries_on root hops router l) e) [
@@ -167,7 +169,7 @@ module _ (root : Root) (moment : ℕ) (es : Entries) (distance hops : ℕ → �
             }
       ]
 
-  facts : (v w : Node) (price exit : ℕ) → LeadsTo moment (database es) root v w price exit → Facts root distance hops v w price exit
+  facts : (v w : Node) (price exit : ℕ) → LeadsTo (said_at moment (database es)) root v w price exit → Facts root distance hops v w price exit
   facts (ARouter a) (ARouter b) price exit l =
       let k = l.0 in
       let P : ℕ → Type 0 = λ id. Facts root distance hops (ARouter a) (ARouter id) price exit in
@@ -177,7 +179,7 @@ module _ (root : Root) (moment : ℕ) (es : Entries) (distance hops : ℕ → �
   facts (ANetwork id by) (ARouter b) price exit l = absurd (no_network id by b l.0)
   facts (ANetwork id by) (ANetwork other its) price exit l = absurd l
 
-  pub checked : AreLabels (Leads moment (database es) root) (ARouter root.router) (at_node distance) (at_node hops)
+  pub checked : AreLabels (Leads (said_at moment (database es)) root) (ARouter root.router) (at_node distance) (at_node hops)
   checked = record {
     start = are.start;
     low = λ v s l. (facts v s.target s.price s.exit l).low;

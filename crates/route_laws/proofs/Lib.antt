@@ -6,6 +6,7 @@ mod Forwarding
 mod Entries
 mod Labels
 mod Alone
+mod TwoOffers
 mod Made
 mod Square
 mod TwoRouters

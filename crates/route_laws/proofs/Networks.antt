@@ -13,18 +13,20 @@ use Rattle.lsa.specs.declared.body.Link.{Link}
 use Rattle.lsa.specs.declared.body.LinkKind.{LinkKind}
 use Rattle.lsa.specs.declared.body.LinkKind.TheVariants.{PointToPoint, Stub, Transit, Virtual}
 use Rattle.lsa.specs.declared.body.NetworkLsa.{NetworkLsa}
-use Rattle.lsdb.specs.Copies.{Database}
-use Rattle.routes.specs.Links.{Counts, Leads, LeadsTo, ListsRouter, Node}
-use Rattle.routes.specs.Links.Node.{ANetwork, ARouter}
-use Rattle.routes.specs.Offers.{Attaches, Offer, OffersWithin, intra}
+use Rattle.routes.specs.Links.{Counts, Leads, LeadsTo, ListsRouter}
+use Rattle.routes.specs.declared.node.Node.{Node}
+use Rattle.routes.specs.declared.node.Node.TheVariants.{ANetwork, ARouter}
+use Rattle.routes.specs.Offers.{Attaches, OffersWithin, intra}
+use Rattle.routes.specs.declared.offer.Offer.{Offer}
 use Rattle.routes.specs.Paths.{IsWalk, IsWay, Step, Way}
 use Rattle.route_laws.specs.Worked.{Entries, database}
 use Rattle.routes.specs.declared.root.Root.{Root}
 use Rattle.route_laws.proofs.Alone.{StubOffer, is_stub, kind_is_stub, one_prefix}
 use Rattle.routes.proofs.Determined.{one_way}
-use Rattle.route_laws.proofs.Entries.{Sayings, all_pass, both_true, has_link, kept, links_of, mapped, said, sayings}
+use Rattle.route_laws.proofs.Entries.{Sayings, all_pass, both_true, has_link, kept, links_of, mapped, is_said, sayings}
 use Rattle.route_laws.proofs.Labels.{AreLabels, either_true, exit_of, exits_in, is_point, not_both, subset}
 use Rattle.routes.proofs.Lists.{of_cons, of_empty}
+use Rattle.routes.specs.Said.{Said, said_at}
 
 -- ---- the routers that the network-LSAs list, by network
 
@@ -51,8 +53,8 @@ member (s ∷ ss) k n router t among =
       | inr later ↦ Contains-append_right (listed_by s.0 s.1) (members_of ss) m (member ss k n router later among)
     ]
 
-pub has_member : (moment : ℕ) (es : Entries) (id by router : ℕ) → ListsRouter moment (database es) id by router → Contains (members_of (sayings es)) ((id, by), router)
-has_member moment es id by router l = member (sayings es) (record { ls_type = 2; link_state_id = id; advertising_router = by }) l.lsa router (said moment es _ (body.Network l.lsa) l.its) l.among
+pub has_member : (moment : ℕ) (es : Entries) (id by router : ℕ) → ListsRouter (said_at moment (database es)) id by router → Contains (members_of (sayings es)) ((id, by), router)
+has_member moment es id by router l = member (sayings es) (record { ls_type = 2; link_state_id = id; advertising_router = by }) l.lsa router (is_said moment es _ (body.Network l.lsa) l.its) l.among
 
 -- ---- labels
 
@@ -120,7 +122,7 @@ record Edge (dv hv price dw hw : ℕ) (AtRoot : Type 0) (exit : ℕ) : Type 0 wh
   exits : AtRoot → dw ≡ dv + price → IsTrue (has_interface hw exit)
 
 module _ (root : Root) (moment : ℕ) (es : Entries) (dr hr : ℕ → ℕ) (dn hn : ℕ → ℕ → ℕ) (are : AreRising root (sayings es) dr hr dn hn) where
-  by_link : (router price exit dw hw : ℕ) (kind : LinkKind) (id : ℕ) (k : Counts moment (database es) root router kind id price exit)
+  by_link : (router price exit dw hw : ℕ) (kind : LinkKind) (id : ℕ) (k : Counts (said_at moment (database es)) root router kind id price exit)
       → rises (dr router) (hr router) k.link.metric dw hw (leaves_by root router k.link hw) ≡ true
       → Edge (dr router) (hr router) price dw hw (ARouter router ≡ ARouter root.router) exit
   by_link router price exit dw hw kind id k e =
@@ -147,7 +149,7 @@ module _ (root : Root) (moment : ℕ) (es : Entries) (dr hr : ℕ → ℕ) (dn h
       let second = pass (nat_eq x.0 m.1) (not (nat_eq x.1.link_id m.0.0) || says) first (eq-eqb x.0 m.1 router) in
       pass (nat_eq x.1.link_id m.0.0) says second (eq-eqb x.1.link_id m.0.0 id)
 
-  edge : (v w : Node) (price exit : ℕ) → LeadsTo moment (database es) root v w price exit → Edge (at dr dn v) (at hr hn v) price (at dr dn w) (at hr hn w) (v ≡ ARouter root.router) exit
+  edge : (v w : Node) (price exit : ℕ) → LeadsTo (said_at moment (database es)) root v w price exit → Edge (at dr dn v) (at hr hn v) price (at dr dn w) (at hr hn w) (v ≡ ARouter root.router) exit
   edge (ARouter a) (ARouter b) price exit l =
       let k = l.0 in
       let checked_it : point_rises root dr hr (a, k.link) ≡ true = all_pass (point_rises root dr hr) (links_of (sayings es)) are.points (a, k.link) (has_link moment es a k.link k.its) in
@@ -172,7 +174,7 @@ module _ (root : Root) (moment : ℕ) (es : Entries) (dr hr : ℕ → ℕ) (dn h
       subst P (sym l.2) (record { low = r.low; along = r.along; exits = λ at_root. absurd (cc) })
   edge (ANetwork id by) (ANetwork other its) price exit l = absurd l
 
-  pub rising : AreLabels (Leads moment (database es) root) (ARouter root.router) (at dr dn) (at hr hn)
+  pub rising : AreLabels (Leads (said_at moment (database es)) root) (ARouter root.router) (at dr dn) (at hr hn)
   rising = record {
     start = are.start;
     low = λ v s l. (edge v s.target s.price s.exit l).low;
@@ -194,7 +196,7 @@ abbrev pub has_stubs_alone : ℕ → ℕ × Link → Bool
 has_stubs_alone router x = not (nat_eq x.0 router) || kind_is_stub x.1.kind
 
 module _ (root : Root) (moment : ℕ) (es : Entries) (router : ℕ) (stubs : list_all (has_stubs_alone router) (links_of (sayings es)) ≡ true) where
-  no_link : (v : Node) (price exit : ℕ) → LeadsTo moment (database es) root v (ARouter router) price exit → ⊥
+  no_link : (v : Node) (price exit : ℕ) → LeadsTo (said_at moment (database es)) root v (ARouter router) price exit → ⊥
   no_link (ARouter a) price exit l =
       let e = pass (nat_eq router router) (kind_is_stub l.1.0.kind) (all_pass (has_stubs_alone router) (links_of (sayings es)) stubs (router, l.1.0) (has_link moment es router l.1.0 l.1.1)) (eq-eqb router router refl) in
       let f : false ≡ true = sym (ap kind_is_stub l.1.2) ∙ e in
@@ -204,21 +206,21 @@ module _ (root : Root) (moment : ℕ) (es : Entries) (router : ℕ) (stubs : lis
       let f : false ≡ true = sym (ap kind_is_stub l.1.2) ∙ e in
       cc
 
-  pub unreached : (root.router ≡ router → ⊥) → (way : Way) → IsWay (Leads moment (database es) root) (ARouter root.router) (ARouter router) way → ⊥
+  pub unreached : (root.router ≡ router → ⊥) → (way : Way) → IsWay (Leads (said_at moment (database es)) root) (ARouter root.router) (ARouter router) way → ⊥
   unreached other way is =
-      elim (arrives (Leads moment (database es) root) (ARouter root.router) is.distance.0 (ARouter router) is.distance.1.is_walk) [
+      elim (arrives (Leads (said_at moment (database es)) root) (ARouter root.router) is.distance.0 (ARouter router) is.distance.1.is_walk) [
         | inl e ↦ let same : root.router ≡ router = cc in other same
         | inr k ↦
-            let P : Node → Type 0 = λ w. LeadsTo moment (database es) root k.0 w k.1.price k.1.exit in
+            let P : Node → Type 0 = λ w. LeadsTo (said_at moment (database es)) root k.0 w k.1.price k.1.exit in
             no_link k.0 k.1.price k.1.exit (subst P k.3 k.2)
       ]
 
 -- ---- the offers within the area
 
 -- a network whose way is known
-pub record NetworkOffer (moment : ℕ) (db : Database) (root : Root) (id by : ℕ) (lsa : NetworkLsa) (length : ℕ) (o : Offer) : Type 0 where
+pub record NetworkOffer (said : Said) (root : Root) (id by : ℕ) (lsa : NetworkLsa) (length : ℕ) (o : Offer) : Type 0 where
   pub way : Way
-  pub reached : IsWay (Leads moment db root) (ARouter root.router) (ANetwork id by) way
+  pub reached : IsWay (Leads said root) (ARouter root.router) (ANetwork id by) way
   pub within : length ≤ 32
   pub mask : lsa.mask ≡ mask_of length
   pub is : intra (record { address = network_address length id; length = length }) (way.distance + 0) way.hops ≡ o
@@ -227,20 +229,20 @@ module _ (moment : ℕ) (es : Entries) (root : Root) (P : Offer → Type 0) wher
   -- the router of a stub link isn't reached, or P holds of its offer
   abbrev pub IsStubKnown : ℕ → Link → Type 0
   IsStubKnown router l =
-      ((way : Way) → IsWay (Leads moment (database es) root) (ARouter root.router) (ARouter router) way → ⊥)
-      ⊎ ((length : ℕ) × (o : Offer) × StubOffer moment (database es) root router l length o × P o)
+      ((way : Way) → IsWay (Leads (said_at moment (database es)) root) (ARouter root.router) (ARouter router) way → ⊥)
+      ⊎ ((length : ℕ) × (o : Offer) × StubOffer (said_at moment (database es)) root router l length o × P o)
 
   abbrev pub IsNetworkKnown : ℕ → ℕ → NetworkLsa → Type 0
-  IsNetworkKnown id by lsa = (length : ℕ) × (o : Offer) × NetworkOffer moment (database es) root id by lsa length o × P o
+  IsNetworkKnown id by lsa = (length : ℕ) × (o : Offer) × NetworkOffer (said_at moment (database es)) root id by lsa length o × P o
 
   module _ (stubs : (router : ℕ) (l : Link) → Contains (filter is_stub (links_of (sayings es))) (router, l) → IsStubKnown router l)
       (networks : (id by : ℕ) (lsa : NetworkLsa) → Contains (sayings es) (record { ls_type = 2; link_state_id = id; advertising_router = by }, body.Network lsa) → IsNetworkKnown id by lsa) where
-    by_node : (node : Node) (prefix : Network) (more : ℕ) → Attaches moment (database es) node prefix more → (way : Way) → IsWay (Leads moment (database es) root) (ARouter root.router) node way
+    by_node : (node : Node) (prefix : Network) (more : ℕ) → Attaches (said_at moment (database es)) node prefix more → (way : Way) → IsWay (Leads (said_at moment (database es)) root) (ARouter root.router) node way
         → (hops : ℕ) → (node ≡ ARouter root.router → hops ≡ 1) → ((node ≡ ARouter root.router → ⊥) → hops ≡ way.hops) → P (intra prefix (way.distance + more) hops)
     by_node (ANetwork id by) prefix more a way reached hops by_root by_others =
-        let k = networks id by a.0 (said moment es _ (body.Network a.0) a.1) in
+        let k = networks id by a.0 (is_said moment es _ (body.Network a.0) a.1) in
         let p : record { address = network_address k.0 id; length = k.0 } ≡ prefix = one_prefix id a.0.mask k.0 prefix k.2.within k.2.mask a.2 in
-        let w : k.2.way ≡ way = one_way (Leads moment (database es) root) (ARouter root.router) (ANetwork id by) k.2.way way k.2.reached reached in
+        let w : k.2.way ≡ way = one_way (Leads (said_at moment (database es)) root) (ARouter root.router) (ANetwork id by) k.2.way way k.2.reached reached in
         let m : 0 ≡ more = sym a.3 in
         let h : k.2.way.hops ≡ hops = ap (λ (x : Way). x.hops) w ∙ sym (by_others (λ e. cc)) in
         let same : k.1 ≡ intra prefix (way.distance + more) hops = sym k.2.is ∙ (λ i. intra (p i) ((w i).distance + m i) (h i)) in
@@ -251,7 +253,7 @@ module _ (moment : ℕ) (es : Entries) (root : Root) (P : Offer → Type 0) wher
           | inl never ↦ absurd (never way reached)
           | inr k ↦
               let p : record { address = network_address k.0 l.link_id; length = k.0 } ≡ prefix = one_prefix l.link_id l.link_data k.0 prefix k.2.within k.2.mask a.3 in
-              let w : k.2.way ≡ way = one_way (Leads moment (database es) root) (ARouter root.router) (ARouter router) k.2.way way k.2.reached reached in
+              let w : k.2.way ≡ way = one_way (Leads (said_at moment (database es)) root) (ARouter root.router) (ARouter router) k.2.way way k.2.reached reached in
               let m : l.metric ≡ more = sym a.4 in
               let h : k.2.hops ≡ hops =
               elim (cases_eq router root.router) [
@@ -262,5 +264,5 @@ module _ (moment : ℕ) (es : Entries) (root : Root) (P : Offer → Type 0) wher
               subst P same k.3
         ]
 
-    pub each_offer : (o : Offer) → OffersWithin moment (database es) root o → P o
+    pub each_offer : (o : Offer) → OffersWithin (said_at moment (database es)) root o → P o
     each_offer o x = subst P (sym x.is) (by_node x.node x.prefix x.more x.attached x.way x.reached x.hops x.by_root x.by_others)

@@ -10,20 +10,23 @@ use Rattle.words.specs.declared.route.ExternalType.{ExternalType}
 use Rattle.words.specs.declared.route.ExternalType.TheVariants.{Type1, Type2}
 use Rattle.words.specs.declared.route.Route.{Route}
 use Rattle.lsa.specs.declared.body.ExternalLsa.{ExternalLsa}
-use Rattle.lsdb.specs.Copies.{Database}
-use Rattle.routes.specs.Candidates.{IsBest, IsCandidate, IsForwarded, IsNoLater, Offers, OffersExternal, external_offer}
-use Rattle.routes.specs.Candidates.IsNoLater.{ByOriginator, ByTag}
+use Rattle.routes.specs.Candidates.{IsBest, IsCandidate, Offers, OffersExternal, external_offer}
+use Rattle.routes.specs.Routes.IsNoLater.{ByOriginator, ByTag}
 use Rattle.routes.specs.Candidates.Offers.{External, Within}
 use Rattle.route_laws.specs.Laws.{EveryOfferHasACandidate}
-use Rattle.routes.specs.Links.{Leads, Node}
-use Rattle.routes.specs.Links.Node.{ARouter}
-use Rattle.routes.specs.Offers.{IsNoWorse, Offer, OffersWithin, rank}
-use Rattle.routes.specs.Offers.IsNoWorse.{ByCost, ByDistance, ByKind}
+use Rattle.routes.specs.Links.{Leads}
+use Rattle.routes.specs.declared.node.Node.{Node}
+use Rattle.routes.specs.declared.node.Node.TheVariants.{ARouter}
+use Rattle.routes.specs.Offers.{OffersWithin}
+use Rattle.routes.specs.declared.offer.Offer.{Offer}
+use Rattle.routes.specs.Routes.IsNoWorse.{ByCost, ByDistance, ByKind}
 use Rattle.routes.specs.Paths.{IsWay, Way}
 use Rattle.routes.specs.declared.root.Root.{Root}
 use Rattle.routes.proofs.Determined.{bit_of_member}
 use Rattle.route_laws.proofs.Least.{Chosen, chosen}
 use Rattle.route_laws.proofs.Reached as reached
+use Rattle.routes.specs.Said.{Said}
+use Rattle.routes.specs.Routes.{IsForwarded, IsNoLater, IsNoWorse, rank}
 
 -- of what has a number, something has the least
 least_by : {X : Type 0} (P : X → Type 0) (f : X → ℕ) (n : ℕ) (x : X) → P x → f x ≤ n → (((y : X) × P y × ((z : X) → P z → f y ≤ f z)) → ⊥) → ⊥
@@ -112,29 +115,32 @@ external_hops : (t : ExternalType) (prefix : Network) (lsa : ExternalLsa) (origi
 external_hops Type1 prefix lsa originator way = refl
 external_hops Type2 prefix lsa originator way = refl
 
-module _ (moment : ℕ) (db : Database) (root : Root) where
+module _ (said : Said) (root : Root) where
   abbrev limit : ℕ
   limit = length root.addresses + 1
 
-  of_way : (node : Node) (w : Way) → IsWay (Leads moment db root) (ARouter root.router) node w → (i : ℕ) → IsTrue (has_interface w.hops i) → i < limit
+  of_way : (node : Node) (w : Way) → IsWay (Leads said root) (ARouter root.router) node w → (i : ℕ) → IsTrue (has_interface w.hops i) → i < limit
   of_way node w is i t =
       let hop = (is.hops i).0 t in
-      let low = (reached.counted moment db root hop.0.target hop.0.price hop.0.exit hop.2.is_walk.0).1 in
+      let low = (reached.counted said root hop.0.target hop.0.price hop.0.exit hop.2.is_walk.0).1 in
       omega (arith, low, hop.3)
 
-  of_within : (o : Offer) → OffersWithin moment db root o → (i : ℕ) → IsTrue (has_interface o.hops i) → i < limit
+  of_within : (o : Offer) → OffersWithin said root o → (i : ℕ) → IsTrue (has_interface o.hops i) → i < limit
   of_within o x i t =
       let Has : ℕ → Type 0 = λ hops. IsTrue (has_interface hops i) in
       let has : Has x.hops = subst Has (ap (λ (y : Offer). y.hops) x.is) t in
-      elim (reached.is_root moment db root x.node) [
+      elim (reached.is_root said root x.node) [
         | inl e ↦ omega (arith, reached.only_zero i (subst Has (x.by_root e) has))
         | inr other ↦ of_way x.node x.way x.reached i (subst Has (x.by_others other) has)
       ]
 
-  of_forwarded : (address : ℕ) (w : Way) → IsForwarded moment db root address w → (i : ℕ) → IsTrue (has_interface w.hops i) → i < limit
-  of_forwarded address w f i t = let o = (f.hops i).0 t in of_within o.0 o.1.offered i o.3
+  of_forwarded : (address : ℕ) (w : Way) → IsForwarded (OffersWithin said root) address w → (i : ℕ) → IsTrue (has_interface w.hops i) → i < limit
+  of_forwarded address w f i t =
+      let Has : ℕ → Type 0 = λ hops. IsTrue (has_interface hops i) in
+      let o = (f.is_route.hops i).0 (subst Has (ap (λ (x : Way). x.hops) f.is) t) in
+      of_within o.0 o.1.offered i o.2
 
-  of_external : (o : Offer) → OffersExternal moment db root o → (i : ℕ) → IsTrue (has_interface o.hops i) → i < limit
+  of_external : (o : Offer) → OffersExternal said root o → (i : ℕ) → IsTrue (has_interface o.hops i) → i < limit
   of_external o x i t =
       let Has : ℕ → Type 0 = λ hops. IsTrue (has_interface hops i) in
       let has : Has x.way.hops = subst Has (ap (λ (y : Offer). y.hops) x.is ∙ external_hops x.lsa.kind x.prefix x.lsa x.originator x.way) t in
@@ -143,17 +149,17 @@ module _ (moment : ℕ) (db : Database) (root : Root) where
         | inr some ↦ of_forwarded x.lsa.forwarding x.way (x.is_way.forwarded some) i has
       ]
 
-  of_offer : (o : Offer) → Offers moment db root o → (i : ℕ) → IsTrue (has_interface o.hops i) → i < limit
+  of_offer : (o : Offer) → Offers said root o → (i : ℕ) → IsTrue (has_interface o.hops i) → i < limit
   of_offer o (Within x) i t = of_within o x i t
   of_offer o (External x) i t = of_external o x i t
 
   -- ---- the candidate
 
   record IsFor (prefix : Network) (o : Offer) : Type 0 where
-    offered : Offers moment db root o
+    offered : Offers said root o
     is_for : o.prefix ≡ prefix
 
-  is_best : (prefix : Network) (o : Offer) → Best3 (IsFor prefix) o → IsBest moment db root prefix o
+  is_best : (prefix : Network) (o : Offer) → Best3 (IsFor prefix) o → IsBest said root prefix o
   is_best prefix o b = record {
     offered = b.has.has.has.offered;
     is_for = b.has.has.has.is_for;
@@ -161,15 +167,15 @@ module _ (moment : ℕ) (db : Database) (root : Root) where
   }
 
   abbrev HasHop : Network → ℕ → Type 0
-  HasHop prefix i = (o : Offer) × IsBest moment db root prefix o × IsTrue (has_interface o.hops i)
+  HasHop prefix i = (o : Offer) × IsBest said root prefix o × IsTrue (has_interface o.hops i)
 
-  made : (prefix : Network) (o : Offer) → First2 (IsBest moment db root prefix) o → Chosen (HasHop prefix) limit → (r : Route) × IsCandidate moment db root r × (r.prefix ≡ prefix)
+  made : (prefix : Network) (o : Offer) → First2 (IsBest said root prefix) o → Chosen (HasHop prefix) limit → (r : Route) × IsCandidate said root r × (r.prefix ≡ prefix)
   made prefix o f c = (
     record { prefix = prefix; kind = o.kind; cost = o.cost; distance = o.distance; hops = c.hops; tag = o.tag },
     record {
       first = o;
       is_best = f.has.has;
-      earliest = λ z b. no_later (IsBest moment db root prefix) o f z b;
+      earliest = λ z b. no_later (IsBest said root prefix) o f z b;
       kind = refl;
       cost = refl;
       distance = refl;
@@ -186,10 +192,10 @@ module _ (moment : ℕ) (db : Database) (root : Root) where
     refl,
   )
 
-  candidate : (o : Offer) → Offers moment db root o → (((r : Route) × IsCandidate moment db root r × (r.prefix ≡ o.prefix)) → ⊥) → ⊥
+  candidate : (o : Offer) → Offers said root o → (((r : Route) × IsCandidate said root r × (r.prefix ≡ o.prefix)) → ⊥) → ⊥
   candidate o x none =
       best (IsFor o.prefix) o (record { offered = x; is_for = refl }) (λ b.
-      first (IsBest moment db root o.prefix) b.0 (is_best o.prefix b.0 b.1) (λ f.
+      first (IsBest said root o.prefix) b.0 (is_best o.prefix b.0 b.1) (λ f.
       chosen (HasHop o.prefix) limit (λ c. none (made o.prefix f.0 f.1 c))))
 
 -- ---- in a list
@@ -229,8 +235,8 @@ seek (x ∷ xs) prefix =
     ]
 
 pub every : EveryOfferHasACandidate
-every moment db root routes o are x =
+every said root routes o are x =
     elim (seek routes o.prefix) [
       | inl h ↦ h
-      | inr none ↦ absurd (candidate moment db root o x (λ r. none (r.0, (are.each r.0).1 r.1, r.2)))
+      | inr none ↦ absurd (candidate said root o x (λ r. none (r.0, (are.each r.0).1 r.1, r.2)))
     ]

@@ -13,18 +13,21 @@ use Rattle.words.specs.declared.route.RouteKind.{RouteKind}
 use Rattle.words.specs.declared.route.RouteKind.TheVariants.{External1, External2, Inter, Intra}
 use Rattle.lsa.specs.declared.body.ExternalLsa.{ExternalLsa}
 use Rattle.lsa.specs.declared.body.LinkKind.{LinkKind}
-use Rattle.lsdb.specs.Copies.{Database}
 use Rattle.routes.specs.Candidates.{IsBest, IsCandidate, Offers, external_offer}
 use Rattle.routes.specs.Candidates.Offers.{External, Within}
 use Rattle.route_laws.specs.Laws.{CandidatesAreCheapestWalks, IsReached, first_exit}
-use Rattle.routes.specs.Links.{Counts, Leads, LeadsTo, Node}
-use Rattle.routes.specs.Links.Node.{ANetwork, ARouter}
-use Rattle.routes.specs.Offers.{IsNoWorse, Offer, OffersWithin, intra, rank}
-use Rattle.routes.specs.Offers.IsNoWorse.{ByCost, ByDistance, ByKind}
+use Rattle.routes.specs.Links.{Counts, Leads, LeadsTo}
+use Rattle.routes.specs.declared.node.Node.{Node}
+use Rattle.routes.specs.declared.node.Node.TheVariants.{ANetwork, ARouter}
+use Rattle.routes.specs.Offers.{OffersWithin, intra}
+use Rattle.routes.specs.declared.offer.Offer.{Offer}
+use Rattle.routes.specs.Routes.IsNoWorse.{ByCost, ByDistance, ByKind}
 use Rattle.routes.specs.Paths.{IsLeastWalk, IsWalk, IsWay, Step, Way, price_of}
 use Rattle.routes.specs.declared.root.Root.{Root}
-use Rattle.routes.proofs.Determined.{AreAlike, alike, bit_of_member}
+use Rattle.routes.proofs.Determined.{AreAlike, alike, as_good, bit_of_member}
 use Rattle.route_laws.proofs.Least as least
+use Rattle.routes.specs.Said.{Said}
+use Rattle.routes.specs.Routes.{IsNoWorse, rank}
 
 -- ---- offers side by side
 
@@ -43,11 +46,6 @@ no_farther a b e f (ByKind p) = absurd (omega (arith, p, e))
 no_farther a b e f (ByCost p q) = absurd (omega (arith, q, f))
 no_farther a b e f (ByDistance p q r) = r
 
-pub as_good : (a b c : Offer) → AreAlike a b → IsNoWorse a c → IsNoWorse b c
-as_good a b c same (ByKind p) = ByKind (omega (arith, p, same.kind))
-as_good a b c same (ByCost p q) = ByCost (omega (arith, p, same.kind)) (omega (arith, q, same.cost))
-as_good a b c same (ByDistance p q r) = ByDistance (omega (arith, p, same.kind)) (omega (arith, q, same.cost)) (omega (arith, r, same.distance))
-
 intra_or_not : (k : RouteKind) → (k ≡ Intra) ⊎ (1 ≤ rank k)
 intra_or_not Intra = inl refl
 intra_or_not Inter = inr (omega arith)
@@ -62,17 +60,17 @@ pub only_zero : (i : ℕ) → IsTrue (has_interface 1 i) → i ≡ 0
 only_zero zero t = refl
 only_zero (suc i) t = absurd (let e : bit_at 1 (suc i) ≡ 0 = bit_at-suc 1 i ∙ bit_at-zero i in omega (arith, e, bit_of_member 1 (suc i) t))
 
-module _ (moment : ℕ) (db : Database) (root : Root) where
+module _ (said : Said) (root : Root) where
   start : Node
   start = ARouter root.router
 
-  from_count : (kind : LinkKind) (id price exit : ℕ) → Counts moment db root root.router kind id price exit → (0 < price) × (exit < length root.addresses + 1)
+  from_count : (kind : LinkKind) (id price exit : ℕ) → Counts said root root.router kind id price exit → (0 < price) × (exit < length root.addresses + 1)
   from_count kind id price exit c =
       let by = c.by_interface refl in
       (c.not_free, let within : by.0 < length root.addresses = slice_get_within root.addresses by.0 c.link.link_data by.2 in omega (arith, within, by.1))
 
   -- the root's links cost something, and leave by its interfaces
-  pub counted : (target : Node) (price exit : ℕ) → LeadsTo moment db root (ARouter root.router) target price exit → (0 < price) × (exit < length root.addresses + 1)
+  pub counted : (target : Node) (price exit : ℕ) → LeadsTo said root (ARouter root.router) target price exit → (0 < price) × (exit < length root.addresses + 1)
   counted (ARouter b) price exit l = from_count _ b price exit l.0
   counted (ANetwork id by) price exit l = from_count _ id price exit l.0
 
@@ -86,28 +84,28 @@ module _ (moment : ℕ) (db : Database) (root : Root) where
 
   -- ---- from walks to offers
 
-  least_is : (node : Node) (w : Way) → IsWay (Leads moment db root) (ARouter root.router) node w → (walk : List (Step Node)) → IsWalk (Leads moment db root) (ARouter root.router) walk node → w.distance ≡ price_of walk → IsLeastWalk (Leads moment db root) (ARouter root.router) walk node
+  least_is : (node : Node) (w : Way) → IsWay (Leads said root) (ARouter root.router) node w → (walk : List (Step Node)) → IsWalk (Leads said root) (ARouter root.router) walk node → w.distance ≡ price_of walk → IsLeastWalk (Leads said root) (ARouter root.router) walk node
   least_is node w is walk p e = record { is_walk = p; least = λ other q. omega (arith, e, is.distance.2, is.distance.1.least other q) }
 
-  at_root : (node : Node) (walk : List (Step Node)) (i : ℕ) → IsWalk (Leads moment db root) (ARouter root.router) walk node → price_of walk ≡ 0 → i ≡ first_exit walk → IsTrue (has_interface 1 i)
+  at_root : (node : Node) (walk : List (Step Node)) (i : ℕ) → IsWalk (Leads said root) (ARouter root.router) walk node → price_of walk ≡ 0 → i ≡ first_exit walk → IsTrue (has_interface 1 i)
   at_root node [] i p e f = let P : ℕ → Type 0 = λ k. IsTrue (has_interface 1 k) in subst P (sym f) refl
   at_root node (step ∷ rest) i p e f = absurd (let free = counted step.target step.price step.exit p.0 in omega (arith, free.0, e))
 
-  elsewhere : (node : Node) (w : Way) → IsWay (Leads moment db root) (ARouter root.router) node w → (node ≡ ARouter root.router → ⊥) → (walk : List (Step Node)) (i : ℕ) → IsWalk (Leads moment db root) (ARouter root.router) walk node → w.distance ≡ price_of walk → i ≡ first_exit walk → IsTrue (has_interface w.hops i)
+  elsewhere : (node : Node) (w : Way) → IsWay (Leads said root) (ARouter root.router) node w → (node ≡ ARouter root.router → ⊥) → (walk : List (Step Node)) (i : ℕ) → IsWalk (Leads said root) (ARouter root.router) walk node → w.distance ≡ price_of walk → i ≡ first_exit walk → IsTrue (has_interface w.hops i)
   elsewhere node w is other [] i p e f = absurd (other (sym p))
   elsewhere node w is other (step ∷ rest) i p e f = (is.hops i).1 (step, rest, least_is node w is (step ∷ rest) p e, sym f)
 
   -- an offer no dearer than the walk, and with its interface where it is as dear
   record Stands (prefix : Network) (cost interface : ℕ) : Type 0 where
     offer : Offer
-    offered : OffersWithin moment db root offer
+    offered : OffersWithin said root offer
     is_for : offer.prefix ≡ prefix
     kind : rank offer.kind ≡ 0
     distance : offer.distance ≡ 0
     costs : offer.cost ≤ cost
     hops : offer.cost ≡ cost → IsTrue (has_interface offer.hops interface)
 
-  stands_at_root : (prefix : Network) (cost i : ℕ) (x : IsReached moment db root prefix cost i) → x.node ≡ ARouter root.router → (w : Way) → IsWay (Leads moment db root) (ARouter root.router) x.node w → Stands prefix cost i
+  stands_at_root : (prefix : Network) (cost i : ℕ) (x : IsReached said root prefix cost i) → x.node ≡ ARouter root.router → (w : Way) → IsWay (Leads said root) (ARouter root.router) x.node w → Stands prefix cost i
   stands_at_root prefix cost i x e w is =
       let near : w.distance ≤ price_of x.walk = omega (arith, is.distance.2, is.distance.1.least x.walk x.is_walk) in
       let nothing : w.distance ≤ 0 = omega (arith, is.distance.2, is.distance.1.least [] (sym e)) in
@@ -121,7 +119,7 @@ module _ (moment : ℕ) (db : Database) (root : Root) where
         hops = λ same. at_root x.node x.walk i x.is_walk (omega (arith, near, nothing, x.costs, same)) x.leaves_by;
       }
 
-  stands_elsewhere : (prefix : Network) (cost i : ℕ) (x : IsReached moment db root prefix cost i) → (x.node ≡ ARouter root.router → ⊥) → (w : Way) → IsWay (Leads moment db root) (ARouter root.router) x.node w → Stands prefix cost i
+  stands_elsewhere : (prefix : Network) (cost i : ℕ) (x : IsReached said root prefix cost i) → (x.node ≡ ARouter root.router → ⊥) → (w : Way) → IsWay (Leads said root) (ARouter root.router) x.node w → Stands prefix cost i
   stands_elsewhere prefix cost i x other w is =
       let near : w.distance ≤ price_of x.walk = omega (arith, is.distance.2, is.distance.1.least x.walk x.is_walk) in
       record {
@@ -134,9 +132,9 @@ module _ (moment : ℕ) (db : Database) (root : Root) where
         hops = λ same. elsewhere x.node w is other x.walk i x.is_walk (omega (arith, near, x.costs, same)) x.leaves_by;
       }
 
-  stands : (prefix : Network) (cost i : ℕ) → IsReached moment db root prefix cost i → (Stands prefix cost i → ⊥) → ⊥
+  stands : (prefix : Network) (cost i : ℕ) → IsReached said root prefix cost i → (Stands prefix cost i → ⊥) → ⊥
   stands prefix cost i x none =
-      least.way (Leads moment db root) (ARouter root.router) x.node (length root.addresses + 1) (λ s l. (counted s.target s.price s.exit l).1) x.walk x.is_walk (λ w.
+      least.way (Leads said root) (ARouter root.router) x.node (length root.addresses + 1) (λ s l. (counted s.target s.price s.exit l).1) x.walk x.is_walk (λ w.
       elim (is_root x.node) [
         | inl e ↦ none (stands_at_root prefix cost i x e w.0 w.1)
         | inr other ↦ none (stands_elsewhere prefix cost i x other w.0 w.1)
@@ -144,21 +142,21 @@ module _ (moment : ℕ) (db : Database) (root : Root) where
 
   -- ---- from offers to walks
 
-  within_of : (o : Offer) → rank o.kind ≡ 0 → Offers moment db root o → OffersWithin moment db root o
+  within_of : (o : Offer) → rank o.kind ≡ 0 → Offers said root o → OffersWithin said root o
   within_of o e (Within p) = p
   within_of o e (External p) = absurd (omega (arith, e, ap (λ (x : Offer). rank x.kind) p.is, external_rank p.lsa.kind p.prefix p.lsa p.originator p.way))
 
-  walk_of : (o : Offer) → OffersWithin moment db root o → (i : ℕ) × IsReached moment db root o.prefix o.cost i
+  walk_of : (o : Offer) → OffersWithin said root o → (i : ℕ) × IsReached said root o.prefix o.cost i
   walk_of o x =
-      let Reached : Offer → Type 0 = λ y. (i : ℕ) × IsReached moment db root y.prefix y.cost i in
+      let Reached : Offer → Type 0 = λ y. (i : ℕ) × IsReached said root y.prefix y.cost i in
       subst Reached (sym x.is) (first_exit x.reached.distance.0, record { node = x.node; more = x.more; attached = x.attached; walk = x.reached.distance.0; is_walk = x.reached.distance.1.is_walk; costs = omega (arith, x.reached.distance.2); leaves_by = refl })
 
-  hop_of : (o : Offer) (i : ℕ) → OffersWithin moment db root o → IsTrue (has_interface o.hops i) → IsReached moment db root o.prefix o.cost i
+  hop_of : (o : Offer) (i : ℕ) → OffersWithin said root o → IsTrue (has_interface o.hops i) → IsReached said root o.prefix o.cost i
   hop_of o i x t =
-      let Reached : Offer → Type 0 = λ y. IsReached moment db root y.prefix y.cost i in
+      let Reached : Offer → Type 0 = λ y. IsReached said root y.prefix y.cost i in
       let Has : ℕ → Type 0 = λ hops. IsTrue (has_interface hops i) in
       let has : Has x.hops = subst Has (ap (λ (y : Offer). y.hops) x.is) t in
-      let leads : Node → Step Node → Type 0 = Leads moment db root in
+      let leads : Node → Step Node → Type 0 = Leads said root in
       subst Reached (sym x.is)
       (elim (is_root x.node) [
         | inl e ↦
@@ -173,7 +171,7 @@ module _ (moment : ℕ) (db : Database) (root : Root) where
 
   -- ---- candidates
 
-  is_preferred : (r : Route) (cost i : ℕ) → IsCandidate moment db root r → IsReached moment db root r.prefix cost i → r.kind ≡ Intra
+  is_preferred : (r : Route) (cost i : ℕ) → IsCandidate said root r → IsReached said root r.prefix cost i → r.kind ≡ Intra
   is_preferred r cost i k x =
       elim (intra_or_not r.kind) [
         | inl e ↦ e
@@ -181,10 +179,10 @@ module _ (moment : ℕ) (db : Database) (root : Root) where
             omega (arith, worse, ap rank k.kind, s.kind, no_worse_kind k.first s.offer (k.is_best.best s.offer (Within s.offered) s.is_for))))
       ]
 
-  first_rank : (r : Route) (k : IsCandidate moment db root r) → r.kind ≡ Intra → rank k.first.kind ≡ 0
+  first_rank : (r : Route) (k : IsCandidate said root r) → r.kind ≡ Intra → rank k.first.kind ≡ 0
   first_rank r k e = ap rank (sym k.kind ∙ e)
 
-  is_cheapest : (r : Route) (cost i : ℕ) → IsCandidate moment db root r → IsReached moment db root r.prefix cost i → r.cost ≤ cost
+  is_cheapest : (r : Route) (cost i : ℕ) → IsCandidate said root r → IsReached said root r.prefix cost i → r.cost ≤ cost
   is_cheapest r cost i k x =
       elim (cases_lt cost r.cost) [
         | inr enough ↦ enough
@@ -193,25 +191,25 @@ module _ (moment : ℕ) (db : Database) (root : Root) where
             omega (arith, less, k.cost, s.costs, no_dearer k.first s.offer same (k.is_best.best s.offer (Within s.offered) s.is_for))))
       ]
 
-  is_reached : (r : Route) → IsCandidate moment db root r → r.kind ≡ Intra → (i : ℕ) × IsReached moment db root r.prefix r.cost i
+  is_reached : (r : Route) → IsCandidate said root r → r.kind ≡ Intra → (i : ℕ) × IsReached said root r.prefix r.cost i
   is_reached r k e =
       let walk = walk_of k.first (within_of k.first (first_rank r k e) k.is_best.offered) in
-      let P : Network → Type 0 = λ n. IsReached moment db root n r.cost walk.0 in
-      let Q : ℕ → Type 0 = λ c. IsReached moment db root k.first.prefix c walk.0 in
+      let P : Network → Type 0 = λ n. IsReached said root n r.cost walk.0 in
+      let Q : ℕ → Type 0 = λ c. IsReached said root k.first.prefix c walk.0 in
       (walk.0, subst P k.is_best.is_for (subst Q (sym k.cost) walk.1))
 
-  hop_is_reached : (r : Route) (i : ℕ) → IsCandidate moment db root r → r.kind ≡ Intra → IsTrue (has_interface r.hops i) → IsReached moment db root r.prefix r.cost i
+  hop_is_reached : (r : Route) (i : ℕ) → IsCandidate said root r → r.kind ≡ Intra → IsTrue (has_interface r.hops i) → IsReached said root r.prefix r.cost i
   hop_is_reached r i k e t =
       let hop = (k.hops i).0 t in
       let o : Offer = hop.0 in
       let same : AreAlike k.first o = alike k.first o (k.is_best.best o hop.1.offered hop.1.is_for) (hop.1.best k.first k.is_best.offered k.is_best.is_for) in
-      let walk : IsReached moment db root o.prefix o.cost i = hop_of o i (within_of o (sym same.kind ∙ first_rank r k e) hop.1.offered) hop.2 in
+      let walk : IsReached said root o.prefix o.cost i = hop_of o i (within_of o (sym same.kind ∙ first_rank r k e) hop.1.offered) hop.2 in
       let cost : o.cost ≡ r.cost = sym same.cost ∙ sym k.cost in
-      let P : Network → Type 0 = λ n. IsReached moment db root n r.cost i in
-      let Q : ℕ → Type 0 = λ c. IsReached moment db root o.prefix c i in
+      let P : Network → Type 0 = λ n. IsReached said root n r.cost i in
+      let Q : ℕ → Type 0 = λ c. IsReached said root o.prefix c i in
       subst P hop.1.is_for (subst Q cost walk)
 
-  reached_is_hop : (r : Route) (i : ℕ) → IsCandidate moment db root r → r.kind ≡ Intra → (x : IsReached moment db root r.prefix r.cost i) → (IsTrue (has_interface r.hops i) → ⊥) → ⊥
+  reached_is_hop : (r : Route) (i : ℕ) → IsCandidate said root r → r.kind ≡ Intra → (x : IsReached said root r.prefix r.cost i) → (IsTrue (has_interface r.hops i) → ⊥) → ⊥
   reached_is_hop r i k e x never =
       stands r.prefix r.cost i x (λ s.
       let best : IsNoWorse k.first s.offer = k.is_best.best s.offer (Within s.offered) s.is_for in
@@ -220,20 +218,20 @@ module _ (moment : ℕ) (db : Database) (root : Root) where
       let cost : k.first.cost ≡ s.offer.cost = omega (arith, dear, k.cost, s.costs) in
       let far : k.first.distance ≤ s.offer.distance = no_farther k.first s.offer kind cost best in
       let same : AreAlike k.first s.offer = record { kind = kind; cost = cost; distance = omega (arith, far, s.distance) } in
-      let is_best : IsBest moment db root r.prefix s.offer = record { offered = Within s.offered; is_for = s.is_for; best = λ other offered for. as_good k.first s.offer other same (k.is_best.best other offered for) } in
+      let is_best : IsBest said root r.prefix s.offer = record { offered = Within s.offered; is_for = s.is_for; best = λ other offered for. as_good k.first s.offer other same (k.is_best.best other offered for) } in
       never ((k.hops i).1 (s.offer, is_best, s.hops (sym cost ∙ sym k.cost))))
 
   stable : (b : Bool) → ((b ≡ true → ⊥) → ⊥) → b ≡ true
   stable true p = refl
   stable false p = absurd (p (λ e. cc))
 
-  is_hop : (r : Route) → IsCandidate moment db root r → r.kind ≡ Intra → (i : ℕ) → IsTrue (has_interface r.hops i) ↔ IsReached moment db root r.prefix r.cost i
+  is_hop : (r : Route) → IsCandidate said root r → r.kind ≡ Intra → (i : ℕ) → IsTrue (has_interface r.hops i) ↔ IsReached said root r.prefix r.cost i
   is_hop r k e i = (λ t. hop_is_reached r i k e t, λ x. stable (has_interface r.hops i) (reached_is_hop r i k e x))
 
 pub cheapest_walks : CandidatesAreCheapestWalks
 cheapest_walks = record {
-  preferred = λ moment db root r cost i k x. is_preferred moment db root r cost i k x;
-  cheapest = λ moment db root r cost i k x. is_cheapest moment db root r cost i k x;
-  reached = λ moment db root r k e. is_reached moment db root r k e;
-  hops = λ moment db root r k e i. is_hop moment db root r k e i;
+  preferred = λ said root r cost i k x. is_preferred said root r cost i k x;
+  cheapest = λ said root r cost i k x. is_cheapest said root r cost i k x;
+  reached = λ said root r k e. is_reached said root r k e;
+  hops = λ said root r k e i. is_hop said root r k e i;
 }

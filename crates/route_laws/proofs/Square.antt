@@ -8,17 +8,20 @@ use Rattle.lsa.specs.declared.body.Body.TheVariants as body
 use Rattle.lsa.specs.declared.body.Link.{Link}
 use Rattle.routes.specs.Candidates.{AreCandidates, IsCandidate, Offers}
 use Rattle.routes.specs.Candidates.Offers.{External, Within}
-use Rattle.routes.specs.Links.{IsRouterLsa, Leads, Node}
-use Rattle.routes.specs.Links.Node.{ARouter}
-use Rattle.routes.specs.Offers.{Offer, intra}
+use Rattle.routes.specs.Links.{IsRouterLsa, Leads}
+use Rattle.routes.specs.declared.node.Node.{Node}
+use Rattle.routes.specs.declared.node.Node.TheVariants.{ARouter}
+use Rattle.routes.specs.Offers.{intra}
+use Rattle.routes.specs.declared.offer.Offer.{Offer}
 use Rattle.routes.specs.Paths.{IsWalk, IsWay, Step}
 use Rattle.routes.specs.Tables.{IsLetIn}
 use Rattle.route_laws.specs.Worked.{WorkedSquare, across, database, dotted, key, mask_24, network_24, router_lsa, square, square_corner, square_far, square_left, square_right, square_root, stub}
 use Rattle.route_laws.proofs.Alone.{Known, all_candidates, alone, each_within, is_stub}
-use Rattle.route_laws.proofs.Entries.{all_pass, links_of, said, sayings}
+use Rattle.route_laws.proofs.Entries.{all_pass, links_of, is_said, sayings}
 use Rattle.route_laws.proofs.Labels.{AreChecked, at_node, checked, way_by}
 use Rattle.routes.proofs.Lists.{first_is, of_cons, of_empty}
 use Rattle.route_laws.proofs.Made.{back, from_other, from_root, linked, one_or_two, says}
+use Rattle.routes.specs.Said.{said_at}
 
 abbrev corner : ℕ
 corner = dotted 1 1 1 1
@@ -41,36 +44,36 @@ hops r = cond (nat_eq r left) 2 (cond (nat_eq r right) 4 (cond (nat_eq r far) 6 
 labels : AreChecked square_root (sayings square) distance hops
 labels = record { start = refl; routers = refl; links = refl }
 
-corner_says : IsRouterLsa 0 (database square) corner (router_lsa square_corner)
+corner_says : IsRouterLsa (said_at 0 (database square)) corner (router_lsa square_corner)
 corner_says = says square (key 1 corner corner) (body.Router (router_lsa square_corner)) refl
 
-left_says : IsRouterLsa 0 (database square) left (router_lsa square_left)
+left_says : IsRouterLsa (said_at 0 (database square)) left (router_lsa square_left)
 left_says = says square (key 1 left left) (body.Router (router_lsa square_left)) refl
 
-right_says : IsRouterLsa 0 (database square) right (router_lsa square_right)
+right_says : IsRouterLsa (said_at 0 (database square)) right (router_lsa square_right)
 right_says = says square (key 1 right right) (body.Router (router_lsa square_right)) refl
 
-far_says : IsRouterLsa 0 (database square) far (router_lsa square_far)
+far_says : IsRouterLsa (said_at 0 (database square)) far (router_lsa square_far)
 far_says = says square (key 1 far far) (body.Router (router_lsa square_far)) refl
 
 abbrev step : ℕ → ℕ → Step Node
 step router exit = record { target = ARouter router; price = 5; exit = exit }
 
-by_left : IsWalk (Leads 0 (database square) square_root) (ARouter corner) (step left 1 ∷ step far 0 ∷ []) (ARouter far)
+by_left : IsWalk (Leads (said_at 0 (database square)) square_root) (ARouter corner) (step left 1 ∷ step far 0 ∷ []) (ARouter far)
 by_left = (
   (from_root square square_root square_corner corner_says left (dotted 10 0 1 1) 5 0 (0, omega arith, refl) (omega arith) refl, back square left square_left left_says corner (dotted 10 0 1 2) 5 (0, omega arith, refl)),
   ((from_other square square_root left square_left left_says (λ e. omega (arith, e)) far (dotted 10 0 3 1) 5 (1, omega arith, refl) (omega arith), back square far square_far far_says left (dotted 10 0 3 2) 5 (0, omega arith, refl)), refl),
 )
 
-by_right : IsWalk (Leads 0 (database square) square_root) (ARouter corner) (step right 2 ∷ step far 0 ∷ []) (ARouter far)
+by_right : IsWalk (Leads (said_at 0 (database square)) square_root) (ARouter corner) (step right 2 ∷ step far 0 ∷ []) (ARouter far)
 by_right = (
   (from_root square square_root square_corner corner_says right (dotted 10 0 2 1) 5 1 (1, omega arith, refl) (omega arith) refl, back square right square_right right_says corner (dotted 10 0 2 2) 5 (0, omega arith, refl)),
   ((from_other square square_root right square_right right_says (λ e. omega (arith, e)) far (dotted 10 0 4 1) 5 (1, omega arith, refl) (omega arith), back square far square_far far_says right (dotted 10 0 4 2) 5 (1, omega arith, refl)), refl),
 )
 
-way_far : IsWay (Leads 0 (database square) square_root) (ARouter corner) (ARouter far) (record { distance = 10; hops = 6 })
+way_far : IsWay (Leads (said_at 0 (database square)) square_root) (ARouter corner) (ARouter far) (record { distance = 10; hops = 6 })
 way_far =
-    way_by (Leads 0 (database square) square_root) (ARouter corner) (at_node distance) (at_node hops) (checked square_root 0 square distance hops labels) (ARouter far) (step left 1 ∷ step far 0 ∷ []) by_left refl
+    way_by (Leads (said_at 0 (database square)) square_root) (ARouter corner) (at_node distance) (at_node hops) (checked square_root 0 square distance hops labels) (ARouter far) (step left 1 ∷ step far 0 ∷ []) by_left refl
     (λ i t. elim (one_or_two i t) [
       | inl e ↦ (step left 1, step far 0 ∷ [], by_left, refl, sym e)
       | inr e ↦ (step right 2, step far 0 ∷ [], by_right, refl, sym e)
@@ -95,11 +98,11 @@ is_router (k, body.Router r) = true
 is_router (k, body.Network n) = false
 is_router (k, body.External e) = false
 
-only_offer : (o : Offer) → Offers 0 (database square) square_root o → offer ≡ o
+only_offer : (o : Offer) → Offers (said_at 0 (database square)) square_root o → offer ≡ o
 only_offer o (Within x) = each_within 0 square square_root (λ o. offer ≡ o) refl known o x
-only_offer o (External x) = absurd (let e : false ≡ true = all_pass is_router (sayings square) refl (key 5 x.id x.originator, body.External x.lsa) (said 0 square _ (body.External x.lsa) x.its) in cc)
+only_offer o (External x) = absurd (let e : false ≡ true = all_pass is_router (sayings square) refl (key 5 x.id x.originator, body.External x.lsa) (is_said 0 square _ (body.External x.lsa) x.its) in cc)
 
-offered : Offers 0 (database square) square_root offer
+offered : Offers (said_at 0 (database square)) square_root offer
 offered = Within (record {
   node = ARouter far;
   prefix = network_24 192 0 2;
@@ -113,20 +116,20 @@ offered = Within (record {
   is = refl;
 })
 
-is_candidate : IsCandidate 0 (database square) square_root across
-is_candidate = alone 0 (database square) square_root offer offered (λ other o e. inl (sym (only_offer other o)))
+is_candidate : IsCandidate (said_at 0 (database square)) square_root across
+is_candidate = alone (said_at 0 (database square)) square_root offer offered (λ other o e. inl (sym (only_offer other o)))
 
-each_is : (r : Route) → Contains (across ∷ []) r → IsCandidate 0 (database square) square_root r
+each_is : (r : Route) → Contains (across ∷ []) r → IsCandidate (said_at 0 (database square)) square_root r
 each_is r t =
-    let P : Route → Type 0 = λ x. IsCandidate 0 (database square) square_root x in
+    let P : Route → Type 0 = λ x. IsCandidate (said_at 0 (database square)) square_root x in
     elim (of_cons across [] r t) [
       | inl e ↦ subst P e is_candidate
       | inr none ↦ absurd (of_empty r none)
     ]
 
-square_candidates : AreCandidates 0 (database square) square_root (across ∷ [])
+square_candidates : AreCandidates (said_at 0 (database square)) square_root (across ∷ [])
 square_candidates =
-    all_candidates 0 (database square) square_root (across ∷ []) each_is
+    all_candidates (said_at 0 (database square)) square_root (across ∷ []) each_is
     (λ o given. (across, first_is across [], ap (λ (x : Offer). x.prefix) (only_offer o given)))
     (λ i j d before within. absurd (omega (arith, before, within)))
 

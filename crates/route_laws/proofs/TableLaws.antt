@@ -7,7 +7,7 @@ use Rattle.routes.proofs.Determined.{same_routes}
 use Rattle.routes.proofs.Lists.{first_is, of_empty}
 
 pub tables : TablesAreDetermined
-tables moment db root answers left right p q =
+tables said root answers left right p q =
     same_routes left right p.ascending q.ascending (λ r t. (q.each r).1 ((p.each r).0 t)) (λ r t. (p.each r).1 ((q.each r).0 t))
 
 without : (table : List Route) → ((r : Route) → Contains table r → ⊥) → table ≡ []
@@ -16,12 +16,12 @@ without (r ∷ table) none = absurd (none r (first_is r table))
 
 pub parts : TablesArePartsOfCandidates
 parts = record {
-  part = λ moment db root answers routes table are is r. (
+  part = λ said root answers routes table are is r. (
     (λ t. let k = (is.each r).0 t in ((are.each r).1 k.0, k.1)),
     (λ t. (is.each r).1 ((are.each r).0 t.0, t.1)),
   );
-  empty = λ moment db root table is. without table (λ r t. of_empty (r, 0) ((is.each r).0 t).1);
+  empty = λ said root table is. without table (λ r t. of_empty (r, 0) ((is.each r).0 t).1);
 }
 
 pub not_stale : AnswersToAllAreNotStale
-not_stale moment db root answers routes are all stale = stale.2 (all stale.0 ((are.each stale.0).1 stale.1))
+not_stale said root answers routes are all stale = stale.2 (all stale.0 ((are.each stale.0).1 stale.1))

@@ -1,5 +1,5 @@
 -- The worked transit network: its ways, the offers, and the candidates.
-use Rattle.std.proofs.Common.{◌≡◌, ◌≢◌, ℕ, ◌≤◌, ◌⊎◌, inl, inr, Bool, true, cond, not, ◌||◌, IsTrue, nat_eq, eqb-true, List, [], ◌∷◌, filter, bit_and, arith, refl, sym, ◌∙◌, subst}
+use Rattle.std.proofs.Common.{◌≡◌, ◌≢◌, ℕ, ◌≤◌, ◌⊎◌, inl, inr, Bool, true, cond, not, ◌||◌, IsTrue, nat_eq, eqb-true, List, [], ◌∷◌, filter, bit_and, arith, refl, sym, ◌∙◌, ap, subst}
 use Rattle.std.specs.List.{AllByRecursion, AllPairs, Contains}
 use Rattle.words.specs.Interfaces.{has_interface}
 use Rattle.words.specs.Prefixes.{Network, network_address}
@@ -10,29 +10,32 @@ use Rattle.lsa.specs.declared.body.Body.{Body}
 use Rattle.lsa.specs.declared.body.Body.TheVariants as body
 use Rattle.lsa.specs.declared.body.ExternalLsa.{ExternalLsa}
 use Rattle.lsa.specs.declared.body.Link.{Link}
-use Rattle.lsdb.specs.Copies.{Database}
-use Rattle.routes.specs.Candidates.{IsBefore, IsBest, IsCandidate, IsExternalWay, IsForwarded, IsNoLater, Offers, external_offer}
-use Rattle.routes.specs.Candidates.IsBefore.{ByAddress}
-use Rattle.routes.specs.Candidates.IsNoLater.{ByOriginator, ByTag}
+use Rattle.routes.specs.Candidates.{IsBest, IsCandidate, IsExternalWay, Offers, external_offer}
+use Rattle.routes.specs.Routes.IsBefore.{ByAddress}
+use Rattle.routes.specs.Routes.IsNoLater.{ByOriginator, ByTag}
 use Rattle.routes.specs.Candidates.Offers.{External, Within}
-use Rattle.routes.specs.Links.{IsRouterLsa, Leads, ListsRouter, Node}
-use Rattle.routes.specs.Links.Node.{ANetwork, ARouter}
-use Rattle.routes.specs.Offers.{IsNoWorse, IsPrefix, MatchesWithin, Offer, OffersWithin, intra}
+use Rattle.routes.specs.Links.{IsRouterLsa, Leads, ListsRouter}
+use Rattle.routes.specs.declared.node.Node.{Node}
+use Rattle.routes.specs.declared.node.Node.TheVariants.{ANetwork, ARouter}
+use Rattle.routes.specs.Offers.{IsPrefix, OffersWithin, intra}
+use Rattle.routes.specs.declared.offer.Offer.{Offer}
 use Rattle.routes.specs.Paths.{IsWay, Step, Way}
 use Rattle.route_laws.specs.Worked.{database, dotted, key, mask_24, network_24, router_lsa, stub}
 use Rattle.route_laws.specs.WorkedExternals.{external}
 use Rattle.route_laws.specs.WorkedTransit.{WorkedTransit, behind_route, designated_links, inner_lsa, longest_route, network_8, network_lsa, other_links, root_links, shared_route, transit, transit_entries, transit_root, transit_route, wide_route}
-use Rattle.route_laws.proofs.Alone.{IsAlone, all_candidates, alone, is_stub, no_worse_itself, one_prefix}
+use Rattle.route_laws.proofs.Alone.{IsAlone, all_candidates, alone, alone_among, is_stub, no_worse_itself, one_prefix, route_of}
 use Rattle.routes.proofs.Determined.{one_way}
-use Rattle.route_laws.proofs.Entries.{all_pass, links_of, said, sayings}
+use Rattle.route_laws.proofs.Entries.{all_pass, links_of, is_said, sayings}
 use Rattle.route_laws.proofs.Forwarding.{one_forward}
 use Rattle.route_laws.proofs.Labels.{AreLabels, subset, way_by}
 use Rattle.route_laws.proofs.Made.{back, from_root, linked, one_or_two, only_one, says}
 use Rattle.route_laws.proofs.Networks.{AreRising, IsNetworkKnown, IsStubKnown, at, each_offer, rising, unreached}
 use Rattle.route_laws.proofs.Parts.{apart, in_front, nobody, one_of}
+use Rattle.routes.specs.Said.{Said, said_at}
+use Rattle.routes.specs.Routes.{IsBefore, IsForwarded, IsNoLater, IsNoWorse, IsRouteAmong}
 
-abbrev db : Database
-db = database transit_entries
+abbrev said : Said
+said = said_at 0 (database transit_entries)
 
 abbrev root : ℕ
 root = dotted 1 1 1 1
@@ -68,23 +71,23 @@ labels : AreRising transit_root (sayings transit_entries) dr hr dn hn
 labels = record { start = refl; points = refl; enters = refl; leaves = refl }
 
 abbrev leads : Node → Step Node → Type 0
-leads = Leads 0 db transit_root
+leads = Leads said transit_root
 
 -- ---- links
 
-root_says : IsRouterLsa 0 db root (router_lsa root_links)
+root_says : IsRouterLsa said root (router_lsa root_links)
 root_says = says transit_entries (key 1 root root) (body.Router (router_lsa root_links)) refl
 
-designated_says : IsRouterLsa 0 db designated (router_lsa designated_links)
+designated_says : IsRouterLsa said designated (router_lsa designated_links)
 designated_says = says transit_entries (key 1 designated designated) (body.Router (router_lsa designated_links)) refl
 
-other_says : IsRouterLsa 0 db other (router_lsa other_links)
+other_says : IsRouterLsa said other (router_lsa other_links)
 other_says = says transit_entries (key 1 other other) (body.Router (router_lsa other_links)) refl
 
-inner_says : IsRouterLsa 0 db inner inner_lsa
+inner_says : IsRouterLsa said inner inner_lsa
 inner_says = says transit_entries (key 1 inner inner) (body.Router inner_lsa) refl
 
-lists : (n router : ℕ) → Contains network_lsa.attached router → ListsRouter 0 db network designated router
+lists : (n router : ℕ) → Contains network_lsa.attached router → ListsRouter said network designated router
 lists n router among = record { lsa = network_lsa; its = says transit_entries (key 2 network designated) (body.Network network_lsa) refl; among = among }
 
 abbrev to_designated : Step Node
@@ -220,13 +223,13 @@ networks_known = (
   ),
 )
 
-within : (o : Offer) → OffersWithin 0 db transit_root o → Contains nearby o
+within : (o : Offer) → OffersWithin said transit_root o → Contains nearby o
 within o x =
     each_offer 0 transit_entries transit_root IsNearby
     (λ router l t. one_of (λ (y : ℕ × Link). IsStubKnown 0 transit_entries transit_root IsNearby y.0 y.1) (filter is_stub (links_of (sayings transit_entries))) stubs_known (router, l) t)
     (λ id by lsa t. one_of (λ (s : Key × Body). IsSayingKnown s.0 s.1) (sayings transit_entries) networks_known (record { ls_type = 2; link_state_id = id; advertising_router = by }, body.Network lsa) t) o x
 
-wide_there : OffersWithin 0 db transit_root wide_offer
+wide_there : OffersWithin said transit_root wide_offer
 wide_there = record {
   node = ARouter designated;
   prefix = network_8 10;
@@ -240,7 +243,7 @@ wide_there = record {
   is = refl;
 }
 
-network_there : OffersWithin 0 db transit_root network_offer
+network_there : OffersWithin said transit_root network_offer
 network_there = record {
   node = ANetwork network designated;
   prefix = network_24 10 1 0;
@@ -254,7 +257,7 @@ network_there = record {
   is = refl;
 }
 
-behind_there : OffersWithin 0 db transit_root behind_offer
+behind_there : OffersWithin said transit_root behind_offer
 behind_there = record {
   node = ARouter other;
   prefix = network_24 192 0 2;
@@ -279,27 +282,23 @@ forward_way = record { distance = 15; hops = 2 }
 abbrev network_net : Network
 network_net = network_24 10 1 0
 
-matches : MatchesWithin 0 db transit_root forwarding network_offer
-matches = record {
-  offered = network_there;
-  under = refl;
-  best = λ o offered e.
-      one_of (λ (x : Offer). x.prefix ≡ network_net → IsNoWorse network_offer x) nearby
-      ((λ f. absurd (apart (network_8 10) network_net refl f)), ((λ f. no_worse_itself network_offer), ((λ f. absurd (apart (network_24 192 0 2) network_net refl f)), tt))) o (within o offered) e;
-}
+-- the offers within the area have such prefixes
+lengths : (r : Route) → IsRouteAmong (OffersWithin said transit_root) r → r.prefix.length ≤ 24
+lengths r k =
+    let fits : k.first.prefix.length ≤ 24 = one_of (λ (x : Offer). x.prefix.length ≤ 24) nearby (omega arith, (omega arith, (omega arith, tt))) k.first (within k.first k.is_best.offered) in
+    let same : k.first.prefix.length ≡ r.prefix.length = ap (λ (n : Network). n.length) k.is_best.is_for in
+    omega (arith, fits, same)
 
-forwarded_way : IsForwarded 0 db transit_root forwarding forward_way
+forwarded_way : IsForwarded (OffersWithin said transit_root) forwarding forward_way
 forwarded_way = record {
-  by = network_offer;
-  matches = matches;
-  longest = λ o m. one_of (λ (x : Offer). x.prefix.length ≤ 24) nearby (omega arith, (omega arith, (omega arith, tt))) o (within o m.offered);
-  distance = refl;
-  hops = λ i. (
-    (λ t. (network_offer, matches, refl, t)),
-    (λ h.
-        one_of (λ (x : Offer). x.prefix ≡ network_net → IsTrue (has_interface x.hops i) → IsTrue (has_interface 2 i)) nearby
-        ((λ f t. absurd (apart (network_8 10) network_net refl f)), ((λ f t. t), ((λ f t. absurd (apart (network_24 192 0 2) network_net refl f)), tt))) h.0 (within h.0 h.1.offered) h.2 h.3),
-  );
+  by = route_of network_offer;
+  is_route =
+      alone_among (OffersWithin said transit_root) network_offer network_there (λ o offered e.
+      one_of (λ (x : Offer). x.prefix ≡ network_net → (x ≡ network_offer) ⊎ (IsNoWorse network_offer x × (IsNoWorse x network_offer → ⊥))) nearby
+      ((λ f. absurd (apart (network_8 10) network_net refl f)), ((λ f. inl refl), ((λ f. absurd (apart (network_24 192 0 2) network_net refl f)), tt))) o (within o offered) e);
+  under = refl;
+  longest = λ r k u. lengths r k;
+  is = refl;
 }
 
 -- ---- what an external LSA offers
@@ -308,7 +307,7 @@ record Given (id originator : ℕ) (lsa : ExternalLsa) (o : Offer) : Type 0 wher
   prefix : Network
   is_prefix : IsPrefix id lsa.mask prefix
   way : Way
-  is_way : IsExternalWay 0 db transit_root originator lsa way
+  is_way : IsExternalWay said transit_root originator lsa way
   is : o ≡ external_offer lsa.kind prefix lsa originator way
 
 abbrev net_of : ℕ → Network
@@ -322,10 +321,10 @@ direct_known id originator lsa way is mask none o g =
     let p : net_of id ≡ g.prefix = one_prefix id lsa.mask 24 g.prefix (omega arith) mask g.is_prefix in
     (λ i. external_offer lsa.kind (p i) lsa originator (w i)) ∙ sym g.is
 
-forward_known : (id originator : ℕ) (lsa : ExternalLsa) (way : Way) → lsa.mask ≡ mask_24 → lsa.forwarding ≢ 0 → IsForwarded 0 db transit_root lsa.forwarding way → (o : Offer) → Given id originator lsa o
+forward_known : (id originator : ℕ) (lsa : ExternalLsa) (way : Way) → lsa.mask ≡ mask_24 → lsa.forwarding ≢ 0 → IsForwarded (OffersWithin said transit_root) lsa.forwarding way → (o : Offer) → Given id originator lsa o
     → external_offer lsa.kind (net_of id) lsa originator way ≡ o
 forward_known id originator lsa way mask some is o g =
-    let w : way ≡ g.way = one_forward 0 db transit_root lsa.forwarding way g.way is (g.is_way.forwarded some) in
+    let w : way ≡ g.way = one_forward (OffersWithin said transit_root) lsa.forwarding way g.way is (g.is_way.forwarded some) in
     let p : net_of id ≡ g.prefix = one_prefix id lsa.mask 24 g.prefix (omega arith) mask g.is_prefix in
     (λ i. external_offer lsa.kind (p i) lsa originator (w i)) ∙ sym g.is
 
@@ -385,7 +384,7 @@ is_plain s = not (nat_eq s.0.link_state_id inner) || has_no_e s.1
 by_inner : IsKnown (key 5 (dotted 203 0 115 0) inner) (body.External plain_lsa)
 by_inner o g =
     let lsa = g.is_way.reaches.lsa in
-    let t = said 0 transit_entries (key 1 inner inner) (body.Router lsa) g.is_way.reaches.its in
+    let t = is_said 0 transit_entries (key 1 inner inner) (body.Router lsa) g.is_way.reaches.its in
     let e : has_no_e (body.Router lsa) ≡ true = all_pass is_plain (sayings transit_entries) refl (key 1 inner inner, body.Router lsa) t in
     let without : bit_and lsa.flags 2 ≡ 0 = eqb-true (bit_and lsa.flags 2) 0 e in
     let with : bit_and lsa.flags 2 ≡ 2 = g.is_way.reaches.has_e in
@@ -397,15 +396,15 @@ by_unlinked o g = absurd (never_unlinked g.is_way.boundary g.is_way.reaches.reac
 all_known : AllByRecursion (λ (s : Key × Body). IsKnown s.0 s.1) (sayings transit_entries)
 all_known = (tt, (tt, (tt, (tt, (tt, (tt, (designated_known, (other_known, (forwarded_known, (by_inner, (by_unlinked, tt)))))))))))
 
-complete : (o : Offer) → Offers 0 db transit_root o → Contains offers o
+complete : (o : Offer) → Offers said transit_root o → Contains offers o
 complete o (Within x) = one_of (λ (y : Offer). Contains offers y) nearby ((0, omega arith, refl), ((1, omega arith, refl), ((2, omega arith, refl), tt))) o (within o x)
 complete o (External x) =
-    one_of (λ (s : Key × Body). IsKnown s.0 s.1) (sayings transit_entries) all_known (key 5 x.id x.originator, body.External x.lsa) (said 0 transit_entries _ (body.External x.lsa) x.its) o
+    one_of (λ (s : Key × Body). IsKnown s.0 s.1) (sayings transit_entries) all_known (key 5 x.id x.originator, body.External x.lsa) (is_said 0 transit_entries _ (body.External x.lsa) x.its) o
     (record { prefix = x.prefix; is_prefix = x.is_prefix; way = x.way; is_way = x.is_way; is = x.is })
 
 -- ---- the external ones are offered
 
-designated_offered : Offers 0 db transit_root designated_offer
+designated_offered : Offers said transit_root designated_offer
 designated_offered = External (record {
   id = dotted 203 0 113 0;
   originator = designated;
@@ -425,7 +424,7 @@ designated_offered = External (record {
   is = refl;
 })
 
-other_offered : Offers 0 db transit_root other_offer
+other_offered : Offers said transit_root other_offer
 other_offered = External (record {
   id = dotted 203 0 113 0;
   originator = other;
@@ -445,7 +444,7 @@ other_offered = External (record {
   is = refl;
 })
 
-forwarded_offered : Offers 0 db transit_root forwarded_offer
+forwarded_offered : Offers said transit_root forwarded_offer
 forwarded_offered = External (record {
   id = dotted 203 0 114 0;
   originator = designated;
@@ -476,19 +475,19 @@ elsewhere c x far e = absurd (apart x.prefix c.prefix far e)
 itself : (c : Offer) → IsBeaten c c
 itself c e = inl refl
 
-beaten : (c : Offer) → AllByRecursion (IsBeaten c) offers → IsAlone 0 db transit_root c
+beaten : (c : Offer) → AllByRecursion (IsBeaten c) offers → IsAlone said transit_root c
 beaten c all o offered e = one_of (IsBeaten c) offers all o (complete o offered) e
 
-wide_alone : IsAlone 0 db transit_root wide_offer
+wide_alone : IsAlone said transit_root wide_offer
 wide_alone = beaten wide_offer (itself wide_offer, (elsewhere wide_offer network_offer refl, (elsewhere wide_offer behind_offer refl, (elsewhere wide_offer designated_offer refl, (elsewhere wide_offer other_offer refl, (elsewhere wide_offer forwarded_offer refl, tt))))))
 
-network_alone : IsAlone 0 db transit_root network_offer
+network_alone : IsAlone said transit_root network_offer
 network_alone = beaten network_offer (elsewhere network_offer wide_offer refl, (itself network_offer, (elsewhere network_offer behind_offer refl, (elsewhere network_offer designated_offer refl, (elsewhere network_offer other_offer refl, (elsewhere network_offer forwarded_offer refl, tt))))))
 
-behind_alone : IsAlone 0 db transit_root behind_offer
+behind_alone : IsAlone said transit_root behind_offer
 behind_alone = beaten behind_offer (elsewhere behind_offer wide_offer refl, (elsewhere behind_offer network_offer refl, (itself behind_offer, (elsewhere behind_offer designated_offer refl, (elsewhere behind_offer other_offer refl, (elsewhere behind_offer forwarded_offer refl, tt))))))
 
-forwarded_alone : IsAlone 0 db transit_root forwarded_offer
+forwarded_alone : IsAlone said transit_root forwarded_offer
 forwarded_alone = beaten forwarded_offer (elsewhere forwarded_offer wide_offer refl, (elsewhere forwarded_offer network_offer refl, (elsewhere forwarded_offer behind_offer refl, (elsewhere forwarded_offer designated_offer refl, (elsewhere forwarded_offer other_offer refl, (itself forwarded_offer, tt))))))
 
 -- the two offers for the shared network, as good as each other
@@ -516,10 +515,10 @@ alike_second : (o : Offer) → IsShared o → IsNoWorse other_offer o
 alike_second o (inl e) = let P : Offer → Type 0 = λ x. IsNoWorse other_offer x in subst P e (IsNoWorse.ByDistance refl refl (omega arith))
 alike_second o (inr e) = let P : Offer → Type 0 = λ x. IsNoWorse other_offer x in subst P e (no_worse_itself other_offer)
 
-designated_best : IsBest 0 db transit_root shared_net designated_offer
+designated_best : IsBest said transit_root shared_net designated_offer
 designated_best = record { offered = designated_offered; is_for = refl; best = λ o offered e. alike_first o (shared o (complete o offered) e) }
 
-other_best : IsBest 0 db transit_root shared_net other_offer
+other_best : IsBest said transit_root shared_net other_offer
 other_best = record { offered = other_offered; is_for = refl; best = λ o offered e. alike_second o (shared o (complete o offered) e) }
 
 earliest : (o : Offer) → IsShared o → IsNoLater designated_offer o
@@ -530,7 +529,7 @@ joined : (o : Offer) → IsShared o → (i : ℕ) → IsTrue (has_interface o.ho
 joined o (inl e) i t = subset 2 6 i refl (let P : Offer → Type 0 = λ x. IsTrue (has_interface x.hops i) in subst P (sym e) t)
 joined o (inr e) i t = let P : Offer → Type 0 = λ x. IsTrue (has_interface x.hops i) in subst P (sym e) t
 
-shared_candidate : IsCandidate 0 db transit_root shared_route
+shared_candidate : IsCandidate said transit_root shared_route
 shared_candidate = record {
   first = designated_offer;
   is_best = designated_best;
@@ -545,14 +544,14 @@ shared_candidate = record {
 abbrev routes : List Route
 routes = wide_route ∷ transit_route ∷ behind_route ∷ shared_route ∷ longest_route ∷ []
 
-sound : AllByRecursion (λ (r : Route). IsCandidate 0 db transit_root r) routes
+sound : AllByRecursion (λ (r : Route). IsCandidate said transit_root r) routes
 sound = (
-  alone 0 db transit_root wide_offer (Within wide_there) wide_alone,
+  alone said transit_root wide_offer (Within wide_there) wide_alone,
   (
-    alone 0 db transit_root network_offer (Within network_there) network_alone,
+    alone said transit_root network_offer (Within network_there) network_alone,
     (
-      alone 0 db transit_root behind_offer (Within behind_there) behind_alone,
-      (shared_candidate, (alone 0 db transit_root forwarded_offer forwarded_offered forwarded_alone, tt)),
+      alone said transit_root behind_offer (Within behind_there) behind_alone,
+      (shared_candidate, (alone said transit_root forwarded_offer forwarded_offered forwarded_alone, tt)),
     ),
   ),
 )
@@ -584,5 +583,5 @@ ascending =
 
 pub worked : WorkedTransit
 worked =
-    all_candidates 0 db transit_root routes (λ r t. one_of (λ (x : Route). IsCandidate 0 db transit_root x) routes sound r t)
+    all_candidates said transit_root routes (λ r t. one_of (λ (x : Route). IsCandidate said transit_root x) routes sound r t)
     (λ o offered. one_of HasRoute offers covered o (complete o offered)) ascending

@@ -14,21 +14,24 @@ use Rattle.lsa.specs.declared.body.Body.{Body}
 use Rattle.lsa.specs.declared.body.Body.TheVariants as body
 use Rattle.lsa.specs.declared.body.ExternalLsa.{ExternalLsa}
 use Rattle.lsa.specs.declared.body.Link.{Link}
-use Rattle.routes.specs.Candidates.{AreCandidates, IsBefore, IsCandidate, Offers, OffersExternal, external_offer}
-use Rattle.routes.specs.Candidates.IsBefore.{ByAddress}
+use Rattle.routes.specs.Candidates.{AreCandidates, IsCandidate, Offers, OffersExternal, external_offer}
+use Rattle.routes.specs.Routes.IsBefore.{ByAddress}
 use Rattle.routes.specs.Candidates.Offers.{External, Within}
 use Rattle.routes.specs.Links.{IsRouterLsa, Leads}
-use Rattle.routes.specs.Links.Node.{ARouter}
-use Rattle.routes.specs.Offers.{IsNoWorse, Offer, OffersWithin, intra, rank}
-use Rattle.routes.specs.Offers.IsNoWorse.{ByCost, ByDistance, ByKind}
+use Rattle.routes.specs.declared.node.Node.TheVariants.{ARouter}
+use Rattle.routes.specs.Offers.{OffersWithin, intra}
+use Rattle.routes.specs.declared.offer.Offer.{Offer}
+use Rattle.routes.specs.Routes.IsNoWorse.{ByCost, ByDistance, ByKind}
 use Rattle.routes.specs.Paths.{IsWalk, IsWay, Way}
 use Rattle.route_laws.specs.Worked.{Entries, WorkedTwoRouters, abroad, abroad_1, abroad_2, abroad_lsa, database, dotted, far_links, key, mask_24, near_links, near_router, network_24, next_network, own_network, router_lsa, stub, two_routers}
 use Rattle.route_laws.proofs.Alone.{IsAlone, Known, all_candidates, alone, each_within, one_prefix, route_of}
 use Rattle.routes.proofs.Determined.{bit_of_member, one_way}
-use Rattle.route_laws.proofs.Entries.{all_pass, said, sayings}
+use Rattle.route_laws.proofs.Entries.{all_pass, is_said, sayings}
 use Rattle.route_laws.proofs.Labels.{AreChecked, at_node, checked, way_by}
 use Rattle.routes.proofs.Lists.{first_is, later_is, of_cons, of_empty}
 use Rattle.route_laws.proofs.Made.{back, from_root, linked, only_one, says}
+use Rattle.routes.specs.Said.{said_at}
+use Rattle.routes.specs.Routes.{IsBefore, IsNoWorse, rank}
 
 abbrev pub near : ℕ
 near = dotted 1 1 1 1
@@ -79,23 +82,23 @@ another_prefix : (p q : Network) (o : Offer) → (p.address ≡ q.address → �
 another_prefix p q o other e f = other (ap (λ (n : Network). n.address) (e ∙ f))
 
 module _ (others : Entries) (labels : AreChecked near_router (sayings (two_routers others)) distance hops) where
-  near_says : IsRouterLsa 0 (database (two_routers others)) near (router_lsa near_links)
+  near_says : IsRouterLsa (said_at 0 (database (two_routers others))) near (router_lsa near_links)
   near_says = says (two_routers others) (key 1 near near) (body.Router (router_lsa near_links)) refl
 
-  pub far_says : IsRouterLsa 0 (database (two_routers others)) far (router_lsa far_links)
+  pub far_says : IsRouterLsa (said_at 0 (database (two_routers others))) far (router_lsa far_links)
   far_says = says (two_routers others) (key 1 far far) (body.Router (router_lsa far_links)) refl
 
-  across_link : IsWalk (Leads 0 (database (two_routers others)) near_router) (ARouter near) (record { target = ARouter far; price = 10; exit = 1 } ∷ []) (ARouter far)
+  across_link : IsWalk (Leads (said_at 0 (database (two_routers others))) near_router) (ARouter near) (record { target = ARouter far; price = 10; exit = 1 } ∷ []) (ARouter far)
   across_link = ((from_root (two_routers others) near_router near_links near_says far (dotted 10 0 1 1) 10 0 (0, omega arith, refl) (omega arith) refl, back (two_routers others) far far_links far_says near (dotted 10 0 1 2) 10 (0, omega arith, refl)), refl)
 
-  near_way : IsWay (Leads 0 (database (two_routers others)) near_router) (ARouter near) (ARouter near) (record { distance = 0; hops = 0 })
+  near_way : IsWay (Leads (said_at 0 (database (two_routers others))) near_router) (ARouter near) (ARouter near) (record { distance = 0; hops = 0 })
   near_way =
-      way_by (Leads 0 (database (two_routers others)) near_router) (ARouter near) (at_node distance) (at_node hops) (checked near_router 0 (two_routers others) distance hops labels) (ARouter near) [] refl refl
+      way_by (Leads (said_at 0 (database (two_routers others))) near_router) (ARouter near) (at_node distance) (at_node hops) (checked near_router 0 (two_routers others) distance hops labels) (ARouter near) [] refl refl
       (λ i t. absurd (no_hop i t))
 
-  pub far_is : IsWay (Leads 0 (database (two_routers others)) near_router) (ARouter near) (ARouter far) far_way
+  pub far_is : IsWay (Leads (said_at 0 (database (two_routers others))) near_router) (ARouter near) (ARouter far) far_way
   far_is =
-      way_by (Leads 0 (database (two_routers others)) near_router) (ARouter near) (at_node distance) (at_node hops) (checked near_router 0 (two_routers others) distance hops labels) (ARouter far) (record { target = ARouter far; price = 10; exit = 1 } ∷ []) across_link refl
+      way_by (Leads (said_at 0 (database (two_routers others))) near_router) (ARouter near) (at_node distance) (at_node hops) (checked near_router 0 (two_routers others) distance hops labels) (ARouter far) (record { target = ARouter far; price = 10; exit = 1 } ∷ []) across_link refl
       (λ i t. (record { target = ARouter far; price = 10; exit = 1 }, [], across_link, refl, sym (only_one i t)))
 
   pub known : (router : ℕ) (l : Link) → Contains {X = ℕ × Link} ((near, own_stub) ∷ (far, own_stub) ∷ (far, next_stub) ∷ []) (router, l) → Known 0 (two_routers others) near_router IsWithin router l
@@ -114,7 +117,7 @@ module _ (others : Entries) (labels : AreChecked near_router (sayings (two_route
             ]
       ]
 
-  pub own_is_offered : OffersWithin 0 (database (two_routers others)) near_router own_offer
+  pub own_is_offered : OffersWithin (said_at 0 (database (two_routers others))) near_router own_offer
   own_is_offered = record {
     node = ARouter near;
     prefix = network_24 10 0 1;
@@ -128,7 +131,7 @@ module _ (others : Entries) (labels : AreChecked near_router (sayings (two_route
     is = refl;
   }
 
-  pub next_is_offered : OffersWithin 0 (database (two_routers others)) near_router next_offer
+  pub next_is_offered : OffersWithin (said_at 0 (database (two_routers others))) near_router next_offer
   next_is_offered = record {
     node = ARouter far;
     prefix = network_24 10 0 2;
@@ -143,9 +146,9 @@ module _ (others : Entries) (labels : AreChecked near_router (sayings (two_route
   }
 
   -- with offers of other prefixes beyond those within the area
-  module _ (Beyond : Offer → Type 0) (all : (o : Offer) → Offers 0 (database (two_routers others)) near_router o → IsWithin o ⊎ Beyond o)
+  module _ (Beyond : Offer → Type 0) (all : (o : Offer) → Offers (said_at 0 (database (two_routers others))) near_router o → IsWithin o ⊎ Beyond o)
       (not_own : (o : Offer) → Beyond o → o.prefix ≡ network_24 10 0 1 → ⊥) (not_next : (o : Offer) → Beyond o → o.prefix ≡ network_24 10 0 2 → ⊥) where
-    own_alone : IsAlone 0 (database (two_routers others)) near_router own_offer
+    own_alone : IsAlone (said_at 0 (database (two_routers others))) near_router own_offer
     own_alone o offered e =
         elim (all o offered) [
           | inl within ↦
@@ -162,7 +165,7 @@ module _ (others : Entries) (labels : AreChecked near_router (sayings (two_route
           | inr beyond ↦ absurd (not_own o beyond e)
         ]
 
-    next_alone : IsAlone 0 (database (two_routers others)) near_router next_offer
+    next_alone : IsAlone (said_at 0 (database (two_routers others))) near_router next_offer
     next_alone o offered e =
         elim (all o offered) [
           | inl within ↦
@@ -178,17 +181,17 @@ module _ (others : Entries) (labels : AreChecked near_router (sayings (two_route
         ]
 
     -- the two routes within the area, and those beyond it
-    with_routes : (rest : List Route) → ((r : Route) → Contains rest r → IsCandidate 0 (database (two_routers others)) near_router r) → ((o : Offer) → Beyond o → (s : Route) × Contains rest s × (s.prefix ≡ o.prefix))
-        → AllPairs (λ (a : Route) (b : Route). IsBefore a.prefix b.prefix) (own_network ∷ next_network ∷ rest) → AreCandidates 0 (database (two_routers others)) near_router (own_network ∷ next_network ∷ rest)
+    with_routes : (rest : List Route) → ((r : Route) → Contains rest r → IsCandidate (said_at 0 (database (two_routers others))) near_router r) → ((o : Offer) → Beyond o → (s : Route) × Contains rest s × (s.prefix ≡ o.prefix))
+        → AllPairs (λ (a : Route) (b : Route). IsBefore a.prefix b.prefix) (own_network ∷ next_network ∷ rest) → AreCandidates (said_at 0 (database (two_routers others))) near_router (own_network ∷ next_network ∷ rest)
     with_routes rest sound beyond ascending =
-        let P : Route → Type 0 = λ x. IsCandidate 0 (database (two_routers others)) near_router x in
-        all_candidates 0 (database (two_routers others)) near_router (own_network ∷ next_network ∷ rest)
+        let P : Route → Type 0 = λ x. IsCandidate (said_at 0 (database (two_routers others))) near_router x in
+        all_candidates (said_at 0 (database (two_routers others))) near_router (own_network ∷ next_network ∷ rest)
         (λ r t.
         elim (of_cons own_network (next_network ∷ rest) r t) [
-          | inl e ↦ subst P e (alone 0 (database (two_routers others)) near_router own_offer (Within own_is_offered) own_alone)
+          | inl e ↦ subst P e (alone (said_at 0 (database (two_routers others))) near_router own_offer (Within own_is_offered) own_alone)
           | inr later ↦
               elim (of_cons next_network rest r later) [
-                | inl e ↦ subst P e (alone 0 (database (two_routers others)) near_router next_offer (Within next_is_offered) next_alone)
+                | inl e ↦ subst P e (alone (said_at 0 (database (two_routers others))) near_router next_offer (Within next_is_offered) next_alone)
                 | inr last ↦ sound r last
               ]
         ])
@@ -234,11 +237,11 @@ is_router (k, body.Router r) = true
 is_router (k, body.Network n) = false
 is_router (k, body.External e) = false
 
-plain_offers : (o : Offer) → Offers 0 (database (two_routers [])) near_router o → IsWithin o ⊎ ⊥
+plain_offers : (o : Offer) → Offers (said_at 0 (database (two_routers []))) near_router o → IsWithin o ⊎ ⊥
 plain_offers o (Within x) = inl (each_within 0 (two_routers []) near_router IsWithin refl (known [] plain_labels) o x)
-plain_offers o (External x) = absurd (let e : false ≡ true = all_pass is_router (sayings (two_routers [])) refl (key 5 x.id x.originator, body.External x.lsa) (said 0 (two_routers []) _ (body.External x.lsa) x.its) in cc)
+plain_offers o (External x) = absurd (let e : false ≡ true = all_pass is_router (sayings (two_routers [])) refl (key 5 x.id x.originator, body.External x.lsa) (is_said 0 (two_routers []) _ (body.External x.lsa) x.its) in cc)
 
-within : AreCandidates 0 (database (two_routers [])) near_router (own_network ∷ next_network ∷ [])
+within : AreCandidates (said_at 0 (database (two_routers []))) near_router (own_network ∷ next_network ∷ [])
 within =
     with_routes [] plain_labels (λ o. ⊥) plain_offers (λ o t e. t) (λ o t e. t) [] (λ r t. absurd (of_empty r t)) (λ o t. absurd t)
     (two_ascend own_network next_network (ByAddress (omega arith)))
@@ -273,11 +276,11 @@ module _ (t : ExternalType) where
             ]
       ]
 
-  abroad_is : (o : Offer) → OffersExternal 0 (database (two_routers (abroad t))) near_router o → abroad_offer t ≡ o
+  abroad_is : (o : Offer) → OffersExternal (said_at 0 (database (two_routers (abroad t)))) near_router o → abroad_offer t ≡ o
   abroad_is o x =
-      let a = which x.id x.originator x.lsa (said 0 (two_routers (abroad t)) _ (body.External x.lsa) x.its) in
-      let Reaches : ℕ → Type 0 = λ router. IsWay (Leads 0 (database (two_routers (abroad t))) near_router) (ARouter near) (ARouter router) x.is_way.boundary in
-      let boundary : far_way ≡ x.is_way.boundary = one_way (Leads 0 (database (two_routers (abroad t))) near_router) (ARouter near) (ARouter far) far_way x.is_way.boundary (far_is (abroad t) labels_abroad) (subst Reaches (sym a.originator_is) x.is_way.reaches.reached) in
+      let a = which x.id x.originator x.lsa (is_said 0 (two_routers (abroad t)) _ (body.External x.lsa) x.its) in
+      let Reaches : ℕ → Type 0 = λ router. IsWay (Leads (said_at 0 (database (two_routers (abroad t)))) near_router) (ARouter near) (ARouter router) x.is_way.boundary in
+      let boundary : far_way ≡ x.is_way.boundary = one_way (Leads (said_at 0 (database (two_routers (abroad t)))) near_router) (ARouter near) (ARouter far) far_way x.is_way.boundary (far_is (abroad t) labels_abroad) (subst Reaches (sym a.originator_is) x.is_way.reaches.reached) in
       let direct : x.way ≡ x.is_way.boundary = x.is_way.direct (sym (ap (λ (l : ExternalLsa). l.forwarding) a.lsa_is)) in
       let w : far_way ≡ x.way = boundary ∙ sym direct in
       let p : network_24 203 0 113 ≡ x.prefix =
@@ -285,7 +288,7 @@ module _ (t : ExternalType) where
       ∙ one_prefix x.id x.lsa.mask 24 x.prefix (omega arith) (sym (ap (λ (l : ExternalLsa). l.mask) a.lsa_is)) x.is_prefix in
       (λ i. external_offer (a.lsa_is i).kind (p i) (a.lsa_is i) (a.originator_is i) (w i)) ∙ sym x.is
 
-  all_offers : (o : Offer) → Offers 0 (database (two_routers (abroad t))) near_router o → IsWithin o ⊎ (abroad_offer t ≡ o)
+  all_offers : (o : Offer) → Offers (said_at 0 (database (two_routers (abroad t)))) near_router o → IsWithin o ⊎ (abroad_offer t ≡ o)
   all_offers o (Within x) = inl (each_within 0 (two_routers (abroad t)) near_router IsWithin refl (known (abroad t) labels_abroad) o x)
   all_offers o (External x) = inr (abroad_is o x)
 
@@ -302,7 +305,7 @@ module _ (t : ExternalType) where
   not_next : (o : Offer) → abroad_offer t ≡ o → o.prefix ≡ network_24 10 0 2 → ⊥
   not_next o e f = another_prefix (network_24 203 0 113) (network_24 10 0 2) o (λ g. omega (arith, g)) (is_there o e) f
 
-  abroad_offered : Offers 0 (database (two_routers (abroad t))) near_router (abroad_offer t)
+  abroad_offered : Offers (said_at 0 (database (two_routers (abroad t)))) near_router (abroad_offer t)
   abroad_offered = External (record {
     id = dotted 203 0 113 0;
     originator = far;
@@ -322,7 +325,7 @@ module _ (t : ExternalType) where
     is = refl;
   })
 
-  abroad_alone : IsAlone 0 (database (two_routers (abroad t))) near_router (abroad_offer t)
+  abroad_alone : IsAlone (said_at 0 (database (two_routers (abroad t)))) near_router (abroad_offer t)
   abroad_alone o offered e =
       let there : o.prefix ≡ network_24 203 0 113 = e ∙ abroad_prefix t in
       elim (all_offers o offered) [
@@ -338,12 +341,12 @@ module _ (t : ExternalType) where
         | inr same ↦ inl (sym same)
       ]
 
-  abroad_candidate : IsCandidate 0 (database (two_routers (abroad t))) near_router (route_of (abroad_offer t))
-  abroad_candidate = alone 0 (database (two_routers (abroad t))) near_router (abroad_offer t) abroad_offered abroad_alone
+  abroad_candidate : IsCandidate (said_at 0 (database (two_routers (abroad t)))) near_router (route_of (abroad_offer t))
+  abroad_candidate = alone (said_at 0 (database (two_routers (abroad t)))) near_router (abroad_offer t) abroad_offered abroad_alone
 
-  all_three : (r : Route) → route_of (abroad_offer t) ≡ r → AreCandidates 0 (database (two_routers (abroad t))) near_router (own_network ∷ next_network ∷ r ∷ [])
+  all_three : (r : Route) → route_of (abroad_offer t) ≡ r → AreCandidates (said_at 0 (database (two_routers (abroad t)))) near_router (own_network ∷ next_network ∷ r ∷ [])
   all_three r is =
-      let P : Route → Type 0 = λ x. IsCandidate 0 (database (two_routers (abroad t))) near_router x in
+      let P : Route → Type 0 = λ x. IsCandidate (said_at 0 (database (two_routers (abroad t)))) near_router x in
       let there : network_24 203 0 113 ≡ r.prefix = sym (abroad_prefix t) ∙ ap (λ (x : Route). x.prefix) is in
       let First : Network → Type 0 = λ n. IsBefore (network_24 10 0 1) n in
       let Second : Network → Type 0 = λ n. IsBefore (network_24 10 0 2) n in

@@ -7,23 +7,26 @@ use Rattle.lsa.specs.declared.body.Body.{Body}
 use Rattle.lsa.specs.declared.body.Body.TheVariants as body
 use Rattle.lsa.specs.declared.body.Link.{Link}
 use Rattle.lsa.specs.declared.body.LinkKind.TheVariants.{PointToPoint}
-use Rattle.lsdb.specs.Copies.{Database}
-use Rattle.routes.specs.Candidates.{IsBefore, IsCandidate, Offers}
+use Rattle.routes.specs.Candidates.{IsCandidate, Offers}
 use Rattle.routes.specs.Candidates.Offers.{External, Within}
-use Rattle.routes.specs.Links.{IsRouterLsa, Leads, LeadsTo, LinksBack, Node}
-use Rattle.routes.specs.Links.Node.{ANetwork, ARouter}
-use Rattle.routes.specs.Offers.{Offer, OffersWithin, intra}
+use Rattle.routes.specs.Links.{IsRouterLsa, Leads, LeadsTo, LinksBack}
+use Rattle.routes.specs.declared.node.Node.{Node}
+use Rattle.routes.specs.declared.node.Node.TheVariants.{ANetwork, ARouter}
+use Rattle.routes.specs.Offers.{OffersWithin, intra}
+use Rattle.routes.specs.declared.offer.Offer.{Offer}
 use Rattle.routes.specs.Paths.{IsWalk, IsWay, Step, Way}
 use Rattle.route_laws.specs.Worked.{Entries, database, dotted, key, mask_24, near_router, network_24, router_lsa, stub}
 use Rattle.route_laws.specs.WorkedUncounted.{WorkedUncounted, counting_links, neighbor_links, neighbor_route, uncounted}
 use Rattle.routes.specs.declared.root.Root.{Root}
 use Rattle.route_laws.proofs.Alone.{all_candidates, alone, is_stub}
-use Rattle.route_laws.proofs.Entries.{all_pass, both_true, has_link, is_no_network, links_of, said, sayings}
+use Rattle.route_laws.proofs.Entries.{all_pass, both_true, has_link, is_no_network, links_of, is_said, sayings}
 use Rattle.route_laws.proofs.Labels.{AreLabels, either_true, is_point, not_both, way_by}
 use Rattle.routes.proofs.Lists.{first_is}
 use Rattle.route_laws.proofs.Made.{back, from_root, linked, only_one, says}
 use Rattle.route_laws.proofs.Networks.{AreRising, IsStubKnown, at, each_offer, pass, rising}
 use Rattle.route_laws.proofs.Parts.{in_front, nobody, one_of}
+use Rattle.routes.specs.Said.{Said, said_at}
+use Rattle.routes.specs.Routes.{IsBefore}
 
 -- ---- walks that don't leave a set of routers, where there are no networks
 
@@ -55,14 +58,14 @@ is_inside inside (ANetwork id by) = false
 
 module _ (root : Root) (es : Entries) (inside : ℕ → Bool) (routers : list_all is_no_network (sayings es) ≡ true)
     (stay : list_all (stays_in root inside (links_of (sayings es))) (links_of (sayings es)) ≡ true) where
-  no_back : (a b : ℕ) → has_no_back (links_of (sayings es)) a b ≡ true → LinksBack 0 (database es) b PointToPoint a → ⊥
+  no_back : (a b : ℕ) → has_no_back (links_of (sayings es)) a b ≡ true → LinksBack (said_at 0 (database es)) b PointToPoint a → ⊥
   no_back a b e l =
       let first = all_pass (λ (y : ℕ × Link). not (nat_eq y.0 b) || (not (is_point y.1.kind) || not (nat_eq y.1.link_id a))) (links_of (sayings es)) e (b, l.0) (has_link 0 es b l.0 l.1) in
       let second = pass (nat_eq b b) (not (is_point l.0.kind) || not (nat_eq l.0.link_id a)) first (eq-eqb b b refl) in
       let third = pass (is_point l.0.kind) (not (nat_eq l.0.link_id a)) second (ap is_point l.2) in
       not_both (nat_eq l.0.link_id a) third (eq-eqb l.0.link_id a l.3)
 
-  leads_inside : (v w : Node) (price exit : ℕ) → LeadsTo 0 (database es) root v w price exit → is_inside inside v ≡ true → is_inside inside w ≡ true
+  leads_inside : (v w : Node) (price exit : ℕ) → LeadsTo (said_at 0 (database es)) root v w price exit → is_inside inside v ≡ true → is_inside inside w ≡ true
   leads_inside (ARouter a) (ARouter b) price exit l t =
       let k = l.0 in
       let x : ℕ × Link = (a, k.link) in
@@ -87,14 +90,14 @@ module _ (root : Root) (es : Entries) (inside : ℕ → Bool) (routers : list_al
             ]
       ]
   leads_inside (ARouter a) (ANetwork id by) price exit l t =
-      absurd (let e : false ≡ true = all_pass is_no_network (sayings es) routers (record { ls_type = 2; link_state_id = id; advertising_router = by }, body.Network l.1.lsa) (said 0 es _ (body.Network l.1.lsa) l.1.its) in cc)
+      absurd (let e : false ≡ true = all_pass is_no_network (sayings es) routers (record { ls_type = 2; link_state_id = id; advertising_router = by }, body.Network l.1.lsa) (is_said 0 es _ (body.Network l.1.lsa) l.1.its) in cc)
   leads_inside (ANetwork id by) w price exit l t = absurd (cc)
 
-  walks_inside : (v : Node) (walk : List (Step Node)) (w : Node) → IsWalk (Leads 0 (database es) root) v walk w → is_inside inside v ≡ true → is_inside inside w ≡ true
+  walks_inside : (v : Node) (walk : List (Step Node)) (w : Node) → IsWalk (Leads (said_at 0 (database es)) root) v walk w → is_inside inside v ≡ true → is_inside inside w ≡ true
   walks_inside v [] w p t = subst (λ n. is_inside inside n ≡ true) p t
   walks_inside v (s ∷ walk) w p t = walks_inside s.target walk w p.1 (leads_inside v s.target s.price s.exit p.0 t)
 
-  outside : inside root.router ≡ true → (router : ℕ) → inside router ≡ false → (way : Way) → IsWay (Leads 0 (database es) root) (ARouter root.router) (ARouter router) way → ⊥
+  outside : inside root.router ≡ true → (router : ℕ) → inside router ≡ false → (way : Way) → IsWay (Leads (said_at 0 (database es)) root) (ARouter root.router) (ARouter router) way → ⊥
   outside start router e way is =
       let t : inside router ≡ true = walks_inside (ARouter root.router) is.distance.0 (ARouter router) is.distance.1.is_walk start in
       let f : false ≡ true = sym e ∙ t in
@@ -102,8 +105,8 @@ module _ (root : Root) (es : Entries) (inside : ℕ → Bool) (routers : list_al
 
 -- ---- the way to the neighbor
 
-abbrev db : Database
-db = database uncounted
+abbrev said : Said
+said = said_at 0 (database uncounted)
 
 abbrev near : ℕ
 near = dotted 1 1 1 1
@@ -125,12 +128,12 @@ labels : AreRising near_router (sayings uncounted) dr hr none_of none_of
 labels = record { start = refl; points = refl; enters = refl; leaves = refl }
 
 abbrev leads : Node → Step Node → Type 0
-leads = Leads 0 db near_router
+leads = Leads said near_router
 
-near_says : IsRouterLsa 0 db near (router_lsa counting_links)
+near_says : IsRouterLsa said near (router_lsa counting_links)
 near_says = says uncounted (key 1 near near) (body.Router (router_lsa counting_links)) refl
 
-neighbor_says : IsRouterLsa 0 db neighbor (router_lsa neighbor_links)
+neighbor_says : IsRouterLsa said neighbor (router_lsa neighbor_links)
 neighbor_says = says uncounted (key 1 neighbor neighbor) (body.Router (router_lsa neighbor_links)) refl
 
 abbrev to_neighbor : Step Node
@@ -171,7 +174,7 @@ stubs_known = (
   (inl (never (dotted 3 3 3 3) refl), (inl (never (dotted 4 4 4 4) refl), (inl (never (dotted 5 5 5 5) refl), (inl (never (dotted 6 6 6 6) refl), tt)))),
 )
 
-within : (o : Offer) → OffersWithin 0 db near_router o → offer ≡ o
+within : (o : Offer) → OffersWithin said near_router o → offer ≡ o
 within o x =
     each_offer 0 uncounted near_router IsOffer
     (λ router l t. one_of IsKnown (filter is_stub (links_of (sayings uncounted))) stubs_known (router, l) t)
@@ -182,11 +185,11 @@ is_router (k, body.Router r) = true
 is_router (k, body.Network n) = false
 is_router (k, body.External e) = false
 
-only_offer : (o : Offer) → Offers 0 db near_router o → offer ≡ o
+only_offer : (o : Offer) → Offers said near_router o → offer ≡ o
 only_offer o (Within x) = within o x
-only_offer o (External x) = absurd (let e : false ≡ true = all_pass is_router (sayings uncounted) refl (key 5 x.id x.originator, body.External x.lsa) (said 0 uncounted _ (body.External x.lsa) x.its) in cc)
+only_offer o (External x) = absurd (let e : false ≡ true = all_pass is_router (sayings uncounted) refl (key 5 x.id x.originator, body.External x.lsa) (is_said 0 uncounted _ (body.External x.lsa) x.its) in cc)
 
-offered : Offers 0 db near_router offer
+offered : Offers said near_router offer
 offered = Within (record {
   node = ARouter neighbor;
   prefix = network_24 192 0 2;
@@ -200,13 +203,13 @@ offered = Within (record {
   is = refl;
 })
 
-candidate : IsCandidate 0 db near_router neighbor_route
-candidate = alone 0 db near_router offer offered (λ o given e. inl (sym (only_offer o given)))
+candidate : IsCandidate said near_router neighbor_route
+candidate = alone said near_router offer offered (λ o given e. inl (sym (only_offer o given)))
 
 abbrev Before : Route → Route → Type 0
 Before a b = IsBefore a.prefix b.prefix
 
 pub worked : WorkedUncounted
 worked =
-    all_candidates 0 db near_router (neighbor_route ∷ []) (λ r t. one_of (λ (x : Route). IsCandidate 0 db near_router x) (neighbor_route ∷ []) (candidate, tt) r t)
+    all_candidates said near_router (neighbor_route ∷ []) (λ r t. one_of (λ (x : Route). IsCandidate said near_router x) (neighbor_route ∷ []) (candidate, tt) r t)
     (λ o given. (neighbor_route, first_is neighbor_route [], ap (λ (x : Offer). x.prefix) (only_offer o given))) (in_front Before neighbor_route [] tt (nobody Before))

@@ -3,3 +3,4 @@ pub mod Worked
 pub mod WorkedExternals
 pub mod WorkedTransit
 pub mod WorkedUncounted
+pub mod WorkedOffers

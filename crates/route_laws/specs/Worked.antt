@@ -18,6 +18,7 @@ use Rattle.lsdb.specs.Keys.{key_cmp}
 use Rattle.routes.specs.Candidates.{AreCandidates}
 use Rattle.routes.specs.Tables.{IsTable}
 use Rattle.routes.specs.declared.root.Root.{Root}
+use Rattle.routes.specs.Said.{said_at}
 
 -- ---- words for the examples
 
@@ -89,9 +90,9 @@ abbrev pub across : Route
 across = record { prefix = network_24 192 0 2; kind = Intra; cost = 20; distance = 0; hops = 6; tag = 0 }
 
 pub record WorkedSquare : Type 0 where
-  pub candidates : AreCandidates 0 (database square) square_root (across ∷ [])
-  pub let_in : IsTable 0 (database square) square_root ((across, 0) ∷ []) (across ∷ [])
-  pub vetoed : IsTable 0 (database square) square_root ((across, 1) ∷ []) []
+  pub candidates : AreCandidates (said_at 0 (database square)) square_root (across ∷ [])
+  pub let_in : IsTable (said_at 0 (database square)) square_root ((across, 0) ∷ []) (across ∷ [])
+  pub vetoed : IsTable (said_at 0 (database square)) square_root ((across, 1) ∷ []) []
 
 -- ---- two routers on one link, the other one with a further network and an external destination
 
@@ -127,6 +128,6 @@ abbrev pub abroad_2 : Route
 abroad_2 = record { prefix = network_24 203 0 113; kind = External2; cost = 20; distance = 10; hops = 2; tag = 0 }
 
 pub record WorkedTwoRouters : Type 0 where
-  pub within : AreCandidates 0 (database (two_routers [])) near_router (own_network ∷ next_network ∷ [])
-  pub type_1 : AreCandidates 0 (database (two_routers (abroad Type1))) near_router (own_network ∷ next_network ∷ abroad_1 ∷ [])
-  pub type_2 : AreCandidates 0 (database (two_routers (abroad Type2))) near_router (own_network ∷ next_network ∷ abroad_2 ∷ [])
+  pub within : AreCandidates (said_at 0 (database (two_routers []))) near_router (own_network ∷ next_network ∷ [])
+  pub type_1 : AreCandidates (said_at 0 (database (two_routers (abroad Type1)))) near_router (own_network ∷ next_network ∷ abroad_1 ∷ [])
+  pub type_2 : AreCandidates (said_at 0 (database (two_routers (abroad Type2)))) near_router (own_network ∷ next_network ∷ abroad_2 ∷ [])

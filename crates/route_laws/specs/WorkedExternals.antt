@@ -11,6 +11,7 @@ use Rattle.lsdb.specs.Copies.{DatabaseCopy}
 use Rattle.lsdb.specs.Headers.{lsa_aged}
 use Rattle.routes.specs.Candidates.{AreCandidates}
 use Rattle.route_laws.specs.Worked.{Entries, database, dotted, mask_24, near_router, network_24, next_network, of_external, own_network, two_routers}
+use Rattle.routes.specs.Said.{said_at}
 
 abbrev pub external : ExternalType → ℕ → ℕ → ℕ → ExternalLsa
 external kind metric forwarding tag = record { mask = mask_24; kind = kind; metric = metric; forwarding = forwarding; tag = tag; tos = [] }
@@ -61,4 +62,4 @@ abbrev pub of_first_type : Route
 of_first_type = record { prefix = network_24 203 0 113; kind = External1; cost = 30; distance = 0; hops = 2; tag = 4 }
 
 abbrev pub WorkedExternals : Type 0
-WorkedExternals = AreCandidates 0 (database destinations) near_router (own_network ∷ next_network ∷ by_own_network ∷ by_next_network ∷ of_first_type ∷ [])
+WorkedExternals = AreCandidates (said_at 0 (database destinations)) near_router (own_network ∷ next_network ∷ by_own_network ∷ by_next_network ∷ of_first_type ∷ [])

@@ -16,6 +16,7 @@ use Rattle.routes.specs.Candidates.{AreCandidates}
 use Rattle.route_laws.specs.Worked.{Entries, copy_of, database, dotted, key, mask_24, network_24, of_external, of_router, point_to_point, stub}
 use Rattle.route_laws.specs.WorkedExternals.{external}
 use Rattle.routes.specs.declared.root.Root.{Root}
+use Rattle.routes.specs.Said.{said_at}
 
 -- a router's link to a transit network: the address of its Designated Router, and the router's own there
 abbrev pub transit : ℕ → ℕ → ℕ → Link
@@ -93,4 +94,4 @@ abbrev pub longest_route : Route
 longest_route = record { prefix = network_24 203 0 114; kind = External1; cost = 35; distance = 0; hops = 2; tag = 0 }
 
 abbrev pub WorkedTransit : Type 0
-WorkedTransit = AreCandidates 0 (database transit_entries) transit_root (wide_route ∷ transit_route ∷ behind_route ∷ shared_route ∷ longest_route ∷ [])
+WorkedTransit = AreCandidates (said_at 0 (database transit_entries)) transit_root (wide_route ∷ transit_route ∷ behind_route ∷ shared_route ∷ longest_route ∷ [])

@@ -6,6 +6,7 @@ use Rattle.lsa.specs.declared.body.Link.{Link}
 use Rattle.lsa.specs.declared.body.LinkKind.TheVariants.{Virtual}
 use Rattle.routes.specs.Candidates.{AreCandidates}
 use Rattle.route_laws.specs.Worked.{Entries, database, dotted, mask_24, near_router, network_24, of_router, point_to_point, stub}
+use Rattle.routes.specs.Said.{said_at}
 
 abbrev pub virtual : ℕ → ℕ → ℕ → Link
 virtual neighbor address cost = record { link_id = neighbor; link_data = address; kind = Virtual; metric = cost; tos = [] }
@@ -38,4 +39,4 @@ abbrev pub neighbor_route : Route
 neighbor_route = record { prefix = network_24 192 0 2; kind = Intra; cost = 11; distance = 0; hops = 2; tag = 0 }
 
 abbrev pub WorkedUncounted : Type 0
-WorkedUncounted = AreCandidates 0 (database uncounted) near_router (neighbor_route ∷ [])
+WorkedUncounted = AreCandidates (said_at 0 (database uncounted)) near_router (neighbor_route ∷ [])

@@ -5,6 +5,7 @@
 ghost use Rattle.route_laws.specs.Laws.{AnswersToAllAreNotStale, CandidatesAreCheapestWalks, EveryOfferHasACandidate, ForwardingIsDetermined, TablesAreDetermined, TablesArePartsOfCandidates};
 ghost use Rattle.route_laws.specs.Worked.{WorkedSquare, WorkedTwoRouters};
 ghost use Rattle.route_laws.specs.WorkedExternals.{WorkedExternals};
+ghost use Rattle.route_laws.specs.WorkedOffers.{WorkedOffers};
 ghost use Rattle.route_laws.specs.WorkedTransit.{WorkedTransit};
 ghost use Rattle.route_laws.specs.WorkedUncounted.{WorkedUncounted};
 
@@ -66,4 +67,10 @@ pub fn worked_transit()
 /// without one back (RFC 2328, section 16.1).
 pub fn worked_uncounted()
     ensures { WorkedUncounted }
+{}
+
+/// Of two offers of one originator at one cost, with the tags 5 and 3, comes one route with the tag 3; of two external ones of type 2 and one
+/// metric, at the distances 10 and 20, the nearer one alone (RFC 2328, section 16.4).
+pub fn worked_offers()
+    ensures { WorkedOffers }
 {}

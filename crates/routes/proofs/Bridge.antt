@@ -8,7 +8,7 @@ use Rattle.routes.specs.declared.graph.Link.{Link}
 use Rattle.routes.specs.declared.graph.Way.{Way}
 use Rattle.routes.specs.Answers.{GraphsCarryAnswers}
 use Rattle.routes.specs.Links.{Leads}
-use Rattle.routes.specs.Links.Node.{ARouter}
+use Rattle.routes.specs.declared.node.Node.TheVariants.{ARouter}
 use Rattle.routes.proofs.Determined.{bit_of_member, is_member}
 
 cost-cons : (l : Link) (ls : List Link) → cost (l ∷ ls) ≡ l.cost + cost ls
@@ -84,5 +84,5 @@ bridged leads number g is v w at to nv nw (Some way) h =
     }
 
 pub carried : GraphsCarryAnswers
-carried moment db root place g is from to node None start end h = bridged (Leads moment db root) (λ v at. place v ≡ Some at) g is (ARouter root.router) node from to start end None h
-carried moment db root place g is from to node (Some way) start end h = bridged (Leads moment db root) (λ v at. place v ≡ Some at) g is (ARouter root.router) node from to start end (Some way) h
+carried said root place g is from to node None start end h = bridged (Leads said root) (λ v at. place v ≡ Some at) g is (ARouter root.router) node from to start end None h
+carried said root place g is from to node (Some way) start end h = bridged (Leads said root) (λ v at. place v ≡ Some at) g is (ARouter root.router) node from to start end (Some way) h

@@ -9,15 +9,16 @@ use Rattle.words.specs.Prefixes.{Network}
 use Rattle.words.specs.declared.route.Route.{Route}
 use Rattle.words.specs.declared.route.RouteKind.{RouteKind}
 use Rattle.words.specs.declared.route.RouteKind.TheVariants.{External1, External2, Inter, Intra}
-use Rattle.routes.specs.Candidates.{IsBefore, IsBest, IsNoLater}
-use Rattle.routes.specs.Candidates.IsBefore.{ByAddress, ByLength}
-use Rattle.routes.specs.Candidates.IsNoLater.{ByOriginator, ByTag}
+use Rattle.routes.specs.Candidates.{Offers}
+use Rattle.routes.specs.Routes.IsBefore.{ByAddress, ByLength}
+use Rattle.routes.specs.Routes.IsNoLater.{ByOriginator, ByTag}
 use Rattle.routes.specs.Laws.{CandidatesAreDetermined, OneCandidateForEachPrefix, WaysAreDetermined}
 use Rattle.routes.specs.Links.{Leads}
-use Rattle.routes.specs.Offers.{IsNoWorse, Offer, rank}
-use Rattle.routes.specs.Offers.IsNoWorse.{ByCost, ByDistance, ByKind}
+use Rattle.routes.specs.declared.offer.Offer.{Offer}
+use Rattle.routes.specs.Routes.IsNoWorse.{ByCost, ByDistance, ByKind}
 use Rattle.routes.specs.Paths.{IsWay, Step, Way}
 use Rattle.routes.proofs.Lists.{same_lists}
+use Rattle.routes.specs.Routes.{IsBefore, IsBestAmong, IsNoLater, IsNoWorse, IsRouteAmong, rank}
 
 -- ---- sets of interfaces
 
@@ -51,7 +52,7 @@ one_way leads from to a b p q =
     λ i. record { distance = distance i; hops = hops i }
 
 pub ways : WaysAreDetermined
-ways moment db root from to a b p q = one_way (Leads moment db root) from to a b p q
+ways said root from to a b p q = one_way (Leads said root) from to a b p q
 
 -- ---- offers that are as good as each other
 
@@ -87,6 +88,11 @@ alike a b (ByDistance p e f) (ByKind q) = absurd (omega (arith, p, q))
 alike a b (ByDistance p e f) (ByCost q r) = absurd (omega (arith, e, r))
 alike a b (ByDistance p e f) (ByDistance q r s) = record { kind = p; cost = e; distance = omega (arith, f, s) }
 
+pub as_good : (a b c : Offer) → AreAlike a b → IsNoWorse a c → IsNoWorse b c
+as_good a b c same (ByKind p) = ByKind (omega (arith, p, same.kind))
+as_good a b c same (ByCost p q) = ByCost (omega (arith, p, same.kind)) (omega (arith, q, same.cost))
+as_good a b c same (ByDistance p q r) = ByDistance (omega (arith, p, same.kind)) (omega (arith, q, same.cost)) (omega (arith, r, same.distance))
+
 same_tag : (a b : Offer) → IsNoLater a b → IsNoLater b a → a.tag ≡ b.tag
 same_tag a b (ByOriginator p) (ByOriginator q) = absurd (omega (arith, p, q))
 same_tag a b (ByOriginator p) (ByTag q r) = absurd (omega (arith, p, q))
@@ -95,11 +101,12 @@ same_tag a b (ByTag p e) (ByTag q r) = omega (arith, e, r)
 
 -- ---- candidates
 
-pub one_candidate : OneCandidateForEachPrefix
-one_candidate moment db root r s p q e =
-    let Best : Offer → Network → Type 0 = λ o n. IsBest moment db root n o in
-    let here : IsBest moment db root s.prefix p.first = subst (Best p.first) e p.is_best in
-    let there : IsBest moment db root r.prefix q.first = subst (Best q.first) (sym e) q.is_best in
+-- whatever is offered, a prefix has one route
+pub one_route : (IsOffered : Offer → Type 0) (r s : Route) → IsRouteAmong IsOffered r → IsRouteAmong IsOffered s → r.prefix ≡ s.prefix → r ≡ s
+one_route IsOffered r s p q e =
+    let Best : Offer → Network → Type 0 = λ o n. IsBestAmong IsOffered n o in
+    let here : IsBestAmong IsOffered s.prefix p.first = subst (Best p.first) e p.is_best in
+    let there : IsBestAmong IsOffered r.prefix q.first = subst (Best q.first) (sym e) q.is_best in
     let equals : AreAlike p.first q.first = alike p.first q.first (p.is_best.best q.first q.is_best.offered there.is_for) (q.is_best.best p.first p.is_best.offered here.is_for) in
     let kind : r.kind ≡ s.kind = p.kind ∙ same_kind p.first.kind q.first.kind equals.kind ∙ sym q.kind in
     let cost : r.cost ≡ s.cost = p.cost ∙ equals.cost ∙ sym q.cost in
@@ -110,7 +117,10 @@ one_candidate moment db root r s p q e =
     (λ i t. let o = (q.hops i).0 t in (p.hops i).1 (o.0, subst (Best o.0) (sym e) o.1, o.2)) in
     λ i. record { prefix = e i; kind = kind i; cost = cost i; distance = distance i; hops = hops i; tag = tag i }
 
-never_both : (a b : Network) → IsBefore a b → IsBefore b a → ⊥
+pub one_candidate : OneCandidateForEachPrefix
+one_candidate said root r s p q e = one_route (Offers said root) r s p q e
+
+pub never_both : (a b : Network) → IsBefore a b → IsBefore b a → ⊥
 never_both a b (ByAddress p) (ByAddress q) = omega (arith, p, q)
 never_both a b (ByAddress p) (ByLength q r) = omega (arith, p, q)
 never_both a b (ByLength p e) (ByAddress q) = omega (arith, p, q)
@@ -122,5 +132,5 @@ pub same_routes : (left right : List Route) → AllPairs (λ (a : Route) (b : Ro
 same_routes left right = same_lists (λ (a : Route) (b : Route). IsBefore a.prefix b.prefix) (λ (a : Route) (b : Route). never_both a.prefix b.prefix) left right
 
 pub candidates : CandidatesAreDetermined
-candidates moment db root left right p q =
+candidates said root left right p q =
     same_routes left right p.ascending q.ascending (λ r t. (q.each r).1 ((p.each r).0 t)) (λ r t. (p.each r).1 ((q.each r).0 t))

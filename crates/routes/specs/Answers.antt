@@ -1,18 +1,20 @@
 -- What a graph that stands for the links of a database tells of the database.
 use Rattle.std.specs.Prelude.{◌≡◌, ℕ, List, Option, Some, None}
-use Rattle.lsdb.specs.Copies.{Database}
 use Rattle.routes.specs.Graphs.{Graph, IsAnswer, IsGraphOf}
-use Rattle.routes.specs.Links.{Node, ARouter, Leads}
+use Rattle.routes.specs.Links.{Leads}
+use Rattle.routes.specs.declared.node.Node.{Node}
+use Rattle.routes.specs.declared.node.Node.TheVariants.{ARouter}
 use Rattle.routes.specs.Paths.{IsWalk, IsWay, Step}
 use Rattle.routes.specs.declared.graph.Way.{Way}
 use Rattle.routes.specs.declared.root.Root.{Root}
+use Rattle.routes.specs.Said.{Said}
 
 -- the way to a node, or none where no walk leads there
-abbrev pub IsNodeAnswer : ℕ → Database → Root → Node → Option Way → Type 0
-IsNodeAnswer moment db root to None = (walk : List (Step Node)) → IsWalk (Leads moment db root) (ARouter root.router) walk to → ⊥
-IsNodeAnswer moment db root to (Some way) = IsWay (Leads moment db root) (ARouter root.router) to (record { distance = way.distance; hops = way.hops })
+abbrev pub IsNodeAnswer : Said → Root → Node → Option Way → Type 0
+IsNodeAnswer said root to None = (walk : List (Step Node)) → IsWalk (Leads said root) (ARouter root.router) walk to → ⊥
+IsNodeAnswer said root to (Some way) = IsWay (Leads said root) (ARouter root.router) to (record { distance = way.distance; hops = way.hops })
 
 -- where the graph's links are those of the database, its nodes at these places, its answers are those of the database
 abbrev pub GraphsCarryAnswers : Type 0
-GraphsCarryAnswers = (moment : ℕ) (db : Database) (root : Root) (place : Node → Option ℕ) (g : Graph) → IsGraphOf (Leads moment db root) (λ node at. place node ≡ Some at) g
-    → (from to : ℕ) (node : Node) (answer : Option Way) → place (ARouter root.router) ≡ Some from → place node ≡ Some to → IsAnswer g from to answer → IsNodeAnswer moment db root node answer
+GraphsCarryAnswers = (said : Said) (root : Root) (place : Node → Option ℕ) (g : Graph) → IsGraphOf (Leads said root) (λ node at. place node ≡ Some at) g
+    → (from to : ℕ) (node : Node) (answer : Option Way) → place (ARouter root.router) ≡ Some from → place node ≡ Some to → IsAnswer g from to answer → IsNodeAnswer said root node answer

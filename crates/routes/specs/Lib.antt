@@ -1,5 +1,7 @@
+pub mod Said
 pub mod Paths
 pub mod Links
+pub mod Routes
 pub mod Offers
 pub mod Candidates
 pub mod Tables

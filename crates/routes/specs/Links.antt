@@ -1,7 +1,6 @@
 -- The links of a database that count (RFC 2328, section 16.1): routers and transit networks, each link with one back.
-use Rattle.std.specs.Prelude.{◌≡◌, ℕ, ◌+◌, ◌<◌, false, Some, slice_get}
+use Rattle.std.specs.Prelude.{◌≡◌, ℕ, ◌+◌, ◌<◌, Some, slice_get}
 use Rattle.std.specs.List.{Contains}
-use Rattle.std.specs.FinMap as finite
 use Rattle.words.specs.declared.key.Key.{Key}
 use Rattle.lsa.specs.declared.body.Body.TheVariants as body
 use Rattle.lsa.specs.declared.body.Link.{Link}
@@ -10,45 +9,45 @@ use Rattle.lsa.specs.declared.body.LinkKind.TheVariants.{PointToPoint, Transit}
 use Rattle.lsa.specs.declared.body.NetworkLsa.{NetworkLsa}
 use Rattle.lsa.specs.declared.body.RouterLsa.{RouterLsa}
 use Rattle.lsa.specs.declared.body.Body.{Body}
-use Rattle.lsdb.specs.Copies.{Database, DatabaseCopy, is_aged_out}
 use Rattle.routes.specs.Paths.{Step}
+use Rattle.routes.specs.declared.node.Node.{Node}
+use Rattle.routes.specs.declared.node.Node.TheVariants.{ANetwork, ARouter}
 use Rattle.routes.specs.declared.root.Root.{Root}
+use Rattle.routes.specs.Said.{Said}
 
--- a router by its Router ID, a network by the Link State ID and the Advertising Router of its LSA
-pub data Node : Type 0 where
-  ARouter : ℕ → Node
-  ANetwork : ℕ → ℕ → Node
+-- the LSA of this key says this
+abbrev pub Says : Said → Key → Body → Type 0
+Says said key body = said key ≡ Some body
 
--- the copy of this key, which isn't at MaxAge, says this
-pub record Says (moment : ℕ) (db : Database) (key : Key) (says : Body) : Type 0 where
-  pub copy : DatabaseCopy
-  pub stands : finite.get db key ≡ Some copy
-  pub young : is_aged_out moment copy ≡ false
-  pub is_body : copy.lsa.body ≡ says
+abbrev pub router_key : ℕ → Key
+router_key router = record { ls_type = 1; link_state_id = router; advertising_router = router }
 
-abbrev pub IsRouterLsa : ℕ → Database → ℕ → RouterLsa → Type 0
-IsRouterLsa moment db router r = Says moment db (record { ls_type = 1; link_state_id = router; advertising_router = router }) (body.Router r)
+abbrev pub network_key : ℕ → ℕ → Key
+network_key id by = record { ls_type = 2; link_state_id = id; advertising_router = by }
 
-abbrev pub IsNetworkLsa : ℕ → Database → ℕ → ℕ → NetworkLsa → Type 0
-IsNetworkLsa moment db id by n = Says moment db (record { ls_type = 2; link_state_id = id; advertising_router = by }) (body.Network n)
+abbrev pub IsRouterLsa : Said → ℕ → RouterLsa → Type 0
+IsRouterLsa said router r = Says said (router_key router) (body.Router r)
+
+abbrev pub IsNetworkLsa : Said → ℕ → ℕ → NetworkLsa → Type 0
+IsNetworkLsa said id by n = Says said (network_key id by) (body.Network n)
 
 -- a link of the router's LSA
-pub record HasLink (moment : ℕ) (db : Database) (router : ℕ) (link : Link) : Type 0 where
+pub record HasLink (said : Said) (router : ℕ) (link : Link) : Type 0 where
   pub lsa : RouterLsa
-  pub its : IsRouterLsa moment db router lsa
+  pub its : IsRouterLsa said router lsa
   pub among : Contains lsa.links link
 
 -- the network-LSA lists the router
-pub record ListsRouter (moment : ℕ) (db : Database) (id by router : ℕ) : Type 0 where
+pub record ListsRouter (said : Said) (id by router : ℕ) : Type 0 where
   pub lsa : NetworkLsa
-  pub its : IsNetworkLsa moment db id by lsa
+  pub its : IsNetworkLsa said id by lsa
   pub among : Contains lsa.attached router
 
 -- A link of this kind and cost to this Link ID that may count: its metric isn't 0, and at the root its data is the address of an own
 -- interface, by which the root sends; elsewhere the exit is 0.
-pub record Counts (moment : ℕ) (db : Database) (root : Root) (router : ℕ) (kind : LinkKind) (id price exit : ℕ) : Type 0 where
+pub record Counts (said : Said) (root : Root) (router : ℕ) (kind : LinkKind) (id price exit : ℕ) : Type 0 where
   pub link : Link
-  pub its : HasLink moment db router link
+  pub its : HasLink said router link
   pub is_kind : link.kind ≡ kind
   pub is_id : link.link_id ≡ id
   pub costs : link.metric ≡ price
@@ -57,15 +56,15 @@ pub record Counts (moment : ℕ) (db : Database) (root : Root) (router : ℕ) (k
   pub elsewhere : ¬ (router ≡ root.router) → exit ≡ 0
 
 -- some link of this kind back to this Link ID
-abbrev pub LinksBack : ℕ → Database → ℕ → LinkKind → ℕ → Type 0
-LinksBack moment db router kind id = (link : Link) × HasLink moment db router link × (link.kind ≡ kind) × (link.link_id ≡ id)
+abbrev pub LinksBack : Said → ℕ → LinkKind → ℕ → Type 0
+LinksBack said router kind id = (link : Link) × HasLink said router link × (link.kind ≡ kind) × (link.link_id ≡ id)
 
 -- a link counts only where the other end links back; a network leads to each router that it lists at cost 0
-abbrev pub LeadsTo : ℕ → Database → Root → Node → Node → ℕ → ℕ → Type 0
-LeadsTo moment db root (ARouter a) (ARouter b) price exit = Counts moment db root a PointToPoint b price exit × LinksBack moment db b PointToPoint a
-LeadsTo moment db root (ARouter a) (ANetwork id by) price exit = Counts moment db root a Transit id price exit × ListsRouter moment db id by a
-LeadsTo moment db root (ANetwork id by) (ARouter b) price exit = ListsRouter moment db id by b × LinksBack moment db b Transit id × (price ≡ 0) × (exit ≡ 0)
-LeadsTo moment db root (ANetwork id by) (ANetwork other its) price exit = ⊥
+abbrev pub LeadsTo : Said → Root → Node → Node → ℕ → ℕ → Type 0
+LeadsTo said root (ARouter a) (ARouter b) price exit = Counts said root a PointToPoint b price exit × LinksBack said b PointToPoint a
+LeadsTo said root (ARouter a) (ANetwork id by) price exit = Counts said root a Transit id price exit × ListsRouter said id by a
+LeadsTo said root (ANetwork id by) (ARouter b) price exit = ListsRouter said id by b × LinksBack said b Transit id × (price ≡ 0) × (exit ≡ 0)
+LeadsTo said root (ANetwork id by) (ANetwork other its) price exit = ⊥
 
-abbrev pub Leads : ℕ → Database → Root → Node → Step Node → Type 0
-Leads moment db root from step = LeadsTo moment db root from step.target step.price step.exit
+abbrev pub Leads : Said → Root → Node → Step Node → Type 0
+Leads said root from step = LeadsTo said root from step.target step.price step.exit

@@ -1,26 +1,18 @@
 -- The routes that the reachable routers and networks offer (RFC 2328, sections 16.1 and 16.4).
-use Rattle.std.specs.Prelude.{◌≡◌, ℕ, suc, ◌+◌, ◌≤◌, bit_and}
-use Rattle.words.specs.declared.route.RouteKind.{RouteKind}
-use Rattle.words.specs.declared.route.RouteKind.TheVariants.{External1, External2, Inter, Intra}
-use Rattle.words.specs.Prefixes.{IsUnder, Network, mask_of, network_address}
+use Rattle.std.specs.Prelude.{◌≡◌, ℕ, ◌+◌, ◌≤◌, bit_and}
+use Rattle.words.specs.declared.route.RouteKind.TheVariants.{Intra}
+use Rattle.words.specs.Prefixes.{Network, mask_of, network_address}
 use Rattle.lsa.specs.declared.body.Link.{Link}
 use Rattle.lsa.specs.declared.body.LinkKind.TheVariants.{Stub}
 use Rattle.lsa.specs.declared.body.NetworkLsa.{NetworkLsa}
 use Rattle.lsa.specs.declared.body.RouterLsa.{RouterLsa}
-use Rattle.lsdb.specs.Copies.{Database}
-use Rattle.routes.specs.Links.{Node, ANetwork, ARouter, HasLink, IsNetworkLsa, IsRouterLsa, Leads}
+use Rattle.routes.specs.Links.{HasLink, IsNetworkLsa, IsRouterLsa, Leads}
+use Rattle.routes.specs.declared.node.Node.{Node}
+use Rattle.routes.specs.declared.node.Node.TheVariants.{ANetwork, ARouter}
 use Rattle.routes.specs.Paths.{IsWay, Way}
+use Rattle.routes.specs.declared.offer.Offer.{Offer}
 use Rattle.routes.specs.declared.root.Root.{Root}
-
--- an offer of a way to a network; the originator is that of an external LSA, else 0
-pub record Offer : Type 0 where
-  pub prefix : Network
-  pub kind : RouteKind
-  pub cost : ℕ
-  pub distance : ℕ
-  pub hops : ℕ
-  pub tag : ℕ
-  pub originator : ℕ
+use Rattle.routes.specs.Said.{Said}
 
 -- the network of the address under the mask, whose ones stand in front
 abbrev pub IsPrefix : ℕ → ℕ → Network → Type 0
@@ -32,48 +24,28 @@ intra prefix cost hops = record { prefix = prefix; kind = Intra; cost = cost; di
 -- ---- within the area (section 16.1)
 
 -- the network is the node's own, or a stub link of the router leads to it, at this cost beyond the way to the node
-abbrev pub Attaches : ℕ → Database → Node → Network → ℕ → Type 0
-Attaches moment db (ANetwork id by) prefix more = (lsa : NetworkLsa) × IsNetworkLsa moment db id by lsa × IsPrefix id lsa.mask prefix × (more ≡ 0)
-Attaches moment db (ARouter router) prefix more = (link : Link) × HasLink moment db router link × (link.kind ≡ Stub) × IsPrefix link.link_id link.link_data prefix × (more ≡ link.metric)
+abbrev pub Attaches : Said → Node → Network → ℕ → Type 0
+Attaches said (ANetwork id by) prefix more = (lsa : NetworkLsa) × IsNetworkLsa said id by lsa × IsPrefix id lsa.mask prefix × (more ≡ 0)
+Attaches said (ARouter router) prefix more = (link : Link) × HasLink said router link × (link.kind ≡ Stub) × IsPrefix link.link_id link.link_data prefix × (more ≡ link.metric)
 
 -- a reachable node offers what it attaches, by the hops of the way to it; the root itself by no other hop than 0
-pub record OffersWithin (moment : ℕ) (db : Database) (root : Root) (o : Offer) : Type 0 where
+pub record OffersWithin (said : Said) (root : Root) (o : Offer) : Type 0 where
   pub node : Node
   pub prefix : Network
   pub more : ℕ
-  pub attached : Attaches moment db node prefix more
+  pub attached : Attaches said node prefix more
   pub way : Way
-  pub reached : IsWay (Leads moment db root) (ARouter root.router) node way
+  pub reached : IsWay (Leads said root) (ARouter root.router) node way
   pub hops : ℕ
   pub by_root : node ≡ ARouter root.router → hops ≡ 1
   pub by_others : ¬ (node ≡ ARouter root.router) → hops ≡ way.hops
   pub is : o ≡ intra prefix (way.distance + more) hops
 
--- ---- the best offers
-
-abbrev pub rank : RouteKind → ℕ
-rank Intra = 0
-rank Inter = 1
-rank External1 = 2
-rank External2 = 3
-
--- by kind, then cost, then distance, none before the other
-pub data IsNoWorse (a b : Offer) : Type 0 where
-  ByKind : suc (rank a.kind) ≤ rank b.kind → IsNoWorse a b
-  ByCost : rank a.kind ≡ rank b.kind → suc a.cost ≤ b.cost → IsNoWorse a b
-  ByDistance : rank a.kind ≡ rank b.kind → a.cost ≡ b.cost → a.distance ≤ b.distance → IsNoWorse a b
-
 -- ---- external destinations (section 16.4)
 
 -- the originator is reachable, and its flags have E
-pub record ReachesBoundaryRouter (moment : ℕ) (db : Database) (root : Root) (originator : ℕ) (way : Way) : Type 0 where
+pub record ReachesBoundaryRouter (said : Said) (root : Root) (originator : ℕ) (way : Way) : Type 0 where
   pub lsa : RouterLsa
-  pub its : IsRouterLsa moment db originator lsa
+  pub its : IsRouterLsa said originator lsa
   pub has_e : bit_and lsa.flags 2 ≡ 2
-  pub reached : IsWay (Leads moment db root) (ARouter root.router) (ARouter originator) way
-
--- a best offer within the area under which the address lies
-pub record MatchesWithin (moment : ℕ) (db : Database) (root : Root) (address : ℕ) (o : Offer) : Type 0 where
-  pub offered : OffersWithin moment db root o
-  pub under : IsUnder address o.prefix
-  pub best : (other : Offer) → OffersWithin moment db root other → other.prefix ≡ o.prefix → IsNoWorse o other
+  pub reached : IsWay (Leads said root) (ARouter root.router) (ARouter originator) way

@@ -2,9 +2,10 @@
 use Rattle.std.specs.Prelude.{ℕ, List, ◌↔◌}
 use Rattle.std.specs.List.{AllPairs, Contains}
 use Rattle.words.specs.declared.route.Route.{Route}
-use Rattle.lsdb.specs.Copies.{Database}
-use Rattle.routes.specs.Candidates.{IsBefore, IsCandidate}
+use Rattle.routes.specs.Candidates.{IsCandidate}
 use Rattle.routes.specs.declared.root.Root.{Root}
+use Rattle.routes.specs.Said.{Said}
+use Rattle.routes.specs.Routes.{IsBefore}
 
 -- routes with the words that were answered of them, 0 to let the route in; there are none before the first answers
 abbrev pub Answers : Type 0
@@ -19,10 +20,10 @@ abbrev pub IsAnswered : Answers → Route → Type 0
 IsAnswered answers r = (word : ℕ) × Contains answers (r, word)
 
 -- exactly the candidates that are let in, in the order of their prefixes
-pub record IsTable (moment : ℕ) (db : Database) (root : Root) (answers : Answers) (table : List Route) : Type 0 where
-  pub each : (r : Route) → Contains table r ↔ (IsCandidate moment db root r × IsLetIn answers r)
+pub record IsTable (said : Said) (root : Root) (answers : Answers) (table : List Route) : Type 0 where
+  pub each : (r : Route) → Contains table r ↔ (IsCandidate said root r × IsLetIn answers r)
   pub ascending : AllPairs (λ (a : Route) (b : Route). IsBefore a.prefix b.prefix) table
 
 -- some candidate isn't answered: the program is to be asked again
-abbrev pub IsStale : ℕ → Database → Root → Answers → Type 0
-IsStale moment db root answers = (r : Route) × IsCandidate moment db root r × (IsAnswered answers r → ⊥)
+abbrev pub IsStale : Said → Root → Answers → Type 0
+IsStale said root answers = (r : Route) × IsCandidate said root r × (IsAnswered answers r → ⊥)

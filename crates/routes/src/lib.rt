@@ -3,9 +3,13 @@
 
 mod graph;
 pub mod laws;
+mod node;
+mod offer;
 mod root;
 mod search;
 
 pub use graph::{Kind, Link, Vertex, Way, is_graph};
+pub use node::Node;
+pub use offer::Offer;
 pub use root::Root;
 pub use search::least_ways;

@@ -1,5 +1,5 @@
-use Rattle.route_laws.proofs.Forwarding.{one_forward}
+use Rattle.route_laws.proofs.Forwarding.{forwarding}
 use Rattle.route_laws.proofs.forwarding_is_determined.Goals as goal
 
 pub returns : goal.returns
-returns c = one_forward
+returns c = forwarding

@@ -1,0 +1,105 @@
+-- The worked offers: of two tags the least, of two distances the nearer.
+use Rattle.std.proofs.Common.{◌≡◌, ℕ, ◌⊎◌, inl, inr, IsTrue, [], ◌∷◌, arith, refl, sym, ◌∙◌, subst}
+use Rattle.std.specs.List.{Contains}
+use Rattle.words.specs.Interfaces.{has_interface}
+use Rattle.words.specs.declared.route.Route.{Route}
+use Rattle.words.specs.declared.route.RouteKind.TheVariants.{External1, External2}
+use Rattle.routes.specs.Routes.{AreRoutesAmong, IsBestAmong, IsNoLater, IsNoWorse, IsRouteAmong}
+use Rattle.routes.specs.Routes.IsNoLater.{ByTag}
+use Rattle.routes.specs.Routes.IsNoWorse.{ByCost, ByDistance, ByKind}
+use Rattle.routes.specs.declared.offer.Offer.{Offer}
+use Rattle.routes.proofs.Determined.{one_route}
+use Rattle.routes.proofs.Lists.{first_is, of_cons, of_empty}
+use Rattle.route_laws.specs.WorkedOffers.{WorkedOffers, offer_of, route_to, two_distances, two_tags}
+use Rattle.route_laws.proofs.Alone.{IsAloneAmong, alone_among, no_worse_itself}
+
+-- one of two
+either : (P : Offer → Type 0) (a b : Offer) → P a → P b → (o : Offer) → Contains (a ∷ b ∷ []) o → P o
+either P a b p q o t =
+    elim (of_cons a (b ∷ []) o t) [
+      | inl e ↦ subst P e p
+      | inr more ↦
+          elim (of_cons b [] o more) [
+            | inl e ↦ subst P e q
+            | inr none ↦ absurd (of_empty o none)
+          ]
+    ]
+
+-- where all is offered for the prefix of one route, that is all
+only : (IsOffered : Offer → Type 0) (r : Route) → IsRouteAmong IsOffered r → ((o : Offer) → IsOffered o → o.prefix ≡ r.prefix) → AreRoutesAmong IsOffered (r ∷ [])
+only IsOffered r is all = record {
+  each = λ s. (
+    (λ t.
+        let P : Route → Type 0 = λ x. IsRouteAmong IsOffered x in
+        elim (of_cons r [] s t) [
+          | inl e ↦ subst P e is
+          | inr none ↦ absurd (of_empty s none)
+        ]),
+    (λ k.
+        let P : Route → Type 0 = λ x. Contains (r ∷ []) x in
+        let same : r ≡ s = one_route IsOffered r s is k (sym (all k.first k.is_best.offered) ∙ k.is_best.is_for) in
+        subst P same (first_is r [])),
+  );
+  ascending = λ i j d before within. absurd (omega (arith, before, within));
+}
+
+-- ---- two tags
+
+abbrev five : Offer
+five = offer_of External1 0 2 5
+
+abbrev three : Offer
+three = offer_of External1 0 2 3
+
+abbrev IsTagged : Offer → Type 0
+IsTagged o = Contains two_tags o
+
+three_is_best : IsBestAmong IsTagged three.prefix three
+three_is_best = record {
+  offered = (1, omega arith, refl);
+  is_for = refl;
+  best = λ o offered e. either (λ x. IsNoWorse three x) five three (ByDistance refl refl (omega arith)) (no_worse_itself three) o offered;
+}
+
+tagged : IsRouteAmong IsTagged (route_to External1 0 2 3)
+tagged = record {
+  first = three;
+  is_best = three_is_best;
+  earliest = λ o best. either (λ x. IsNoLater three x) five three (ByTag refl (omega arith)) (ByTag refl (omega arith)) o best.offered;
+  kind = refl;
+  cost = refl;
+  distance = refl;
+  tag = refl;
+  hops = λ i. (
+    (λ t. (three, three_is_best, t)),
+    (λ h. either (λ x. IsTrue (has_interface x.hops i) → IsTrue (has_interface 2 i)) five three (λ t. t) (λ t. t) h.0 h.1.offered h.2),
+  );
+}
+
+-- ---- two distances
+
+abbrev near : Offer
+near = offer_of External2 10 2 0
+
+abbrev farther : Offer
+farther = offer_of External2 20 4 0
+
+not_better : IsNoWorse farther near → ⊥
+not_better (ByKind p) = omega (arith, p)
+not_better (ByCost p q) = omega (arith, q)
+not_better (ByDistance p q r) = omega (arith, r)
+
+abbrev IsEither : Offer → Type 0
+IsEither o = Contains two_distances o
+
+near_alone : IsAloneAmong IsEither near
+near_alone o offered e =
+    either (λ x. (x ≡ near) ⊎ (IsNoWorse near x × (IsNoWorse x near → ⊥))) near farther (inl refl) (inr (ByDistance refl refl (omega arith), not_better)) o offered
+
+pub worked : WorkedOffers
+worked = record {
+  least_tag = only IsTagged (route_to External1 0 2 3) tagged (λ o t. either (λ x. x.prefix ≡ three.prefix) five three refl refl o t);
+  nearer =
+      only IsEither (route_to External2 10 2 0) (alone_among IsEither near (first_is near (farther ∷ [])) near_alone)
+      (λ o t. either (λ x. x.prefix ≡ near.prefix) near farther refl refl o t);
+}

@@ -1,0 +1,38 @@
+-- Worked offers for one prefix, with the one route that comes of them (RFC 2328, section 16.4).
+use Rattle.std.specs.Prelude.{ℕ, List, [], ◌∷◌}
+use Rattle.std.specs.List.{Contains}
+use Rattle.words.specs.declared.route.Route.{Route}
+use Rattle.words.specs.declared.route.RouteKind.{RouteKind}
+use Rattle.words.specs.declared.route.RouteKind.TheVariants.{External1, External2}
+use Rattle.routes.specs.Routes.{AreRoutesAmong}
+use Rattle.routes.specs.declared.offer.Offer.{Offer}
+use Rattle.route_laws.specs.Worked.{dotted, network_24}
+
+-- an offer for 203.0.113.0/24 of cost 20 by router 2.2.2.2
+abbrev pub offer_of : RouteKind → ℕ → ℕ → ℕ → Offer
+offer_of kind distance hops tag = record {
+  prefix = network_24 203 0 113;
+  kind = kind;
+  cost = 20;
+  distance = distance;
+  originator = dotted 2 2 2 2;
+  tag = tag;
+  hops = hops;
+}
+
+abbrev pub route_to : RouteKind → ℕ → ℕ → ℕ → Route
+route_to kind distance hops tag = record { prefix = network_24 203 0 113; kind = kind; cost = 20; distance = distance; hops = hops; tag = tag }
+
+-- tags 5 and 3 of one originator at one cost
+abbrev pub two_tags : List Offer
+two_tags = offer_of External1 0 2 5 ∷ offer_of External1 0 2 3 ∷ []
+
+-- one metric of type 2, with the distances 10 and 20
+abbrev pub two_distances : List Offer
+two_distances = offer_of External2 10 2 0 ∷ offer_of External2 20 4 0 ∷ []
+
+pub record WorkedOffers : Type 0 where
+  -- the tag is 3
+  pub least_tag : AreRoutesAmong (λ o. Contains two_tags o) (route_to External1 0 2 3 ∷ [])
+  -- the nearer one alone
+  pub nearer : AreRoutesAmong (λ o. Contains two_distances o) (route_to External2 10 2 0 ∷ [])
