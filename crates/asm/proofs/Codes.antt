@@ -16,7 +16,7 @@ use Rattle.asm.specs.declared.error.AsmFault.TheVariants as faults
 use Rattle.asm.specs.declared.labels.Place.{Place}
 use Rattle.asm.specs.Instructions.{◌>>=◌, instruction_of, with_instruction}
 use Rattle.asm.specs.Assembling.{line_step, instruction_step, slot_at, with_code}
-use Rattle.asm.specs.Listing.{Listed, AddsLine, Any, Front, sketch_of, coded}
+use Rattle.asm.specs.Listed.{Listed, AddsLine, Any, Front, sketch_of, coded}
 use Rattle.asm.proofs.Pushed.{listed_push, listed_same}
 
 abbrev is_ok : {A : Type 0} → Result A AsmFault → Bool

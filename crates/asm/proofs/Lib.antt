@@ -5,6 +5,7 @@ pub mod Pushed
 pub mod Codes
 pub mod Registers
 pub mod Ranges
+pub mod Lines
 pub mod States
 pub mod Keeping
 pub mod Whole

@@ -1,6 +1,6 @@
 -- Looking for a label line by line.
-use Rattle.std.proofs.Common.{Bool, true, false, take, ◌-◌, ◌∙◌, sym, subst, inl, inr, ◌≡◌, ℕ, zero, suc, ◌+◌, ◌<◌, List, [], ◌∷◌, ◌&&◌, length, get_or, drop, Option, Some, None, refl, ap, arith}
-use Rattle.std.specs.Prelude.{if◌then◌else◌, Result, Ok, Err, ◌⊎◌}
+use Rattle.std.proofs.Common.{⊎_elim, Bool, true, false, take, ◌-◌, ◌∙◌, sym, subst, inl, inr, ◌≡◌, ℕ, zero, suc, ◌+◌, ◌<◌, List, [], ◌∷◌, ◌&&◌, length, get_or, drop, Option, Some, None, refl, ap, arith}
+use Rattle.std.specs.Prelude.{if◌then◌else◌, Result, Ok, Err, IsOk, ◌⊎◌}
 use Rattle.std.specs.Str.{bytes_eq}
 use Rattle.std.proofs.lemmas.Bool.{false≢true}
 use Rattle.std.proofs.lemmas.List.{get_or_default, take_rest}
@@ -13,7 +13,8 @@ use Rattle.asm.specs.declared.labels.Place.{Place}
 use Rattle.asm.specs.declared.error.AsmFault.{AsmFault}
 use Rattle.asm.specs.declared.error.AsmError.{AsmError}
 use Rattle.asm.specs.Labels.{◌or_else◌}
-use Rattle.asm.specs.Assembling.{taken_all, Says, Refuses, gives_label, slots_in, place_from, Sketch, taken, line_step, blamed}
+use Rattle.asm.specs.Faults.{error_at, IsWantOfMemory}
+use Rattle.asm.specs.Assembling.{taken_all, Says, Declines, Refuses, gives_label, slots_in, place_from, Sketch, taken, line_step, blamed}
 
 -- the line `n` of those that are left
 pub place_here : (n at slot : ℕ) (lines : List (Option Line)) (names : List (Bor Word)) (word : Word) (d : Option Line) (e : Bor Word) → n < length lines → length lines ≡ length names
@@ -137,30 +138,46 @@ stepped lines names at s l line n la lb na p x h same el e en ela ena elb ep inv
 
 -- ---- refusals
 
-refuses_at : (text : List ℕ) (lines : List (Option Line)) (names : List (Bor Word)) (r : AsmError) (line : ℕ) (fault : AsmFault) → Says text lines names → r.kind ≡ fault → (r.kind ≡ faults.Memory) ⊎ (r.line ≡ line)
-    → taken_all lines (views names) ≡ Err (line, fault) → (r.kind ≡ faults.Memory) ⊎ Refuses text r.line r.kind
-refuses_at text lines names r line fault says k (inl m) e = inl m
-refuses_at text lines names r line fault says k (inr l) e =
-    inr (record { found = lines; names = names; says = says; blames = inl (e ∙ ap (λ (n : ℕ). Err (n, fault)) (sym l) ∙ ap (λ (f : AsmFault). Err (r.line, f)) (sym k)) })
+abbrev pub Told : List ℕ → AsmError → Type 0
+Told text r = IsWantOfMemory r ⊎ Refuses text r.line r.kind
+
+-- a refusal of memory is told at line 0, and another at its line
+error_told : (line : ℕ) (fault : AsmFault) → IsWantOfMemory (error_at line fault) ⊎ (error_at line fault ≡ record { line = line; kind = fault })
+error_told line faults.Syntax = inr refl
+error_told line faults.Label = inr refl
+error_told line faults.Range = inr refl
+error_told line faults.Twice = inr refl
+error_told line faults.Memory = inl (refl, refl)
+
+out_of_memory : (text : List ℕ) (r : AsmError) (line : ℕ) (fault : AsmFault) → r ≡ error_at line fault → fault ≡ faults.Memory → Told text r
+out_of_memory text r line fault is m =
+    let same : r ≡ error_at line faults.Memory = is ∙ ap (λ (f : AsmFault). error_at line f) m in
+    inl (ap (λ (x : AsmError). x.kind) same, ap (λ (x : AsmError). x.line) same)
+
+refuses_as : (text : List ℕ) (r : AsmError) (line : ℕ) (fault : AsmFault) → r ≡ error_at line fault → Refuses text line fault → Told text r
+refuses_as text r line fault is refuses = subst (λ (x : AsmError). Told text x) (sym is)
+    (⊎_elim (λ m. inl m) (λ e. inr (subst (λ (x : AsmError). Refuses text x.line x.kind) (sym e) refuses)) (error_told line fault))
+
+refuses_at : (text : List ℕ) (lines : List (Option Line)) (names : List (Bor Word)) (r : AsmError) (line : ℕ) (fault : AsmFault) → Says text lines names → r ≡ error_at line fault
+    → taken_all lines (views names) ≡ Err (line, fault) → Told text r
+refuses_at text lines names r line fault says is e = refuses_as text r line fault is (record { found = lines; names = names; says = says; blames = inl e })
 
 -- a line that spells nothing
 pub refused_bad : (text : List ℕ) (lines : List (Option Line)) (names : List (Bor Word)) (r : AsmError) (at : ℕ) (s : Sketch) (l : Option Line) → Says text lines names → at < length lines → l ≡ get_or lines at l → l ≡ None
     → taken_all lines (views names) ≡ taken (place_from 0 0 lines (views names)) at (drop at lines) (views (drop at names)) s
-    → r.kind ≡ faults.Syntax → (r.kind ≡ faults.Memory) ⊎ (r.line ≡ at + 1) → (r.kind ≡ faults.Memory) ⊎ Refuses text r.line r.kind
-refused_bad text lines names r at s l says h el e inv k where_it =
-    refuses_at text lines names r (at + 1) faults.Syntax says k where_it (inv ∙ taken_bad (place_from 0 0 lines (views names)) at at lines names s l h says.same (sym el ∙ e))
+    → r ≡ error_at (at + 1) faults.Syntax → Told text r
+refused_bad text lines names r at s l says h el e inv is =
+    refuses_at text lines names r (at + 1) faults.Syntax says is (inv ∙ taken_bad (place_from 0 0 lines (views names)) at at lines names s l h says.same (sym el ∙ e))
 
 -- a line that is refused
 pub refused_line : (text : List ℕ) (lines : List (Option Line)) (names : List (Bor Word)) (r : AsmError) (at : ℕ) (fault : AsmFault) (step : Result Sketch AsmFault) → Says text lines names
-    → r.kind ≡ fault → (r.kind ≡ faults.Memory) ⊎ (r.line ≡ at + 1) → (fault ≡ faults.Memory) ⊎ (step ≡ Err fault)
-    → (step ≡ Err fault → taken_all lines (views names) ≡ Err (at + 1, fault)) → (r.kind ≡ faults.Memory) ⊎ Refuses text r.line r.kind
-refused_line text lines names r at fault step says k where_it (inl m) f = inl (k ∙ m)
-refused_line text lines names r at fault step says k where_it (inr e) f = refuses_at text lines names r (at + 1) fault says k where_it (f e)
+    → r ≡ error_at (at + 1) fault → ((fault ≡ faults.Memory) × IsOk step) ⊎ (step ≡ Err fault) → (step ≡ Err fault → taken_all lines (views names) ≡ Err (at + 1, fault)) → Told text r
+refused_line text lines names r at fault step says is (inl m) f = out_of_memory text r (at + 1) fault is m.0
+refused_line text lines names r at fault step says is (inr e) f = refuses_at text lines names r (at + 1) fault says is (f e)
 
 -- no instruction
-pub refused_whole : (text : List ℕ) (lines : List (Option Line)) (names : List (Bor Word)) (r : AsmError) (fault : AsmFault) (s : Sketch) → Says text lines names → r.kind ≡ fault → (r.kind ≡ faults.Memory) ⊎ (r.line ≡ 1)
-    → (fault ≡ faults.Memory) ⊎ ((fault ≡ faults.Syntax) × (s.code ≡ [])) → taken_all lines (views names) ≡ Ok s → (r.kind ≡ faults.Memory) ⊎ Refuses text r.line r.kind
-refused_whole text lines names r fault s says k where_it (inl m) e = inl (k ∙ m)
-refused_whole text lines names r fault s says k (inl m) (inr n) e = inl m
-refused_whole text lines names r fault s says k (inr l) (inr n) e =
-    inr (record { found = lines; names = names; says = says; blames = inr (l, k ∙ n.0, (s, e, n.1)) })
+pub refused_whole : (text : List ℕ) (lines : List (Option Line)) (names : List (Bor Word)) (r : AsmError) (fault : AsmFault) (s : Sketch) → Says text lines names → r ≡ error_at 1 fault
+    → Declines s fault → taken_all lines (views names) ≡ Ok s → Told text r
+refused_whole text lines names r fault s says is (inl m) e = out_of_memory text r 1 fault is m.0
+refused_whole text lines names r fault s says is (inr n) e =
+    refuses_as text r 1 fault is (record { found = lines; names = names; says = says; blames = inr (refl, n.0, (s, e, n.1)) })

@@ -15,7 +15,7 @@ use Rattle.asm.specs.declared.labels.Place.{Place}
 use Rattle.asm.specs.Numbers.{natural_in}
 use Rattle.asm.specs.Instructions.{◌>>=◌, ranged}
 use Rattle.asm.specs.Assembling.{Sketch, nothing, taken, blamed, line_step, with_rank}
-use Rattle.asm.specs.Listing.{Listed, AddsLine, Any, coded, unnamed, no_name, some_line}
+use Rattle.asm.specs.Listed.{Listed, AddsLine, Any, coded, unnamed, no_name, some_line}
 
 push_split : {B : Type 0} (f : Line → B) (ls : List Line) (l : Line) (rest : List B) → map f (ls ++ l ∷ []) ++ rest ≡ map f ls ++ f l ∷ rest
 push_split f ls l rest = ap (λ xs. xs ++ rest) (map-append f ls (l ∷ [])) ∙ append_assoc (map f ls) (f l ∷ []) rest

@@ -13,7 +13,7 @@ use Rattle.asm.specs.Instructions.{◌>>=◌, ranged}
 use Rattle.asm.specs.Rules.{◌and_then◌, bytes_of, range_in}
 use Rattle.asm.specs.Numbers.{natural_in}
 use Rattle.asm.specs.Assembling.{Sketch, with_bytes, with_last}
-use Rattle.asm.specs.Listing.{Listed, AddsLine, Any, Front, sketch_of}
+use Rattle.asm.specs.Listed.{Listed, AddsLine, Any, Front, sketch_of}
 use Rattle.asm.proofs.Pushed.{listed_push, listed_same, in_field}
 
 -- from `start` up to `end` each byte is in the set

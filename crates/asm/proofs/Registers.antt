@@ -20,7 +20,7 @@ use Rattle.asm.specs.declared.labels.Place.{Place}
 use Rattle.asm.specs.Instructions.{◌>>=◌, ranged}
 use Rattle.asm.specs.Rules.{is_stated_number, kind_of}
 use Rattle.asm.specs.Assembling.{Sketch, line_step, kind_step, with_last, is_empty}
-use Rattle.asm.specs.Listing.{Listed, AddsLine, Any, Front, sketch_of, AreStated, is_stated, is_number, gives_number}
+use Rattle.asm.specs.Listed.{Listed, AddsLine, Any, Front, sketch_of, AreStated, is_stated, is_number, gives_number}
 use Rattle.asm.proofs.Pushed.{listed_push, listed_same}
 
 -- what the first registers hold, of those that are stated so far

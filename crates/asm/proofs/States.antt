@@ -23,13 +23,9 @@ use Rattle.asm.specs.Numbers.{natural_in}
 use Rattle.asm.specs.Instructions.{◌>>=◌, ranged}
 use Rattle.asm.specs.Rules.{rank_of, number_slot}
 use Rattle.asm.specs.Assembling.{line_step, state_at, opened, order_fault, has_slot, all_of, bare}
-use Rattle.asm.specs.Listing.{Listed, ListedAll, AddsLine, Any, Front, sketch_of, coded, AreStated, is_stated}
+use Rattle.asm.specs.Listed.{Listed, ListedAll, AddsLine, AddsKinds, AddsStack, AddsStatement, Any, Front, behind, sketch_of, coded, AreStated, is_stated}
 use Rattle.asm.proofs.Pushed.{listed_push, in_field}
 use Rattle.asm.proofs.Registers.{stated_term}
-
--- behind the statements so far
-abbrev pub behind : Front → Option StatementParts → Front
-behind f last = record { hook = f.hook; rank = f.rank; code = f.code; before = all_of f.before last }
 
 state_steps : (f : Front) (last : Option StatementParts) (s : StatementParts) (n m : Numeral) (t : Terms) (place : Option Place) (at : ℕ) (rest : List (Option Line)) → n ≡ numerals.Natural s.slot → m ≡ numerals.Natural s.rank.constant
     → s.slot < 2 ^ 32 → s.slot < length f.code → order_fault f.before last s.slot ≡ None → rank_of (numerals.Natural s.rank.constant) t rest ≡ Some s.rank
@@ -51,18 +47,10 @@ state_line old new f last s n m t en em is within order again adds listed =
     listed_push old new (lines.State (targets.Number n) m t) (sketch_of f last) (sketch_of (behind f last) (Some (bare s.slot s.rank))) Any (AreStated s.kinds 0) adds listed (λ rest d. tt)
     (λ at place rest d. state_steps f last s n m t place at rest en em is.slot within order (again rest (stated_term s.kinds s.rank.first rest is.rank.first d) (stated_term s.kinds s.rank.second rest is.rank.second d)))
 
--- what the lines of registers and of ranges do
-abbrev pub KindsAdded : List ℕ → List ℕ → List Kind → Type 0
-KindsAdded old new ks = (f : Front) (slot : ℕ) (rank : Rank) → Listed old (sketch_of f (Some (bare slot rank))) (AreStated ks 0) → Listed new (sketch_of f (Some (record { slot = slot; rank = rank; kinds = ks; stack = no_bytes }))) Any
-
-abbrev pub StackAdded : List ℕ → List ℕ → List Bool → Type 0
-StackAdded old new stack = (f : Front) (slot : ℕ) (rank : Rank) (ks : List Kind) → Listed old (sketch_of f (Some (record { slot = slot; rank = rank; kinds = ks; stack = no_bytes }))) Any
-    → Listed new (sketch_of f (Some (record { slot = slot; rank = rank; kinds = ks; stack = stack }))) Any
-
 pub statement_listed : (a b c d : List ℕ) (f : Front) (last : Option StatementParts) (s : StatementParts) (n m : Numeral) (t : Terms) (rank : Rank) (ks : List Kind) (stack : List Bool) → rank ≡ s.rank → ks ≡ s.kinds → stack ≡ s.stack
     → n ≡ numerals.Natural s.slot → m ≡ numerals.Natural rank.constant → IsStatement s → s.slot < length f.code → order_fault f.before last s.slot ≡ None
     → ((rest : List (Option Line)) → is_stated rest rank.first ≡ true → is_stated rest rank.second ≡ true → rank_of (numerals.Natural rank.constant) t rest ≡ Some rank)
-    → AddsLine a b (lines.State (targets.Number n) m t) → KindsAdded b c ks → StackAdded c d stack → Listed a (sketch_of f last) Any → Listed d (sketch_of (behind f last) (Some s)) Any
+    → AddsLine a b (lines.State (targets.Number n) m t) → AddsKinds b c ks → AddsStack c d stack → Listed a (sketch_of f last) Any → Listed d (sketch_of (behind f last) (Some s)) Any
 statement_listed a b c d f last s n m t rank ks stack er ek es en em is within order again adds kinds_added stack_added listed =
     let p : StatementParts = record { slot = s.slot; rank = rank; kinds = ks; stack = stack } in
     let same : p ≡ s =
@@ -101,14 +89,11 @@ in_order before (Some l) n below =
     (or_from (n == l.slot) (has_slot before n) (ne_eqb n l.slot (λ e. omega (arith, e, above))) (has_none before (l ∷ []) n below))
     ∙ cond-false (nat_lt n l.slot) (Some faults.Range) None (le-ltb n l.slot (omega (arith, above)))
 
-abbrev pub StatementAdded : List ℕ → List ℕ → StatementParts → Type 0
-StatementAdded old new s = (f : Front) (last : Option StatementParts) → s.slot < length f.code → order_fault f.before last s.slot ≡ None → Listed old (sketch_of f last) Any → Listed new (sketch_of (behind f last) (Some s)) Any
-
 pub none_listed : (text : List ℕ) (hook : Hook) (rank : ℕ) (code : List Slot) → Listed text (coded hook rank code) Any → ListedAll text hook rank code []
 none_listed text hook rank code listed = record { before = []; last = None; same = refl; listed = listed }
 
 pub one_more_listed : (old new : List ℕ) (hook : Hook) (rank : ℕ) (code : List Slot) (ss : List StatementParts) (at : ℕ) (s : StatementParts) → at < length ss → s ≡ get_or ss at s → AreStatements 0 (length code) ss
-    → StatementAdded old new s → ListedAll old hook rank code (take at ss) → ListedAll new hook rank code (take (at + 1) ss)
+    → AddsStatement old new s → ListedAll old hook rank code (take at ss) → ListedAll new hook rank code (take (at + 1) ss)
 one_more_listed old new hook rank code ss at s h is are adds c =
     let cut : ss ≡ take at ss ++ s ∷ drop (at + 1) ss = sym (take-append-drop at ss) ∙ ap (λ xs. take at ss ++ xs) (drop_more ss at s h ∙ ap (λ (x : StatementParts). x ∷ drop (at + 1) ss) (sym is)) in
     let order = below_next (take at ss) (drop (at + 1) ss) s 0 (length code) (subst (λ (xs : List StatementParts). AreStatements 0 (length code) xs) cut are) in

@@ -18,7 +18,7 @@ use Rattle.asm_lines.specs.Text.{words_in, Reads, Readings}
 use Rattle.asm_lines.specs.Views.{views, items}
 use Rattle.asm_lines.specs.Written.{some_reading}
 use Rattle.asm.specs.Assembling.{taken, place_from, nothing, TextSpells}
-use Rattle.asm.specs.Listing.{ListedAll, sketch_of, unnamed, no_name, some_line}
+use Rattle.asm.specs.Listed.{ListedAll, sketch_of, unnamed, no_name, some_line}
 
 -- ---- the code has a slot for eight bytes
 

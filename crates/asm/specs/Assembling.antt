@@ -1,5 +1,5 @@
 -- What the lines of a text say, one after the other, and which of them is the first bad one.
-use Rattle.std.specs.Prelude.{◌⊎◌, ◌≡◌, ℕ, ◌+◌, ◌^◌, Bool, true, false, ◌||◌, ◌&&◌, List, [], ◌∷◌, ◌++◌, length, replicate, Option, Some, None, is_some, is_none, Result, Ok, Err, if◌then◌else◌, nat_le, nat_lt, ◌==◌, slice_set, slice_index_or}
+use Rattle.std.specs.Prelude.{◌⊎◌, ◌≡◌, ℕ, ◌+◌, ◌≤◌, ◌^◌, Bool, true, false, ◌||◌, ◌&&◌, List, [], ◌∷◌, ◌++◌, length, replicate, Option, Some, None, is_some, is_none, Result, Ok, Err, IsOk, if◌then◌else◌, nat_le, nat_lt, ◌==◌, slice_set, slice_index_or}
 use Rattle.std.specs.Str.{bytes_eq}
 use Rattle.isa.specs.declared.hook.Hook.{Hook}
 use Rattle.isa.specs.declared.code.Slot.{Slot}
@@ -98,9 +98,13 @@ order_fault before None slot = None
 order_fault before (Some last) slot = if (slot == last.slot) || has_slot before slot then Some faults.Twice
     else (if nat_lt slot last.slot then Some faults.Range else None)
 
+-- the last statement behind those before it, and another in its place
+abbrev pub shifted : Sketch → Option StatementParts → Sketch
+shifted s last = record s { before = all_of s.before s.last; last = last }
+
 abbrev pub opened : Sketch → ℕ → Rank → Option AsmFault → Result Sketch AsmFault
 opened s slot rank (Some fault) = Err fault
-opened s slot rank None = Ok (record s { before = all_of s.before s.last; last = Some (bare slot rank) })
+opened s slot rank None = Ok (shifted s (Some (bare slot rank)))
 
 abbrev pub state_at : Sketch → Option Rank → ℕ → Result Sketch AsmFault
 state_at s rank slot = if nat_le (length s.code) slot then Err faults.Range else (ranged rank >>= λ r. opened s slot r (order_fault s.before s.last slot))
@@ -142,10 +146,10 @@ abbrev pub Answers : {A B : Type 0} → (B → A) → Result B AsmFault → Resu
 Answers view (Ok x) step = step ≡ Ok (view x)
 Answers view (Err fault) step = step ≡ Err fault
 
--- the same where memory may run out
+-- The same where memory may run out, which it does only where nothing is wrong.
 abbrev pub Takes : {A : Type 0} → Result (Unit {0}) AsmFault → A → Result A AsmFault → Type 0
 Takes (Ok x) new step = step ≡ Ok new
-Takes (Err fault) new step = (fault ≡ faults.Memory) ⊎ (step ≡ Err fault)
+Takes (Err fault) new step = ((fault ≡ faults.Memory) × IsOk step) ⊎ (step ≡ Err fault)
 
 -- ---- a line
 
@@ -204,6 +208,10 @@ pub record IsMade (s : Sketch) (o : ObjectParts) : Type 0 where
   pub code : spelling.Spells o.code s.code
   pub statements : o.statements ≡ all_of s.before s.last
   pub lawful : IsObject o
+
+-- None is made of them where there is no instruction, or where there is and memory runs out.
+abbrev pub Declines : Sketch → AsmFault → Type 0
+Declines s fault = ((fault ≡ faults.Memory) × (1 ≤ length s.code)) ⊎ ((fault ≡ faults.Syntax) × (s.code ≡ []))
 
 -- No object has these statements.
 abbrev pub AreUnlawful : List StatementParts → Type 0

@@ -1,5 +1,8 @@
--- The numbers of the refusals.
-use Rattle.std.specs.Prelude.{ℕ}
+-- The refusals: their numbers, and where they stand.
+use Rattle.std.specs.Prelude.{◌≡◌, ℕ}
+use Rattle.isa.specs.declared.decoding.DecodeFault.{DecodeFault}
+use Rattle.isa.specs.declared.decoding.DecodeFault.TheVariants as decode_faults
+use Rattle.asm.specs.declared.error.AsmError.{AsmError}
 use Rattle.asm.specs.declared.error.AsmFault.{AsmFault}
 use Rattle.asm.specs.declared.error.AsmFault.TheVariants as faults
 use Rattle.asm.specs.declared.error.ListError.{ListError}
@@ -15,3 +18,16 @@ fault_number faults.Memory = 5
 abbrev pub list_number : ListError → ℕ
 list_number list_errors.Code = 1
 list_number list_errors.Memory = 2
+
+-- Want of memory has to do with no line, and names line 0.
+abbrev pub error_at : ℕ → AsmFault → AsmError
+error_at line faults.Memory = record { line = 0; kind = faults.Memory }
+error_at line fault = record { line = line; kind = fault }
+
+abbrev pub IsWantOfMemory : AsmError → Type 0
+IsWantOfMemory error = (error.kind ≡ faults.Memory) × (error.line ≡ 0)
+
+-- A refusal to decode an object's code is told as that, and want of memory as itself.
+abbrev pub told : DecodeFault → ListError
+told decode_faults.Memory = list_errors.Memory
+told fault = list_errors.Code

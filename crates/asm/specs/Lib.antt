@@ -8,3 +8,4 @@ pub mod Labels
 pub mod Lawful
 pub mod Views
 pub mod Listing
+pub mod Listed

@@ -1,82 +1,142 @@
--- What a listing says so far.
-use Rattle.std.specs.Prelude.{◌≡◌, ◌≤◌, ℕ, Bool, true, false, List, [], ◌∷◌, ◌++◌, length, map, Option, Some, None}
-use Rattle.isa.specs.declared.hook.Hook.{Hook}
+-- What a listing is: its lines in their order, and the text of them.
+use Rattle.std.specs.Prelude.{◌≡◌, ℕ, ◌+◌, ◌==◌, Bool, true, false, List, [], ◌∷◌, ◌++◌, map, Option, Some, None, if◌then◌else◌}
+use Rattle.std.specs.List.{flat_map}
+use Rattle.isa.specs.declared.map.Map.{Map}
+use Rattle.isa.specs.Maps.{map_number}
 use Rattle.isa.specs.declared.code.Slot.{Slot}
+use Rattle.isa.specs.declared.code.Slot.TheVariants as slots
+use Rattle.isa.specs.declared.instruction.Instruction.{Instruction}
+use Rattle.isa.specs.declared.instruction.Instruction.TheVariants as instructions
+use Rattle.isa.specs.declared.instruction.Source.{Source}
+use Rattle.isa.specs.declared.instruction.Source.TheVariants as sources
+use Rattle.isa.specs.Spelling.{Spells}
 use Rattle.object.specs.declared.kind.Kind.{Kind}
 use Rattle.object.specs.declared.kind.Kind.TheVariants as kinds
-use Rattle.object.specs.Numbers.{Term}
-use Rattle.object.specs.Statements.{StatementParts, IsNumberAt}
+use Rattle.object.specs.Numbers.{Numbers}
+use Rattle.object.specs.Numbers as object_numbers
+use Rattle.object.specs.Statements.{StatementParts}
+use Rattle.object.specs.Objects.{ObjectParts}
+use Rattle.asm_lines.specs.declared.numeral.Numeral.TheVariants.{Natural}
 use Rattle.asm_lines.specs.declared.line.Line.{Line}
+use Rattle.asm_lines.specs.declared.line.Line.TheVariants as lines
+use Rattle.asm_lines.specs.declared.line.Operand.{Operand}
+use Rattle.asm_lines.specs.declared.line.Operand.TheVariants as operands
+use Rattle.asm_lines.specs.declared.line.Target.TheVariants as targets
+use Rattle.asm_lines.specs.declared.line.Term.{Term}
+use Rattle.asm_lines.specs.declared.line.Terms.{Terms}
+use Rattle.asm_lines.specs.declared.line.Terms.TheVariants as terms
+use Rattle.asm_lines.specs.declared.line.Range.{Range}
 use Rattle.asm_lines.specs.declared.line.Content.{Content}
 use Rattle.asm_lines.specs.declared.line.Content.TheVariants as contents
-use Rattle.asm_lines.specs.Forms.{Word}
-use Rattle.asm_lines.specs.Written.{AreLines}
-use Rattle.asm.specs.declared.labels.Place.{Place}
-use Rattle.asm.specs.Assembling.{Sketch, nothing, taken, all_of}
-use Rattle.asm.specs.Rules.{is_stated_number}
+use Rattle.asm_lines.specs.Numbers.{numeral_of}
+use Rattle.asm_lines.specs.Written.{line_text}
 
--- ---- texts of lines without labels
+-- ---- an instruction: a distance in place of a label
 
-abbrev pub unnamed : Line → Line × Word
-unnamed line = (line, [])
+abbrev pub the_operand : Source → Operand
+the_operand (sources.Register register) = operands.Register register
+the_operand (sources.Immediate n) = operands.Number (numeral_of n)
 
-abbrev pub no_name : Line → Word
-no_name line = []
+abbrev pub instruction_line : Instruction → Line
+instruction_line (instructions.Arithmetic width operation target source) =
+    lines.Arithmetic width operation target (the_operand source)
+instruction_line (instructions.Negate width target) = lines.Negate width target
+instruction_line (instructions.SignExtend extension target source) = lines.SignExtend extension target source
+instruction_line (instructions.Reorder order width target) = lines.Reorder order width target
+instruction_line (instructions.Jump distance) = lines.Jump (targets.Number (numeral_of distance))
+instruction_line (instructions.LongJump distance) = lines.LongJump (targets.Number (numeral_of distance))
+instruction_line (instructions.Branch width test left right distance) =
+    lines.Branch width test left (the_operand right) (targets.Number (numeral_of distance))
+instruction_line (instructions.Call helper) = lines.Call (numeral_of helper)
+instruction_line instructions.Exit = lines.Exit
+instruction_line (instructions.Load size target base offset) = lines.Load size target base (numeral_of offset)
+instruction_line (instructions.Store size base offset source) =
+    lines.Store size base (numeral_of offset) (the_operand source)
+instruction_line (instructions.LoadNumber target n) = lines.LoadNumber target (Natural n)
+instruction_line (instructions.LoadMap target map offset) =
+    lines.LoadMap target (numeral_of map) (numeral_of offset)
 
-abbrev pub some_line : Line → Option Line
-some_line line = Some line
+-- The second half of a wide instruction has no line of its own.
+abbrev pub slot_lines : Slot → List Line
+slot_lines (slots.Start instruction) = instruction_line instruction ∷ []
+slot_lines slots.SecondHalf = []
 
--- New is old with this line behind it.
-abbrev pub AddsLine : List ℕ → List ℕ → Line → Type 0
-AddsLine old new line = (items : List (Line × Word)) → AreLines old items → AreLines new (items ++ (line, []) ∷ [])
+-- ---- what a statement says of the rank
 
--- The text's lines say this much, if `Next` holds of the lines that follow.
-pub record Listed (text : List ℕ) (s : Sketch) (Next : List (Option Line) → Type 0) : Type 0 where
-  pub lines : List Line
-  pub are : AreLines text (map unnamed lines)
-  pub leads : (places : Word → Option Place) (rest : List (Option Line)) (names : List Word) → Next rest
-      → taken places 0 (map some_line lines ++ rest) (map no_name lines ++ names) nothing ≡ taken places (length lines) rest names s
+-- `r0 * 0` stands for a term that isn't there.
+abbrev pub the_term : Option object_numbers.Term → Term
+the_term (Some term) = record { register = term.register; coefficient = Natural term.coefficient }
+the_term None = record { register = 0; coefficient = Natural 0 }
 
-abbrev pub Any : List (Option Line) → Type 0
-Any rest = Unit {0}
+abbrev pub the_terms : Option object_numbers.Term → Option object_numbers.Term → Terms
+the_terms None None = terms.None
+the_terms (Some first) None = terms.One (the_term (Some first))
+the_terms first (Some second) = terms.Two (the_term first) (the_term (Some second))
 
--- ---- sketches behind the first two lines
+-- ---- what it says of registers
 
-pub record Front : Type 0 where
-  pub hook : Hook
-  pub rank : ℕ
+abbrev pub the_range : Numbers → Range
+the_range n = record { low = Natural n.low; high = Natural n.high; mask = Natural n.mask; value = Natural n.value }
+
+abbrev pub the_content : Kind → Option Content
+the_content kinds.Empty = None
+the_content (kinds.Number numbers) = Some (contents.Number (the_range numbers))
+the_content (kinds.Context offset) = Some (contents.Context (Natural offset))
+the_content (kinds.Stack offset) = Some (contents.Stack (Natural offset))
+the_content (kinds.MapValue map offset) = Some (contents.Map (Natural (map_number map)) (the_range offset))
+
+-- An empty register has no line.
+abbrev pub with_line : ℕ → Option Content → List Line
+with_line register (Some content) = lines.With register content ∷ []
+with_line register None = []
+
+-- the registers from this one on, ascending
+abbrev pub with_lines : ℕ → List Kind → List Line
+with_lines register [] = []
+with_lines register (kind ∷ kinds) = with_line register (the_content kind) ++ with_lines (register + 1) kinds
+
+-- ---- what it says of stack bytes
+
+-- A byte joins the range that begins right behind it, and is a range of its own where none does.
+abbrev pub joined : ℕ → List (ℕ × ℕ) → List (ℕ × ℕ)
+joined byte [] = (byte, byte + 1) ∷ []
+joined byte (range ∷ ranges) =
+    if range.0 == byte + 1 then (byte, range.1) ∷ ranges else (byte, byte + 1) ∷ range ∷ ranges
+
+-- The longest ranges of bytes in the set, from this byte on, ascending: the first byte of each, and the first behind it.
+abbrev pub longest_ranges : ℕ → List Bool → List (ℕ × ℕ)
+longest_ranges byte [] = []
+longest_ranges byte (true ∷ bytes) = joined byte (longest_ranges (byte + 1) bytes)
+longest_ranges byte (false ∷ bytes) = longest_ranges (byte + 1) bytes
+
+abbrev pub bytes_line : ℕ × ℕ → Line
+bytes_line range = lines.Bytes (Natural range.0) (Natural range.1)
+
+-- ---- a statement, and all lines
+
+abbrev pub state_line : StatementParts → Line
+state_line s =
+    lines.State (targets.Number (Natural s.slot)) (Natural s.rank.constant) (the_terms s.rank.first s.rank.second)
+
+abbrev pub statement_lines : StatementParts → List Line
+statement_lines s = state_line s ∷ (with_lines 0 s.kinds ++ map bytes_line (longest_ranges 0 s.stack))
+
+-- the listing of an object whose bytes of code spell these slots
+abbrev pub listing_lines : ObjectParts → List Slot → List Line
+listing_lines o code =
+    lines.Hook o.hook ∷ lines.Rank (Natural o.entry_rank)
+    ∷ (flat_map slot_lines code ++ flat_map statement_lines o.statements)
+
+-- Each line is words between single spaces, with a line feed behind the last.
+abbrev pub text_of : List Line → List ℕ
+text_of listed = flat_map (λ line. line_text line []) listed
+
+-- New is old with these lines behind it.
+abbrev pub AddsText : List ℕ → List ℕ → List Line → Type 0
+AddsText old new listed = new ≡ old ++ text_of listed
+
+-- The text is the object's listing.
+pub record IsListing (text : List ℕ) (o : ObjectParts) : Type 0 where
   pub code : List Slot
-  pub before : List StatementParts
-
-abbrev pub sketch_of : Front → Option StatementParts → Sketch
-sketch_of f last = record { hook = Some f.hook; rank = Some f.rank; code = f.code; before = f.before; last = last }
-
--- no statement yet
-abbrev pub coded : Hook → ℕ → List Slot → Sketch
-coded hook rank code = sketch_of (record { hook = hook; rank = rank; code = code; before = [] }) None
-
--- The text says this much, and these statements.
-pub record ListedAll (text : List ℕ) (hook : Hook) (rank : ℕ) (code : List Slot) (statements : List StatementParts) : Type 0 where
-  pub before : List StatementParts
-  pub last : Option StatementParts
-  pub same : statements ≡ all_of before last
-  pub listed : Listed text (sketch_of (record { hook = hook; rank = rank; code = code; before = before }) last) Any
-
--- ---- statements
-
--- From this register on, what is a number is said to be one by the lines that follow.
-abbrev pub AreStated : List Kind → ℕ → List (Option Line) → Type 0
-AreStated registers from rest = (register : ℕ) → from ≤ register → IsNumberAt registers register → is_stated_number rest register ≡ true
-
--- A term's register is said to be a number by the lines that follow.
-abbrev pub is_stated : List (Option Line) → Option Term → Bool
-is_stated rest None = true
-is_stated rest (Some term) = is_stated_number rest term.register
-
-abbrev pub is_number : Kind → Bool
-is_number (kinds.Number numbers) = true
-is_number other = false
-
-abbrev pub gives_number : Option Content → Bool
-gives_number (Some (contents.Number range)) = true
-gives_number other = false
+  pub spelled : Spells o.code code
+  pub lines : text ≡ text_of (listing_lines o code)

@@ -1,7 +1,8 @@
 //! From a text to the object that it spells.
 ghost use Rattle.std.specs.Prelude.{◌≡◌, ◌⊎◌, ℕ, Option, Some, None, Ok, Err, List, [], IfSome, MatchResult, length, map, option_map};
 ghost use Rattle.asm_lines.specs.Forms.{Word};
-ghost use Rattle.asm.specs.Assembling.{hook_step, rank_step, instruction_step, state_step, with_line_step, bytes_line_step, body_step, line_step, has_slot, order_fault, slot_at, all_of, nothing, Takes, IsMade, TextSpells, Refuses};
+ghost use Rattle.asm.specs.Assembling.{hook_step, rank_step, instruction_step, state_step, with_line_step, bytes_line_step, body_step, line_step, has_slot, order_fault, slot_at, shifted, nothing, Takes, IsMade, Declines, TextSpells, Refuses};
+ghost use Rattle.asm.specs.Faults.{error_at, IsWantOfMemory};
 ghost use Rattle.asm.specs.Lawful.{AreAscending, IsLawful};
 ghost use Rattle.asm.specs.Views.{parts_of, sketch};
 ghost use Rattle.asm.specs.declared.error.AsmFault.{AsmFault};
@@ -118,7 +119,8 @@ impl Draft {
 
     /// Puts the last statement, if there is one, behind those before it.
     fn shift(&mut self) -> Result<(), AsmFault>
-        ensures kept { MatchResult result (λ _. sketch self.new ≡ record (sketch self.old) { before = all_of (sketch self.old).before (sketch self.old).last; last = (sketch self.new).last }) (λ fault. fault ≡ AsmFault.Memory) }
+        ensures kept { MatchResult result (λ _. sketch self.new ≡ shifted (sketch self.old) (sketch self.new).last)
+            (λ fault. fault ≡ AsmFault.Memory) }
     {
         push_open(&mut self.before, self.open)
     }
@@ -234,7 +236,7 @@ impl Draft {
     /// The object that the lines spell, where there is an instruction among them.
     fn finish(self, alloc: Global) -> Result<Object, AsmFault>
         requires { IsLawful [] (sketch self) }
-        ensures { MatchResult result (IsMade (sketch self)) (λ fault. (fault ≡ AsmFault.Memory) ⊎ ((fault ≡ AsmFault.Syntax) × ((sketch self).code ≡ []))) }
+        ensures { MatchResult result (IsMade (sketch self)) (Declines (sketch self)) }
     {
         let Draft {
             hook,
@@ -271,8 +273,7 @@ impl Draft {
 
 /// What is wrong with this line, counted from 1.
 fn at_line(line: usize, kind: AsmFault) -> AsmError
-    ensures kind { result.kind ≡ kind }
-    ensures line { result.kind ≡ AsmFault.Memory ⊎ (result.line ≡ line) }
+    ensures { result ≡ error_at line kind }
 {
     match kind {
         AsmFault::Memory => AsmError { line: 0, kind },
@@ -284,7 +285,8 @@ fn at_line(line: usize, kind: AsmFault) -> AsmError
 ///
 /// The refusal names the first bad line. A text without a bad line and without an instruction is `Syntax` at line 1.
 pub fn assemble(alloc: Global, text: &str) -> Result<Object, AsmError>
-    ensures { MatchResult result (TextSpells text.now) (λ error. (error.kind ≡ AsmFault.Memory) ⊎ Refuses text.now error.line error.kind) }
+    ensures { MatchResult result (TextSpells text.now)
+        (λ error. IsWantOfMemory error ⊎ Refuses text.now error.line error.kind) }
 {
     let mut lines = Vec::new(alloc);
     let mut names = Vec::new(alloc);

@@ -51,7 +51,7 @@ pub struct AsmError {
 impl From<AllocError> for AsmError {
     ghost use Rattle.asm.specs.declared.error.AsmFault.TheVariants.{Memory};
 
-    ghost from_gives = { λ _ error. error.kind ≡ Memory };
+    ghost from_gives = { λ _ error. (error.kind ≡ Memory) × (error.line ≡ 0) };
 
     fn from(_error: AllocError) -> AsmError {
         AsmError {

@@ -4,6 +4,8 @@ ghost use Rattle.asm.specs.Instructions.{ranged, source_of, distance_to, distanc
 ghost use Rattle.asm_lines.specs.Forms.{names_label};
 ghost use Rattle.asm.specs.declared.error.AsmFault.{AsmFault};
 ghost use Rattle.asm.specs.Shapes.{is_jump, is_register};
+ghost use Rattle.asm.specs.Assembling.{Takes};
+ghost use Rattle.asm.specs.Listing.{the_operand, instruction_line};
 
 use crate::error::AsmFault;
 use crate::numbers::{natural_64, signed_16, signed_32};
@@ -220,7 +222,7 @@ pub(crate) fn push_instruction(
     line: Line,
     place: Option<usize>,
 ) -> Result<(), AsmFault>
-    ensures taken { MatchResult result (λ _. code_step code.old line place ≡ Ok code.new) (λ fault. (fault ≡ AsmFault.Memory) ⊎ (code_step code.old line place ≡ Err fault)) }
+    ensures taken { Takes result code.new (code_step code.old line place) }
     ensures same { OnErr result (code.new ≡ code.old) }
 {
     // Names the type of a part of the instruction, whose place the generated proof has to know.
@@ -234,7 +236,8 @@ pub(crate) fn push_instruction(
 }
 
 fn operand_of(source: Source) -> Operand
-    ensures { source_of result ≡ Some source }
+    ensures line { result ≡ the_operand source }
+    ensures again { source_of result ≡ Some source }
 {
     source.check_ranges();
     match source {
@@ -245,6 +248,7 @@ fn operand_of(source: Source) -> Operand
 
 /// The line of an instruction, with distances in place of labels.
 pub(crate) fn line_of(instruction: Instruction) -> Line
+    ensures line { result ≡ instruction_line instruction }
     ensures plain { names_label result ≡ false }
     ensures again { (slot : ℕ) (place : Option ℕ) → instruction_of result slot place ≡ Ok instruction }
 {

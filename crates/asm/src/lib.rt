@@ -13,6 +13,3 @@ mod writing;
 pub use assembling::assemble;
 pub use error::{AsmError, AsmFault, ListError};
 pub use writing::listing;
-
-#[cfg(test)]
-mod tests;

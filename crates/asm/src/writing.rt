@@ -1,19 +1,19 @@
 //! From an object to a text that spells it.
-ghost use Rattle.std.specs.Prelude.{◌≡◌, ◌≤◌, ◌<◌, ◌↔◌, ◌-◌, ◌++◌, ℕ, List, [], length, take, replicate, Bool, true, false, Option, Some, None, IfOk, IfSome, IfErr, OnOk, MatchOption, string_bytes};
-ghost use Rattle.isa.specs.declared.hook.Hook.{Hook};
+ghost use Rattle.std.specs.Prelude.{◌≡◌, ◌≤◌, ◌<◌, ◌-◌, ◌++◌, List, [], ◌∷◌, length, map, take, replicate, true, false, Option, Some, IfOk, IfErr, OnOk, MatchOption, string_bytes};
+ghost use Rattle.std.specs.List.{flat_map};
 ghost use Rattle.isa.specs.declared.code.Slot.{Slot};
 ghost use Rattle.isa.specs.Spelling.{Spells};
 ghost use Rattle.object.specs.declared.kind.Kind.{Kind};
-ghost use Rattle.object.specs.declared.rank.Rank.{Rank};
-ghost use Rattle.object.specs.Statements.{StatementParts};
-ghost use Rattle.object.specs.Objects.{AreStatements};
-ghost use Rattle.object.specs.Sets.{no_bytes, has_byte};
+ghost use Rattle.object.specs.Sets.{has_byte};
 ghost use Rattle.asm_lines.specs.declared.line.Line.{Line};
 ghost use Rattle.asm_lines.specs.declared.numeral.Numeral.{Numeral};
 ghost use Rattle.asm_lines.specs.Forms.{names_label};
+ghost use Rattle.asm_lines.specs.Written.{line_text};
 ghost use Rattle.asm.specs.Rules.{term_of, rank_of, numbers_of, kind_of};
-ghost use Rattle.asm.specs.Assembling.{all_of, bare, order_fault, TextSpells};
-ghost use Rattle.asm.specs.Listing.{AddsLine, Listed, ListedAll, Any, Front, sketch_of, coded, AreStated, is_stated, is_number, gives_number};
+ghost use Rattle.asm.specs.Assembling.{TextSpells};
+ghost use Rattle.asm.specs.Faults.{told};
+ghost use Rattle.asm.specs.Listed.{AddsLine, AddsCode, AddsKinds, AddsStack, AddsStatement, AddsStatements, Listed, Any, coded, is_stated, is_number, gives_number};
+ghost use Rattle.asm.specs.Listing.{AddsText, IsListing, slot_lines, the_term, the_terms, the_range, the_content, with_lines, longest_ranges, bytes_line, statement_lines, listing_lines, text_of};
 ghost use Rattle.asm.specs.declared.error.ListError.{ListError};
 
 use crate::error::ListError;
@@ -26,7 +26,8 @@ use std::alloc::{AllocError, Global};
 /// Writes a line that neither gives nor uses a label.
 fn put(text: &mut String, line: Line) -> Result<(), AllocError>
     requires { names_label line ≡ false }
-    ensures { OnOk result (AddsLine (string_bytes text.old) (string_bytes text.new) line) }
+    ensures says { OnOk result (AddsLine (string_bytes text.old) (string_bytes text.new) line) }
+    ensures text { OnOk result (string_bytes text.new ≡ string_bytes text.old ++ line_text line []) }
 {
     write_line(text, line, "")
 }
@@ -39,7 +40,8 @@ fn number(n: u32) -> Numeral
 
 /// A term of a rank: `r0 * 0` where there is none.
 fn term_of(term: Option<RankTerm>) -> Term
-    ensures { (rest : List (Option Line)) → is_stated rest term ≡ true → term_of rest result ≡ Some term }
+    ensures line { result ≡ the_term term }
+    ensures again { (rest : List (Option Line)) → is_stated rest term ≡ true → term_of rest result ≡ Some term }
 {
     let (register, coefficient) = match term {
         Some(term) => (term.register(), term.coefficient()),
@@ -56,7 +58,9 @@ fn term_of(term: Option<RankTerm>) -> Term
 
 /// The terms of a rank: `r0 * 0` stands for a first one that isn't there before a second.
 fn terms_of(rank: Rank) -> Terms
-    ensures { (rest : List (Option Line)) → is_stated rest rank.first ≡ true → is_stated rest rank.second ≡ true → rank_of (Numeral.Natural rank.constant) result rest ≡ Some rank }
+    ensures line { result ≡ the_terms rank.first rank.second }
+    ensures again { (rest : List (Option Line)) → is_stated rest rank.first ≡ true → is_stated rest rank.second ≡ true
+        → rank_of (Numeral.Natural rank.constant) result rest ≡ Some rank }
 {
     match rank.second {
         None => match rank.first {
@@ -68,7 +72,8 @@ fn terms_of(rank: Rank) -> Terms
 }
 
 fn range_of(numbers: StatedNumber) -> Range
-    ensures { numbers_of result ≡ Some numbers }
+    ensures line { result ≡ the_range numbers }
+    ensures again { numbers_of result ≡ Some numbers }
 {
     Range {
         low: Numeral::Natural(numbers.low()),
@@ -80,6 +85,7 @@ fn range_of(numbers: StatedNumber) -> Range
 
 /// What a `with` line says of a register that holds this; None for an empty one.
 fn content_of(kind: Kind) -> Option<Content>
+    ensures line { result ≡ the_content kind }
     ensures again { MatchOption result (kind ≡ Kind.Empty) (λ content. kind_of content ≡ Some kind) }
     ensures numbers { is_number kind ≡ gives_number result }
 {
@@ -97,7 +103,9 @@ fn content_of(kind: Kind) -> Option<Content>
 
 /// The first two lines.
 fn write_head(alloc: Global, hook: Hook, entry_rank: u32) -> Result<String, AllocError>
-    ensures { IfOk result (λ text. Listed (string_bytes text) (coded hook entry_rank []) Any) }
+    ensures says { IfOk result (λ text. Listed (string_bytes text) (coded hook entry_rank []) Any) }
+    ensures text { IfOk result (λ text. string_bytes text
+        ≡ text_of (Line.Hook hook ∷ Line.Rank (Numeral.Natural entry_rank) ∷ [])) }
 {
     let mut text = String::new(alloc);
     put(&mut text, Line::Hook(hook))?;
@@ -107,7 +115,9 @@ fn write_head(alloc: Global, hook: Hook, entry_rank: u32) -> Result<String, Allo
 
 /// The lines of the instructions, in their order.
 fn write_code(text: &mut String, code: &Code) -> Result<(), AllocError>
-    ensures { OnOk result ((hook : Hook) (rank : ℕ) → Listed (string_bytes text.old) (coded hook rank []) Any → Listed (string_bytes text.new) (coded hook rank code.now) Any) }
+    ensures says { OnOk result (AddsCode (string_bytes text.old) (string_bytes text.new) code.now) }
+    ensures text { OnOk result (AddsText (string_bytes text.old) (string_bytes text.new)
+        (flat_map slot_lines code.now)) }
 {
     for slot in code.slots() {
         match *slot {
@@ -121,7 +131,9 @@ fn write_code(text: &mut String, code: &Code) -> Result<(), AllocError>
 /// A `with` line for each register that isn't empty, ascending.
 fn write_kinds(text: &mut String, kinds: &[Kind]) -> Result<(), AllocError>
     requires { length kinds.now ≡ 10 }
-    ensures { OnOk result ((f : Front) (slot : ℕ) (rank : Rank) → Listed (string_bytes text.old) (sketch_of f (Some (bare slot rank))) (AreStated kinds.now 0) → Listed (string_bytes text.new) (sketch_of f (Some (record { slot = slot; rank = rank; kinds = kinds.now; stack = no_bytes }))) Any) }
+    ensures says { OnOk result (AddsKinds (string_bytes text.old) (string_bytes text.new) kinds.now) }
+    ensures text { OnOk result (AddsText (string_bytes text.old) (string_bytes text.new)
+        (with_lines 0 kinds.now)) }
 {
     for index in 0..10u8 {
         let Some(register) = Register::new(index) else {
@@ -139,7 +151,9 @@ fn end_of_range(stack: &StackBytes, start: usize) -> usize
     requires { start < 512 }
     ensures further { start < result }
     ensures within { result ≤ 512 }
-    ensures bytes { has_byte stack.now start ≡ true → take result stack.now ≡ take start stack.now ++ replicate (result - start) true }
+    ensures bytes { has_byte stack.now start ≡ true
+        → take result stack.now ≡ take start stack.now ++ replicate (result - start) true }
+    ensures longest { result < 512 → has_byte stack.now result ≡ false }
 {
     for end in start + 1..512 {
         if !stack.contains(end) {
@@ -151,7 +165,9 @@ fn end_of_range(stack: &StackBytes, start: usize) -> usize
 
 /// A `bytes` line for each longest range of bytes, ascending.
 fn write_stack(text: &mut String, stack: &StackBytes) -> Result<(), AllocError>
-    ensures { OnOk result ((f : Front) (slot : ℕ) (rank : Rank) (kinds : List Kind) → Listed (string_bytes text.old) (sketch_of f (Some (record { slot = slot; rank = rank; kinds = kinds; stack = no_bytes }))) Any → Listed (string_bytes text.new) (sketch_of f (Some (record { slot = slot; rank = rank; kinds = kinds; stack = stack.now }))) Any) }
+    ensures says { OnOk result (AddsStack (string_bytes text.old) (string_bytes text.new) stack.now) }
+    ensures text { OnOk result (AddsText (string_bytes text.old) (string_bytes text.new)
+        (map bytes_line (longest_ranges 0 stack.now))) }
 {
     let mut start = 0;
     while start < 512 {
@@ -172,7 +188,9 @@ fn write_stack(text: &mut String, stack: &StackBytes) -> Result<(), AllocError>
 
 /// The lines of a statement.
 fn write_statement(text: &mut String, statement: &Statement) -> Result<(), AllocError>
-    ensures { OnOk result ((f : Front) (last : Option StatementParts) → statement.now.slot < length f.code → order_fault f.before last statement.now.slot ≡ None → Listed (string_bytes text.old) (sketch_of f last) Any → Listed (string_bytes text.new) (sketch_of (record { hook = f.hook; rank = f.rank; code = f.code; before = all_of f.before last }) (Some statement.now)) Any) }
+    ensures says { OnOk result (AddsStatement (string_bytes text.old) (string_bytes text.new) statement.now) }
+    ensures text { OnOk result (AddsText (string_bytes text.old) (string_bytes text.new)
+        (statement_lines statement.now)) }
 {
     let rank = statement.rank();
     let line = Line::State {
@@ -188,7 +206,9 @@ fn write_statement(text: &mut String, statement: &Statement) -> Result<(), Alloc
 
 /// The lines of the statements.
 fn write_statements(text: &mut String, statements: &[Statement]) -> Result<(), AllocError>
-    ensures { OnOk result ((hook : Hook) (rank : ℕ) (code : List Slot) → AreStatements 0 (length code) statements.now → Listed (string_bytes text.old) (coded hook rank code) Any → ListedAll (string_bytes text.new) hook rank code statements.now) }
+    ensures says { OnOk result (AddsStatements (string_bytes text.old) (string_bytes text.new) statements.now) }
+    ensures text { OnOk result (AddsText (string_bytes text.old) (string_bytes text.new)
+        (flat_map statement_lines statements.now)) }
 {
     for statement in statements {
         write_statement(text, statement)?;
@@ -199,7 +219,8 @@ fn write_statements(text: &mut String, statements: &[Statement]) -> Result<(), A
 /// The listing of an object whose code is this.
 fn write_object(alloc: Global, object: &Object, code: &Code) -> Result<String, AllocError>
     requires { Spells object.now.code code.now }
-    ensures { IfOk result (λ text. TextSpells (string_bytes text) object.now) }
+    ensures spells { IfOk result (λ text. TextSpells (string_bytes text) object.now) }
+    ensures lines { IfOk result (λ text. string_bytes text ≡ text_of (listing_lines object.now code.now)) }
 {
     let mut text = write_head(alloc, object.hook(), object.entry_rank())?;
     write_code(&mut text, code)?;
@@ -207,11 +228,22 @@ fn write_object(alloc: Global, object: &Object, code: &Code) -> Result<String, A
     Ok(text)
 }
 
+/// What a refusal to decode an object's code is told as.
+fn told(fault: DecodeFault) -> ListError
+    ensures { result ≡ told fault }
+{
+    match fault {
+        DecodeFault::Memory => ListError::Memory,
+        _ => ListError::Code,
+    }
+}
+
 /// A text that spells the object: distances in place of labels, registers ascending, each longest range of stack bytes in one line.
 ///
 /// `Code` comes where the object's code doesn't decode.
 pub fn listing(alloc: Global, object: &Object) -> Result<String, ListError>
     ensures spells { IfOk result (λ text. TextSpells (string_bytes text) object.now) }
+    ensures lines { IfOk result (λ text. IsListing (string_bytes text) object.now) }
     ensures code { IfErr result (λ error. error ≡ ListError.Code → (code : List Slot) → Spells object.now.code code → ⊥) }
 {
     match decode(alloc, object.code()) {
@@ -219,9 +251,6 @@ pub fn listing(alloc: Global, object: &Object) -> Result<String, ListError>
             Ok(text) => Ok(text),
             Err(_) => Err(ListError::Memory),
         },
-        Err(error) => match error.kind {
-            DecodeFault::Memory => Err(ListError::Memory),
-            _ => Err(ListError::Code),
-        },
+        Err(error) => Err(told(error.kind)),
     }
 }

@@ -11,6 +11,3 @@ pub use line::{Content, Line, Operand, Range, Target, Term, Terms};
 pub use numeral::Numeral;
 pub use reading::{one_reading, read_lines};
 pub use writing::write_line;
-
-#[cfg(test)]
-mod tests;

@@ -8,11 +8,11 @@ use Rattle.asm.proofs.assembling.assemble.Goals as goal
 
 pub returns-in_default : goal.returns-in_default
 returns-in_default c = refused_bad c.args.text.now c.read_lines.new.lines.items c.read_lines.new.names.items c.at_line.result c.loop-at.at (sketch c.loop-at.draft) c.index.result.now
-    (record { same = c.in_ok-read_lines.ensures.same; read = c.in_ok-read_lines.ensures.read }) (omega arith) c.index.ensures c.in_default.is c.loop-at.invariant.so_far c.at_line.ensures.kind c.at_line.ensures.line
+    (record { same = c.in_ok-read_lines.ensures.same; read = c.in_ok-read_lines.ensures.read }) (omega arith) c.index.ensures c.in_default.is c.loop-at.invariant.so_far c.at_line.ensures
 
 pub returns-in-Err : goal.returns-in-Err
 returns-in-Err c = refused_line c.args.text.now c.read_lines.new.lines.items c.read_lines.new.names.items c.at_line-in-Err.result c.loop-at.at c.in-Err.kind _
-    (record { same = c.in_ok-read_lines.ensures.same; read = c.in_ok-read_lines.ensures.read }) c.at_line-in-Err.ensures.kind c.at_line-in-Err.ensures.line c.in-Err.ensures
+    (record { same = c.in_ok-read_lines.ensures.same; read = c.in_ok-read_lines.ensures.read }) c.at_line-in-Err.ensures c.in-Err.ensures
     (stepped c.read_lines.new.lines.items c.read_lines.new.names.items c.loop-at.at (sketch c.loop-at.draft) c.index.result.now c.in-Some.line c.index-in-loop-at.result.now c.deref.result.now c.deref-in-loop-at.result.now c.deref-2.result.now
     c.place_of-place.result (Err c.in-Err.kind) (omega arith) c.in_ok-read_lines.ensures.same c.index.ensures c.in-Some.is c.index-in-loop-at.ensures c.deref.ensures.value c.deref-2.ensures.value c.deref-in-loop-at.ensures.value
     (c.place_of-place.ensures ∙ c.in_ok-places.ensures c.index-in-loop-at.result.now.now) c.loop-at.invariant.so_far)
@@ -28,7 +28,7 @@ loop-at-preserved c = record {
 
 pub returns : goal.returns
 returns c = refused_whole c.args.text.now c.read_lines.new.lines.items c.read_lines.new.names.items c.at_line-in-Err-finish.result c.in-Err-finish.kind (sketch c.loop-at.draft)
-    (record { same = c.in_ok-read_lines.ensures.same; read = c.in_ok-read_lines.ensures.read }) c.at_line-in-Err-finish.ensures.kind c.at_line-in-Err-finish.ensures.line c.in-Err-finish.ensures
+    (record { same = c.in_ok-read_lines.ensures.same; read = c.in_ok-read_lines.ensures.read }) c.at_line-in-Err-finish.ensures c.in-Err-finish.ensures
     (c.loop-at.invariant.so_far ∙ taken_end _ c.loop-at.at c.loop-at.at c.read_lines.new.lines.items _ (sketch c.loop-at.draft) (omega arith))
 
 pub line-requires : goal.line-requires

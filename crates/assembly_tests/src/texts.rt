@@ -1,7 +1,5 @@
 //! Texts and the objects that they spell: each form of a line, each refusal, and listings that are assembled again.
-use crate::assembling::assemble;
-use crate::error::{AsmFault, ListError};
-use crate::writing::listing;
+use asm::{AsmFault, ListError, assemble, listing};
 use isa::Hook;
 use object::Object;
 use std::alloc::Global;

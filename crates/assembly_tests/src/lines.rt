@@ -2,10 +2,9 @@
 ghost use Rattle.std.specs.Prelude.{◌≡◌, true, false};
 ghost use Rattle.asm_lines.specs.Written.{IsNamed};
 
-use crate::line::{Content, Line, Operand, Range, Target, Term, Terms};
-use crate::numeral::Numeral;
-use crate::reading::read_lines;
-use crate::writing::write_line;
+use asm_lines::{
+    Content, Line, Numeral, Operand, Range, Target, Term, Terms, read_lines, write_line,
+};
 use isa::{
     ByteOrder, Extension, Hook, LoadSize, Operation, Register, StoreSize, SwapWidth, Test, Width,
 };

@@ -1,0 +1,7 @@
+//! Tests of `asm_lines` and `asm` by their public calls. They stand above, since a crate is proved once more for its tests.
+#![tactic(auto)]
+
+#[cfg(test)]
+mod lines;
+#[cfg(test)]
+mod texts;
