@@ -1,4 +1,5 @@
--- Worked events of a router with one interface: an adjacency begins, is repeated and is begun again (RFC 2328, sections 10.5, 10.6 and 10.8).
+-- Worked events of a router with one interface: an adjacency begins, is repeated and is begun again
+-- (RFC 2328, sections 10.5, 10.6 and 10.8).
 use Rattle.std.specs.Prelude.{◌≡◌, ℕ, ◌%◌, ◌^◌, ◌==◌, true, false, nat_lt, List, [], ◌∷◌, None, Some}
 use Rattle.std.specs.FinMap as finite
 use Rattle.std.specs.FinSet as set
@@ -30,39 +31,53 @@ abbrev pub describes : Description → List Send
 describes d = record { number = 1; content = Content.Describes d } ∷ []
 
 abbrev pub NothingAges : Router → ℕ → Type 0
-NothingAges r moment = list_any (λ e. has_just_aged_out r.moment moment e.1) (finite.entries r.area.database) ≡ false
+NothingAges r moment =
+    list_any (λ e. has_just_aged_out r.moment moment e.1) (finite.entries r.area.database) ≡ false
 
 -- a Hello of this router that is accepted, and names this one
-pub record IsNamingHello (r : Router) (link : Link) (bytes : List ℕ) (from : ℕ) (h : Hello) : Type 0 where
+pub record IsNamingHello (r : Router) (link : Link) (bytes : List ℕ) (from : ℕ)
+    (h : Hello) : Type 0 where
   pub is_text : PacketText bytes (record { router = from; body = body.Hello h })
   pub is_other : is_foreign r.id from ≡ true
   pub is_accepted : accepts r.id from h (record link { neighbor = None }) ≡ true
   pub is_naming : names r.id h ≡ true
 
 -- a Description of the neighbor in Loading, with this verdict
-pub record IsDescription (r : Router) (n : Neighbor) (bytes : List ℕ) (d : Description) (v : Verdict) : Type 0 where
+pub record IsDescription (r : Router) (n : Neighbor) (bytes : List ℕ) (d : Description)
+    (v : Verdict) : Type 0 where
   pub is_text : PacketText bytes (record { router = n.router; body = body.Description d })
   pub is_other : is_foreign r.id n.router ≡ true
   pub fits : nat_lt 8192 d.mtu ≡ false
   pub is_judged : verdict r.id (loading n) d ≡ v
 
 pub record AnAdjacencyBegins : Type 0 where
-  -- a Hello from a new neighbor that names this router: ExStart, and the opening Description with the moment's number is all that is sent
-  pub opens : (r new : Router) (link : Link) (moment from : ℕ) (bytes : List ℕ) (h : Hello) (outs : List Out)
-      → NothingAges r moment → IsNamingHello r link bytes from h → Happens (lonely r link) moment (Occurrence.Packet 1 bytes) outs new
-      → (shown_at new 1 ≡ Some (from, ExStart)) × (outs ≡ outs_of r.id (lonely r link).area.links (describes (initial_description (moment % 2 ^ 32))))
-  -- in Loading, with a Request outstanding, the last Description delivered again: the answer is sent again, alone
-  pub repeats : (r new : Router) (link : Link) (n : Neighbor) (moment : ℕ) (bytes : List ℕ) (d last : Description) (outs : List Out)
+  -- a Hello from a new neighbor that names this router: ExStart, and the opening Description with
+  -- the moment's number is all that is sent
+  pub opens : (r new : Router) (link : Link) (moment from : ℕ) (bytes : List ℕ) (h : Hello)
+      (outs : List Out)
+      → NothingAges r moment → IsNamingHello r link bytes from h
+      → Happens (lonely r link) moment (Occurrence.Packet 1 bytes) outs new
+      → (shown_at new 1 ≡ Some (from, ExStart))
+      × (outs ≡ outs_of r.id (lonely r link).area.links (describes (initial_description (moment % 2 ^ 32))))
+  -- in Loading, with a Request outstanding, the last Description delivered again: the answer is
+  -- sent again, alone
+  pub repeats : (r new : Router) (link : Link) (n : Neighbor) (moment : ℕ) (bytes : List ℕ)
+      (d last : Description) (outs : List Out)
       → NothingAges r moment → IsDescription r n bytes d Verdict.Repeated → n.described ≡ Some last
       → requests_nothing n ≡ false → (set.len n.outstanding == 0) ≡ false
       → Happens (beside r link (loading n)) moment (Occurrence.Packet 1 bytes) outs new
-      → (shown_at new 1 ≡ Some (n.router, Loading)) × (outs ≡ outs_of r.id (beside r link (loading n)).area.links (describes last))
-  -- in Loading a mismatch: ExStart, the three lists are empty, and the opening Description with the next number is all that is sent
-  pub begins_again : (r new : Router) (link : Link) (n : Neighbor) (moment : ℕ) (bytes : List ℕ) (d : Description) (outs : List Out)
+      → (shown_at new 1 ≡ Some (n.router, Loading))
+      × (outs ≡ outs_of r.id (beside r link (loading n)).area.links (describes last))
+  -- in Loading a mismatch: ExStart, the three lists are empty, and the opening Description with the
+  -- next number is all that is sent
+  pub begins_again : (r new : Router) (link : Link) (n : Neighbor) (moment : ℕ) (bytes : List ℕ)
+      (d : Description) (outs : List Out)
       → NothingAges r moment → IsDescription r n bytes d Verdict.Mismatch
       → Happens (beside r link (loading n)) moment (Occurrence.Packet 1 bytes) outs new
       → (neighbor_at 1 new.area.links ≡ Some (enter_exstart moment (loading n)).neighbor)
       × (outs ≡ outs_of r.id (beside r link (loading n)).area.links (describes (initial_description (next_dd_sequence_start moment n.dd_sequence_start))))
   pub clears : (moment : ℕ) (n : Neighbor)
-      → ((enter_exstart moment n).neighbor.state ≡ ExStart) × ((enter_exstart moment n).neighbor.summary ≡ finite.empty)
-      × ((enter_exstart moment n).neighbor.requests ≡ finite.empty) × ((enter_exstart moment n).neighbor.retransmissions ≡ finite.empty)
+      → ((enter_exstart moment n).neighbor.state ≡ ExStart)
+      × ((enter_exstart moment n).neighbor.summary ≡ finite.empty)
+      × ((enter_exstart moment n).neighbor.requests ≡ finite.empty)
+      × ((enter_exstart moment n).neighbor.retransmissions ≡ finite.empty)

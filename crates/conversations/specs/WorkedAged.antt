@@ -1,4 +1,5 @@
--- Worked events: an LSA at MaxAge, without a copy here, comes from a Full neighbor (RFC 2328, section 13).
+-- Worked events: an LSA at MaxAge, without a copy here, comes from a Full neighbor (RFC 2328,
+-- section 13).
 use Rattle.std.specs.Prelude.{◌≡◌, ℕ, ◌==◌, false, List, None, Some}
 use Rattle.std.specs.FinMap as finite
 use Rattle.std.specs.List.{Contains, list_any}
@@ -15,8 +16,10 @@ use Rattle.events.specs.Packing.{outs_of}
 use Rattle.events.specs.Routers.{Occurrence, Router}
 use Rattle.conversations.specs.WorkedUpdates.{HasBrought, HasFullNeighbor, IsAtRest, IsUpdateWith, WaitsAt, acknowledges_at_once}
 
--- the interface of this number has this link, whose neighbor is in Loading, and wasn't asked for an LSA of this key
-pub record IsLoadingWithout (r : Router) (number : ℕ) (link : Link) (n : Neighbor) (lsa : Lsa) : Type 0 where
+-- the interface of this number has this link, whose neighbor is in Loading, and wasn't asked for an
+-- LSA of this key
+pub record IsLoadingWithout (r : Router) (number : ℕ) (link : Link) (n : Neighbor)
+    (lsa : Lsa) : Type 0 where
   pub link_there : link_at number r.area.links ≡ Some link
   pub neighbor_there : link.neighbor ≡ Some n
   pub is_loading : n.state ≡ Loading
@@ -25,20 +28,33 @@ pub record IsLoadingWithout (r : Router) (number : ℕ) (link : Link) (n : Neigh
 -- the neighbor at the interface of this number is to acknowledge the LSA
 abbrev pub IsOwedTo : Router → ℕ → ℕ → Lsa → Type 0
 IsOwedTo r moment number lsa =
-    (n : Neighbor) × (neighbor_at number r.area.links ≡ Some n) × (finite.get n.retransmissions (lsa_key lsa) ≡ Some (record { header = lsa.header; at = moment }))
+    (n : Neighbor) × (neighbor_at number r.area.links ≡ Some n)
+    × (finite.get n.retransmissions (lsa_key lsa) ≡ Some (record {
+      header = lsa.header;
+      at = moment;
+    }))
 
 pub record AnAgedLsaComes : Type 0 where
-  -- where nobody is in Exchange or Loading, it is acknowledged at once, alone, and isn't installed; the links stay as they are
-  pub all_full : (old new : Router) (moment number : ℕ) (bytes : List ℕ) (lsa : Lsa) (link : Link) (n : Neighbor) (outs : List Out)
+  -- where nobody is in Exchange or Loading, it is acknowledged at once, alone, and isn't installed;
+  -- the links stay as they are
+  pub all_full : (old new : Router) (moment number : ℕ) (bytes : List ℕ) (lsa : Lsa) (link : Link)
+      (n : Neighbor) (outs : List Out)
       → IsAtRest old moment → HasFullNeighbor old number link n → IsUpdateWith bytes n.router lsa
-      → finite.get old.area.database (lsa_key lsa) ≡ None → lsa.header.age ≡ 3600 → Happens old moment (Occurrence.Packet number bytes) outs new
-      → (outs ≡ outs_of old.id old.area.links (acknowledges_at_once number lsa)) × (finite.get new.area.database (lsa_key lsa) ≡ None) × (new.area.links ≡ old.area.links)
-  -- where another neighbor is in Loading and wasn't asked for it, the event's own part installs it, sends it to that neighbor, which is to
-  -- acknowledge it, and its acknowledgment waits for a Tick
-  pub one_loading : (old new : Router) (moment number other : ℕ) (bytes : List ℕ) (lsa : Lsa) (link : Link) (n : Neighbor) (another : Link) (m : Neighbor) (outs : List Out)
-      → list_any (λ e. has_just_aged_out old.moment moment e.1) (finite.entries old.area.database) ≡ false
-      → HasFullNeighbor old number link n → IsUpdateWith bytes n.router lsa → IsLoadingWithout old other another m lsa → (number == other) ≡ false
-      → finite.get old.area.database (lsa_key lsa) ≡ None → (lsa.header.advertising_router == old.id) ≡ false
+      → finite.get old.area.database (lsa_key lsa) ≡ None → lsa.header.age ≡ 3600
+      → Happens old moment (Occurrence.Packet number bytes) outs new
+      → (outs ≡ outs_of old.id old.area.links (acknowledges_at_once number lsa))
+      × (finite.get new.area.database (lsa_key lsa) ≡ None) × (new.area.links ≡ old.area.links)
+  -- where another neighbor is in Loading and wasn't asked for it, the event's own part installs it,
+  -- sends it to that neighbor, which is to acknowledge it, and its acknowledgment waits for a Tick
+  pub one_loading : (old new : Router) (moment number other : ℕ) (bytes : List ℕ) (lsa : Lsa)
+      (link : Link) (n : Neighbor) (another : Link) (m : Neighbor) (outs : List Out)
+      → list_any (λ e. has_just_aged_out old.moment moment e.1) (finite.entries old.area.database)
+      ≡ false
+      → HasFullNeighbor old number link n → IsUpdateWith bytes n.router lsa
+      → IsLoadingWithout old other another m lsa → (number == other) ≡ false
+      → finite.get old.area.database (lsa_key lsa) ≡ None
+      → (lsa.header.advertising_router == old.id) ≡ false
       → (event : Happens old moment (Occurrence.Packet number bytes) outs new)
-      → HasBrought event.after.router moment lsa × WaitsAt event.after.router number lsa × IsOwedTo event.after.router moment other lsa
+      → HasBrought event.after.router moment lsa × WaitsAt event.after.router number lsa
+      × IsOwedTo event.after.router moment other lsa
       × Contains event.after.sends (record { number = other; content = Content.Updates lsa })

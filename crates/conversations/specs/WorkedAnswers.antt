@@ -11,11 +11,16 @@ use Rattle.conversations.specs.WorkedUpdates.{IsAtRest}
 
 -- what hasn't come to MaxAge stays as it was, and nothing comes
 pub record KeepsTheYoung (old : Router) (moment : ℕ) (new : Router) : Type 0 where
-  pub young : (key : Key) (c : DatabaseCopy) → finite.get old.area.database key ≡ Some c → is_aged_out moment c ≡ false → finite.get new.area.database key ≡ Some c
-  pub none : (key : Key) → finite.get old.area.database key ≡ None → finite.get new.area.database key ≡ None
+  pub young : (key : Key) (c : DatabaseCopy) → finite.get old.area.database key ≡ Some c
+      → is_aged_out moment c ≡ false → finite.get new.area.database key ≡ Some c
+  pub none : (key : Key) → finite.get old.area.database key ≡ None
+      → finite.get new.area.database key ≡ None
 
--- the answers of the programs, a veto among them, change the table of routes alone: nothing is sent, and database and adjacencies stay
+-- the answers of the programs, a veto among them, change the table of routes alone: nothing is
+-- sent, and database and adjacencies stay
 abbrev pub AnswersChangeNoDatabase : Type 0
-AnswersChangeNoDatabase = (old new : Router) (moment : ℕ) (answers : List (Route × ℕ)) (outs : List Out)
+AnswersChangeNoDatabase =
+    (old new : Router) (moment : ℕ) (answers : List (Route × ℕ)) (outs : List Out)
     → IsAtRest old moment → Happens old moment (Occurrence.Install answers) outs new
-    → (outs ≡ []) × (new.answers ≡ answers) × (new.area.links ≡ old.area.links) × KeepsTheYoung old moment new
+    → (outs ≡ []) × (new.answers ≡ answers) × (new.area.links ≡ old.area.links)
+    × KeepsTheYoung old moment new

@@ -1,4 +1,5 @@
--- Worked events of a router with one interface: its router-LSA comes back with MaxSequenceNumber (RFC 2328, sections 12.1.6, 13.4 and 14.1).
+-- Worked events of a router with one interface: its router-LSA comes back with MaxSequenceNumber
+-- (RFC 2328, sections 12.1.6, 13.4 and 14.1).
 use Rattle.std.specs.Prelude.{◌≡◌, ◌<◌, ℕ, pos, true, false, List, [], ◌∷◌, Option, None, Some}
 use Rattle.std.specs.FinMap as finite
 use Rattle.std.specs.List.{list_any}
@@ -23,9 +24,12 @@ use Rattle.conversations.specs.WorkedUpdates.{IsUpdateWith}
 abbrev pub full : Neighbor → Neighbor
 full n = record n { state = Full }
 
--- the LSA is this router's router-LSA with MaxSequenceNumber, newer than the copy, which flooding hasn't brought in this second
-pub record ComesBack (r : Router) (n : Neighbor) (moment : ℕ) (lsa : Lsa) (own : DatabaseCopy) : Type 0 where
-  pub nothing_ages : list_any (λ e. has_just_aged_out r.moment moment e.1) (finite.entries r.area.database) ≡ false
+-- the LSA is this router's router-LSA with MaxSequenceNumber, newer than the copy, which flooding
+-- hasn't brought in this second
+pub record ComesBack (r : Router) (n : Neighbor) (moment : ℕ) (lsa : Lsa)
+    (own : DatabaseCopy) : Type 0 where
+  pub nothing_ages : list_any (λ e. has_just_aged_out r.moment moment e.1)
+      (finite.entries r.area.database) ≡ false
   pub is_other : is_foreign r.id n.router ≡ true
   pub own_there : finite.get r.area.database (router_key r.id) ≡ Some own
   pub not_just_now : installed_just_now moment (Some own) ≡ false
@@ -37,15 +41,24 @@ pub record ComesBack (r : Router) (n : Neighbor) (moment : ℕ) (lsa : Lsa) (own
 -- the copy has MaxAge from this moment on
 abbrev pub IsFlushed : Router → ℕ → Lsa → Type 0
 IsFlushed r moment lsa =
-    (sent : Option ℕ) × (finite.get r.area.database (router_key r.id) ≡ Some (record { lsa = lsa_aged 3600 lsa; stored = moment; installed = Some moment; sent = sent }))
+    (sent : Option ℕ) × (finite.get r.area.database (router_key r.id) ≡ Some (record {
+      lsa = lsa_aged 3600 lsa;
+      stored = moment;
+      installed = Some moment;
+      sent = sent;
+    }))
 
 -- the neighbor at interface 1 has this entry on its retransmission list
 abbrev pub HasOnList : Router → Key → Option ListEntry → Type 0
-HasOnList r key entry = (n : Neighbor) × (neighbor_at 1 r.area.links ≡ Some n) × (finite.get n.retransmissions key ≡ entry)
+HasOnList r key entry =
+    (n : Neighbor) × (neighbor_at 1 r.area.links ≡ Some n)
+    × (finite.get n.retransmissions key ≡ entry)
 
 -- the neighbor still is to acknowledge this header's instance, and the copy has MaxAge
-pub record AcknowledgesTheLast (r : Router) (n : Neighbor) (moment : ℕ) (bytes : List ℕ) (h : Header) (entry : ListEntry) (c : DatabaseCopy) : Type 0 where
-  pub nothing_ages : list_any (λ e. has_just_aged_out r.moment moment e.1) (finite.entries r.area.database) ≡ false
+pub record AcknowledgesTheLast (r : Router) (n : Neighbor) (moment : ℕ) (bytes : List ℕ)
+    (h : Header) (entry : ListEntry) (c : DatabaseCopy) : Type 0 where
+  pub nothing_ages : list_any (λ e. has_just_aged_out r.moment moment e.1)
+      (finite.entries r.area.database) ≡ false
   pub is_other : is_foreign r.id n.router ≡ true
   pub is_text : PacketText bytes (record { router = n.router; body = body.Acknowledgment (h ∷ []) })
   pub on_list : finite.get n.retransmissions (key_of h) ≡ Some entry
@@ -54,18 +67,32 @@ pub record AcknowledgesTheLast (r : Router) (n : Neighbor) (moment : ℕ) (bytes
   pub is_aged : is_aged_out moment c ≡ true
 
 pub record TheNumbersEnd : Type 0 where
-  -- from a Full neighbor: it is flushed, on its retransmission list, and all that is sent is one Update with it at MaxAge
-  pub flushes : (r new : Router) (link : Link) (n : Neighbor) (moment : ℕ) (bytes : List ℕ) (lsa : Lsa) (own : DatabaseCopy) (outs : List Out)
+  -- from a Full neighbor: it is flushed, on its retransmission list, and all that is sent is one
+  -- Update with it at MaxAge
+  pub flushes : (r new : Router) (link : Link) (n : Neighbor) (moment : ℕ) (bytes : List ℕ)
+      (lsa : Lsa) (own : DatabaseCopy) (outs : List Out)
       → ComesBack r n moment lsa own → IsUpdateWith bytes n.router lsa
       → Happens (beside r link (full n)) moment (Occurrence.Packet 1 bytes) outs new
-      → IsFlushed new moment lsa × HasOnList new (router_key r.id) (Some (record { header = header_aged 3600 lsa.header; at = moment }))
+      → IsFlushed new moment lsa
+      × HasOnList new (router_key r.id)
+      (Some (record { header = header_aged 3600 lsa.header; at = moment }))
       × (outs ≡ outs_of r.id (beside r link (full n)).area.links (sends_update (lsa_aged 3600 lsa)))
   -- at MaxAge an entry is the same instance at each later moment, and a copy stays at MaxAge
-  pub entry_stays : (h : Header) (at moment : ℕ) → same_as_listed moment (header_aged 3600 h) (record { header = header_aged 3600 h; at = at }) ≡ true
+  pub entry_stays : (h : Header) (at moment : ℕ)
+      → same_as_listed moment (header_aged 3600 h) (record { header = header_aged 3600 h; at = at })
+      ≡ true
   pub copy_stays : (lsa : Lsa) (at moment : ℕ) (installed sent : Option ℕ)
-      → is_aged_out moment (record { lsa = lsa_aged 3600 lsa; stored = at; installed = installed; sent = sent }) ≡ true
-  -- the acknowledgment takes it off the list, and the copy leaves the database in that event; nothing is sent
-  pub leaves : (r new : Router) (link : Link) (n : Neighbor) (moment : ℕ) (bytes : List ℕ) (h : Header) (entry : ListEntry) (c : DatabaseCopy) (outs : List Out)
+      → is_aged_out moment (record {
+        lsa = lsa_aged 3600 lsa;
+        stored = at;
+        installed = installed;
+        sent = sent;
+      }) ≡ true
+  -- the acknowledgment takes it off the list, and the copy leaves the database in that event;
+  -- nothing is sent
+  pub leaves : (r new : Router) (link : Link) (n : Neighbor) (moment : ℕ) (bytes : List ℕ)
+      (h : Header) (entry : ListEntry) (c : DatabaseCopy) (outs : List Out)
       → AcknowledgesTheLast r n moment bytes h entry c
       → Happens (beside r link (full n)) moment (Occurrence.Packet 1 bytes) outs new
-      → (finite.get new.area.database (key_of h) ≡ None) × HasOnList new (key_of h) None × (outs ≡ [])
+      → (finite.get new.area.database (key_of h) ≡ None) × HasOnList new (key_of h) None
+      × (outs ≡ [])

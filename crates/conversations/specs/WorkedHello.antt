@@ -1,4 +1,5 @@
--- A worked event of a router with any number of interfaces: a Hello of a new neighbor begins an adjacency (RFC 2328, sections 10.5 and 10.8).
+-- A worked event of a router with any number of interfaces: a Hello of a new neighbor begins an
+-- adjacency (RFC 2328, sections 10.5 and 10.8).
 use Rattle.std.specs.Prelude.{◌≡◌, ℕ, ◌%◌, ◌^◌, List, [], ◌∷◌, None, Some}
 use Rattle.packet.specs.declared.model.Hello.{Hello}
 use Rattle.adjacency.specs.Adjacencies.{initial_description}
@@ -12,11 +13,18 @@ use Rattle.events.specs.Routers.{Occurrence, Router, shown_at}
 use Rattle.conversations.specs.WorkedAdjacency.{IsNamingHello}
 use Rattle.conversations.specs.WorkedUpdates.{IsAtRest}
 
--- where nobody is in Exchange or Loading, and nobody at this interface: an accepted Hello that names this router leads to ExStart, and the
--- opening Description with the moment's number is all that is sent, at whatever interface
+-- where nobody is in Exchange or Loading, and nobody at this interface: an accepted Hello that
+-- names this router leads to ExStart, and the opening Description with the moment's number is all
+-- that is sent, at whatever interface
 abbrev pub ANeighborIsHeard : Type 0
-ANeighborIsHeard = (old new : Router) (number : ℕ) (link : Link) (moment from : ℕ) (bytes : List ℕ) (h : Hello) (outs : List Out)
-    → IsAtRest old moment → link_at number old.area.links ≡ Some link → link.neighbor ≡ None → IsNamingHello old link bytes from h
+ANeighborIsHeard =
+    (old new : Router) (number : ℕ) (link : Link) (moment from : ℕ) (bytes : List ℕ) (h : Hello)
+    (outs : List Out)
+    → IsAtRest old moment → link_at number old.area.links ≡ Some link → link.neighbor ≡ None
+    → IsNamingHello old link bytes from h
     → Happens old moment (Occurrence.Packet number bytes) outs new
     → (shown_at new number ≡ Some (from, ExStart))
-    × (outs ≡ outs_of old.id old.area.links (record { number = number; content = Content.Describes (initial_description (moment % 2 ^ 32)) } ∷ []))
+    × (outs ≡ outs_of old.id old.area.links (record {
+      number = number;
+      content = Content.Describes (initial_description (moment % 2 ^ 32));
+    } ∷ []))

@@ -1,4 +1,5 @@
--- Worked events of a router with one interface: its last request is met, and it tells of the new adjacency (RFC 2328, sections 10.9 and 12.4).
+-- Worked events of a router with one interface: its last request is met, and it tells of the new
+-- adjacency (RFC 2328, sections 10.9 and 12.4).
 use Rattle.std.specs.Prelude.{◌≡◌, ◌<◌, ℕ, ◌+◌, ◌+ℤ◌, pos, ◌==◌, true, false, List, [], ◌∷◌, None, Some}
 use Rattle.std.specs.FinMap as finite
 use Rattle.std.specs.FinSet as set
@@ -27,10 +28,12 @@ beside r link n = record r { area = record r.area { links = record link { neighb
 abbrev pub loading : Neighbor → Neighbor
 loading n = record n { state = Loading }
 
--- the neighbor is asked for one LSA alone, and this one, of another router and without a copy here, meets the request; the own
--- router-LSA stands in the database, below MaxSequenceNumber and MaxAge
-pub record MeetsTheLastRequest (r : Router) (n : Neighbor) (moment : ℕ) (lsa : Lsa) (own : DatabaseCopy) : Type 0 where
-  pub nothing_ages : list_any (λ e. has_just_aged_out r.moment moment e.1) (finite.entries r.area.database) ≡ false
+-- the neighbor is asked for one LSA alone, and this one, of another router and without a copy here,
+-- meets the request; the own router-LSA stands in the database, below MaxSequenceNumber and MaxAge
+pub record MeetsTheLastRequest (r : Router) (n : Neighbor) (moment : ℕ) (lsa : Lsa)
+    (own : DatabaseCopy) : Type 0 where
+  pub nothing_ages : list_any (λ e. has_just_aged_out r.moment moment e.1)
+      (finite.entries r.area.database) ≡ false
   pub is_other : is_foreign r.id n.router ≡ true
   pub is_last : finite.len n.requests ≡ 1
   pub is_met : meets moment lsa (requested n (lsa_key lsa)) ≡ true
@@ -49,19 +52,23 @@ sends_update lsa = record { number = 1; content = Content.Updates lsa } ∷ []
 
 pub record ALastRequestIsMet : Type 0 where
   -- the next instance has the next number, and age 0
-  pub next_number : (r : Router) (own : DatabaseCopy) → (next_router_lsa r own).header.sequence ≡ own.lsa.header.sequence +ℤ pos 1
+  pub next_number : (r : Router) (own : DatabaseCopy) → (next_router_lsa r own).header.sequence
+      ≡ own.lsa.header.sequence +ℤ pos 1
   pub new_age : (r : Router) (own : DatabaseCopy) → (next_router_lsa r own).header.age ≡ 0
-  -- the last five seconds saw no own router-LSA: the neighbor is Full, and one Update with the next router-LSA is all that is sent; the
-  -- acknowledgment waits for a Tick
-  pub at_once : (r new : Router) (link : Link) (n : Neighbor) (moment : ℕ) (bytes : List ℕ) (lsa : Lsa) (own : DatabaseCopy) (outs : List Out)
+  -- the last five seconds saw no own router-LSA: the neighbor is Full, and one Update with the next
+  -- router-LSA is all that is sent; the acknowledgment waits for a Tick
+  pub at_once : (r new : Router) (link : Link) (n : Neighbor) (moment : ℕ) (bytes : List ℕ)
+      (lsa : Lsa) (own : DatabaseCopy) (outs : List Out)
       → MeetsTheLastRequest r n moment lsa own → IsUpdateWith bytes n.router lsa
       → interval_is_over moment (finite.get r.originated (router_key r.id)) ≡ true
       → Happens (beside r link (loading n)) moment (Occurrence.Packet 1 bytes) outs new
       → (shown_at new 1 ≡ Some (n.router, Full)) × WaitsAt new 1 lsa
       × (outs ≡ outs_of r.id (beside r link (loading n)).area.links (sends_update (next_router_lsa new own)))
   -- else the neighbor is Full, nothing is sent, and the router-LSA waits for a Tick
-  pub later : (r new : Router) (link : Link) (n : Neighbor) (moment last : ℕ) (bytes : List ℕ) (lsa : Lsa) (own : DatabaseCopy) (outs : List Out)
+  pub later : (r new : Router) (link : Link) (n : Neighbor) (moment last : ℕ) (bytes : List ℕ)
+      (lsa : Lsa) (own : DatabaseCopy) (outs : List Out)
       → MeetsTheLastRequest r n moment lsa own → IsUpdateWith bytes n.router lsa
       → finite.get r.originated (router_key r.id) ≡ Some last → last < moment → moment < last + 5
       → Happens (beside r link (loading n)) moment (Occurrence.Packet 1 bytes) outs new
-      → (shown_at new 1 ≡ Some (n.router, Full)) × WaitsAt new 1 lsa × (outs ≡ []) × (set.contains new.waiting (router_key r.id) ≡ true)
+      → (shown_at new 1 ≡ Some (n.router, Full)) × WaitsAt new 1 lsa × (outs ≡ [])
+      × (set.contains new.waiting (router_key r.id) ≡ true)

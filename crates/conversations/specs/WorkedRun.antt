@@ -1,5 +1,5 @@
--- A worked run of a router with one interface: a Hello begins an adjacency, and the exchange follows in the next event (RFC 2328, sections
--- 10.5, 10.6 and 10.8).
+-- A worked run of a router with one interface: a Hello begins an adjacency, and the exchange
+-- follows in the next event (RFC 2328, sections 10.5, 10.6 and 10.8).
 use Rattle.std.specs.Prelude.{◌≡◌, ℕ, ◌%◌, ◌^◌, true, nat_lt, List, [], ◌∷◌, Some}
 use Rattle.packet.specs.declared.model.Body.TheVariants as body
 use Rattle.packet.specs.declared.model.Hello.{Hello}
@@ -17,15 +17,25 @@ use Rattle.conversations.specs.WorkedExchange.{reply}
 
 -- these bytes come in at the first interface, and this is sent
 abbrev pub receives : ℕ → List ℕ → List Out → Step
-receives moment bytes outs = record { moment = moment; event = Occurrence.Packet 1 bytes; outs = outs }
+receives moment bytes outs = record {
+  moment = moment;
+  event = Occurrence.Packet 1 bytes;
+  outs = outs;
+}
 
--- a Hello of a new neighbor with a larger Router ID that names this router, and later that neighbor's opening Description: the first is
--- answered with the opening Description of the moment's number, the second leads from ExStart to Exchange, and is answered with one
--- Description of its number, with the headers of the database
+-- a Hello of a new neighbor with a larger Router ID that names this router, and later that
+-- neighbor's opening Description: the first is answered with the opening Description of the
+-- moment's number, the second leads from ExStart to Exchange, and is answered with one Description
+-- of its number, with the headers of the database
 abbrev pub AnAdjacencyIsNegotiated : Type 0
-AnAdjacencyIsNegotiated = (r new : Router) (link : Link) (moment later from sequence : ℕ) (hello_bytes bytes : List ℕ) (h : Hello) (outs answers : List Out)
+AnAdjacencyIsNegotiated =
+    (r new : Router) (link : Link) (moment later from sequence : ℕ) (hello_bytes bytes : List ℕ)
+    (h : Hello) (outs answers : List Out)
     → NothingAges r moment → IsNamingHello r link hello_bytes from h → nat_lt r.id from ≡ true
-    → PacketText bytes (record { router = from; body = body.Description (initial_description sequence) })
+    → PacketText bytes (record {
+      router = from;
+      body = body.Description (initial_description sequence);
+    })
     → (run : Run (lonely r link) (receives moment hello_bytes outs ∷ receives later bytes answers ∷ []) new) → NothingAges run.0 later
     → (outs ≡ outs_of r.id (lonely r link).area.links (describes (initial_description (moment % 2 ^ 32))))
     × (shown_at run.0 1 ≡ Some (from, ExStart)) × (shown_at new 1 ≡ Some (from, Exchange))

@@ -1,4 +1,5 @@
--- A worked Tick of a router with one interface: its router-LSA is originated, and what waits is acknowledged (RFC 2328, sections 12.4 and 13.5).
+-- A worked Tick of a router with one interface: its router-LSA is originated, and what waits is
+-- acknowledged (RFC 2328, sections 12.4 and 13.5).
 use Rattle.std.specs.Prelude.{◌≡◌, ℕ, true, false, List, [], ◌∷◌, ◌++◌, map, Option, None, Some}
 use Rattle.std.specs.FinMap as finite
 use Rattle.std.specs.List.{list_any}
@@ -17,10 +18,13 @@ use Rattle.events.specs.Routers.{Occurrence, Router}
 use Rattle.conversations.specs.WorkedFlush.{full}
 use Rattle.conversations.specs.WorkedOwn.{beside}
 
--- the router-LSA waits, or has left the database, or is of LSRefreshTime, and may go out: five seconds have passed and there is room; it
--- isn't at MaxSequenceNumber; nothing else is announced, no copy comes to MaxAge, and the neighbor was heard in time
-pub record IsDueAtTick (r : Router) (link : Link) (n : Neighbor) (moment : ℕ) (copy : Option DatabaseCopy) : Type 0 where
-  pub nothing_ages : list_any (λ e. has_just_aged_out r.moment moment e.1) (finite.entries r.area.database) ≡ false
+-- the router-LSA waits, or has left the database, or is of LSRefreshTime, and may go out: five
+-- seconds have passed and there is room; it isn't at MaxSequenceNumber; nothing else is announced,
+-- no copy comes to MaxAge, and the neighbor was heard in time
+pub record IsDueAtTick (r : Router) (link : Link) (n : Neighbor) (moment : ℕ)
+    (copy : Option DatabaseCopy) : Type 0 where
+  pub nothing_ages : list_any (λ e. has_just_aged_out r.moment moment e.1)
+      (finite.entries r.area.database) ≡ false
   pub is_heard : has_passed n.last_heard link.interface.dead_interval moment ≡ false
   pub nothing_announced : finite.keys r.announced ≡ []
   pub is_due_now : is_due moment r (router_key r.id) ≡ true
@@ -30,29 +34,43 @@ pub record IsDueAtTick (r : Router) (link : Link) (n : Neighbor) (moment : ℕ) 
   pub room : has_room (router_key r.id) r ≡ true
 
 abbrev pub originated_lsa : Router → Link → Neighbor → Option DatabaseCopy → Lsa
-originated_lsa r link n copy = new_instance (router_key r.id) copy (router_body (beside r link (full n)).area.links)
+originated_lsa r link n copy =
+    new_instance (router_key r.id) copy (router_body (beside r link (full n)).area.links)
 
 abbrev pub waiting_acknowledgments : Link → List Send
-waiting_acknowledgments link = numbered 1 (map Content.Acknowledges (finite.values link.acknowledgments))
+waiting_acknowledgments link =
+    numbered 1 (map Content.Acknowledges (finite.values link.acknowledgments))
 
--- no own LSA is due, nothing is announced, no copy comes to MaxAge, and the neighbor was heard in time
+-- no own LSA is due, nothing is announced, no copy comes to MaxAge, and the neighbor was heard in
+-- time
 pub record IsNothingDue (r : Router) (link : Link) (n : Neighbor) (moment : ℕ) : Type 0 where
-  pub nothing_ages : list_any (λ e. has_just_aged_out r.moment moment e.1) (finite.entries r.area.database) ≡ false
+  pub nothing_ages : list_any (λ e. has_just_aged_out r.moment moment e.1)
+      (finite.entries r.area.database) ≡ false
   pub is_heard : has_passed n.last_heard link.interface.dead_interval moment ≡ false
   pub nothing_announced : finite.keys r.announced ≡ []
   pub not_due : is_due moment r (router_key r.id) ≡ false
 
 pub record ATickOriginates : Type 0 where
   -- without a copy the number is InitialSequenceNumber, else the next one
-  pub first_number : (r : Router) (link : Link) (n : Neighbor) → (originated_lsa r link n None).header.sequence ≡ initial_sequence_number
-  pub next_number : (r : Router) (link : Link) (n : Neighbor) (c : DatabaseCopy) → (originated_lsa r link n (Some c)).header.sequence ≡ next_sequence (Some c)
-  -- among what is sent are first an Update with the new router-LSA, and then all acknowledgments that wait
-  pub sends : (r new : Router) (link : Link) (n : Neighbor) (moment : ℕ) (copy : Option DatabaseCopy) (outs : List Out)
-      → IsDueAtTick r link n moment copy → Happens (beside r link (full n)) moment Occurrence.Tick outs new
+  pub first_number : (r : Router) (link : Link) (n : Neighbor)
+      → (originated_lsa r link n None).header.sequence ≡ initial_sequence_number
+  pub next_number : (r : Router) (link : Link) (n : Neighbor) (c : DatabaseCopy)
+      → (originated_lsa r link n (Some c)).header.sequence ≡ next_sequence (Some c)
+  -- among what is sent are first an Update with the new router-LSA, and then all acknowledgments
+  -- that wait
+  pub sends : (r new : Router) (link : Link) (n : Neighbor) (moment : ℕ)
+      (copy : Option DatabaseCopy) (outs : List Out)
+      → IsDueAtTick r link n moment copy
+      → Happens (beside r link (full n)) moment Occurrence.Tick outs new
       → (again more : List Send)
       × (outs ≡ outs_of r.id (beside r link (full n)).area.links
-      (record { number = 1; content = Content.Updates (originated_lsa r link n copy) } ∷ (again ++ (waiting_acknowledgments link ++ more))))
+      (record {
+        number = 1;
+        content = Content.Updates (originated_lsa r link n copy);
+      } ∷ (again ++ (waiting_acknowledgments link ++ more))))
   -- where nothing is due, all acknowledgments that wait are among what is sent
   pub acknowledges : (r new : Router) (link : Link) (n : Neighbor) (moment : ℕ) (outs : List Out)
-      → IsNothingDue r link n moment → Happens (beside r link (full n)) moment Occurrence.Tick outs new
-      → (again more : List Send) × (outs ≡ outs_of r.id (beside r link (full n)).area.links (again ++ (waiting_acknowledgments link ++ more)))
+      → IsNothingDue r link n moment
+      → Happens (beside r link (full n)) moment Occurrence.Tick outs new
+      → (again more : List Send)
+      × (outs ≡ outs_of r.id (beside r link (full n)).area.links (again ++ (waiting_acknowledgments link ++ more)))

@@ -1,4 +1,5 @@
--- A worked event: an Update with a new LSA comes twice from a Full neighbor (RFC 2328, sections 13 and 13.5).
+-- A worked event: an Update with a new LSA comes twice from a Full neighbor (RFC 2328, sections 13
+-- and 13.5).
 use Rattle.std.specs.Prelude.{◌≡◌, ◌<◌, ℕ, ◌==◌, true, false, List, [], ◌∷◌, Option, None, Some}
 use Rattle.std.specs.FinMap as finite
 use Rattle.std.specs.List.{list_any}
@@ -22,7 +23,8 @@ use Rattle.events.specs.Routers.{Occurrence, Router}
 -- nobody is in Exchange or Loading, and no copy comes to MaxAge at this moment
 pub record IsAtRest (r : Router) (moment : ℕ) : Type 0 where
   pub nobody : any_exchange_or_loading r.area.links ≡ false
-  pub nothing_ages : list_any (λ e. has_just_aged_out r.moment moment e.1) (finite.entries r.area.database) ≡ false
+  pub nothing_ages : list_any (λ e. has_just_aged_out r.moment moment e.1)
+      (finite.entries r.area.database) ≡ false
 
 -- the interface of this number has this link, and its neighbor is Full
 pub record HasFullNeighbor (r : Router) (number : ℕ) (link : Link) (n : Neighbor) : Type 0 where
@@ -37,26 +39,44 @@ pub record IsUpdateWith (bytes : List ℕ) (from : ℕ) (lsa : Lsa) : Type 0 whe
   pub is_text : PacketText bytes (record { router = from; body = body.Update (unread ∷ []) })
   pub is_read : lsa_in unread ≡ Some lsa
 
--- at the interface of this number an acknowledgment of the LSA, as it was received, waits for a Tick
+-- at the interface of this number an acknowledgment of the LSA, as it was received, waits for a
+-- Tick
 abbrev pub WaitsAt : Router → ℕ → Lsa → Type 0
-WaitsAt r number lsa = (link : Link) × (link_at number r.area.links ≡ Some link) × (finite.get link.acknowledgments (lsa_key lsa) ≡ Some lsa.header)
+WaitsAt r number lsa =
+    (link : Link) × (link_at number r.area.links ≡ Some link)
+    × (finite.get link.acknowledgments (lsa_key lsa) ≡ Some lsa.header)
 
 -- the router got it at this moment by flooding; it may have sent it on
 abbrev pub HasBrought : Router → ℕ → Lsa → Type 0
 HasBrought r moment lsa =
-    (sent : Option ℕ) × (finite.get r.area.database (lsa_key lsa) ≡ Some (record { lsa = lsa; stored = moment; installed = Some moment; sent = sent }))
+    (sent : Option ℕ) × (finite.get r.area.database (lsa_key lsa) ≡ Some (record {
+      lsa = lsa;
+      stored = moment;
+      installed = Some moment;
+      sent = sent;
+    }))
 
 -- what is sent is one acknowledgment of the LSA, at the interface of this number
 abbrev pub acknowledges_at_once : ℕ → Lsa → List Send
-acknowledges_at_once number lsa = record { number = number; content = Content.Acknowledges lsa.header } ∷ []
+acknowledges_at_once number lsa = record {
+  number = number;
+  content = Content.Acknowledges lsa.header;
+} ∷ []
 
--- one Update with a new LSA of another router is delivered twice in one second by a Full neighbor: after the first the LSA is in the
--- database and its acknowledgment waits for a Tick; the second is acknowledged at once, with nothing else sent, and leaves the router,
--- its database with it, as the first left it
+-- one Update with a new LSA of another router is delivered twice in one second by a Full neighbor:
+-- after the first the LSA is in the database and its acknowledgment waits for a Tick; the second is
+-- acknowledged at once, with nothing else sent, and leaves the router, its database with it, as the
+-- first left it
 abbrev pub ANewLsaComesTwice : Type 0
-ANewLsaComesTwice = (old middle new : Router) (moment number : ℕ) (bytes : List ℕ) (lsa : Lsa) (link : Link) (n : Neighbor) (outs more : List Out)
-    → IsAtRest old moment → HasFullNeighbor old number link n → requested n (lsa_key lsa) ≡ None → IsUpdateWith bytes n.router lsa
-    → finite.get old.area.database (lsa_key lsa) ≡ None → lsa.header.age < 3600 → (lsa.header.advertising_router == old.id) ≡ false
-    → Happens old moment (Occurrence.Packet number bytes) outs middle → Happens middle moment (Occurrence.Packet number bytes) more new
+ANewLsaComesTwice =
+    (old middle new : Router) (moment number : ℕ) (bytes : List ℕ) (lsa : Lsa) (link : Link)
+    (n : Neighbor) (outs more : List Out)
+    → IsAtRest old moment → HasFullNeighbor old number link n → requested n (lsa_key lsa) ≡ None
+    → IsUpdateWith bytes n.router lsa
+    → finite.get old.area.database (lsa_key lsa) ≡ None → lsa.header.age < 3600
+    → (lsa.header.advertising_router == old.id) ≡ false
+    → Happens old moment (Occurrence.Packet number bytes) outs middle
+    → Happens middle moment (Occurrence.Packet number bytes) more new
     → HasBrought middle moment lsa × WaitsAt middle number lsa
-    × (more ≡ outs_of middle.id middle.area.links (acknowledges_at_once number lsa)) × (new ≡ middle)
+    × (more ≡ outs_of middle.id middle.area.links (acknowledges_at_once number lsa))
+    × (new ≡ middle)

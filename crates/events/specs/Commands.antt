@@ -28,7 +28,9 @@ same_kind Type2 Type1 = false
 same_kind Type2 Type2 = true
 
 abbrev pub same_external : External → External → Bool
-same_external a b = same_network a.prefix b.prefix && a.metric == b.metric && same_kind a.kind b.kind && a.tag == b.tag
+same_external a b =
+    same_network a.prefix b.prefix && a.metric == b.metric && same_kind a.kind b.kind
+    && a.tag == b.tag
 
 -- the destination with the metric that was answered, and the low 32 bits of the tag
 abbrev pub answered : External → ℕ → ℕ → External
@@ -48,7 +50,10 @@ abbrev pub announce : Key → External → Router → Router
 announce key e r = record r { announced = finite.insert r.announced key e }
 
 abbrev pub unannounce : Key → Router → Router
-unannounce key r = record r { announced = finite.remove r.announced key; waiting = set.remove r.waiting key }
+unannounce key r = record r {
+  announced = finite.remove r.announced key;
+  waiting = set.remove r.waiting key;
+}
 
 -- the want ends, and the LSA is flushed
 abbrev pub end_want : Moment → Key → EventState → EventState
@@ -68,7 +73,8 @@ after_redistribute moment e tag price p =
 
 abbrev pub after_withdraw : Moment → Network → EventState → EventState
 after_withdraw moment prefix p =
-    if is_for prefix (finite.get p.router.announced (external_key p.router.id prefix)) then end_want moment (external_key p.router.id prefix) p
+    if is_for prefix (finite.get p.router.announced (external_key p.router.id prefix))
+    then end_want moment (external_key p.router.id prefix) p
     else p
 
 abbrev pub after_install : List (Route × ℕ) → EventState → EventState

@@ -21,8 +21,11 @@ use Rattle.events.specs.Routers.{Router}
 -- ---- ages (section 14)
 
 -- a copy that has come to MaxAge since the moment before is flooded
-abbrev pub with_age : (before : Moment) → (moment : Moment) → Outcome → (Key × DatabaseCopy) → Outcome
-with_age before moment o e = if has_just_aged_out before moment e.1 then flood_from_nobody moment (lsa_now moment e.1) o else o
+abbrev pub with_age : (before : Moment) → (moment : Moment) → Outcome → (Key × DatabaseCopy)
+    → Outcome
+with_age before moment o e =
+    if has_just_aged_out before moment e.1 then flood_from_nobody moment (lsa_now moment e.1) o
+    else o
 
 abbrev pub with_ages : (before : Moment) → (moment : Moment) → Outcome → Outcome
 with_ages before moment o = fold (with_age before moment) o (finite.entries o.area.database)
@@ -69,12 +72,14 @@ is_current moment r =
 -- at once, or at a Tick, where the links have changed in this event
 abbrev pub describe_router : List Link → Moment → EventState → EventState
 describe_router before moment p =
-    if links_differ before p.router.area.links && not (is_current moment p.router) then originate_or_wait moment (router_key p.router.id) p else p
+    if links_differ before p.router.area.links && not (is_current moment p.router)
+    then originate_or_wait moment (router_key p.router.id) p else p
 
 -- what changes after that waits for a Tick
 abbrev pub describe_router_later : List Link → EventState → EventState
 describe_router_later before p =
-    if links_differ before p.router.area.links then on_router (wait (router_key p.router.id)) p else p
+    if links_differ before p.router.area.links then on_router (wait (router_key p.router.id)) p
+    else p
 
 -- ---- requests (section 10.9)
 
@@ -88,12 +93,15 @@ stays_as moment is_on_some_list None = false
 stays_as moment is_on_some_list (Some c) = not (is_aged_out moment c) || is_on_some_list
 
 abbrev pub stays : Moment → Area → Key → Bool
-stays moment a key = stays_as moment (any_has_retransmission key a.links) (finite.get a.database key)
+stays moment a key =
+    stays_as moment (any_has_retransmission key a.links) (finite.get a.database key)
 
--- copies at MaxAge that are on no retransmission list leave, unless some neighbor is in Exchange or Loading
+-- copies at MaxAge that are on no retransmission list leave, unless some neighbor is in Exchange or
+-- Loading
 abbrev pub remove_aged : Moment → Outcome → Outcome
 remove_aged moment o =
-    if any_exchange_or_loading o.area.links then o else on_database (λ db. finite.retain_keys db (stays moment o.area)) o
+    if any_exchange_or_loading o.area.links then o
+    else on_database (λ db. finite.retain_keys db (stays moment o.area)) o
 
 -- ---- the whole end
 
@@ -102,4 +110,5 @@ abbrev pub end_event : Router → Moment → EventState → EventState
 end_event old moment p =
     let described : EventState = describe_router old.area.links moment (loading_done p) in
     let refilled : EventState = describe_router_later described.router.area.links (loading_done described) in
-    on_router (λ (r : Router). record r { moment = moment }) (on_area (λ o. remove_aged moment (request_all moment o)) refilled)
+    on_router (λ (r : Router). record r { moment = moment })
+    (on_area (λ o. remove_aged moment (request_all moment o)) refilled)

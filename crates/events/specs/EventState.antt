@@ -1,4 +1,5 @@
--- An event in the making: the router as it is by now, and what was sent, in the order in which it arose.
+-- An event in the making: the router as it is by now, and what was sent, in the order in which it
+-- arose.
 use Rattle.std.specs.Prelude.{List, None}
 use Rattle.words.specs.Numbers.{Moment}
 use Rattle.lsdb.specs.Headers.{Lsa}

@@ -1,4 +1,5 @@
--- Hellos: which are accepted, when one is due, and what it says (RFC 2328, sections 8.2, 9.5 and 10.5).
+-- Hellos: which are accepted, when one is due, and what it says (RFC 2328, sections 8.2, 9.5 and
+-- 10.5).
 use Rattle.std.specs.Prelude.{ℕ, Bool, true, not, ◌&&◌, ◌==◌, bit_and, if◌then◌else◌, List, [], ◌∷◌, Option, None, Some}
 use Rattle.std.specs.List.{list_any}
 use Rattle.words.specs.Numbers.{Moment, RouterNumber, Seconds}
@@ -46,7 +47,10 @@ abbrev pub hello_is_due : Moment → Link → Bool
 hello_is_due moment link = is_due moment link.interface.hello_interval link.last_hello_sent
 
 abbrev pub with_hello_sent : Moment → Link → Link
-with_hello_sent moment link = record link { last_hello_sent = if hello_is_due moment link then Some moment else link.last_hello_sent }
+with_hello_sent moment link = record link {
+  last_hello_sent = if hello_is_due moment link
+      then Some moment else link.last_hello_sent;
+}
 
 abbrev pub heard_of : Option Neighbor → List ℕ
 heard_of None = []

@@ -12,13 +12,18 @@ use Rattle.events.specs.Routers.{Occurrence, Router}
 
 -- an event has one outcome: nothing is left to choose
 abbrev pub EventsAreDetermined : Type 0
-EventsAreDetermined = (rules : Rules) (old : Router) (moment : ℕ) (event : Occurrence) (sent others : List Out) (new another : Router)
-    → HappensBy rules old moment event sent new → HappensBy rules old moment event others another → (sent ≡ others) × (new ≡ another)
+EventsAreDetermined =
+    (rules : Rules) (old : Router) (moment : ℕ) (event : Occurrence) (sent others : List Out)
+    (new another : Router)
+    → HappensBy rules old moment event sent new → HappensBy rules old moment event others another
+    → (sent ≡ others) × (new ≡ another)
 
--- the answers of the programs, a veto among them, change neither the database nor a link, and send nothing
+-- the answers of the programs, a veto among them, change neither the database nor a link, and send
+-- nothing
 abbrev pub AnswersLeaveTheArea : Type 0
 AnswersLeaveTheArea = (answers : List (Route × ℕ)) (before : EventState)
-    → ((after_install answers before).router.area ≡ before.router.area) × ((after_install answers before).sends ≡ before.sends)
+    → ((after_install answers before).router.area ≡ before.router.area)
+    × ((after_install answers before).sends ≡ before.sends)
 
 -- bytes of an Update that are no LSA are skipped, and the LSAs behind them are taken
 abbrev pub WhatIsNoLsaIsSkipped : Type 0

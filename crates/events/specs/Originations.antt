@@ -1,4 +1,5 @@
--- The router's own LSAs: what is wanted, new instances, what waits for a Tick, and flushing (RFC 2328, sections 12.1.6, 12.4, 13.4, 14 and 14.1).
+-- The router's own LSAs: what is wanted, new instances, what waits for a Tick, and flushing (RFC
+-- 2328, sections 12.1.6, 12.4, 13.4, 14 and 14.1).
 use Rattle.std.specs.Prelude.{ℕ, ℤ, pos, ◌+ℤ◌, ◌==◌, Bool, true, false, not, ◌&&◌, ◌||◌, nat_le, nat_lt, if◌then◌else◌, List, [], ◌∷◌, ◌++◌, length, Option, None, Some}
 use Rattle.std.specs.List.{filter, flat_map, fold}
 use Rattle.std.specs.FinMap as finite
@@ -34,15 +35,31 @@ router_key id = record { ls_type = 1; link_state_id = id; advertising_router = i
 
 -- the address of the destination is the Link State ID
 abbrev pub external_key : RouterNumber → Network → Key
-external_key id prefix = record { ls_type = 5; link_state_id = prefix.address; advertising_router = id }
+external_key id prefix = record {
+  ls_type = 5;
+  link_state_id = prefix.address;
+  advertising_router = id;
+}
 
 abbrev pub point_to_point : Interface → Option Neighbor → List RouterLink
 point_to_point i None = []
 point_to_point i (Some n) =
-    if is_full n.state then record { link_id = n.router; link_data = i.address; kind = PointToPoint; metric = i.cost; tos = [] } ∷ [] else []
+    if is_full n.state then record {
+      link_id = n.router;
+      link_data = i.address;
+      kind = PointToPoint;
+      metric = i.cost;
+      tos = [];
+    } ∷ [] else []
 
 abbrev pub stub : Interface → RouterLink
-stub i = record { link_id = network_address i.length i.address; link_data = mask_of i.length; kind = Stub; metric = i.cost; tos = [] }
+stub i = record {
+  link_id = network_address i.length i.address;
+  link_data = mask_of i.length;
+  kind = Stub;
+  metric = i.cost;
+  tos = [];
+}
 
 -- to the neighbor, if it is Full, and then to the subnet
 abbrev pub links_of : Link → List RouterLink
@@ -54,7 +71,15 @@ router_body links = body.Router (record { flags = 2; links = flat_map links_of l
 
 -- the AS-external-LSA of an announced destination (section 12.4.4)
 abbrev pub external_body : External → Body
-external_body e = body.External (record { mask = mask_of e.prefix.length; kind = e.kind; metric = e.metric; forwarding = 0; tag = e.tag; tos = [] })
+external_body e =
+    body.External (record {
+      mask = mask_of e.prefix.length;
+      kind = e.kind;
+      metric = e.metric;
+      forwarding = 0;
+      tag = e.tag;
+      tos = [];
+    })
 
 abbrev pub announced_body : Option External → Option Body
 announced_body None = None
@@ -63,7 +88,8 @@ announced_body (Some e) = Some (external_body e)
 -- what the own LSA of this key is to say, if it is wanted
 abbrev pub wanted_body : Router → Key → Option Body
 wanted_body r key =
-    if same_key key (router_key r.id) then Some (router_body r.area.links) else announced_body (finite.get r.announced key)
+    if same_key key (router_key r.id) then Some (router_body r.area.links)
+    else announced_body (finite.get r.announced key)
 
 -- the keys of all own LSAs that are wanted, in their order
 abbrev pub wanted_keys : Router → List Key
@@ -97,15 +123,20 @@ new_instance key copy says = sealed_lsa (record {
 })
 
 abbrev pub install_and_flood : Moment → Lsa → Outcome → Outcome
-install_and_flood moment lsa o = flood_from_nobody moment lsa (on_database (install_originated moment lsa) o)
+install_and_flood moment lsa o =
+    flood_from_nobody moment lsa (on_database (install_originated moment lsa) o)
 
 -- it waits for no Tick any more, and its five seconds run
 abbrev pub as_originated : Moment → Key → Router → Router
-as_originated moment key r = record r { waiting = set.remove r.waiting key; originated = finite.insert r.originated key moment }
+as_originated moment key r = record r {
+  waiting = set.remove r.waiting key;
+  originated = finite.insert r.originated key moment;
+}
 
 abbrev pub originate : Moment → Key → Body → EventState → EventState
 originate moment key says p =
-    on_router (as_originated moment key) (on_area (install_and_flood moment (new_instance key (finite.get p.router.area.database key) says)) p)
+    on_router (as_originated moment key)
+    (on_area (install_and_flood moment (new_instance key (finite.get p.router.area.database key) says)) p)
 
 -- ---- flushing (section 14.1)
 
@@ -113,7 +144,8 @@ originate moment key says p =
 abbrev pub flush_copy : Moment → Key → Option DatabaseCopy → Outcome → Outcome
 flush_copy moment key None o = o
 flush_copy moment key (Some c) o =
-    if is_aged_out moment c then o else flood_from_nobody moment (lsa_aged max_age c.lsa) (on_database (age_out moment key) o)
+    if is_aged_out moment c then o
+    else flood_from_nobody moment (lsa_aged max_age c.lsa) (on_database (age_out moment key) o)
 
 abbrev pub flush : Moment → Key → EventState → EventState
 flush moment key p = on_area (flush_copy moment key (finite.get p.router.area.database key)) p
@@ -134,18 +166,21 @@ is_own_external id key = key.ls_type == 5 && key.advertising_router == id
 abbrev pub own_externals : RouterNumber → Database → ℕ
 own_externals id db = length (filter (is_own_external id) (finite.keys db))
 
--- an LSA of this key passes no limit: it takes the place of its copy, or there are fewer than 16,384 LSAs, and, if it is an external one,
--- fewer than 4,096 own externals; copies still to be removed count
+-- an LSA of this key passes no limit: it takes the place of its copy, or there are fewer than
+-- 16,384 LSAs, and, if it is an external one, fewer than 4,096 own externals; copies still to be
+-- removed count
 abbrev pub has_room : Key → Router → Bool
 has_room key r =
     finite.contains_key r.area.database key
-    || (nat_lt (finite.len r.area.database) most_lsas && (not (is_own_external r.id key) || nat_lt (own_externals r.id r.area.database) most_own_externals))
+    || (nat_lt (finite.len r.area.database) most_lsas
+    && (not (is_own_external r.id key)
+    || nat_lt (own_externals r.id r.area.database) most_own_externals))
 
 abbrev pub wait : Key → Router → Router
 wait key r = record r { waiting = set.insert r.waiting key }
 
--- at once, if `may_now` and the five seconds allow it, else at a Tick; after MaxSequenceNumber the copy is flushed first, and the LSA is
--- originated when it has left the database
+-- at once, if `may_now` and the five seconds allow it, else at a Tick; after MaxSequenceNumber the
+-- copy is flushed first, and the LSA is originated when it has left the database
 abbrev pub originate_body : Bool → Moment → Key → Option Body → EventState → EventState
 originate_body may_now moment key None p = p
 originate_body may_now moment key (Some says) p =
@@ -155,7 +190,8 @@ originate_body may_now moment key (Some says) p =
 
 -- where there is room for it
 abbrev pub originate_or_wait : Moment → Key → EventState → EventState
-originate_or_wait moment key p = originate_body (has_room key p.router) moment key (wanted_body p.router key) p
+originate_or_wait moment key p =
+    originate_body (has_room key p.router) moment key (wanted_body p.router key) p
 
 -- whether there is room or not, which a Redistribute asks afterwards
 abbrev pub originate_anyway : Moment → Key → EventState → EventState
@@ -175,7 +211,8 @@ abbrev pub due_keys : Moment → Router → List Key
 due_keys moment r = filter (is_due moment r) (wanted_keys r)
 
 abbrev pub originate_due : Moment → List Key → EventState → EventState
-originate_due moment keys p = fold (λ (q : EventState) (key : Key). originate_or_wait moment key q) p keys
+originate_due moment keys p =
+    fold (λ (q : EventState) (key : Key). originate_or_wait moment key q) p keys
 
 -- own originations whose five seconds are over are forgotten
 abbrev pub is_recent : Moment → Option Moment → Bool
@@ -195,7 +232,9 @@ abbrev pub originate_or_flush : Bool → Moment → Key → EventState → Event
 originate_or_flush true moment key p = originate_or_wait moment key p
 originate_or_flush false moment key p = flush moment key p
 
--- a self-originated LSA that was installed: one that is wanted is originated again, one past its number; any other is flushed
+-- a self-originated LSA that was installed: one that is wanted is originated again, one past its
+-- number; any other is flushed
 abbrev pub receive_self_originated : Moment → Lsa → EventState → EventState
 receive_self_originated moment lsa p =
-    if lsa.header.advertising_router == p.router.id then originate_or_flush (is_wanted (wanted_body p.router (lsa_key lsa))) moment (lsa_key lsa) p else p
+    if lsa.header.advertising_router == p.router.id
+    then originate_or_flush (is_wanted (wanted_body p.router (lsa_key lsa))) moment (lsa_key lsa) p else p

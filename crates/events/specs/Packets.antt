@@ -35,15 +35,21 @@ abbrev pub with_neighbor : Neighbor → Link → Link
 with_neighbor n link = record link { neighbor = Some n }
 
 abbrev pub hear : Moment → InterfaceNumber → Step → Outcome → Outcome
-hear moment number s o = sending moment (numbered number s.sends) (on_links (change_link number (with_neighbor s.neighbor)) o)
+hear moment number s o =
+    sending moment (numbered number s.sends)
+    (on_links (change_link number (with_neighbor s.neighbor)) o)
 
-abbrev pub heard_on : TwoWay → (own : RouterNumber) → Moment → InterfaceNumber → (from : RouterNumber) → Hello → Option Link → Outcome → Outcome
+abbrev pub heard_on : TwoWay → (own : RouterNumber) → Moment → InterfaceNumber
+    → (from : RouterNumber) → Hello → Option Link → Outcome → Outcome
 heard_on two_way own moment number from h None o = o
 heard_on two_way own moment number from h (Some link) o =
-    if accepts own from h link then hear moment number (adjacencies.after_hello two_way moment from (names own h) link.neighbor) o else o
+    if accepts own from h link
+    then hear moment number (adjacencies.after_hello two_way moment from (names own h) link.neighbor) o else o
 
-abbrev pub after_hello : TwoWay → (own : RouterNumber) → Moment → InterfaceNumber → (from : RouterNumber) → Hello → Outcome → Outcome
-after_hello two_way own moment number from h o = heard_on two_way own moment number from h (link_at number o.area.links) o
+abbrev pub after_hello : TwoWay → (own : RouterNumber) → Moment → InterfaceNumber
+    → (from : RouterNumber) → Hello → Outcome → Outcome
+after_hello two_way own moment number from h o =
+    heard_on two_way own moment number from h (link_at number o.area.links) o
 
 -- ---- Requests (section 10.7)
 
@@ -76,7 +82,8 @@ after_self_originated Case.SentJustNow moment lsa p = p
 after_self_originated Case.Older moment lsa p = p
 
 abbrev pub after_lsa : Case → Moment → InterfaceNumber → Lsa → EventState → EventState
-after_lsa case moment number lsa p = after_self_originated case moment lsa (on_area (after_case case moment number lsa) p)
+after_lsa case moment number lsa p =
+    after_self_originated case moment lsa (on_area (after_case case moment number lsa) p)
 
 -- the case of the LSA that the bytes are: they are an LSA's text, or none's
 abbrev pub case_in : Moment → InterfaceNumber → Option Lsa → EventState → Case
@@ -85,7 +92,8 @@ case_in moment number (Some lsa) p = case_at moment number lsa p.router.area
 
 abbrev pub after_unread : Moment → InterfaceNumber → Option Lsa → EventState → EventState
 after_unread moment number None p = p
-after_unread moment number (Some lsa) p = after_lsa (case_at moment number lsa p.router.area) moment number lsa p
+after_unread moment number (Some lsa) p =
+    after_lsa (case_at moment number lsa p.router.area) moment number lsa p
 
 -- the LSAs of an Update in order, up to a bad request
 abbrev pub after_lsas : Moment → InterfaceNumber → List (List ℕ) → EventState → EventState
@@ -105,19 +113,28 @@ abbrev pub is_in_exchange : Option Neighbor → Bool
 is_in_exchange None = false
 is_in_exchange (Some n) = is_exchange_or_later n.state
 
-abbrev pub describe_to : TwoWay → RouterNumber → Moment → InterfaceNumber → Description → Outcome → Outcome
-describe_to two_way own moment number d o = one_neighbor moment number (after_description two_way own moment o.area.database d) o
+abbrev pub describe_to : TwoWay → RouterNumber → Moment → InterfaceNumber → Description → Outcome
+    → Outcome
+describe_to two_way own moment number d o =
+    one_neighbor moment number (after_description two_way own moment o.area.database d) o
 
 abbrev pub acknowledged_by : Moment → InterfaceNumber → List Header → Outcome → Outcome
-acknowledged_by moment number headers o = one_neighbor moment number (λ n. no_sends (after_acknowledgment moment headers n)) o
+acknowledged_by moment number headers o =
+    one_neighbor moment number (λ n. no_sends (after_acknowledgment moment headers n)) o
 
 -- from the interface's neighbor; Requests, Updates and Acknowledgments count from Exchange on
-abbrev pub from_neighbor : TwoWay → Moment → InterfaceNumber → RouterNumber → Bool → Body → EventState → EventState
-from_neighbor two_way moment number from in_exchange (body.Hello h) p = on_area (after_hello two_way p.router.id moment number from h) p
-from_neighbor two_way moment number from in_exchange (body.Description d) p = on_area (describe_to two_way p.router.id moment number d) p
-from_neighbor two_way moment number from in_exchange (body.Request keys) p = if in_exchange then on_area (requested_from moment number keys) p else p
-from_neighbor two_way moment number from in_exchange (body.Update lsas) p = if in_exchange then after_lsas moment number lsas p else p
-from_neighbor two_way moment number from in_exchange (body.Acknowledgment headers) p = if in_exchange then on_area (acknowledged_by moment number headers) p else p
+abbrev pub from_neighbor : TwoWay → Moment → InterfaceNumber → RouterNumber → Bool → Body
+    → EventState → EventState
+from_neighbor two_way moment number from in_exchange (body.Hello h) p =
+    on_area (after_hello two_way p.router.id moment number from h) p
+from_neighbor two_way moment number from in_exchange (body.Description d) p =
+    on_area (describe_to two_way p.router.id moment number d) p
+from_neighbor two_way moment number from in_exchange (body.Request keys) p =
+    if in_exchange then on_area (requested_from moment number keys) p else p
+from_neighbor two_way moment number from in_exchange (body.Update lsas) p =
+    if in_exchange then after_lsas moment number lsas p else p
+from_neighbor two_way moment number from in_exchange (body.Acknowledgment headers) p =
+    if in_exchange then on_area (acknowledged_by moment number headers) p else p
 
 abbrev pub is_hello : Body → Bool
 is_hello (body.Hello h) = true
@@ -126,11 +143,15 @@ is_hello (body.Request keys) = false
 is_hello (body.Update lsas) = false
 is_hello (body.Acknowledgment headers) = false
 
--- a packet of no router or of this one is discarded, and one other than a Hello that isn't from the interface's neighbor
+-- a packet of no router or of this one is discarded, and one other than a Hello that isn't from the
+-- interface's neighbor
 abbrev pub is_heard : RouterNumber → Packet → Option Neighbor → Bool
-is_heard own packet n = is_foreign own packet.router && (is_hello packet.body || is_from packet.router n)
+is_heard own packet n =
+    is_foreign own packet.router && (is_hello packet.body || is_from packet.router n)
 
 abbrev pub after_packet : TwoWay → Moment → InterfaceNumber → Packet → EventState → EventState
 after_packet two_way moment number packet p =
     let n : Option Neighbor = neighbor_at number p.router.area.links in
-    if is_heard p.router.id packet n then from_neighbor two_way moment number packet.router (is_in_exchange n) packet.body p else p
+    if is_heard p.router.id packet n
+    then from_neighbor two_way moment number packet.router (is_in_exchange n) packet.body p
+    else p

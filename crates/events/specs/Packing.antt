@@ -1,4 +1,5 @@
--- What is sent as packets: in their order, packed, and as canonical texts (RFC 2328, sections 13.3, 13.5 and appendix A.3).
+-- What is sent as packets: in their order, packed, and as canonical texts (RFC 2328, sections 13.3,
+-- 13.5 and appendix A.3).
 use Rattle.std.specs.Prelude.{ℕ, ◌+◌, Bool, nat_le, ◌==◌, min, if◌then◌else◌, List, [], ◌∷◌, ◌++◌, map, Option, None, Some}
 use Rattle.std.specs.List.{enumerate_from, filter_map, flat_map}
 use Rattle.std.specs.Ordering.{is_gt}
@@ -32,11 +33,13 @@ in_key_order key (x ∷ xs) = put key x (in_key_order key xs)
 
 -- ---- as many as fit into a packet
 
--- `taken` goes into the packet that is being filled, which has `used` bytes by now; each begins with `start` bytes
+-- `taken` goes into the packet that is being filled, which has `used` bytes by now; each begins
+-- with `start` bytes
 abbrev pub fill_on : {X : Type 0} → (X → ℕ) → ℕ → ℕ → List X → List X → List (List X)
 fill_on size start used taken [] = taken ∷ []
 fill_on size start used taken (x ∷ xs) =
-    if nat_le (used + size x) largest_packet then fill_on size start (used + size x) (taken ++ (x ∷ [])) xs
+    if nat_le (used + size x) largest_packet
+    then fill_on size start (used + size x) (taken ++ (x ∷ [])) xs
     else taken ∷ fill_on size start (start + size x) (x ∷ []) xs
 
 abbrev pub packed : {X : Type 0} → (X → ℕ) → ℕ → List X → List (List X)
@@ -104,7 +107,8 @@ bodies delay contents =
     filter_map hellos contents
     ++ filter_map descriptions contents
     ++ map body.Request (in_key_order first_key (filter_map requests contents))
-    ++ map (update_of delay) (packed lsa_size 28 (in_key_order lsa_key (filter_map updates contents)))
+    ++ map (update_of delay)
+    (packed lsa_size 28 (in_key_order lsa_key (filter_map updates contents)))
     ++ map body.Acknowledgment (packed header_size 24 (in_key_order key_of (filter_map acknowledgments contents)))
 
 -- ---- all interfaces in order
@@ -119,7 +123,9 @@ abbrev pub out_of : RouterNumber → InterfaceNumber → Body → Out
 out_of own number says = record { interface = number; bytes = canonical (packet_of own says) }
 
 abbrev pub outs_at : RouterNumber → List Send → InterfaceNumber → Link → List Out
-outs_at own sends number link = map (out_of own number) (bodies link.interface.delay (filter_map (at_interface number) sends))
+outs_at own sends number link =
+    map (out_of own number) (bodies link.interface.delay (filter_map (at_interface number) sends))
 
 abbrev pub outs_of : RouterNumber → List Link → List Send → List Out
-outs_of own links sends = flat_map (λ (e : ℕ × Link). outs_at own sends e.0 e.1) (enumerate_from 1 links)
+outs_of own links sends =
+    flat_map (λ (e : ℕ × Link). outs_at own sends e.0 e.1) (enumerate_from 1 links)

@@ -33,28 +33,36 @@ is_taken prefix (Some e) = not (is_for prefix (Some e))
 
 -- the answers are on two destinations, or the Link State ID is that of another announced prefix
 abbrev pub clashes : Router → External → External → Bool
-clashes old tagged priced = not (same_external tagged priced) || is_taken priced.prefix (finite.get old.announced (external_key old.id priced.prefix))
+clashes old tagged priced =
+    not (same_external tagged priced)
+    || is_taken priced.prefix (finite.get old.announced (external_key old.id priced.prefix))
 
 abbrev pub no_interface : InterfaceNumber → Router → Option CoreError → Option CoreError
-no_interface number old otherwise = if is_interface number old then otherwise else Some error.NoInterface
+no_interface number old otherwise =
+    if is_interface number old then otherwise else Some error.NoInterface
 
 abbrev pub of_event : Router → Occurrence → Option CoreError
-of_event old (Occurrence.Packet number bytes) = no_interface number old (bad_packet (fault_of bytes))
+of_event old (Occurrence.Packet number bytes) =
+    no_interface number old (bad_packet (fault_of bytes))
 of_event old Occurrence.Tick = None
-of_event old (Occurrence.Redistribute tagged tag priced price) = if clashes old tagged priced then Some error.Clash else None
+of_event old (Occurrence.Redistribute tagged tag priced price) =
+    if clashes old tagged priced then Some error.Clash else None
 of_event old (Occurrence.Withdraw prefix) = None
 of_event old (Occurrence.Install answers) = None
 of_event old (Occurrence.LinkDown number) = no_interface number old None
 
 -- the first reason that holds, the limits aside
 abbrev pub first_refusal : Router → Moment → Occurrence → Option CoreError
-first_refusal old moment event = if is_clock_back moment old then Some error.ClockBack else of_event old event
+first_refusal old moment event =
+    if is_clock_back moment old then Some error.ClockBack else of_event old event
 
 -- ---- limits
 
 -- more than 16,384 LSAs, or more than 4,096 own externals among them
 abbrev pub exceeds : Router → Bool
-exceeds r = nat_lt most_lsas (finite.len r.area.database) || nat_lt most_own_externals (own_externals r.id r.area.database)
+exceeds r =
+    nat_lt most_lsas (finite.len r.area.database)
+    || nat_lt most_own_externals (own_externals r.id r.area.database)
 
 -- nothing else is wrong with the event, and what it leaves would pass a limit
 pub record WouldExceed (old : Router) (moment : ℕ) (event : Occurrence) : Type 0 where
@@ -70,13 +78,17 @@ pub record WouldExceed (old : Router) (moment : ℕ) (event : Occurrence) : Type
 abbrev pub MayRunOut : Option CoreError → Type 0
 MayRunOut refusal = (refusal ≡ Some error.ClockBack → ⊥) × (refusal ≡ Some error.NoInterface → ⊥)
 
--- An answer gives the reason that stands, and no reason stands where the event is taken. Want of memory comes only where neither the
--- clock nor the interface is refused.
+-- An answer gives the reason that stands, and no reason stands where the event is taken. Want of
+-- memory comes only where neither the clock nor the interface is refused.
 abbrev pub Answers : {X : Type 0} → Router → ℕ → Occurrence → Result X CoreError → Type 0
-Answers old moment event (Ok x) = (first_refusal old moment event ≡ None) × (WouldExceed old moment event → ⊥)
+Answers old moment event (Ok x) =
+    (first_refusal old moment event ≡ None) × (WouldExceed old moment event → ⊥)
 Answers old moment event (Err error.Full) = WouldExceed old moment event
 Answers old moment event (Err error.Memory) = MayRunOut (first_refusal old moment event)
-Answers old moment event (Err (error.BadPacket f)) = first_refusal old moment event ≡ Some (error.BadPacket f)
-Answers old moment event (Err error.NoInterface) = first_refusal old moment event ≡ Some error.NoInterface
+Answers old moment event (Err (error.BadPacket f)) =
+    first_refusal old moment event ≡ Some (error.BadPacket f)
+Answers old moment event (Err error.NoInterface) =
+    first_refusal old moment event ≡ Some error.NoInterface
 Answers old moment event (Err error.Clash) = first_refusal old moment event ≡ Some error.Clash
-Answers old moment event (Err error.ClockBack) = first_refusal old moment event ≡ Some error.ClockBack
+Answers old moment event (Err error.ClockBack) =
+    first_refusal old moment event ≡ Some error.ClockBack

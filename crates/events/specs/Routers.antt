@@ -20,7 +20,8 @@ pub record Router : Type 0 where
   pub id : RouterNumber
   -- the links, interface n at place n - 1, and the database
   pub area : Area
-  -- the external destinations that are announced, by the keys of their LSAs, with the metric and the tag that were answered
+  -- the external destinations that are announced, by the keys of their LSAs, with the metric and
+  -- the tag that were answered
   pub announced : ByKey External
   -- the own LSAs that wait for a Tick
   pub waiting : KeySet
@@ -37,7 +38,8 @@ pub data Occurrence : Type 0 where
   -- these bytes came in at the interface of this number
   Packet : (interface : InterfaceNumber) (bytes : List ℕ) → Occurrence
   Tick : Occurrence
-  -- a destination is to be announced: a word on its tag and one on its metric, each with the destination that it answers for
+  -- a destination is to be announced: a word on its tag and one on its metric, each with the
+  -- destination that it answers for
   Redistribute : (tagged : External) (tag : ℕ) (priced : External) (price : ℕ) → Occurrence
   Withdraw : (prefix : Network) → Occurrence
   -- the routes that were offered, each with the word that answers for it
@@ -48,24 +50,32 @@ pub data Occurrence : Type 0 where
 
 abbrev pub is_lawful : Interface → Bool
 is_lawful i =
-    nat_le i.length 32 && nat_le 1 i.cost && nat_le 1 i.hello_interval && nat_le 1 i.dead_interval && nat_le 1 i.retransmit_interval
+    nat_le i.length 32 && nat_le 1 i.cost && nat_le 1 i.hello_interval && nat_le 1 i.dead_interval
+    && nat_le 1 i.retransmit_interval
     && nat_le 1 i.delay && nat_le i.delay max_age
 
 -- no two have one address
 abbrev pub are_distinct : List Interface → Bool
 are_distinct [] = true
-are_distinct (i ∷ others) = not (list_any (λ j. j.address == i.address) others) && are_distinct others
+are_distinct (i ∷ others) =
+    not (list_any (λ j. j.address == i.address) others) && are_distinct others
 
 abbrev pub in_profile : Config → Bool
 in_profile c =
-    not (c.router == 0) && nat_lt c.start clock_end && nat_le 1 (length c.interfaces) && nat_le (length c.interfaces) most_interfaces
+    not (c.router == 0) && nat_lt c.start clock_end && nat_le 1 (length c.interfaces)
+    && nat_le (length c.interfaces) most_interfaces
     && list_all is_lawful c.interfaces && are_distinct c.interfaces
 
 -- ---- the start
 
 -- a link on which nothing was heard or sent
 abbrev pub fresh_link : Interface → Link
-fresh_link i = record { interface = i; neighbor = None; acknowledgments = finite.empty; last_hello_sent = None }
+fresh_link i = record {
+  interface = i;
+  neighbor = None;
+  acknowledgments = finite.empty;
+  last_hello_sent = None;
+}
 
 -- a router that keeps nothing but its links
 abbrev pub with_links : RouterNumber → List Link → Moment → Router
@@ -89,6 +99,7 @@ abbrev pub shown : Option Neighbor → Option (ℕ × State)
 shown None = None
 shown (Some n) = Some (n.router, n.state)
 
--- the Router ID and the state of the neighbor at the interface of this number, unless it is Down or there is no such interface
+-- the Router ID and the state of the neighbor at the interface of this number, unless it is Down or
+-- there is no such interface
 abbrev pub shown_at : Router → InterfaceNumber → Option (ℕ × State)
 shown_at r number = shown (neighbor_at number r.area.links)

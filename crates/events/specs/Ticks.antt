@@ -25,13 +25,15 @@ settled_exchange moment dead (Some n) = Some (without_old_description moment dea
 -- an inactive neighbor is Down; a slave gives up its last Description
 abbrev pub run_out : Moment → Link → Link
 run_out moment link = record link {
-  neighbor = settled_exchange moment link.interface.dead_interval (after_inactivity_timer moment link.interface.dead_interval link.neighbor);
+  neighbor =
+      settled_exchange moment link.interface.dead_interval (after_inactivity_timer moment link.interface.dead_interval link.neighbor);
 }
 
 -- ---- what is sent again
 
 abbrev pub again : ℕ → Outcome → Stepping
-again moment o number link n = send_again moment link.interface.retransmit_interval o.area.database n
+again moment o number link n =
+    send_again moment link.interface.retransmit_interval o.area.database n
 
 abbrev pub send_all_again : Moment → Outcome → Outcome
 send_all_again moment o = each_neighbor moment (again moment o) o
@@ -49,15 +51,20 @@ abbrev pub sends_of : (Link → List Content) → List Link → List Send
 sends_of f links = flat_map (λ (e : ℕ × Link). numbered e.0 (f e.1)) (enumerate_from 1 links)
 
 abbrev pub acknowledge_all : Moment → Outcome → Outcome
-acknowledge_all moment o = sending moment (sends_of acknowledgments_on o.area.links) (on_links (map without_acknowledgments) o)
+acknowledge_all moment o =
+    sending moment (sends_of acknowledgments_on o.area.links)
+    (on_links (map without_acknowledgments) o)
 
 -- ---- Hellos
 
 abbrev pub hello_sent_on : Moment → Link → List Content
-hello_sent_on moment link = if hello_is_due moment link then Content.SendsHello (hello_on link) ∷ [] else []
+hello_sent_on moment link =
+    if hello_is_due moment link then Content.SendsHello (hello_on link) ∷ [] else []
 
 abbrev pub send_hellos : Moment → Outcome → Outcome
-send_hellos moment o = sending moment (sends_of (hello_sent_on moment) o.area.links) (on_links (map (with_hello_sent moment)) o)
+send_hellos moment o =
+    sending moment (sends_of (hello_sent_on moment) o.area.links)
+    (on_links (map (with_hello_sent moment)) o)
 
 -- ---- the whole
 

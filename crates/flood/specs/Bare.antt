@@ -1,4 +1,5 @@
--- Routers that keep nothing but what the Hello protocol makes: their neighbors are Down or in Init, and they have no LSAs.
+-- Routers that keep nothing but what the Hello protocol makes: their neighbors are Down or in Init,
+-- and they have no LSAs.
 use Rattle.std.specs.Prelude.{◌≡◌, List, map, Option, None, Some}
 use Rattle.std.specs.FinMap as finite
 use Rattle.adjacency.specs.Neighbors.{Neighbor, fresh}
@@ -10,13 +11,21 @@ bare_neighbor None = None
 bare_neighbor (Some n) = Some (fresh n.router None n.last_heard)
 
 abbrev pub bare_link : Link → Link
-bare_link link = record { interface = link.interface; neighbor = bare_neighbor link.neighbor; acknowledgments = finite.empty; last_hello_sent = link.last_hello_sent }
+bare_link link = record {
+  interface = link.interface;
+  neighbor = bare_neighbor link.neighbor;
+  acknowledgments = finite.empty;
+  last_hello_sent = link.last_hello_sent;
+}
 
 abbrev pub bare_links : List Link → List Link
 bare_links links = map bare_link links
 
 abbrev pub with_bare : List Link → Router → Router
-with_bare links r = record r { area = record { links = bare_links links; database = finite.empty }; originated = finite.empty }
+with_bare links r = record r {
+  area = record { links = bare_links links; database = finite.empty };
+  originated = finite.empty;
+}
 
 -- the router without all else
 abbrev pub bare : Router → Router

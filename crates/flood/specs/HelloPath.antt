@@ -1,4 +1,5 @@
--- A router that keeps the Hello protocol alone (RFC 2328, sections 9.5, 10.3 and 10.5): its neighbors are Down or in Init, and it has no LSAs.
+-- A router that keeps the Hello protocol alone (RFC 2328, sections 9.5, 10.3 and 10.5): its
+-- neighbors are Down or in Init, and it has no LSAs.
 use Rattle.std.specs.Prelude.{◌≡◌, ◌≤◌, ℕ, ◌-◌, ◌^◌, Bool, ◌&&◌, ◌||◌, nat_le, nat_lt, if◌then◌else◌, List, [], ◌∷◌, length, map, slice_get, slice_set, Option, None, Some, Result, Ok, Err}
 use Rattle.std.specs.List.{enumerate_from, flat_map}
 use Rattle.packet.specs.declared.model.Body.{Body}
@@ -21,10 +22,12 @@ use Rattle.events.specs.Routers.{Occurrence, Router}
 
 -- ---- received packets
 
--- Down becomes Init, and the inactivity timer starts again; a Hello that isn't accepted is discarded
+-- Down becomes Init, and the inactivity timer starts again; a Hello that isn't accepted is
+-- discarded
 abbrev pub after_hello : ℕ → ℕ → ℕ → Hello → Link → Link
 after_hello own moment from h link =
-    if accepts own from h link then record link { neighbor = Some (with_hello_heard from moment link.neighbor) } else link
+    if accepts own from h link
+    then record link { neighbor = Some (with_hello_heard from moment link.neighbor) } else link
 
 -- every other packet is discarded
 abbrev pub after_body : ℕ → ℕ → ℕ → Body → Link → Link
@@ -49,7 +52,9 @@ ticked moment link = with_hello_sent moment (aged moment link)
 -- what a Tick sends at the interface of this number
 abbrev pub hello_sent : ℕ → ℕ → ℕ → Link → List Out
 hello_sent own moment number link =
-    if hello_is_due moment link then record { interface = number; bytes = canonical (hello_packet own (aged moment link)) } ∷ [] else []
+    if hello_is_due moment link
+    then record { interface = number; bytes = canonical (hello_packet own (aged moment link)) }
+    ∷ [] else []
 
 -- ---- the two events
 
@@ -57,7 +62,8 @@ abbrev pub with_links_at : List Link → ℕ → Router → Router
 with_links_at links moment r = record r { area = record r.area { links = links }; moment = moment }
 
 -- a packet came in at the interface of this number: at most that link changes
-pub record Receives (old : Router) (moment : ℕ) (number : ℕ) (bytes : List ℕ) (outs : List Out) (new : Router) : Type 0 where
+pub record Receives (old : Router) (moment : ℕ) (number : ℕ) (bytes : List ℕ) (outs : List Out)
+    (new : Router) : Type 0 where
   pub packet : Packet
   pub text : PacketText bytes packet
   pub link : Link
@@ -69,7 +75,8 @@ pub record Receives (old : Router) (moment : ℕ) (number : ℕ) (bytes : List �
 -- each inactive neighbor goes Down, and each Hello that is due is sent
 pub record Ticks (old : Router) (moment : ℕ) (outs : List Out) (new : Router) : Type 0 where
   pub after : new ≡ with_links_at (map (ticked moment) old.area.links) moment old
-  pub sent : outs ≡ flat_map (λ (e : ℕ × Link). hello_sent old.id moment e.0 e.1) (enumerate_from 1 old.area.links)
+  pub sent : outs ≡ flat_map (λ (e : ℕ × Link). hello_sent old.id moment e.0 e.1)
+      (enumerate_from 1 old.area.links)
 
 -- from old, the event at this moment sends these and leaves new
 abbrev pub Happens : Router → ℕ → Event → List Out → Router → Type 0
@@ -83,11 +90,13 @@ occurrence_of event.Tick = Occurrence.Tick
 -- ---- refusals, in the order in which they are tried
 
 abbrev pub event_refusal : Router → Event → Option CoreError
-event_refusal old (event.Packet number bytes) = if is_interface number old then bad_packet (fault_of bytes) else Some error.NoInterface
+event_refusal old (event.Packet number bytes) =
+    if is_interface number old then bad_packet (fault_of bytes) else Some error.NoInterface
 event_refusal old event.Tick = None
 
 abbrev pub refusal_of : Router → ℕ → Event → Option CoreError
-refusal_of old moment e = if is_clock_back moment old then Some error.ClockBack else event_refusal old e
+refusal_of old moment e =
+    if is_clock_back moment old then Some error.ClockBack else event_refusal old e
 
 -- an answer gives the refusal that stands; want of memory comes only where none does
 abbrev pub Answers : {X : Type 0} → Option CoreError → Result X CoreError → Type 0

@@ -1,4 +1,5 @@
--- What the code keeps, and how it is seen as a router: what the Hello protocol alone doesn't keep is as at the start.
+-- What the code keeps, and how it is seen as a router: what the Hello protocol alone doesn't keep
+-- is as at the start.
 use Rattle.std.specs.Prelude.{ℕ, zero, suc, List, map, slice_get, Option, None, Some}
 use Rattle.std.specs.FinMap as finite
 use Rattle.adjacency.specs.declared.interface.Interface.{Interface}
@@ -21,7 +22,12 @@ as_neighbor None = None
 as_neighbor (Some n) = Some (neighbors.fresh n.router None n.last_heard)
 
 abbrev pub as_link : Link → links.Link
-as_link l = record { interface = l.interface; neighbor = as_neighbor l.neighbor; acknowledgments = finite.empty; last_hello_sent = l.last_hello_sent }
+as_link l = record {
+  interface = l.interface;
+  neighbor = as_neighbor l.neighbor;
+  acknowledgments = finite.empty;
+  last_hello_sent = l.last_hello_sent;
+}
 
 abbrev pub as_links : List Link → List links.Link
 as_links ls = map as_link ls

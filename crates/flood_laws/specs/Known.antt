@@ -1,5 +1,5 @@
--- What an event leaves in a router and what it sends: instances that were held before, came in the event's Update, or are new ones of the
--- router's own LSAs.
+-- What an event leaves in a router and what it sends: instances that were held before, came in the
+-- event's Update, or are new ones of the router's own LSAs.
 use Rattle.std.specs.Prelude.{◌≡◌, ℕ, List, [], ◌∷◌, map, Option, Some}
 use Rattle.std.specs.FinMap as finite
 use Rattle.std.specs.List.{AllByRecursion, Contains, flat_map}
@@ -68,15 +68,18 @@ pub record IsOutOf (K : LsaInstance → Type 0) (own : ℕ) (out : Out) : Type 0
 
 -- a router announces under its own Router ID alone
 abbrev pub AnnouncesItsOwn : Router → Type 0
-AnnouncesItsOwn r = (key : Key) (e : External) → finite.get r.announced key ≡ Some e → key.advertising_router ≡ r.id
+AnnouncesItsOwn r =
+    (key : Key) (e : External) → finite.get r.announced key ≡ Some e → key.advertising_router ≡ r.id
 
-pub record HoldsWhatIsKnown (old : Router) (event : Occurrence) (outs : List Out) (new : Router) : Type 0 where
+pub record HoldsWhatIsKnown (old : Router) (event : Occurrence) (outs : List Out)
+    (new : Router) : Type 0 where
   -- what the event originates
   pub originated : List LsaInstance
   pub new_instances : AllByRecursion (IsNewInstance old.id) originated
   pub same_router : new.id ≡ old.id
   pub own : (name : LsaInstance) → Contains originated name → name.key.advertising_router ≡ old.id
-  pub held : (name : LsaInstance) → Contains (instances_stored new) name → IsKnown old event originated name
+  pub held : (name : LsaInstance) → Contains (instances_stored new) name
+      → IsKnown old event originated name
   pub sent : (out : Out) → Contains outs out → IsOutOf (IsKnown old event originated) old.id out
 
 pub record EventsHoldOnlyWhatIsKnown : Type 0 where
@@ -84,13 +87,19 @@ pub record EventsHoldOnlyWhatIsKnown : Type 0 where
   pub first : (c : Config) → AnnouncesItsOwn (initial c)
   -- each event, also where the Hello protocol alone is run
   pub event : (old : Router) (moment : ℕ) (event : Occurrence) (outs : List Out) (new : Router)
-      → Happens old moment event outs new → AnnouncesItsOwn old → AnnouncesItsOwn new × HoldsWhatIsKnown old event outs new
-  pub hello_event : (old : Router) (moment : ℕ) (event : Occurrence) (outs : List Out) (new : Router)
-      → HappensBy hellos_alone old moment event outs new → AnnouncesItsOwn old → AnnouncesItsOwn new × HoldsWhatIsKnown old event outs new
+      → Happens old moment event outs new → AnnouncesItsOwn old → AnnouncesItsOwn new
+      × HoldsWhatIsKnown old event outs new
+  pub hello_event : (old : Router) (moment : ℕ) (event : Occurrence) (outs : List Out)
+      (new : Router)
+      → HappensBy hellos_alone old moment event outs new → AnnouncesItsOwn old → AnnouncesItsOwn new
+      × HoldsWhatIsKnown old event outs new
   -- so after every run from the start, whatever happens in it
-  pub run : (c : Config) (steps : List Step) (new : Router) → Run (initial c) steps new → AnnouncesItsOwn new
+  pub run : (c : Config) (steps : List Step) (new : Router) → Run (initial c) steps new
+      → AnnouncesItsOwn new
 
--- an Update of the texts of LSAs whose headers' numbers are in their ranges names none but those LSAs
+-- an Update of the texts of LSAs whose headers' numbers are in their ranges names none but those
+-- LSAs
 abbrev pub UpdatesTellWhatTheyBear : Type 0
 UpdatesTellWhatTheyBear = (lsas : List Lsa) → AllByRecursion (λ l. IsHeader l.header) lsas
-    → (name : LsaInstance) → Contains (instances_in_update (map (λ l. text l) lsas)) name → Contains (map instance_of_lsa lsas) name
+    → (name : LsaInstance) → Contains (instances_in_update (map (λ l. text l) lsas)) name
+    → Contains (map instance_of_lsa lsas) name

@@ -11,9 +11,13 @@ use Rattle.events.specs.Packing.{packet_of}
 
 -- of so few bytes, with the headers' numbers in their ranges and each LSA's length that of its text
 pub record TextsAreLawful : Type 0 where
-  pub update : (own : ℕ) (lsas : List Lsa) → own < 2 ^ 32 → AllByRecursion (λ l. IsHeader l.header × Fits l) lsas
+  pub update : (own : ℕ) (lsas : List Lsa) → own < 2 ^ 32
+      → AllByRecursion (λ l. IsHeader l.header × Fits l) lsas
       → length (canonical (packet_of own (body.Update (map (λ l. text l) lsas)))) ≤ 8192
-      → PacketText (canonical (packet_of own (body.Update (map (λ l. text l) lsas)))) (packet_of own (body.Update (map (λ l. text l) lsas)))
-  pub acknowledgment : (own : ℕ) (headers : List Header) → own < 2 ^ 32 → AllByRecursion IsHeader headers
+      → PacketText (canonical (packet_of own (body.Update (map (λ l. text l) lsas))))
+      (packet_of own (body.Update (map (λ l. text l) lsas)))
+  pub acknowledgment : (own : ℕ) (headers : List Header) → own < 2 ^ 32
+      → AllByRecursion IsHeader headers
       → length (canonical (packet_of own (body.Acknowledgment headers))) ≤ 8192
-      → PacketText (canonical (packet_of own (body.Acknowledgment headers))) (packet_of own (body.Acknowledgment headers))
+      → PacketText (canonical (packet_of own (body.Acknowledgment headers)))
+      (packet_of own (body.Acknowledgment headers))

@@ -1,4 +1,5 @@
--- What holds of every neighbor at the start, is kept by each event, and so holds at every point of a run.
+-- What holds of every neighbor at the start, is kept by each event, and so holds at every point of
+-- a run.
 use Rattle.std.specs.Prelude.{ℕ, List}
 use Rattle.adjacency.specs.Laws.{IsBareWhereFull}
 use Rattle.adjacency.specs.Lists.{HasSoundLists}
@@ -20,16 +21,19 @@ pub record IsAlwaysSo (P : Neighbor → Type 0) : Type 0 where
   pub event : (old : Router) (moment : ℕ) (event : Occurrence) (outs : List Out) (new : Router)
       → Happens old moment event outs new → OfEachNeighbor P old → OfEachNeighbor P new
   -- also where the Hello protocol alone is run
-  pub hello_event : (old : Router) (moment : ℕ) (event : Occurrence) (outs : List Out) (new : Router)
-      → HappensBy hellos_alone old moment event outs new → OfEachNeighbor P old → OfEachNeighbor P new
+  pub hello_event : (old : Router) (moment : ℕ) (event : Occurrence) (outs : List Out)
+      (new : Router)
+      → HappensBy hellos_alone old moment event outs new → OfEachNeighbor P old
+      → OfEachNeighbor P new
   -- so after every run from the start, whatever happens in it
-  pub run : (c : Config) (steps : List Step) (new : Router) → Run (initial c) steps new → OfEachNeighbor P new
+  pub run : (c : Config) (steps : List Step) (new : Router) → Run (initial c) steps new
+      → OfEachNeighbor P new
 
 -- a neighbor that is Full has nothing to request
 abbrev pub FullNeighborsRequestNothing : Type 0
 FullNeighborsRequestNothing = IsAlwaysSo IsBareWhereFull
 
--- before Exchange a neighbor has no lists; what is outstanding is on the request list; a neighbor that is Full has nothing to request and
--- nothing outstanding
+-- before Exchange a neighbor has no lists; what is outstanding is on the request list; a neighbor
+-- that is Full has nothing to request and nothing outstanding
 abbrev pub ListsAreSound : Type 0
 ListsAreSound = IsAlwaysSo HasSoundLists

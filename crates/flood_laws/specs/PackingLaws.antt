@@ -15,12 +15,14 @@ use Rattle.events.specs.Packing.{header_size, in_key_order, is_after, lsa_size, 
 -- none stands before one of a lesser key
 abbrev pub IsAscending : {X : Type 0} → (X → Key) → List X → Type 0
 IsAscending key [] = Unit {0}
-IsAscending key (x ∷ xs) = AllByRecursion (λ y. is_after (key x) (key y) ≡ false) xs × IsAscending key xs
+IsAscending key (x ∷ xs) =
+    AllByRecursion (λ y. is_after (key x) (key y) ≡ false) xs × IsAscending key xs
 
 -- the same items in the order of their keys; those of one key stay in the order in which they arose
 pub record IsInKeyOrder {X : Type 0} (key : X → Key) (xs sorted : List X) : Type 0 where
   pub ascending : IsAscending key sorted
-  pub same : (k : Key) → filter (λ x. same_key k (key x)) sorted ≡ filter (λ x. same_key k (key x)) xs
+  pub same : (k : Key) → filter (λ x. same_key k (key x)) sorted
+      ≡ filter (λ x. same_key k (key x)) xs
 
 -- ---- as many as fit
 
@@ -45,7 +47,8 @@ AreFull size start [] = Unit {0}
 AreFull size start (xs ∷ rest) = IsFull size start xs rest × AreFull size start rest
 
 -- the items in their order, in packets of at most 8,192 bytes, each packet with as many as fit
-pub record IsPacking {X : Type 0} (size : X → ℕ) (start : ℕ) (xs : List X) (packets : List (List X)) : Type 0 where
+pub record IsPacking {X : Type 0} (size : X → ℕ) (start : ℕ) (xs : List X)
+    (packets : List (List X)) : Type 0 where
   pub all : flat_map (λ p. p) packets ≡ xs
   pub within : AllByRecursion (λ p. total size start p ≤ 8192) packets
   pub full : AreFull size start packets
@@ -54,17 +57,24 @@ pub record IsPacking {X : Type 0} (size : X → ℕ) (start : ℕ) (xs : List X)
 
 abbrev pub AreByInterface : List Out → Type 0
 AreByInterface [] = Unit {0}
-AreByInterface (o ∷ outs) = AllByRecursion (λ (p : Out). o.interface ≤ p.interface) outs × AreByInterface outs
+AreByInterface (o ∷ outs) =
+    AllByRecursion (λ (p : Out). o.interface ≤ p.interface) outs × AreByInterface outs
 
 -- ---- the law
 
 pub record OutsAreOrderedAndPacked : Type 0 where
-  pub interfaces : (own : ℕ) (links : List Link) (sends : List Send) → AreByInterface (outs_of own links sends)
+  pub interfaces : (own : ℕ) (links : List Link) (sends : List Send)
+      → AreByInterface (outs_of own links sends)
   pub updates : (lsas : List Lsa) → IsInKeyOrder lsa_key lsas (in_key_order lsa_key lsas)
-  pub acknowledgments : (headers : List Header) → IsInKeyOrder key_of headers (in_key_order key_of headers)
-  -- an Update has 28 bytes before its first LSA, and each LSA came in an Update or is a short one of this router's own
-  pub packed_updates : (lsas : List Lsa) → AllByRecursion (λ l. 28 + lsa_size l ≤ 8192) lsas → IsPacking lsa_size 28 lsas (packed lsa_size 28 lsas)
-  pub packed_acknowledgments : (headers : List Header) → IsPacking header_size 24 headers (packed header_size 24 headers)
+  pub acknowledgments : (headers : List Header)
+      → IsInKeyOrder key_of headers (in_key_order key_of headers)
+  -- an Update has 28 bytes before its first LSA, and each LSA came in an Update or is a short one
+  -- of this router's own
+  pub packed_updates : (lsas : List Lsa) → AllByRecursion (λ l. 28 + lsa_size l ≤ 8192) lsas
+      → IsPacking lsa_size 28 lsas (packed lsa_size 28 lsas)
+  pub packed_acknowledgments : (headers : List Header)
+      → IsPacking header_size 24 headers (packed header_size 24 headers)
   -- no packet has more than 8,192 bytes
-  pub bytes : (own : ℕ) (links : List Link) (sends : List Send) → AllByRecursion (λ (s : Send). HasRoom s.content) sends
+  pub bytes : (own : ℕ) (links : List Link) (sends : List Send)
+      → AllByRecursion (λ (s : Send). HasRoom s.content) sends
       → AllByRecursion (λ (o : Out). length o.bytes ≤ 8192) (outs_of own links sends)

@@ -1,4 +1,5 @@
--- Every packet that is sent has room: what holds of a router at the start, is kept by each event, and bounds what an event sends.
+-- Every packet that is sent has room: what holds of a router at the start, is kept by each event,
+-- and bounds what an event sends.
 use Rattle.std.specs.Prelude.{◌≡◌, ◌≤◌, ℕ, true, List, length}
 use Rattle.std.specs.List.{AllByRecursion}
 use Rattle.adjacency.specs.Rooms.{AllFit, HasRoomyLists}
@@ -8,7 +9,8 @@ use Rattle.events.specs.Events.{Happens, HappensBy, Run, Step, hellos_alone, ini
 use Rattle.flood_laws.specs.NeighborLaws.{OfEachNeighbor}
 use Rattle.events.specs.Routers.{Occurrence, Router, in_profile}
 
--- each copy fits into an Update; what was last described and asked for fits into a packet; of so few links the router-LSA fits too
+-- each copy fits into an Update; what was last described and asked for fits into a packet; of so
+-- few links the router-LSA fits too
 pub record IsRoomy (r : Router) : Type 0 where
   pub fit : AllFit r.area.database
   pub lists : OfEachNeighbor HasRoomyLists r
@@ -25,8 +27,10 @@ pub record EveryPacketHasRoom : Type 0 where
   pub event : (old : Router) (moment : ℕ) (event : Occurrence) (outs : List Out) (new : Router)
       → Happens old moment event outs new → IsRoomy old → IsRoomy new × HaveRoom outs
   -- also where the Hello protocol alone is run
-  pub hello_event : (old : Router) (moment : ℕ) (event : Occurrence) (outs : List Out) (new : Router)
+  pub hello_event : (old : Router) (moment : ℕ) (event : Occurrence) (outs : List Out)
+      (new : Router)
       → HappensBy hellos_alone old moment event outs new → IsRoomy old → IsRoomy new × HaveRoom outs
   -- so in every run from the start, whatever happens in it
-  pub run : (c : Config) (steps : List Step) (new : Router) → in_profile c ≡ true → Run (initial c) steps new
+  pub run : (c : Config) (steps : List Step) (new : Router) → in_profile c ≡ true
+      → Run (initial c) steps new
       → IsRoomy new × AllByRecursion (λ (s : Step). HaveRoom s.outs) steps
