@@ -3,6 +3,7 @@ use Rattle.std.proofs.Common.{◌≡◌, ℕ, ◌==◌, Bool, true, false, cond,
 use Rattle.std.specs.FinMap as finite
 use Rattle.std.specs.FinSet as set
 use Rattle.words.specs.declared.key.Key.{Key}
+use Rattle.lsa.specs.Reading.{is_known_type}
 use Rattle.lsdb.specs.Headers.{Header, key_of}
 use Rattle.lsdb.specs.Instances.{ListEntry}
 use Rattle.lsdb.specs.Keys.{ByKey, key_cmp}
@@ -14,7 +15,7 @@ use Rattle.packet.proofs.Whole.{one_packet}
 use Rattle.adjacency.specs.Adjacencies.{mismatched, two_way_received, initial_description, requests_nothing}
 use Rattle.adjacency.specs.Contents.{Content, Step, no_sends}
 use Rattle.adjacency.specs.Contents as contents
-use Rattle.adjacency.specs.Descriptions.{Verdict, act, after_description, describe, exchange_done, is_known_type, is_wanted, judge, as_received, negotiated, young_copies}
+use Rattle.adjacency.specs.Descriptions.{Verdict, act, after_description, describe, exchange_done, is_wanted, judge, as_received, negotiated, young_copies}
 use Rattle.adjacency.specs.Neighbors.{Neighbor}
 use Rattle.adjacency.specs.Requests.{next_request}
 use Rattle.adjacency.specs.declared.state.State.TheVariants.{Exchange, Full, Loading}

@@ -3,6 +3,7 @@ use Rattle.std.specs.Prelude.{◌≡◌, ℕ, ◌==◌, true, false, nat_lt, Lis
 use Rattle.std.specs.FinMap as finite
 use Rattle.std.specs.FinSet as set
 use Rattle.words.specs.declared.key.Key.{Key}
+use Rattle.lsa.specs.Reading.{is_known_type}
 use Rattle.lsdb.specs.Headers.{Header, key_of}
 use Rattle.lsdb.specs.Instances.{ListEntry, aged_header}
 use Rattle.lsdb.specs.Keys.{ByKey}
@@ -11,7 +12,7 @@ use Rattle.packet.specs.declared.model.Description.{Description}
 use Rattle.packet.specs.Text.{PacketText}
 use Rattle.adjacency.specs.Adjacencies.{initial_description, requests_nothing}
 use Rattle.adjacency.specs.Contents.{Content}
-use Rattle.adjacency.specs.Descriptions.{Verdict, is_known_type, is_wanted, verdict, young_copies}
+use Rattle.adjacency.specs.Descriptions.{Verdict, is_wanted, verdict, young_copies}
 use Rattle.adjacency.specs.declared.state.State.TheVariants.{Exchange, ExStart, Loading}
 use Rattle.adjacency.specs.Neighbors.{Neighbor}
 use Rattle.received.specs.Links.{Link}

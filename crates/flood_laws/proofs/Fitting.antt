@@ -1,5 +1,5 @@
 -- LSAs that fit into an Update: those that a packet brings, and this router's own.
-use Rattle.std.proofs.Common.{◌≡◌, ◌≤◌, ℕ, zero, suc, ◌+◌, ◌-◌, ◌*◌, ◌/◌, ◌%◌, Bool, true, false, cond, not, ◌&&◌, eqb, List, [], ◌∷◌, ◌++◌, length, Option, None, Some, refl, sym, ap, ◌∙◌, arith, length-append}
+use Rattle.std.proofs.Common.{◌≡◌, ◌≤◌, ℕ, zero, suc, ◌+◌, ◌-◌, ◌*◌, ◌/◌, ◌%◌, Bool, true, false, cond, not, ◌&&◌, ◌||◌, eqb, List, [], ◌∷◌, ◌++◌, length, Option, None, Some, refl, sym, ap, ◌∙◌, arith, length-append}
 use Rattle.std.specs.Prelude.{nat_le}
 use Rattle.std.specs.List.{AllByRecursion, flat_map}
 use Rattle.std.specs.FinMap as finite
@@ -16,8 +16,8 @@ use Rattle.lsa.specs.declared.body.LinkKind.TheVariants.{PointToPoint}
 use Rattle.lsa.specs.declared.fault.Fault.{Fault}
 use Rattle.lsa.specs.Headers.{header_at, header_text}
 use Rattle.lsa.specs.Origination.{sealed_lsa}
-use Rattle.lsa.specs.Reading.{attached_at, body_fills, body_of, external_fills, external_of, external_tos_at, fault_of, faults, first_of, is_external_bit, is_link_kind, link_at, link_size, link_tos_at, links_at, links_fill, lsa_in, lsa_of, network_fills, network_of, router_fills, router_of}
-use Rattle.lsa.specs.Text.{IsAttached, IsExternalTos, IsLinkTos, attached_text, body_text, external_fields, external_tos_text, link_fields, link_text, link_tos_text, router_fields, text}
+use Rattle.lsa.specs.Reading.{attached_at, body_fills, body_of, external_fills, external_of, external_tos_at, fault_of, faults, first_of, is_external_bit, is_link_kind, link_at, link_size, link_tos_at, links_at, links_fill, lsa_in, lsa_of, network_fills, network_of, router_fills, router_of, summary_fills, summary_of, summary_tos_at}
+use Rattle.lsa.specs.Text.{IsAttached, IsExternalTos, IsLinkTos, IsSummaryTos, attached_text, body_text, external_fields, external_tos_text, link_fields, link_text, link_tos_text, router_fields, summary_fields, summary_text, summary_tos_text, text}
 use Rattle.lsdb.specs.Copies.{DatabaseCopy}
 use Rattle.lsdb.specs.Headers.{Lsa}
 use Rattle.lsdb.specs.Keys.{same_key}
@@ -65,6 +65,9 @@ link_tos-wide t = refl
 
 attached-wide : IsWide attached_text 4
 attached-wide r = refl
+
+summary_tos-wide : IsWide summary_tos_text 4
+summary_tos-wide t = refl
 
 external_tos-wide : IsWide external_tos_text 12
 external_tos-wide t = refl
@@ -116,6 +119,20 @@ network_filled bytes e =
       length-records attached_at 4 bytes 24 ((length bytes - 24) / 4),
     )
 
+summary_filled : (bytes : List ℕ) → summary_fills bytes ≡ true → 20 + length (summary_text (summary_of bytes)) ≡ length bytes
+summary_filled bytes e =
+    let a = and_parts (nat_le 28 (length bytes)) (eqb ((length bytes - 28) % 4) 0 && eqb (field bytes 24 1) 0) e in
+    let b = and_parts (eqb ((length bytes - 28) % 4) 0) (eqb (field bytes 24 1) 0) a.1 in
+    let metrics = records summary_tos_at 4 bytes 28 ((length bytes - 28) / 4) in
+    omega (
+      arith,
+      leb-true 28 (length bytes) a.0,
+      eqb-true ((length bytes - 28) % 4) 0 b.0,
+      length-append (fields (summary_fields (summary_of bytes))) (flat_map summary_tos_text metrics),
+      length-records_text summary_tos_at summary_tos_text IsSummaryTos 4 summary_tos-wide metrics,
+      length-records summary_tos_at 4 bytes 28 ((length bytes - 28) / 4),
+    )
+
 external_filled : (bytes : List ℕ) → external_fills bytes ≡ true → 20 + length (body_text (body.External (external_of bytes))) ≡ length bytes
 external_filled bytes e =
     let a = and_parts (nat_le 36 (length bytes)) (eqb ((length bytes - 36) % 12) 0 && is_external_bit (field bytes 24 1)) e in
@@ -130,20 +147,24 @@ external_filled bytes e =
       length-records external_tos_at 12 bytes 36 ((length bytes - 36) / 12),
     )
 
-body_filled : (one two : Bool) (bytes : List ℕ) → cond one (router_fills bytes) (cond two (network_fills bytes) (external_fills bytes)) ≡ true
-    → 20 + length (body_text (cond one (body.Router (router_of bytes)) (cond two (body.Network (network_of bytes)) (body.External (external_of bytes))))) ≡ length bytes
-body_filled true two bytes e = router_filled bytes e
-body_filled false true bytes e = network_filled bytes e
-body_filled false false bytes e = external_filled bytes e
+body_filled : (one two three four : Bool) (bytes : List ℕ)
+    → cond one (router_fills bytes) (cond two (network_fills bytes) (cond (three || four) (summary_fills bytes) (external_fills bytes))) ≡ true
+    → 20 + length (body_text (cond one (body.Router (router_of bytes)) (cond two (body.Network (network_of bytes))
+    (cond three (body.NetworkSummary (summary_of bytes)) (cond four (body.RouterSummary (summary_of bytes)) (body.External (external_of bytes))))))) ≡ length bytes
+body_filled true two three four bytes e = router_filled bytes e
+body_filled false true three four bytes e = network_filled bytes e
+body_filled false false true four bytes e = summary_filled bytes e
+body_filled false false false true bytes e = summary_filled bytes e
+body_filled false false false false bytes e = external_filled bytes e
 
 -- bytes with no fault are as long as the text of what is read
 read_length : (bytes : List ℕ) → fault_of bytes ≡ None → (length (text (lsa_of bytes)) ≡ length bytes) × (field bytes 18 2 ≡ length bytes)
 unfolding fault_of
 read_length bytes none =
     let h = all_fail (faults bytes) none in
-    let loading_done : 20 + length (body_text (body_of (field bytes 3 1) bytes)) ≡ length bytes =
-    body_filled (eqb (field bytes 3 1) 1) (eqb (field bytes 3 1) 2) bytes (not_false (body_fills (field bytes 3 1) bytes) h.1.1.1.1.1.1.0) in (
-      length-append (header_text (header_at bytes 0)) (body_text (body_of (field bytes 3 1) bytes)) ∙ loading_done,
+    let filled : 20 + length (body_text (body_of (field bytes 3 1) bytes)) ≡ length bytes =
+    body_filled (eqb (field bytes 3 1) 1) (eqb (field bytes 3 1) 2) (eqb (field bytes 3 1) 3) (eqb (field bytes 3 1) 4) bytes (not_false (body_fills (field bytes 3 1) bytes) h.1.1.1.1.1.1.0) in (
+      length-append (header_text (header_at bytes 0)) (body_text (body_of (field bytes 3 1) bytes)) ∙ filled,
       eqb-true (field bytes 18 2) (length bytes) (not_false (eqb (field bytes 18 2) (length bytes)) h.1.0),
     )
 

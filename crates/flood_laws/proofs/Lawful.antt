@@ -8,9 +8,11 @@ use Rattle.lsa.specs.declared.body.Body.{Body as LsaBody}
 use Rattle.lsa.specs.declared.body.Body.TheVariants as bodies
 use Rattle.lsa.specs.declared.body.Link.{Link as RouterLink}
 use Rattle.lsa.specs.declared.body.LinkTos.{LinkTos}
+use Rattle.lsa.specs.declared.body.SummaryTos.{SummaryTos}
+use Rattle.lsa.specs.declared.body.SummaryLsa.{SummaryLsa}
 use Rattle.lsa.specs.declared.body.ExternalTos.{ExternalTos}
 use Rattle.lsa.specs.Headers.{IsHeader, header_fields, header_text}
-use Rattle.lsa.specs.Text.{attached_text, body_text, external_fields, external_tos_text, link_fields, link_text, link_tos_text, router_fields, text}
+use Rattle.lsa.specs.Text.{attached_text, body_text, external_fields, external_tos_text, link_fields, link_text, link_tos_text, router_fields, summary_fields, summary_text, summary_tos_text, text}
 use Rattle.lsa.proofs.Headers.{header-reads_back}
 use Rattle.lsdb.specs.Headers.{Lsa}
 use Rattle.packet.specs.declared.model.Body.{Body}
@@ -63,10 +65,17 @@ link_small l =
     both_small (fields (link_fields l)) (flat_map link_tos_text l.tos) (fields_small (link_fields l))
     (each_small link_tos_text (λ (t : LinkTos). fields_small ((1, t.tos) ∷ (1, t.unused) ∷ (2, t.metric) ∷ [])) l.tos)
 
+summary_small : (s : SummaryLsa) → Small (summary_text s)
+summary_small s =
+    both_small (fields (summary_fields s)) (flat_map summary_tos_text s.tos) (fields_small (summary_fields s))
+    (each_small summary_tos_text (λ (t : SummaryTos). fields_small ((1, t.tos) ∷ (3, t.metric) ∷ [])) s.tos)
+
 body_small : (b : LsaBody) → Small (body_text b)
 body_small (bodies.Router r) = both_small (fields (router_fields r)) (flat_map link_text r.links) (fields_small (router_fields r)) (each_small link_text link_small r.links)
 body_small (bodies.Network n) =
     both_small (fields ((4, n.mask) ∷ [])) (flat_map attached_text n.attached) (fields_small ((4, n.mask) ∷ [])) (each_small attached_text (λ r. fields_small ((4, r) ∷ [])) n.attached)
+body_small (bodies.NetworkSummary s) = summary_small s
+body_small (bodies.RouterSummary s) = summary_small s
 body_small (bodies.External e) =
     both_small (fields (external_fields e)) (flat_map external_tos_text e.tos) (fields_small (external_fields e))
     (each_small external_tos_text (λ (t : ExternalTos). fields_small ((1, t.tos) ∷ (3, t.metric) ∷ (4, t.forwarding) ∷ (4, t.tag) ∷ [])) e.tos)

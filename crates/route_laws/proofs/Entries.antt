@@ -101,6 +101,8 @@ is_said moment es k says e =
 abbrev pub links_by : Key → Body → List (ℕ × Link)
 links_by k (body.Router r) = map (λ (l : Link). (k.link_state_id, l)) r.links
 links_by k (body.Network n) = []
+links_by k (body.NetworkSummary s) = []
+links_by k (body.RouterSummary s) = []
 links_by k (body.External e) = []
 
 abbrev pub links_of : Sayings → List (ℕ × Link)
@@ -124,4 +126,6 @@ has_link moment es router l h = linked (sayings es) (record { ls_type = 1; link_
 abbrev pub is_no_network : Key × Body → Bool
 is_no_network (k, body.Router r) = true
 is_no_network (k, body.Network n) = false
+is_no_network (k, body.NetworkSummary s) = true
+is_no_network (k, body.RouterSummary s) = true
 is_no_network (k, body.External e) = true

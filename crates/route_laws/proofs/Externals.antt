@@ -179,6 +179,8 @@ offers = own_offer ∷ other_offer ∷ next_offer ∷ cheap_offer ∷ first_offe
 abbrev IsKnown : Key → Body → Type 0
 IsKnown k (body.Router r) = Unit {0}
 IsKnown k (body.Network n) = Unit {0}
+IsKnown k (body.NetworkSummary s) = Unit {0}
+IsKnown k (body.RouterSummary s) = Unit {0}
 IsKnown k (body.External lsa) = Says said k (body.External lsa) → (o : Offer) → Given k.link_state_id k.advertising_router lsa o → Contains offers o
 
 -- ---- those that offer nothing

@@ -36,6 +36,8 @@ Member = (ℕ × ℕ) × ℕ
 abbrev pub listed_by : Key → Body → List Member
 listed_by k (body.Router r) = []
 listed_by k (body.Network n) = map (λ (router : ℕ). ((k.link_state_id, k.advertising_router), router)) n.attached
+listed_by k (body.NetworkSummary s) = []
+listed_by k (body.RouterSummary s) = []
 listed_by k (body.External e) = []
 
 abbrev pub members_of : Sayings → List Member

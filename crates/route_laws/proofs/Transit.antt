@@ -200,6 +200,8 @@ stubs_known = (
 abbrev IsSayingKnown : Key → Body → Type 0
 IsSayingKnown k (body.Router r) = Unit {0}
 IsSayingKnown k (body.Network n) = IsNetworkKnown 0 transit_entries transit_root IsNearby k.link_state_id k.advertising_router n
+IsSayingKnown k (body.NetworkSummary s) = Unit {0}
+IsSayingKnown k (body.RouterSummary s) = Unit {0}
 IsSayingKnown k (body.External e) = Unit {0}
 
 networks_known : AllByRecursion (λ (s : Key × Body). IsSayingKnown s.0 s.1) (sayings transit_entries)
@@ -358,6 +360,8 @@ offers = wide_offer ∷ network_offer ∷ behind_offer ∷ designated_offer ∷ 
 abbrev IsKnown : Key → Body → Type 0
 IsKnown k (body.Router r) = Unit {0}
 IsKnown k (body.Network n) = Unit {0}
+IsKnown k (body.NetworkSummary s) = Unit {0}
+IsKnown k (body.RouterSummary s) = Unit {0}
 IsKnown k (body.External lsa) = (o : Offer) → Given k.link_state_id k.advertising_router lsa o → Contains offers o
 
 designated_known : IsKnown (key 5 (dotted 203 0 113 0) designated) (body.External designated_lsa)
@@ -376,6 +380,8 @@ forwarded_known o g = (5, omega arith, forward_known (dotted 203 0 114 0) design
 abbrev has_no_e : Body → Bool
 has_no_e (body.Router r) = nat_eq (bit_and r.flags 2) 0
 has_no_e (body.Network n) = true
+has_no_e (body.NetworkSummary s) = true
+has_no_e (body.RouterSummary s) = true
 has_no_e (body.External e) = true
 
 abbrev is_plain : Key × Body → Bool

@@ -235,6 +235,8 @@ plain_labels = record { start = refl; routers = refl; links = refl }
 abbrev is_router : Key × Body → Bool
 is_router (k, body.Router r) = true
 is_router (k, body.Network n) = false
+is_router (k, body.NetworkSummary s) = false
+is_router (k, body.RouterSummary s) = false
 is_router (k, body.External e) = false
 
 plain_offers : (o : Offer) → Offers (said_at 0 (database (two_routers []))) near_router o → IsWithin o ⊎ ⊥

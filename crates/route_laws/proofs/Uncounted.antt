@@ -183,6 +183,8 @@ within o x =
 abbrev is_router : Key × Body → Bool
 is_router (k, body.Router r) = true
 is_router (k, body.Network n) = false
+is_router (k, body.NetworkSummary s) = false
+is_router (k, body.RouterSummary s) = false
 is_router (k, body.External e) = false
 
 only_offer : (o : Offer) → Offers said near_router o → offer ≡ o

@@ -7,3 +7,5 @@ mod advertisements;
 mod names;
 #[cfg(test)]
 mod packets;
+#[cfg(test)]
+mod summaries;

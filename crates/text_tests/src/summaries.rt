@@ -1,0 +1,147 @@
+//! Worked summary-LSAs, whose checksums another program computed by the two sums of RFC 1008.
+ghost use Rattle.std.specs.Prelude.{◌≡◌, ◌≢◌};
+ghost use Rattle.lsa.specs.Text.{reserved_sequence};
+
+use lsa::{Body, Header, Lsa, SummaryLsa, SummaryTos, checksum_holds, read, write};
+use std::alloc::Global;
+use std::test::Fail;
+use words::{Address, LinkStateId, RouterId, Sequence, SequenceNumber};
+
+// 198.51.100.0/24 of 2.2.2.2: type 3, metric 5, checksum 0x925f.
+const NETWORK: &[u8] =
+    b"\x00\x00\x02\x03\xc6\x33\x64\x00\x02\x02\x02\x02\x80\x00\x00\x01\x92\x5f\x00\x1c\xff\xff\xff\x00\x00\x00\x00\x05";
+
+// 9.9.9.9 of 2.2.2.2: type 4, metric 7, checksum 0xc761.
+const ROUTER: &[u8] =
+    b"\x00\x00\x02\x04\x09\x09\x09\x09\x02\x02\x02\x02\x80\x00\x00\x01\xc7\x61\x00\x1c\x00\x00\x00\x00\x00\x00\x00\x07";
+
+// The first with metric LSInfinity.
+const UNREACHABLE: &[u8] =
+    b"\x00\x00\x02\x03\xc6\x33\x64\x00\x02\x02\x02\x02\x80\x00\x00\x01\x60\x96\x00\x1c\xff\xff\xff\x00\x00\xff\xff\xff";
+
+// The first with metrics for two other types of service.
+const TOS: &[u8] =
+    b"\x00\x00\x02\x03\xc6\x33\x64\x00\x02\x02\x02\x02\x80\x00\x00\x01\x73\xb1\x00\x24\xff\xff\xff\x00\x00\x00\x00\x05\x08\x00\x00\x14\x0c\x12\x34\x56";
+
+// A one where the zero byte belongs, in a type 3 and in a type 4.
+const ZERO_BYTE: &[u8] =
+    b"\x00\x00\x02\x03\xc6\x33\x64\x00\x02\x02\x02\x02\x80\x00\x00\x01\x99\x57\x00\x1c\xff\xff\xff\x00\x01\x00\x00\x05";
+
+const ROUTER_ZERO_BYTE: &[u8] =
+    b"\x00\x00\x02\x04\x09\x09\x09\x09\x02\x02\x02\x02\x80\x00\x00\x01\x4b\x5d\x00\x1c\x00\x00\x00\x00\x80\x00\x00\x07";
+
+// A metric of two bytes.
+const METRIC_CUT: &[u8] =
+    b"\x00\x00\x02\x03\xc6\x33\x64\x00\x02\x02\x02\x02\x80\x00\x00\x01\x5e\x99\x00\x1b\xff\xff\xff\x00\x00\x00\x00";
+
+// A TOS metric of three bytes.
+const TOS_CUT: &[u8] =
+    b"\x00\x00\x02\x04\x09\x09\x09\x09\x02\x02\x02\x02\x80\x00\x00\x01\x26\xf7\x00\x1f\x00\x00\x00\x00\x00\x00\x00\x07\x08\x00\x00";
+
+// A header alone.
+const HEADER_ALONE: &[u8] =
+    b"\x00\x00\x02\x04\x09\x09\x09\x09\x02\x02\x02\x02\x80\x00\x00\x01\x71\xc6\x00\x14";
+
+// The number of the refusal, or 0.
+fn refusal(alloc: Global, bytes: &[u8]) -> u8 {
+    match read(alloc, bytes) {
+        Ok(_) => 0,
+        Err(error) => error.number(),
+    }
+}
+
+#[test]
+fn summaries_are_written_as_they_were_read(rt: HostRuntime) -> Result<(), Fail> {
+    for text in [NETWORK, ROUTER, UNREACHABLE, TOS] {
+        assert!(rt; checksum_holds(text));
+        let lsa = read(rt.alloc(), text)?;
+        let written = write(rt.alloc(), &lsa)?;
+        assert_eq!(rt; written.as_slice(), text);
+    }
+    Ok(())
+}
+
+#[test]
+fn summaries_are_read_by_their_types(rt: HostRuntime) -> Result<(), Fail> {
+    let lsa = read(rt.alloc(), TOS)?;
+    match lsa.body() {
+        Body::NetworkSummary(summary) => {
+            assert_eq!(rt; summary.mask.bits(), 0xffff_ff00);
+            assert_eq!(rt; summary.metric, 5);
+            let tos = summary.tos.as_slice();
+            assert_eq!(rt; tos.len(), 2);
+            assert!(rt; tos[0] == SummaryTos { tos: 8, metric: 20 });
+            assert!(rt;
+                tos[1]
+                    == SummaryTos {
+                        tos: 12,
+                        metric: 0x12_3456
+                    }
+            );
+        }
+        _ => assert!(rt; false),
+    }
+    let lsa = read(rt.alloc(), ROUTER)?;
+    match lsa.body() {
+        Body::RouterSummary(summary) => assert_eq!(rt; summary.metric, 7),
+        _ => assert!(rt; false),
+    }
+    Ok(())
+}
+
+#[test]
+fn faults_of_summaries_are_told_by_their_numbers(rt: HostRuntime) -> Result<(), Fail> {
+    for bytes in [
+        ZERO_BYTE,
+        ROUTER_ZERO_BYTE,
+        METRIC_CUT,
+        TOS_CUT,
+        HEADER_ALONE,
+    ] {
+        assert!(rt; checksum_holds(bytes));
+        assert_eq!(rt; refusal(rt.alloc(), bytes), 5);
+    }
+    let mut bytes = NETWORK.to_vec(rt.alloc())?;
+    assert_eq!(rt; bytes.len(), 28);
+    bytes[17] = 0x5e;
+    assert_eq!(rt; refusal(rt.alloc(), &bytes), 3);
+    Ok(())
+}
+
+// A header whose type, checksum and length aren't those of a body yet.
+fn header(link_state_id: u32) -> Header
+    ensures age { result.age ≡ 0 }
+    ensures sequence { result.sequence ≢ reserved_sequence }
+{
+    Header {
+        age: 0,
+        options: 2,
+        ls_type: 0,
+        link_state_id: LinkStateId::new(link_state_id),
+        advertising_router: RouterId::new(0x0202_0202),
+        sequence: SequenceNumber::INITIAL,
+        checksum: 0,
+        length: 0,
+    }
+}
+
+#[test]
+fn summaries_are_made_by_their_bodies(rt: HostRuntime) -> Result<(), Fail> {
+    let network = Body::NetworkSummary(SummaryLsa {
+        mask: Address::new(0xffff_ff00),
+        metric: 5,
+        tos: Sequence::from_vec(Vec::new(rt.alloc())),
+    });
+    let lsa = Lsa::new(rt.alloc(), header(0xc633_6400), network)?;
+    let written = write(rt.alloc(), &lsa)?;
+    assert_eq!(rt; written.as_slice(), NETWORK);
+    let router = Body::RouterSummary(SummaryLsa {
+        mask: Address::UNSPECIFIED,
+        metric: 7,
+        tos: Sequence::from_vec(Vec::new(rt.alloc())),
+    });
+    let lsa = Lsa::new(rt.alloc(), header(0x0909_0909), router)?;
+    let written = write(rt.alloc(), &lsa)?;
+    assert_eq!(rt; written.as_slice(), ROUTER);
+    Ok(())
+}
