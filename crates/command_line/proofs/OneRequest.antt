@@ -23,7 +23,7 @@ none_among kind (x ∷ xs) e among = cc
 pub mistaken : MistakenWordsAskForNothing
 mistaken line words error request mistake asks = elim mistake [
   | inl among ↦ none_among (kind_of error) _ asks.0 among
-  | inr wrong ↦ wrong.2 request asks.1
+  | inr wrong ↦ wrong.1.1 request asks.1
 ]
 
 one_word : {found : Option Text} {a b : Text} → found ≡ Some a → found ≡ Some b → a ≡ b

@@ -1,5 +1,5 @@
 -- What is read of words.
-use Rattle.std.proofs.Common.{◌≡◌, ap, refl, subst, List, [], Option, Some, Ok, Err, MatchResult, inl, inr, true}
+use Rattle.std.proofs.Common.{◌≡◌, ◌∙◌, ap, refl, sym, subst, List, [], Option, Some, None, Ok, Err, MatchResult, inl, inr, true}
 use Rattle.std.specs.Prelude.{Result, IfSome, IsErrAnd, ◌⊎◌}
 use Rattle.clap.specs.Faults.{fault_of, is_simple_and_free}
 use Rattle.clap.specs.Kinds.{HasKind}
@@ -10,8 +10,9 @@ use Rattle.clap.specs.declared.error.Error.{Error}
 use Rattle.clap.specs.declared.error.kind.ErrorKind.TheVariants as kinds
 use Rattle.clap.specs.declared.parser.matches.ArgMatches.{ArgMatches}
 use Rattle.command_line.specs.CommandLine.{IsCommandLine, hook_names, line_with}
-use Rattle.command_line.specs.Requests.{Asks, IsRefusal, IsWrongValue, Makes, MakesNone}
+use Rattle.command_line.specs.Requests.{Asks, IsRefusal, IsWrongWord, Makes}
 use Rattle.command_line.specs.declared.requests.Request.{Request}
+use Rattle.command_line.proofs.Made.{none_makes_none}
 
 abbrev pub Answers : App → List Text → Result Request Error → Type 0
 Answers line words result = MatchResult result (Asks line words) (IsRefusal line words)
@@ -42,10 +43,6 @@ mistaken line words e has = elim has [
   | inr among ↦ inr (inl among)
 ]
 
--- and one that those don't see
-pub wrong : (line : App) (words : List Text) (e : Error) → fault_of line words ≡ [] → IsWrongValue e → MakesNone (subcommand_of line words) → IsRefusal line words e
-wrong line words e taken is none = inr (inr (taken, is, none))
-
 -- what was entered is the subcommand of the words
 pub entered : (line : App) (words : List Text) (m : ArgMatches) → IsCommandLine line → HasMatchesOf line words m → subcommand_rows_of m ≡ subcommand_of line words
 entered line words m own has = (has (is_simple_line line own)).1
@@ -56,14 +53,17 @@ pub made : (line : App) (words : List Text) (m : ArgMatches) (o : Option Request
 made line words m o request own has is makes =
     subst (λ (named : Option (Text × List Row)). Makes named request) (entered line words m own has) (rw is at makes)
 
-pub made_none : (line : App) (words : List Text) (m : ArgMatches) → IsCommandLine line → HasMatchesOf line words m
-    → MakesNone (subcommand_rows_of m) → MakesNone (subcommand_of line words)
-made_none line words m own has none = subst MakesNone (entered line words m own has) none
-
--- a wrong value of the command, or want of memory
-pub wrong_value : (line : App) (words : List Text) (e : Error) (N : Type 0) → fault_of line words ≡ [] → (N → MakesNone (subcommand_of line words))
-    → (kind_of e ≡ kinds.OutOfMemory) ⊎ ((kind_of e ≡ kinds.InvalidValue) × N) → IsRefusal line words e
-wrong_value line words e N taken none has = elim has [
+-- a wrong word of the command that is named, or want of memory
+pub wrong_word : (line : App) (words : List Text) (m : ArgMatches) (e : Error) → IsCommandLine line → HasMatchesOf line words m → fault_of line words ≡ []
+    → (kind_of e ≡ kinds.OutOfMemory) ⊎ IsWrongWord (subcommand_rows_of m) e → IsRefusal line words e
+wrong_word line words m e own has taken given = elim given [
   | inl memory ↦ inl memory
-  | inr value ↦ wrong line words e taken (inl value.0) (none value.1)
+  | inr wrong ↦ inr (inr (taken, subst (λ (named : Option (Text × List Row)). IsWrongWord named e) (entered line words m own has) wrong))
 ]
+
+-- no command is named
+pub no_command : (line : App) (words : List Text) (m : ArgMatches) (e : Error) → IsCommandLine line → HasMatchesOf line words m → fault_of line words ≡ []
+    → subcommand_rows_of m ≡ None → kind_of e ≡ kinds.MissingSubcommand → IsRefusal line words e
+no_command line words m e own has taken none kind =
+    let unnamed : None ≡ subcommand_of line words = sym none ∙ entered line words m own has in
+    inr (inr (taken, subst (λ (named : Option (Text × List Row)). IsWrongWord named e) unnamed (kind, none_makes_none)))

@@ -59,14 +59,18 @@ MakesNone named = (request : Request) → Makes named request → ⊥
 abbrev pub Asks : App → List Text → Request → Type 0
 Asks line words request = (fault_of line words ≡ []) × Makes (subcommand_of line words) request
 
--- What is wrong with words, of a command line that would take them: a value, or that no command is named.
-abbrev pub IsWrongValue : Error → Type 0
-IsWrongValue error = (kind_of error ≡ kinds.InvalidValue) ⊎ (kind_of error ≡ kinds.MissingSubcommand)
+-- What is wrong with words that the command line takes: that no command is named, or a value where one is.
+abbrev pub IsWrongKind : Option (Text × List Row) → Error → Type 0
+IsWrongKind None error = kind_of error ≡ kinds.MissingSubcommand
+IsWrongKind (Some named) error = kind_of error ≡ kinds.InvalidValue
+
+abbrev pub IsWrongWord : Option (Text × List Row) → Error → Type 0
+IsWrongWord named error = IsWrongKind named error × MakesNone named
 
 -- The command line doesn't take the words, for a reason of this kind (help is one); or no request is made of them.
 abbrev pub IsMistake : App → List Text → Error → Type 0
 IsMistake line words error = IsAmong (kind_of error) (fault_of line words)
-    ⊎ ((fault_of line words ≡ []) × IsWrongValue error × MakesNone (subcommand_of line words))
+    ⊎ ((fault_of line words ≡ []) × IsWrongWord (subcommand_of line words) error)
 
 -- Want of memory is one more reason.
 abbrev pub IsRefusal : App → List Text → Error → Type 0

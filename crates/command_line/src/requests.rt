@@ -10,7 +10,7 @@ ghost use Rattle.clap.specs.declared.error.kind.ErrorKind.TheVariants as kinds;
 ghost use Rattle.hex.specs.declared.error.FromHexError.TheVariants.{OutOfMemory};
 ghost use Rattle.hex.specs.Hex.{decode_of, decode_sized};
 ghost use Rattle.isa.specs.declared.hook.Hook.{Hook};
-ghost use Rattle.command_line.specs.Requests.{HasSeats, IsWrong, MadeBy, Makes, MakesNone};
+ghost use Rattle.command_line.specs.Requests.{HasSeats, IsWrong, IsWrongWord, MadeBy, Makes};
 ghost use Rattle.command_line.specs.Words.{hook_name};
 
 use crate::commands::wrong_value;
@@ -164,18 +164,33 @@ fn made_by<'a>(
     }
 }
 
-/// What the command that the words name makes of its words.
+// The request that a command makes of its words. A wrong value where it makes none.
+fn request_by<'a>(alloc: Global, name: &str, matches: &ArgMatches<'a>) -> Result<Request<'a>, Error>
+    ensures ok { IfOk result (λ request. MadeBy name.now (rows_of (found_of matches.now)) (Some request)) }
+    ensures err { IfErr result (IsWrong name.now (rows_of (found_of matches.now))) }
+{
+    match made_by(alloc, name, matches) {
+        Ok(Some(request)) => Ok(request),
+        Ok(None) => Err(wrong_value(alloc, "a word of the command has no meaning")),
+        Err(error) => Err(error),
+    }
+}
+
+/// What the command that the words name makes of its words. None where they name no command.
 pub(crate) fn request_of<'a>(
     alloc: Global,
     matches: &ArgMatches<'a>,
 ) -> Result<Option<Request<'a>>, Error>
     ensures some { IfOk result (λ o. IfSome o (Makes (subcommand_rows_of matches.now))) }
-    ensures none { IfOk result (λ o. o ≡ None → MakesNone (subcommand_rows_of matches.now)) }
-    ensures err { IfErr result (λ e. (kind_of e ≡ kinds.OutOfMemory) ⊎ ((kind_of e ≡ kinds.InvalidValue)
-        × MakesNone (subcommand_rows_of matches.now))) }
+    ensures none { IfOk result (λ o. o ≡ None → subcommand_rows_of matches.now ≡ None) }
+    ensures err { IfErr result (λ e. (kind_of e ≡ kinds.OutOfMemory)
+        ⊎ IsWrongWord (subcommand_rows_of matches.now) e) }
 {
     match matches.subcommand() {
-        Some((name, matches)) => made_by(alloc, name, matches),
+        Some((name, matches)) => match request_by(alloc, name, matches) {
+            Ok(request) => Ok(Some(request)),
+            Err(error) => Err(error),
+        },
         None => Ok(None),
     }
 }

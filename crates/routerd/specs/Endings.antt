@@ -43,11 +43,23 @@ status_of_stuck false = 0
 abbrev pub Prints : Report → Option (List ℕ) → Option (List ℕ) → ℕ → Type 0
 Prints report old new status = (status ≡ 3) ⊎ ((status ≡ status_of_stuck report.is_stuck) × Appends old new (string_bytes report.text))
 
--- The status is the fault's own, or the output failed.
-abbrev pub Tells : Fault → ℕ → Type 0
-Tells fault status = (status ≡ 3) ⊎ (status ≡ status_of fault)
+-- what a writer has, where that is known
+abbrev pub Contents : Type 0
+Contents = Option (List ℕ)
 
--- What a command made, or its fault, was printed, and the status says which it was.
-abbrev pub Ends : Result Report Fault → Option (List ℕ) → Option (List ℕ) → ℕ → Type 0
-Ends (Ok report) old new status = Prints report old new status
-Ends (Err fault) old new status = Tells fault status
+-- A text about usage leaves the first writer as it was, and every other text the second.
+abbrev pub LeavesOne : Fault → (output output_after errors errors_after : Contents) → Type 0
+LeavesOne (faults.Usage error) output output_after errors errors_after = output_after ≡ output
+LeavesOne fault output output_after errors errors_after = errors_after ≡ errors
+
+-- The status is the fault's own, or the text couldn't be told.
+pub record Tells (fault : Fault) (output output_after errors errors_after : Contents) (status : ℕ) : Type 0 where
+  pub status_is : (status ≡ 3) ⊎ (status ≡ status_of fault)
+  pub other_writer : LeavesOne fault output output_after errors errors_after
+
+-- What a command made is printed, and the second writer is as it was; or its fault is told. The status says which it was.
+abbrev pub Ends : Result Report Fault → (output output_after errors errors_after : Contents) → ℕ → Type 0
+Ends (Ok report) output output_after errors errors_after status =
+    Prints report output output_after status × (errors_after ≡ errors)
+Ends (Err fault) output output_after errors errors_after status =
+    Tells fault output output_after errors errors_after status

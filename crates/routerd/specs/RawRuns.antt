@@ -12,6 +12,7 @@ use Rattle.maps.specs.Words.{SeatView, SharedWords, fresh}
 use Rattle.interp.specs.declared.run.Run.{Run}
 use Rattle.interp.specs.declared.trap.Trap.{Trap}
 use Rattle.interp.specs.Outcome.{Outcome, trap_number}
+use Rattle.object_runs.specs.Limits.{most_instructions}
 use Rattle.routerd.specs.declared.fault.Fault.{Fault}
 use Rattle.routerd.specs.declared.raw.Finished.{Finished}
 use Rattle.routerd.specs.declared.report.Report.{Report}
@@ -38,9 +39,9 @@ counter_lines index (sum ∷ rest) = counter_line index sum ++ counter_lines (in
 abbrev pub setting_of : List Slot → Hook → Setting
 setting_of slots hook = record { code = slots; hook = hook; input = record { context = replicate 64 0; packet = []; rows = [] } }
 
--- the seat ran that once, for at most 1,000,000 instructions
+-- the seat ran that once, for as many instructions as any program may take
 abbrev pub Ran : Setting → SeatView → Finished → Type 0
-Ran setting seat one = Outcome setting 1000000 seat one.outcome one.seat
+Ran setting seat one = Outcome setting most_instructions seat one.outcome one.seat
 
 -- and so did each of these seats, in their order
 abbrev pub EachRan : Setting → List SeatView → List Finished → Type 0

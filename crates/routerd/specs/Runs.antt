@@ -1,22 +1,16 @@
 -- What is told of one run of an object's program.
-use Rattle.std.specs.Prelude.{◌≡◌, ℕ, ◌+◌, ◌*◌, ◌⊎◌, min, List, [], ◌∷◌, ◌++◌, codes, decimal, string_bytes, Result, Ok, Err, is_err}
-use Rattle.isa.specs.declared.code.Slot.{Slot}
-use Rattle.isa.specs.Spelling as code
-use Rattle.object.specs.Objects.{ObjectParts, slots_of}
-use Rattle.object.specs.Spelling.{Spells}
+use Rattle.std.specs.Prelude.{◌≡◌, ℕ, ◌⊎◌, List, [], ◌∷◌, ◌++◌, codes, decimal, string_bytes, Result, Ok, Err, is_err}
 use Rattle.machine.specs.declared.input.Input.{Input}
 use Rattle.maps.specs.Words.{SeatView, fresh}
 use Rattle.interp.specs.declared.run.Run.{Run}
 use Rattle.interp.specs.declared.trap.Trap.{Trap}
-use Rattle.interp.specs.Outcome.{Outcome, trap_number}
+use Rattle.interp.specs.Outcome.{trap_number}
+use Rattle.object_runs.specs.ObjectRuns.{RunsObject}
+use Rattle.object_runs.specs.declared.limit.Limit.TheVariants.{Own}
 use Rattle.routerd.specs.declared.fault.Fault.{Fault}
 use Rattle.routerd.specs.declared.fault.Fault.TheVariants as faults
 use Rattle.routerd.specs.declared.report.Report.{Report}
 use Rattle.routerd.specs.Assembly.{IsObjectRefused, IsCodeRefused}
-
--- as many slots as there are, once and once more for each rank below the entry's, and at most a million
-abbrev pub steps_allowed : ObjectParts → ℕ
-steps_allowed object = min ((object.entry_rank + 1) * slots_of object) 1000000
 
 -- the line that is printed
 abbrev pub outcome_line : Result Run Trap → List ℕ
@@ -27,18 +21,18 @@ outcome_line (Err trap) = codes "trap " ++ decimal (trap_number trap) ++ 10 ∷ 
 abbrev pub input_of : List ℕ → List ℕ → Input
 input_of context packet = record { context = context; packet = packet; rows = [] }
 
--- The bytes are an object file, whose code was run once at its hook on this context and packet, for as many steps as it may take, on a seat
--- of a table of one seat that had done nothing, and what came of it is told.
-pub record IsRun (bytes context packet : List ℕ) (report : Report) : Type 0 where
-  pub object : ObjectParts
-  pub spells : Spells bytes object
-  pub slots : List Slot
-  pub decoded : code.Spells object.code slots
+-- A seat of a table of one seat, that had done nothing, ran the program of the object file that the bytes are once on the input, for as
+-- many instructions as its object allows, with this end.
+pub record Ran (bytes : List ℕ) (input : Input) (outcome : Result Run Trap) : Type 0 where
   pub seat : SeatView
   pub unused : seat ≡ fresh seat.table 0
   pub seat_after : SeatView
+  pub runs : RunsObject bytes Own input seat outcome seat_after
+
+-- The same on this context and packet, and the end is told.
+pub record IsRun (bytes context packet : List ℕ) (report : Report) : Type 0 where
   pub outcome : Result Run Trap
-  pub ran : Outcome (record { code = slots; hook = object.hook; input = input_of context packet }) (steps_allowed object) seat outcome seat_after
+  pub ran : Ran bytes (input_of context packet) outcome
   pub told : string_bytes report.text ≡ outcome_line outcome
   pub stuck : report.is_stuck ≡ is_err outcome
 

@@ -11,6 +11,8 @@ use Rattle.isa.specs.Refusals.{fault_number}
 use Rattle.object.specs.declared.error.ReadError.{ReadError}
 use Rattle.object.specs.declared.error.ReadError.TheVariants as reading
 use Rattle.object.specs.Refusals.{error_number}
+use Rattle.object_runs.specs.declared.error.RunError.{RunError}
+use Rattle.object_runs.specs.declared.error.RunError.TheVariants as running
 use Rattle.asm.specs.declared.error.AsmError.{AsmError}
 use Rattle.asm.specs.declared.error.AsmFault.{AsmFault}
 use Rattle.asm.specs.declared.error.AsmFault.TheVariants as texts
@@ -54,6 +56,11 @@ fault_of_refusal error = fault_of_kind error.kind error.slot
 abbrev pub fault_of_object : ReadError → Fault
 fault_of_object reading.Memory = faults.Memory
 fault_of_object error = faults.Object (error_number error)
+
+-- What is told of bytes that have no program to run.
+abbrev pub fault_of_run : RunError → Fault
+fault_of_run (running.Object error) = fault_of_object error
+fault_of_run (running.Code error) = fault_of_refusal error
 
 -- What is told of a text that spells no object: the number and line of the refusal, or want of memory.
 abbrev pub fault_of_line : AsmFault → ℕ → Fault

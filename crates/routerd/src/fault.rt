@@ -1,5 +1,5 @@
 ghost use Rattle.std.specs.Prelude.{◌≡◌, ◌≤◌};
-ghost use Rattle.routerd.specs.Statuses.{fault_of_object, fault_of_refusal, fault_of_text, fault_of_words, status_of};
+ghost use Rattle.routerd.specs.Statuses.{fault_of_object, fault_of_refusal, fault_of_run, fault_of_text, fault_of_words, status_of};
 ghost use Rattle.routerd.specs.declared.fault.Fault.TheVariants.{Memory};
 
 use asm::{AsmError, AsmFault};
@@ -7,6 +7,7 @@ use clap::error::ErrorKind;
 use isa::DecodeError;
 use maps::MapsError;
 use object::ReadError;
+use object_runs::RunError;
 use std::alloc::{AllocError, AllocFailed};
 use thiserror::Error;
 
@@ -89,6 +90,17 @@ impl<'a> From<ReadError> for Fault<'a> {
             error => Fault::Object {
                 number: error.number(),
             },
+        }
+    }
+}
+
+impl<'a> From<RunError> for Fault<'a> {
+    ghost from_gives = { λ error fault. fault ≡ fault_of_run error };
+
+    fn from(error: RunError) -> Fault<'a> {
+        match error {
+            RunError::Object(error) => Fault::from(error),
+            RunError::Code(error) => Fault::from(error),
         }
     }
 }

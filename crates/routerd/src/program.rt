@@ -63,7 +63,8 @@ fn print<O: Write>(report: &Report, output: &mut O) -> u8
 
 // The text of a fault goes to the second writer where it is clap's, and else to the first.
 fn tell<O: Write, E: Write>(fault: &Fault<'_>, output: &mut O, errors: &mut E) -> u8
-    ensures { Tells fault.now result }
+    ensures { Tells fault.now (O.contents output.old) (O.contents output.new)
+        (E.contents errors.old) (E.contents errors.new) result }
 {
     let written = match fault {
         Fault::Usage(error) => write!(errors, "{error}"),
@@ -81,7 +82,8 @@ fn end<O: Write, E: Write>(
     output: &mut O,
     errors: &mut E,
 ) -> u8
-    ensures { Ends outcome.now (O.contents output.old) (O.contents output.new) result }
+    ensures { Ends outcome.now (O.contents output.old) (O.contents output.new)
+        (E.contents errors.old) (E.contents errors.new) result }
 {
     match outcome {
         Ok(report) => print(report, output),
@@ -116,7 +118,8 @@ pub fn program<R: Files + AllocGlobal + Threads + Sync, I: BufRead, O: Write, E:
     errors: &mut E,
 ) -> u8
     ensures ended { (line : App) × IsCommandLine line × (outcome : Result Report Fault) × IsOutcome line (map (λ word. word.now) words.now) outcome
-        × Ends outcome (O.contents output.old) (O.contents output.new) result }
+        × Ends outcome (O.contents output.old) (O.contents output.new)
+        (E.contents errors.old) (E.contents errors.new) result }
 {
     let outcome = answer(rt, words);
     end(&outcome, output, errors)

@@ -11,13 +11,11 @@ use interp::{Run, Trap, run_checked};
 use isa::{Code, Hook, decode};
 use machine::Input;
 use maps::{Seat, Shared};
+use object_runs::MOST_INSTRUCTIONS;
 use std::alloc::{AllocError, Global};
 use std::rt::Files;
 use std::thread::{Threads, map_vec};
 use words::Sequence;
-
-/// How many instructions a run may take.
-const LIMIT: u64 = 1_000_000;
 
 /// A seat after its run, and how the run ended.
 #[derive(Drop)]
@@ -49,7 +47,7 @@ fn run_each<R: Threads + Sync>(
             ensures ran { Ran (record { code = code.entry.now; hook = hook; input = input.entry.now }) seat result }
         {
             let mut seat = seat;
-            let outcome = run_checked(code, hook, LIMIT, input, shared, &mut seat);
+            let outcome = run_checked(code, hook, MOST_INSTRUCTIONS, input, shared, &mut seat);
             Finished { seat, outcome }
         },
     )

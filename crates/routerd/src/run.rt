@@ -1,32 +1,18 @@
 //! One run of an object's program.
 
-ghost use Rattle.std.specs.Prelude.{◌≡◌, ◌+◌, ◌*◌, ◌⊎◌, List, ℕ, min, IfOk, IfErr, string_bytes};
-ghost use Rattle.object.specs.Objects.{slots_of};
-ghost use Rattle.routerd.specs.Runs.{IsRun, IsRunFault, outcome_line, steps_allowed};
+ghost use Rattle.std.specs.Prelude.{◌≡◌, ◌⊎◌, List, ℕ, IfOk, IfErr, string_bytes};
+ghost use Rattle.routerd.specs.Runs.{IsRun, IsRunFault, Ran, outcome_line};
 
 use crate::fault::Fault;
 use crate::files;
 use crate::report::Report;
-use interp::{Run, Trap, run_checked};
-use isa::decode;
+use interp::{Run, Trap};
 use machine::Input;
 use maps::Shared;
-use object::Object;
+use object_runs::{Limit, run_object};
 use std::alloc::{AllocError, Global};
 use std::rt::Files;
 use words::Sequence;
-
-/// How many instructions a run may take at most.
-const LIMIT: u64 = 1_000_000;
-
-/// How many instructions the object's program may take: as many slots as it has, once and once more for each rank below the entry's, and
-/// at most a million.
-fn limit(object: &Object) -> u64
-    ensures { result ≡ steps_allowed object.now }
-{
-    let passes = u64::from(object.entry_rank()) + 1;
-    (passes * object.slots() as u64).min(LIMIT)
-}
 
 fn text_of(alloc: Global, outcome: Result<Run, Trap>) -> Result<String, AllocError>
     ensures { IfOk result (λ text. string_bytes text ≡ outcome_line outcome) }
@@ -44,8 +30,25 @@ fn text_of(alloc: Global, outcome: Result<Run, Trap>) -> Result<String, AllocErr
     }
 }
 
-/// Runs the program of the object file that these bytes are once at its hook, on this context and packet and no table rows, with
-/// counters and cells of its own.
+/// Runs the program of the object file that these bytes are once, with counters and cells of its own.
+fn outcome_of<'a>(
+    alloc: Global,
+    bytes: &[u8],
+    input: &Input,
+) -> Result<Result<Run, Trap>, Fault<'a>>
+    ensures run { IfOk result (Ran bytes.now input.now) }
+    ensures fault { IfErr result (IsRunFault bytes.now) }
+{
+    let (shared, mut seats) = Shared::new(alloc, 1)?;
+    let mut seat = seats.remove(0);
+    match run_object(alloc, bytes, Limit::Own, input, &shared, &mut seat) {
+        Ok(outcome) => Ok(outcome),
+        Err(error) => Err(Fault::from(error)),
+    }
+}
+
+/// Runs the program of the object file that these bytes are once at its hook, on this context and packet and no table rows, and says what
+/// is to be told of it.
 fn run_of<'a>(
     alloc: Global,
     bytes: &[u8],
@@ -55,18 +58,12 @@ fn run_of<'a>(
     ensures run { IfOk result (IsRun bytes.now context packet.items) }
     ensures fault { IfErr result (IsRunFault bytes.now) }
 {
-    let object = object::read(alloc, bytes)?;
-    let code = decode(alloc, object.code())?;
-    let (shared, mut seats) = Shared::new(alloc, 1)?;
-    let mut seat = seats.remove(0);
     let input = Input {
         context,
         packet: Sequence::from_vec(packet),
         rows: Sequence::from_vec(Vec::new(alloc)),
     };
-    let limit = limit(&object);
-    let hook = object.hook();
-    let outcome = run_checked(&code, hook, limit, &input, &shared, &mut seat);
+    let outcome = outcome_of(alloc, bytes, &input)?;
     Ok(Report {
         text: text_of(alloc, outcome)?,
         is_stuck: outcome.is_err(),

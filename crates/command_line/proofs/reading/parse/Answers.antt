@@ -1,6 +1,6 @@
-use Rattle.std.proofs.Common.{sym, subst, inl, inr, map}
+use Rattle.std.proofs.Common.{sym, subst, inl, map}
 use Rattle.clap.specs.Simple.{app_of}
-use Rattle.command_line.proofs.Read.{is_free_line, is_some_line, made, made_none, mistaken, refused, some_line, wrong, wrong_value}
+use Rattle.command_line.proofs.Read.{is_free_line, is_some_line, made, mistaken, no_command, refused, some_line, wrong_word}
 use Rattle.command_line.proofs.reading.parse.Goals as goal
 use Rattle.command_line.specs.Requests.{IsRefusal}
 
@@ -23,7 +23,7 @@ returns-in_err-request c =
     let own = c.in_ok-whole.ensures in
     let line = app_of c.in_ok-whole.field-0 in
     let taken = c.in_ok-matches.ensures.kinds (is_free_line line own) in
-    let refusal = wrong_value line words c.in_err-request.field-0.0 _ taken (made_none line words c.in_ok-matches.matches own c.in_ok-matches.ensures.matches) c.in_err-request.ensures.err in
+    let refusal = wrong_word line words c.in_ok-matches.matches c.in_err-request.field-0.0 own c.in_ok-matches.ensures.matches taken c.in_err-request.ensures.err in
     (line, own, refused line words c.from_residual-in_err-request.result _ c.from_residual-in_err-request.ensures.1 (λ e same. subst (IsRefusal line words) (sym same) refusal))
 
 pub returns-in-Some : goal.returns-in-Some
@@ -46,6 +46,8 @@ returns c =
     let words = map (λ w. w.now) c.args.words.now in
     let own = c.in_ok-whole.ensures in
     let line = app_of c.in_ok-whole.field-0 in
-    let taken = c.in_ok-matches.ensures.kinds (is_free_line line own) in
-    let none = made_none line words c.in_ok-matches.matches own c.in_ok-matches.ensures.matches (c.in_ok-request.ensures.none c.in-None.is) in
-    (line, own, wrong line words c.in_ok-error-in-None.field-0 taken (inr c.in_ok-error-in-None.ensures) none)
+    let taken = c.in_ok-matches.ensures.kinds (is_free_line line own) in (
+      line,
+      own,
+      no_command line words c.in_ok-matches.matches c.in_ok-error-in-None.field-0 own c.in_ok-matches.ensures.matches taken (c.in_ok-request.ensures.none c.in-None.is) c.in_ok-error-in-None.ensures,
+    )

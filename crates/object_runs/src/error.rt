@@ -1,0 +1,37 @@
+//! Why bytes have no program to run.
+ghost use Rattle.std.specs.Prelude.{◌≡◌};
+
+use isa::DecodeError;
+use object::ReadError;
+use thiserror::Error;
+
+/// Why bytes have no program to run. Either part may be want of memory.
+#[derive(Clone, Copy, PartialEq, Eq, Debug, Error)]
+pub enum RunError {
+    /// They are no object file.
+    #[error("no object file: {0}")]
+    Object(ReadError),
+    /// They are an object file, whose code doesn't decode.
+    #[error("no code: {0}")]
+    Code(DecodeError),
+}
+
+impl From<ReadError> for RunError {
+    ghost use Rattle.object_runs.specs.declared.error.RunError.TheVariants.{Object};
+
+    ghost from_gives = { λ error run. run ≡ Object error };
+
+    fn from(error: ReadError) -> RunError {
+        RunError::Object(error)
+    }
+}
+
+impl From<DecodeError> for RunError {
+    ghost use Rattle.object_runs.specs.declared.error.RunError.TheVariants.{Code};
+
+    ghost from_gives = { λ error run. run ≡ Code error };
+
+    fn from(error: DecodeError) -> RunError {
+        RunError::Code(error)
+    }
+}

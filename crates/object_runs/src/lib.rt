@@ -1,0 +1,10 @@
+//! Runs of object files: from the bytes of a file and an input to what the machine answers.
+#![tactic(auto)]
+
+mod error;
+mod limit;
+mod run;
+
+pub use error::RunError;
+pub use limit::{Limit, MOST_INSTRUCTIONS};
+pub use run::run_object;
