@@ -50,7 +50,7 @@ module _ {Y : Type 0} where
   sorted_from [] all = tt
   sorted_from (e ∷ es) all = both _ _ (below_from e.0 es all.0) (sorted_from es all.1)
 
-  entries_of : (es : List (Key × Y)) → T (finite.is_sorted key_cmp es) → finite.entries (finite.from_entries {R = key_cmp} es) ≡ es
+  pub entries_of : (es : List (Key × Y)) → T (finite.is_sorted key_cmp es) → finite.entries (finite.from_entries {R = key_cmp} es) ≡ es
   entries_of es sorted =
       ap finite.entries (finite.same_map keys_total keys_exact (finite.from_entries {R = key_cmp} es) (finite.from_sorted es) (λ q. finite.get-from_entries keys_total es q ∙ sym (finite.get-from_sorted key_cmp es q sorted)))
       ∙ finite.entries-from_sorted key_cmp es sorted

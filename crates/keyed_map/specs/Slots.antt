@@ -1,5 +1,6 @@
 -- A map of slots, of which some are gone, and edits of it with what takes them back.
 use Rattle.std.specs.Prelude.{◌≡◌, ℕ, ◌+◌, ◌-◌, Bool, true, false, if◌then◌else◌, List, [], ◌∷◌, Option, Some, None, IsSome}
+use Rattle.std.specs.Prelude.{map as each}
 use Rattle.std.specs.List.{filter}
 use Rattle.std.specs.Ordering.{is_le}
 use Rattle.std.specs.FinMap as map
@@ -68,3 +69,7 @@ counted held false n = if held then n - 1 else n
 -- the keys from this one on
 abbrev pub keys_from : Key → List Key → List Key
 keys_from key ks = filter (λ k. is_le (key_cmp key k)) ks
+
+-- the keys whose entries pass a test
+abbrev pub keys_where : {X : Type 0} → (Key → X → Bool) → List (Key × X) → List Key
+keys_where test es = each (λ e. e.0) (filter (λ e. test e.0 e.1) es)

@@ -4,5 +4,5 @@
 mod map;
 mod slot;
 
-pub use map::{Copied, KeyedMap};
+pub use map::{Copied, KeyTest, KeyedMap};
 pub use slot::{Edit, Slot};

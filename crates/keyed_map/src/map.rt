@@ -1,7 +1,7 @@
 ghost use Rattle.std.specs.Prelude.{◌≡◌, ◌==◌, IfOk, OnOk, OnErr, take, option_copied};
 ghost use Rattle.std.specs.FinMap as map;
 ghost use Rattle.keyed_map.specs.Keys.{key_cmp};
-ghost use Rattle.keyed_map.specs.Slots.{Fits, counted, holds, keys_from, live, put_live, slots_of, undo};
+ghost use Rattle.keyed_map.specs.Slots.{Fits, counted, holds, keys_from, keys_where, live, put_live, slots_of, undo};
 
 use crate::slot::{Edit, Slot};
 use std::alloc::{AllocError, Global};
@@ -92,8 +92,19 @@ fn forget<X: Drop>(slots: &mut BTreeMap<Key, Slot<X>>, key: Key)
 
 /// A value that can be copied where there is memory.
 pub trait Copied: Drop + Sized {
-    fn copy(&self) -> Result<Self, AllocError>
+    fn copy(&self, alloc: Global) -> Result<Self, AllocError>
         ensures { IfOk result (λ made. made ≡ self.now) };
+}
+
+/// A test of a key and of what stands there.
+pub trait KeyTest<X> {
+    ghost use Rattle.std.specs.Prelude.{Bool};
+    ghost use Rattle.words.specs.declared.key.Key.{Key};
+
+    ghost accepts: { Self → Key → X → Bool };
+
+    fn accepts(&self, key: &Key, x: &X) -> bool
+        ensures { result ≡ accepts self.now key.now x.now };
 }
 
 impl<X: Copied> KeyedMap<X> {
@@ -105,7 +116,7 @@ impl<X: Copied> KeyedMap<X> {
         let mut made = KeyedMap::new(alloc);
         for (key, slot) in self.slots.iter() {
             if let Slot::Holds(x) = slot {
-                made.insert(*key, x.copy()?)?;
+                made.insert(*key, x.copy(alloc)?)?;
                 made.settle();
             }
         }
@@ -188,6 +199,22 @@ impl<X: Drop> KeyedMap<X> {
             }
             if let Slot::Holds(_) = slot {
                 keys.push(*found)?;
+            }
+        }
+        Ok(keys)
+    }
+
+    /// The keys that pass a test, in their order. It looks at each.
+    pub fn keys_where<T: KeyTest<X>>(&self, alloc: Global, test: &T) -> Result<Vec<Key>, AllocError>
+        ensures { IfOk result (λ keys. keys.items ≡ keys_where (T.accepts test.now) (map.entries self.now.present)) }
+    {
+        let mut keys = Vec::new(alloc);
+        for (key, slot) in self.slots.iter() {
+            if let Slot::Holds(x) = slot {
+                let accepted = test.accepts(key, x);
+                if accepted {
+                    keys.push(*key)?;
+                }
             }
         }
         Ok(keys)

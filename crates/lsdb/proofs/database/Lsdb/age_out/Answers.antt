@@ -1,0 +1,31 @@
+use Rattle.std.proofs.Common.{Some, ap, sym, subst, ◌∙◌}
+use Rattle.std.specs.FinMap as finite
+use Rattle.lsdb.specs.Copies.{age_out}
+use Rattle.keyed_map.proofs.Helds.{after, on_ok}
+use Rattle.lsdb.specs.Joined.{HaveTimes, joined}
+use Rattle.lsdb.specs.declared.times.Times.{Times}
+use Rattle.lsdb.proofs.Joins.{have_more, ages, ages-none}
+use Rattle.lsdb.proofs.database.Lsdb.age_out.Goals as goal
+
+pub returns-in_default-clause-ok : goal.returns-in_default-clause-ok
+returns-in_default-clause-ok c =
+    ap (λ h. h.present) (sym c.self.view_is)
+    ∙ ages-none c.args.moment c.self.inside.lsas.present c.self.inside.times.present c.args.key.now (sym c.in_default.ensures)
+    ∙ ap (λ h. age_out c.args.moment c.args.key.now h.present) c.self.view_is
+
+pub returns-clause-ok : goal.returns-clause-ok
+returns-clause-ok c =
+    on_ok c.insert.result (λ is.
+    ap (joined c.self.inside.lsas.present) is
+    ∙ ages c.args.moment c.self.inside.lsas.present c.self.inside.times.present c.args.key.now c.in-Some.times.now (sym c.in-Some.ensures)
+    ∙ ap (λ h. age_out c.args.moment c.args.key.now h.present) c.self.view_is) c.insert.ensures.ok
+
+pub invariant_of-self : goal.invariant_of-self
+invariant_of-self c =
+    let lsas = c.self.inside.lsas.present in
+    let times = c.self.inside.times.present in
+    let t : Times = record c.in-Some.times.now { age = 3600; stored = c.args.moment } in (
+      after c.insert.result (HaveTimes lsas) c.insert.new.self.present times (finite.insert times c.args.key.now t) c.insert.ensures.ok c.insert.ensures.err
+          (have_more lsas times c.args.key.now c.self.invariant.0 t) c.self.invariant.0,
+      subst (HaveTimes c.self.inside.lsas.settled) (sym c.insert.ensures.settled) c.self.invariant.1,
+    )

@@ -1,0 +1,17 @@
+use Rattle.std.proofs.Common.{ap, sym, subst, ◌∙◌}
+use Rattle.std.specs.FinMap as finite
+use Rattle.lsdb.specs.Joined.{HaveTimes, joined}
+use Rattle.lsdb.proofs.Joins.{database_is, joined-empty, none_lacks}
+use Rattle.lsdb.proofs.database.Lsdb.new.Goals as goal
+
+pub invariant_of-result : goal.invariant_of-result
+invariant_of-result c = (
+  subst (λ h. HaveTimes h.present c.new-2.result.present) (sym c.new.ensures) (subst (λ h. HaveTimes finite.empty h.present) (sym c.new-2.ensures) none_lacks),
+  subst (λ h. HaveTimes h.settled c.new-2.result.settled) (sym c.new.ensures) (subst (λ h. HaveTimes finite.empty h.settled) (sym c.new-2.ensures) none_lacks),
+)
+
+pub returns : goal.returns
+returns c =
+    database_is
+    (ap (λ h. joined h.present c.new-2.result.present) c.new.ensures ∙ ap (λ h. joined finite.empty h.present) c.new-2.ensures ∙ joined-empty)
+    (ap (λ h. joined h.settled c.new-2.result.settled) c.new.ensures ∙ ap (λ h. joined finite.empty h.settled) c.new-2.ensures ∙ joined-empty)

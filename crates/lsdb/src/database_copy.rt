@@ -1,0 +1,78 @@
+//! A copy of the database, as it is lent.
+ghost use Rattle.std.specs.Prelude.{◌≡◌, ◌≤◌, IfOk};
+ghost use Rattle.lsa.specs.Text.{text};
+ghost use Rattle.lsdb.specs.Copies.{age_now, copy_header, copy_now, is_aged_out};
+ghost use Rattle.lsdb.specs.Headers.{lsa_aged};
+
+use crate::order::{Instance, MAX_AGE, age_at};
+use crate::times::Times;
+use lsa::{Header, Lsa, write_at_age};
+use std::alloc::{AllocError, Global};
+use std::marker::Model;
+use words::{Second, Sequence};
+
+/// A copy of an LSA. Clauses see it as the database has it.
+#[derive(Drop)]
+pub struct DatabaseCopy<'a> {
+    pub lsa: &'a Lsa,
+    pub times: Times,
+}
+
+impl<'a> Model for DatabaseCopy<'a> {
+    ghost use Rattle.lsdb.specs.Copies.{DatabaseCopy as Kept};
+
+    ghost Value = { Kept };
+
+    ghost use Rattle.lsdb.specs.Joined.{copy_of};
+
+    ghost view = { λ a. copy_of a.lsa.now a.times };
+}
+
+impl<'a> DatabaseCopy<'a> {
+    /// Its age at the moment, in seconds, at most 3600.
+    pub fn age(&self, moment: Second) -> u16
+        ensures age { result ≡ age_now moment self.now }
+        ensures most { result ≤ 3600 }
+    {
+        age_at(self.times.age, self.times.stored, moment)
+    }
+
+    /// Tells whether it has MaxAge at the moment.
+    pub fn is_aged_out(&self, moment: Second) -> bool
+        ensures { result ≡ is_aged_out moment self.now }
+    {
+        self.age(moment) == MAX_AGE
+    }
+
+    /// Its header with its age at the moment.
+    pub fn header(&self, moment: Second) -> Header
+        ensures { result ≡ copy_header moment self.now }
+    {
+        let age = age_at(self.times.age, self.times.stored, moment);
+        Header {
+            age,
+            ..self.lsa.header()
+        }
+    }
+
+    /// Which instance it is at the moment.
+    pub fn instance(&self, moment: Second) -> Instance
+        ensures { result ≡ copy_now moment self.now }
+    {
+        let header = self.header(moment);
+        Instance {
+            sequence: header.sequence,
+            checksum: header.checksum,
+            age: header.age,
+        }
+    }
+
+    /// Its text at this age, in seconds.
+    pub fn text(&self, alloc: Global, age: u16) -> Result<Sequence<u8>, AllocError>
+        requires { age ≤ 3600 }
+        ensures { IfOk result (λ bytes. bytes ≡ text (lsa_aged age self.now.lsa)) }
+    {
+        let bytes = write_at_age(alloc, self.lsa, age)?;
+        Ok(Sequence::from_vec(bytes))
+    }
+}

@@ -1,0 +1,14 @@
+//! The moments of a copy.
+use words::Second;
+
+/// What changes of a copy while its LSA stays.
+#[derive(Clone, Copy, Debug)]
+pub struct Times {
+    /// Its age at the moment `stored`, in seconds, at most 3600.
+    pub age: u16,
+    pub stored: Second,
+    /// When flooding installed it, if flooding did.
+    pub installed: Option<Second>,
+    /// When it was last sent in an Update, if it was.
+    pub sent: Option<Second>,
+}
