@@ -13,7 +13,7 @@ use Rattle.lsa.specs.declared.body.ExternalLsa.{ExternalLsa}
 use Rattle.lsdb.proofs.Keys.{keys_total}
 use Rattle.routes.specs.Candidates.{IsCandidate, IsExternalWay, Offers, external_offer}
 use Rattle.routes.specs.Routes.IsBefore.{ByAddress}
-use Rattle.routes.specs.Candidates.Offers.{External, Within}
+use Rattle.routes.specs.Candidates.Offers.{Between, External, Within}
 use Rattle.routes.specs.Links.{Leads, Says}
 use Rattle.routes.specs.declared.node.Node.TheVariants.{ARouter}
 use Rattle.routes.specs.Offers.{IsPrefix, OffersWithin, ReachesBoundaryRouter}
@@ -32,6 +32,9 @@ use Rattle.route_laws.proofs.Parts.{apart, in_front, nobody, one_below, one_of}
 use Rattle.route_laws.proofs.TwoRouters.{IsWithin, dearer, distance, far, far_is, far_says, far_way, hops, known, near, next_is_offered, next_offer, other_offer, own_is_offered, own_offer}
 use Rattle.routes.specs.Said.{Said, said_at, said_by}
 use Rattle.routes.specs.Routes.{IsBefore, IsForwarded, IsNoWorse, IsRouteAmong}
+use Rattle.route_laws.proofs.NoSummaries.{is_inside, is_within, nothing_between}
+use Rattle.routes.specs.Summaries.IsBoundaryWay.{Inside}
+use Rattle.routes.specs.Summaries.{IsBoundaryWay, OffersInside}
 
 abbrev others : Entries
 others = announced ++ passed_over
@@ -63,6 +66,12 @@ within o x =
       ]
     ]
 
+nearby_inside : (o : Offer) → OffersInside said near_router o → Contains nearby o
+nearby_inside o x = within o (is_within 0 destinations refl near_router o x)
+
+reached_inside : (router : ℕ) (way : Way) → IsBoundaryWay said near_router router way → ReachesBoundaryRouter said near_router router way
+reached_inside = is_inside 0 destinations refl near_router
+
 own_there : OffersWithin said near_router own_offer
 own_there = own_is_offered others labels
 
@@ -78,31 +87,31 @@ abbrev own_way : Way
 own_way = record { distance = 10; hops = 1 }
 
 -- every offer within the area has such a prefix
-lengths : (r : Route) → IsRouteAmong (OffersWithin said near_router) r → r.prefix.length ≤ 24
+lengths : (r : Route) → IsRouteAmong (OffersInside said near_router) r → r.prefix.length ≤ 24
 lengths r k =
-    let fits : k.first.prefix.length ≤ 24 = one_of (λ (x : Offer). x.prefix.length ≤ 24) nearby (omega arith, (omega arith, (omega arith, tt))) k.first (within k.first k.is_best.offered) in
+    let fits : k.first.prefix.length ≤ 24 = one_of (λ (x : Offer). x.prefix.length ≤ 24) nearby (omega arith, (omega arith, (omega arith, tt))) k.first (nearby_inside k.first k.is_best.offered) in
     let same : k.first.prefix.length ≡ r.prefix.length = ap (λ (n : Network). n.length) k.is_best.is_for in
     omega (arith, fits, same)
 
-next_forwarded : IsForwarded (OffersWithin said near_router) (dotted 10 0 2 9) next_way
+next_forwarded : IsForwarded (OffersInside said near_router) (dotted 10 0 2 9) next_way
 next_forwarded = record {
   by = route_of next_offer;
   is_route =
-      alone_among (OffersWithin said near_router) next_offer next_there (λ o offered e.
+      alone_among (OffersInside said near_router) next_offer (inl next_there) (λ o offered e.
       one_of (λ (x : Offer). x.prefix ≡ next_net → (x ≡ next_offer) ⊎ (IsNoWorse next_offer x × (IsNoWorse x next_offer → ⊥))) nearby
-      ((λ f. absurd (apart near_net next_net refl f)), ((λ f. absurd (apart near_net next_net refl f)), ((λ f. inl refl), tt))) o (within o offered) e);
+      ((λ f. absurd (apart near_net next_net refl f)), ((λ f. absurd (apart near_net next_net refl f)), ((λ f. inl refl), tt))) o (nearby_inside o offered) e);
   under = refl;
   longest = λ r k u. lengths r k;
   is = refl;
 }
 
-own_forwarded : IsForwarded (OffersWithin said near_router) (dotted 10 0 1 9) own_way
+own_forwarded : IsForwarded (OffersInside said near_router) (dotted 10 0 1 9) own_way
 own_forwarded = record {
   by = route_of own_offer;
   is_route =
-      alone_among (OffersWithin said near_router) own_offer own_there (λ o offered e.
+      alone_among (OffersInside said near_router) own_offer (inl own_there) (λ o offered e.
       one_of (λ (x : Offer). x.prefix ≡ near_net → (x ≡ own_offer) ⊎ (IsNoWorse own_offer x × (IsNoWorse x own_offer → ⊥))) nearby
-      ((λ f. inl refl), ((λ f. inr (ByCost refl (omega arith), dearer own_offer other_offer refl (omega arith))), ((λ f. absurd (apart next_net near_net refl f)), tt))) o (within o offered) e);
+      ((λ f. inl refl), ((λ f. inr (ByCost refl (omega arith), dearer own_offer other_offer refl (omega arith))), ((λ f. absurd (apart next_net near_net refl f)), tt))) o (nearby_inside o offered) e);
   under = refl;
   longest = λ r k u. lengths r k;
   is = refl;
@@ -111,12 +120,12 @@ own_forwarded = record {
 not_under : (n : Network) → not (nat_eq (network_address n.length (dotted 172 16 0 1)) n.address) ≡ true → IsUnder (dotted 172 16 0 1) n → ⊥
 not_under n other u = not_both (nat_eq (network_address n.length (dotted 172 16 0 1)) n.address) other (eq-eqb (network_address n.length (dotted 172 16 0 1)) n.address u)
 
-no_forward : (way : Way) → IsForwarded (OffersWithin said near_router) (dotted 172 16 0 1) way → ⊥
+no_forward : (way : Way) → IsForwarded (OffersInside said near_router) (dotted 172 16 0 1) way → ⊥
 no_forward way f =
     let k = f.is_route in
     let P : Network → Type 0 = λ n. IsUnder (dotted 172 16 0 1) n in
     one_of (λ (x : Offer). IsUnder (dotted 172 16 0 1) x.prefix → ⊥) nearby (not_under near_net refl, (not_under near_net refl, (not_under next_net refl, tt)))
-    k.first (within k.first k.is_best.offered) (subst P (sym k.is_best.is_for) f.under)
+    k.first (nearby_inside k.first k.is_best.offered) (subst P (sym k.is_best.is_for) f.under)
 
 -- ---- what an external LSA offers
 
@@ -135,15 +144,15 @@ net_of id = record { address = network_address 24 id; length = 24 }
 
 direct_known : (id : ℕ) (lsa : ExternalLsa) → lsa.mask ≡ mask_24 → lsa.forwarding ≡ 0 → (o : Offer) → Given id far lsa o → external_offer lsa.kind (net_of id) lsa far far_way ≡ o
 direct_known id lsa mask none o g =
-    let boundary : far_way ≡ g.is_way.boundary = one_way (Leads said near_router) (ARouter near) (ARouter far) far_way g.is_way.boundary (far_is others labels) g.is_way.reaches.reached in
+    let boundary : far_way ≡ g.is_way.boundary = one_way (Leads said near_router) (ARouter near) (ARouter far) far_way g.is_way.boundary (far_is others labels) (reached_inside far g.is_way.boundary g.is_way.reaches).reached in
     let w : far_way ≡ g.way = boundary ∙ sym (g.is_way.direct none) in
     let p : net_of id ≡ g.prefix = one_prefix id lsa.mask 24 g.prefix (omega arith) mask g.is_prefix in
     (λ i. external_offer lsa.kind (p i) lsa far (w i)) ∙ sym g.is
 
-forward_known : (id : ℕ) (lsa : ExternalLsa) (way : Way) → lsa.mask ≡ mask_24 → lsa.forwarding ≢ 0 → IsForwarded (OffersWithin said near_router) lsa.forwarding way → (o : Offer) → Given id far lsa o
+forward_known : (id : ℕ) (lsa : ExternalLsa) (way : Way) → lsa.mask ≡ mask_24 → lsa.forwarding ≢ 0 → IsForwarded (OffersInside said near_router) lsa.forwarding way → (o : Offer) → Given id far lsa o
     → external_offer lsa.kind (net_of id) lsa far way ≡ o
 forward_known id lsa way mask some is o g =
-    let w : way ≡ g.way = one_forward (OffersWithin said near_router) lsa.forwarding way g.way is (g.is_way.forwarded some) in
+    let w : way ≡ g.way = one_forward (OffersInside said near_router) lsa.forwarding way g.way is (g.is_way.forwarded some) in
     let p : net_of id ≡ g.prefix = one_prefix id lsa.mask 24 g.prefix (omega arith) mask g.is_prefix in
     (λ i. external_offer lsa.kind (p i) lsa far (w i)) ∙ sym g.is
 
@@ -205,8 +214,8 @@ is_of_another s = not (nat_eq s.0.ls_type 1 && nat_eq s.0.link_state_id nobody_i
 
 by_nobody : IsKnown (key 5 (dotted 198 18 3 0) nobody_id) (body.External (external Type1 20 0 0))
 by_nobody s o g =
-    let says_so = g.is_way.reaches.its in
-    absurd (let e : false ≡ true = all_pass is_of_another (sayings destinations) refl (key 1 nobody_id nobody_id, body.Router g.is_way.reaches.lsa) (is_said 0 destinations _ (body.Router g.is_way.reaches.lsa) says_so) in cc)
+    let reaches = reached_inside nobody_id g.is_way.boundary g.is_way.reaches in
+    absurd (let e : false ≡ true = all_pass is_of_another (sayings destinations) refl (key 1 nobody_id nobody_id, body.Router reaches.lsa) (is_said 0 destinations _ (body.Router reaches.lsa) reaches.its) in cc)
 
 abbrev old_lsa : ExternalLsa
 old_lsa = external Type1 20 0 0
@@ -244,6 +253,7 @@ all_known = (tt, (tt, (cheap_known, (first_known, (next_known, (own_known, (unfo
 
 complete : (o : Offer) → Offers said near_router o → Contains offers o
 complete o (Within x) = one_of (λ (y : Offer). Contains offers y) nearby ((0, omega arith, refl), ((1, omega arith, refl), ((2, omega arith, refl), tt))) o (within o x)
+complete o (Between x) = absurd (nothing_between 0 destinations refl near_router o x)
 complete o (External x) =
     one_of (λ (s : Key × Body). IsKnown s.0 s.1) (sayings destinations) all_known (key 5 x.id x.originator, body.External x.lsa) (is_said 0 destinations _ (body.External x.lsa) x.its) x.its o
     (record { reachable = x.reachable; of_another = x.of_another; prefix = x.prefix; is_prefix = x.is_prefix; way = x.way; is_way = x.is_way; is = x.is })
@@ -264,7 +274,7 @@ first_offered = External (record {
   prefix = network_24 203 0 113;
   is_prefix = (omega arith, refl, refl);
   way = far_way;
-  is_way = record { boundary = far_way; reaches = reaches_far; direct = λ _. refl; forwarded = λ other. absurd (other refl) };
+  is_way = record { boundary = far_way; reaches = Inside reaches_far; direct = λ _. refl; forwarded = λ other. absurd (other refl) };
   is = refl;
 })
 
@@ -279,7 +289,7 @@ by_next_offered = External (record {
   prefix = network_24 198 51 100;
   is_prefix = (omega arith, refl, refl);
   way = next_way;
-  is_way = record { boundary = far_way; reaches = reaches_far; direct = λ e. absurd (let z : dotted 10 0 2 9 ≡ 0 = e in omega (arith, z)); forwarded = λ _. next_forwarded };
+  is_way = record { boundary = far_way; reaches = Inside reaches_far; direct = λ e. absurd (let z : dotted 10 0 2 9 ≡ 0 = e in omega (arith, z)); forwarded = λ _. next_forwarded };
   is = refl;
 })
 
@@ -294,7 +304,7 @@ by_own_offered = External (record {
   prefix = network_24 192 0 2;
   is_prefix = (omega arith, refl, refl);
   way = own_way;
-  is_way = record { boundary = far_way; reaches = reaches_far; direct = λ e. absurd (let z : dotted 10 0 1 9 ≡ 0 = e in omega (arith, z)); forwarded = λ _. own_forwarded };
+  is_way = record { boundary = far_way; reaches = Inside reaches_far; direct = λ e. absurd (let z : dotted 10 0 1 9 ≡ 0 = e in omega (arith, z)); forwarded = λ _. own_forwarded };
   is = refl;
 })
 

@@ -1,13 +1,18 @@
--- A forwarding address has one way.
-use Rattle.std.proofs.Common.{◌≡◌, ℕ, ◌≤◌, arith, sym, ◌∙◌, ap}
+-- A forwarding address has one way, and so has an AS boundary router.
+use Rattle.std.proofs.Common.{◌≡◌, ℕ, ◌≤◌, arith, sym, ◌∙◌, ap, subst}
 use Rattle.words.specs.Prefixes.{network_address}
 use Rattle.words.specs.declared.route.Route.{Route}
 use Rattle.routes.specs.Paths.{Way}
-use Rattle.routes.specs.Offers.{OffersWithin}
 use Rattle.routes.specs.Routes.{IsForwarded}
 use Rattle.routes.specs.declared.offer.Offer.{Offer}
-use Rattle.routes.proofs.Determined.{one_route}
-use Rattle.route_laws.specs.Laws.{ForwardingIsDetermined}
+use Rattle.routes.proofs.Determined.{one_route, one_way, same_hops}
+use Rattle.route_laws.specs.Laws.{BoundaryWaysAreDetermined, ForwardingIsDetermined}
+use Rattle.routes.specs.Summaries.{IsBoundaryWay, IsToldOf, IsWayBetween, OffersInside}
+use Rattle.routes.specs.Summaries.IsBoundaryWay.{Inside, Outside}
+use Rattle.routes.specs.Links.{Leads}
+use Rattle.routes.specs.declared.node.Node.TheVariants.{ARouter}
+use Rattle.routes.specs.Said.{Said}
+use Rattle.routes.specs.declared.root.Root.{Root}
 
 -- whatever is offered
 pub one_forward : (IsOffered : Offer → Type 0) (address : ℕ) (a b : Way) → IsForwarded IsOffered address a → IsForwarded IsOffered address b → a ≡ b
@@ -22,4 +27,22 @@ one_forward IsOffered address a b p q =
     p.is ∙ ap way_of same ∙ sym q.is
 
 pub forwarding : ForwardingIsDetermined
-forwarding said root = one_forward (OffersWithin said root)
+forwarding said root = one_forward (OffersInside said root)
+
+-- ---- AS boundary routers
+
+one_between : (said : Said) (root : Root) (router : ℕ) (a b : Way) → IsWayBetween said root router a → IsWayBetween said root router b → a ≡ b
+one_between said root router a b p q =
+    let there : a.distance ≤ b.distance = p.least b.distance q.border q.told in
+    let here : b.distance ≤ a.distance = q.least a.distance p.border p.told in
+    let distance : a.distance ≡ b.distance = omega (arith, there, here) in
+    let hops : a.hops ≡ b.hops = same_hops a.hops b.hops
+    (λ i t. let h = (p.hops i).0 t in (q.hops i).1 (h.0, subst (λ d. IsToldOf said root router d h.0) distance h.1, h.2))
+    (λ i t. let h = (q.hops i).0 t in (p.hops i).1 (h.0, subst (λ d. IsToldOf said root router d h.0) (sym distance) h.1, h.2)) in
+    λ i. record { distance = distance i; hops = hops i }
+
+pub boundary : BoundaryWaysAreDetermined
+boundary said root router a b (Inside p) (Inside q) = one_way (Leads said root) (ARouter root.router) (ARouter router) a b p.reached q.reached
+boundary said root router a b (Inside p) (Outside none q) = absurd (none a p)
+boundary said root router a b (Outside none p) (Inside q) = absurd (none b q)
+boundary said root router a b (Outside none p) (Outside none_too q) = one_between said root router a b p q

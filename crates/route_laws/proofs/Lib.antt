@@ -4,6 +4,7 @@ mod Reached
 mod Offered
 mod Forwarding
 mod Entries
+mod NoSummaries
 mod Labels
 mod Alone
 mod TwoOffers
@@ -15,3 +16,4 @@ mod Externals
 mod Networks
 mod Transit
 mod Uncounted
+mod Summaries

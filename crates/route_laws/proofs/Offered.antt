@@ -12,7 +12,7 @@ use Rattle.words.specs.declared.route.Route.{Route}
 use Rattle.lsa.specs.declared.body.ExternalLsa.{ExternalLsa}
 use Rattle.routes.specs.Candidates.{IsBest, IsCandidate, Offers, OffersExternal, external_offer}
 use Rattle.routes.specs.Routes.IsNoLater.{ByOriginator, ByTag}
-use Rattle.routes.specs.Candidates.Offers.{External, Within}
+use Rattle.routes.specs.Candidates.Offers.{Between, External, Within}
 use Rattle.route_laws.specs.Laws.{EveryOfferHasACandidate}
 use Rattle.routes.specs.Links.{Leads}
 use Rattle.routes.specs.declared.node.Node.{Node}
@@ -27,6 +27,8 @@ use Rattle.route_laws.proofs.Least.{Chosen, chosen}
 use Rattle.route_laws.proofs.Reached as reached
 use Rattle.routes.specs.Said.{Said}
 use Rattle.routes.specs.Routes.{IsForwarded, IsNoLater, IsNoWorse, rank}
+use Rattle.routes.specs.Summaries.IsBoundaryWay.{Inside, Outside}
+use Rattle.routes.specs.Summaries.{IsBoundaryWay, OffersBetween, OffersInside}
 
 -- of what has a number, something has the least
 least_by : {X : Type 0} (P : X → Type 0) (f : X → ℕ) (n : ℕ) (x : X) → P x → f x ≤ n → (((y : X) × P y × ((z : X) → P z → f y ≤ f z)) → ⊥) → ⊥
@@ -134,23 +136,39 @@ module _ (said : Said) (root : Root) where
         | inr other ↦ of_way x.node x.way x.reached i (subst Has (x.by_others other) has)
       ]
 
-  of_forwarded : (address : ℕ) (w : Way) → IsForwarded (OffersWithin said root) address w → (i : ℕ) → IsTrue (has_interface w.hops i) → i < limit
+  of_between : (o : Offer) → OffersBetween said root o → (i : ℕ) → IsTrue (has_interface o.hops i) → i < limit
+  of_between o x i t =
+      let Has : ℕ → Type 0 = λ hops. IsTrue (has_interface hops i) in
+      of_way (ARouter x.originator) x.border x.counts.reaches.reached i (subst Has (ap (λ (y : Offer). y.hops) x.is) t)
+
+  of_inside : (o : Offer) → OffersInside said root o → (i : ℕ) → IsTrue (has_interface o.hops i) → i < limit
+  of_inside o (inl x) i t = of_within o x i t
+  of_inside o (inr x) i t = of_between o x i t
+
+  of_boundary : (router : ℕ) (w : Way) → IsBoundaryWay said root router w → (i : ℕ) → IsTrue (has_interface w.hops i) → i < limit
+  of_boundary router w (Inside x) i t = of_way (ARouter router) w x.reached i t
+  of_boundary router w (Outside none x) i t =
+      let h = (x.hops i).0 t in
+      of_way (ARouter h.1.originator) h.0 h.1.counts.reaches.reached i h.2
+
+  of_forwarded : (address : ℕ) (w : Way) → IsForwarded (OffersInside said root) address w → (i : ℕ) → IsTrue (has_interface w.hops i) → i < limit
   of_forwarded address w f i t =
       let Has : ℕ → Type 0 = λ hops. IsTrue (has_interface hops i) in
       let o = (f.is_route.hops i).0 (subst Has (ap (λ (x : Way). x.hops) f.is) t) in
-      of_within o.0 o.1.offered i o.2
+      of_inside o.0 o.1.offered i o.2
 
   of_external : (o : Offer) → OffersExternal said root o → (i : ℕ) → IsTrue (has_interface o.hops i) → i < limit
   of_external o x i t =
       let Has : ℕ → Type 0 = λ hops. IsTrue (has_interface hops i) in
       let has : Has x.way.hops = subst Has (ap (λ (y : Offer). y.hops) x.is ∙ external_hops x.lsa.kind x.prefix x.lsa x.originator x.way) t in
       elim (cases_eq x.lsa.forwarding 0) [
-        | inl e ↦ of_way (ARouter x.originator) x.is_way.boundary x.is_way.reaches.reached i (subst Has (ap (λ (y : Way). y.hops) (x.is_way.direct e)) has)
+        | inl e ↦ of_boundary x.originator x.is_way.boundary x.is_way.reaches i (subst Has (ap (λ (y : Way). y.hops) (x.is_way.direct e)) has)
         | inr some ↦ of_forwarded x.lsa.forwarding x.way (x.is_way.forwarded some) i has
       ]
 
   of_offer : (o : Offer) → Offers said root o → (i : ℕ) → IsTrue (has_interface o.hops i) → i < limit
   of_offer o (Within x) i t = of_within o x i t
+  of_offer o (Between x) i t = of_between o x i t
   of_offer o (External x) i t = of_external o x i t
 
   -- ---- the candidate

@@ -14,7 +14,7 @@ use Rattle.words.specs.declared.route.RouteKind.TheVariants.{External1, External
 use Rattle.lsa.specs.declared.body.ExternalLsa.{ExternalLsa}
 use Rattle.lsa.specs.declared.body.LinkKind.{LinkKind}
 use Rattle.routes.specs.Candidates.{IsBest, IsCandidate, Offers, external_offer}
-use Rattle.routes.specs.Candidates.Offers.{External, Within}
+use Rattle.routes.specs.Candidates.Offers.{Between, External, Within}
 use Rattle.route_laws.specs.Laws.{CandidatesAreCheapestWalks, IsReached, first_exit}
 use Rattle.routes.specs.Links.{Counts, Leads, LeadsTo}
 use Rattle.routes.specs.declared.node.Node.{Node}
@@ -144,6 +144,7 @@ module _ (said : Said) (root : Root) where
 
   within_of : (o : Offer) → rank o.kind ≡ 0 → Offers said root o → OffersWithin said root o
   within_of o e (Within p) = p
+  within_of o e (Between p) = absurd (let kind : rank o.kind ≡ 1 = ap (λ (x : Offer). rank x.kind) p.is in omega (arith, e, kind))
   within_of o e (External p) = absurd (omega (arith, e, ap (λ (x : Offer). rank x.kind) p.is, external_rank p.lsa.kind p.prefix p.lsa p.originator p.way))
 
   walk_of : (o : Offer) → OffersWithin said root o → (i : ℕ) × IsReached said root o.prefix o.cost i

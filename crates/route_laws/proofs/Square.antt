@@ -7,7 +7,7 @@ use Rattle.lsa.specs.declared.body.Body.{Body}
 use Rattle.lsa.specs.declared.body.Body.TheVariants as body
 use Rattle.lsa.specs.declared.body.Link.{Link}
 use Rattle.routes.specs.Candidates.{AreCandidates, IsCandidate, Offers}
-use Rattle.routes.specs.Candidates.Offers.{External, Within}
+use Rattle.routes.specs.Candidates.Offers.{Between, External, Within}
 use Rattle.routes.specs.Links.{IsRouterLsa, Leads}
 use Rattle.routes.specs.declared.node.Node.{Node}
 use Rattle.routes.specs.declared.node.Node.TheVariants.{ARouter}
@@ -22,6 +22,7 @@ use Rattle.route_laws.proofs.Labels.{AreChecked, at_node, checked, way_by}
 use Rattle.routes.proofs.Lists.{first_is, of_cons, of_empty}
 use Rattle.route_laws.proofs.Made.{back, from_other, from_root, linked, one_or_two, says}
 use Rattle.routes.specs.Said.{said_at}
+use Rattle.route_laws.proofs.NoSummaries.{nothing_between}
 
 abbrev corner : ℕ
 corner = dotted 1 1 1 1
@@ -102,6 +103,7 @@ is_router (k, body.External e) = false
 
 only_offer : (o : Offer) → Offers (said_at 0 (database square)) square_root o → offer ≡ o
 only_offer o (Within x) = each_within 0 square square_root (λ o. offer ≡ o) refl known o x
+only_offer o (Between x) = absurd (nothing_between 0 square refl square_root o x)
 only_offer o (External x) = absurd (let e : false ≡ true = all_pass is_router (sayings square) refl (key 5 x.id x.originator, body.External x.lsa) (is_said 0 square _ (body.External x.lsa) x.its) in cc)
 
 offered : Offers (said_at 0 (database square)) square_root offer

@@ -13,11 +13,11 @@ use Rattle.lsa.specs.declared.body.Link.{Link}
 use Rattle.routes.specs.Candidates.{IsBest, IsCandidate, IsExternalWay, Offers, external_offer}
 use Rattle.routes.specs.Routes.IsBefore.{ByAddress}
 use Rattle.routes.specs.Routes.IsNoLater.{ByOriginator, ByTag}
-use Rattle.routes.specs.Candidates.Offers.{External, Within}
+use Rattle.routes.specs.Candidates.Offers.{Between, External, Within}
 use Rattle.routes.specs.Links.{IsRouterLsa, Leads, ListsRouter}
 use Rattle.routes.specs.declared.node.Node.{Node}
 use Rattle.routes.specs.declared.node.Node.TheVariants.{ANetwork, ARouter}
-use Rattle.routes.specs.Offers.{IsPrefix, OffersWithin, intra}
+use Rattle.routes.specs.Offers.{IsPrefix, OffersWithin, ReachesBoundaryRouter, intra}
 use Rattle.routes.specs.declared.offer.Offer.{Offer}
 use Rattle.routes.specs.Paths.{IsWay, Step, Way}
 use Rattle.route_laws.specs.Worked.{database, dotted, key, mask_24, network_24, router_lsa, stub}
@@ -33,6 +33,9 @@ use Rattle.route_laws.proofs.Networks.{AreRising, IsNetworkKnown, IsStubKnown, a
 use Rattle.route_laws.proofs.Parts.{apart, in_front, nobody, one_of}
 use Rattle.routes.specs.Said.{Said, said_at}
 use Rattle.routes.specs.Routes.{IsBefore, IsForwarded, IsNoLater, IsNoWorse, IsRouteAmong}
+use Rattle.route_laws.proofs.NoSummaries.{is_inside, is_within, nothing_between}
+use Rattle.routes.specs.Summaries.IsBoundaryWay.{Inside}
+use Rattle.routes.specs.Summaries.{IsBoundaryWay, OffersInside}
 
 abbrev said : Said
 said = said_at 0 (database transit_entries)
@@ -273,6 +276,12 @@ behind_there = record {
   is = refl;
 }
 
+nearby_inside : (o : Offer) → OffersInside said transit_root o → Contains nearby o
+nearby_inside o x = within o (is_within 0 transit_entries refl transit_root o x)
+
+reached_inside : (router : ℕ) (way : Way) → IsBoundaryWay said transit_root router way → ReachesBoundaryRouter said transit_root router way
+reached_inside = is_inside 0 transit_entries refl transit_root
+
 -- ---- the forwarding address, which lies in both of the nearer networks
 
 abbrev forwarding : ℕ
@@ -285,19 +294,19 @@ abbrev network_net : Network
 network_net = network_24 10 1 0
 
 -- the offers within the area have such prefixes
-lengths : (r : Route) → IsRouteAmong (OffersWithin said transit_root) r → r.prefix.length ≤ 24
+lengths : (r : Route) → IsRouteAmong (OffersInside said transit_root) r → r.prefix.length ≤ 24
 lengths r k =
-    let fits : k.first.prefix.length ≤ 24 = one_of (λ (x : Offer). x.prefix.length ≤ 24) nearby (omega arith, (omega arith, (omega arith, tt))) k.first (within k.first k.is_best.offered) in
+    let fits : k.first.prefix.length ≤ 24 = one_of (λ (x : Offer). x.prefix.length ≤ 24) nearby (omega arith, (omega arith, (omega arith, tt))) k.first (nearby_inside k.first k.is_best.offered) in
     let same : k.first.prefix.length ≡ r.prefix.length = ap (λ (n : Network). n.length) k.is_best.is_for in
     omega (arith, fits, same)
 
-forwarded_way : IsForwarded (OffersWithin said transit_root) forwarding forward_way
+forwarded_way : IsForwarded (OffersInside said transit_root) forwarding forward_way
 forwarded_way = record {
   by = route_of network_offer;
   is_route =
-      alone_among (OffersWithin said transit_root) network_offer network_there (λ o offered e.
+      alone_among (OffersInside said transit_root) network_offer (inl network_there) (λ o offered e.
       one_of (λ (x : Offer). x.prefix ≡ network_net → (x ≡ network_offer) ⊎ (IsNoWorse network_offer x × (IsNoWorse x network_offer → ⊥))) nearby
-      ((λ f. absurd (apart (network_8 10) network_net refl f)), ((λ f. inl refl), ((λ f. absurd (apart (network_24 192 0 2) network_net refl f)), tt))) o (within o offered) e);
+      ((λ f. absurd (apart (network_8 10) network_net refl f)), ((λ f. inl refl), ((λ f. absurd (apart (network_24 192 0 2) network_net refl f)), tt))) o (nearby_inside o offered) e);
   under = refl;
   longest = λ r k u. lengths r k;
   is = refl;
@@ -318,15 +327,15 @@ net_of id = record { address = network_address 24 id; length = 24 }
 direct_known : (id originator : ℕ) (lsa : ExternalLsa) (way : Way) → IsWay leads (ARouter root) (ARouter originator) way → lsa.mask ≡ mask_24 → lsa.forwarding ≡ 0 → (o : Offer) → Given id originator lsa o
     → external_offer lsa.kind (net_of id) lsa originator way ≡ o
 direct_known id originator lsa way is mask none o g =
-    let boundary : way ≡ g.is_way.boundary = one_way leads (ARouter root) (ARouter originator) way g.is_way.boundary is g.is_way.reaches.reached in
+    let boundary : way ≡ g.is_way.boundary = one_way leads (ARouter root) (ARouter originator) way g.is_way.boundary is (reached_inside originator g.is_way.boundary g.is_way.reaches).reached in
     let w : way ≡ g.way = boundary ∙ sym (g.is_way.direct none) in
     let p : net_of id ≡ g.prefix = one_prefix id lsa.mask 24 g.prefix (omega arith) mask g.is_prefix in
     (λ i. external_offer lsa.kind (p i) lsa originator (w i)) ∙ sym g.is
 
-forward_known : (id originator : ℕ) (lsa : ExternalLsa) (way : Way) → lsa.mask ≡ mask_24 → lsa.forwarding ≢ 0 → IsForwarded (OffersWithin said transit_root) lsa.forwarding way → (o : Offer) → Given id originator lsa o
+forward_known : (id originator : ℕ) (lsa : ExternalLsa) (way : Way) → lsa.mask ≡ mask_24 → lsa.forwarding ≢ 0 → IsForwarded (OffersInside said transit_root) lsa.forwarding way → (o : Offer) → Given id originator lsa o
     → external_offer lsa.kind (net_of id) lsa originator way ≡ o
 forward_known id originator lsa way mask some is o g =
-    let w : way ≡ g.way = one_forward (OffersWithin said transit_root) lsa.forwarding way g.way is (g.is_way.forwarded some) in
+    let w : way ≡ g.way = one_forward (OffersInside said transit_root) lsa.forwarding way g.way is (g.is_way.forwarded some) in
     let p : net_of id ≡ g.prefix = one_prefix id lsa.mask 24 g.prefix (omega arith) mask g.is_prefix in
     (λ i. external_offer lsa.kind (p i) lsa originator (w i)) ∙ sym g.is
 
@@ -389,21 +398,23 @@ is_plain s = not (nat_eq s.0.link_state_id inner) || has_no_e s.1
 
 by_inner : IsKnown (key 5 (dotted 203 0 115 0) inner) (body.External plain_lsa)
 by_inner o g =
-    let lsa = g.is_way.reaches.lsa in
-    let t = is_said 0 transit_entries (key 1 inner inner) (body.Router lsa) g.is_way.reaches.its in
+    let reaches = reached_inside inner g.is_way.boundary g.is_way.reaches in
+    let lsa = reaches.lsa in
+    let t = is_said 0 transit_entries (key 1 inner inner) (body.Router lsa) reaches.its in
     let e : has_no_e (body.Router lsa) ≡ true = all_pass is_plain (sayings transit_entries) refl (key 1 inner inner, body.Router lsa) t in
     let without : bit_and lsa.flags 2 ≡ 0 = eqb-true (bit_and lsa.flags 2) 0 e in
-    let with : bit_and lsa.flags 2 ≡ 2 = g.is_way.reaches.has_e in
+    let with : bit_and lsa.flags 2 ≡ 2 = reaches.has_e in
     absurd (omega (arith, without, with))
 
 by_unlinked : IsKnown (key 5 (dotted 203 0 116 0) unlinked) (body.External plain_lsa)
-by_unlinked o g = absurd (never_unlinked g.is_way.boundary g.is_way.reaches.reached)
+by_unlinked o g = absurd (never_unlinked g.is_way.boundary (reached_inside unlinked g.is_way.boundary g.is_way.reaches).reached)
 
 all_known : AllByRecursion (λ (s : Key × Body). IsKnown s.0 s.1) (sayings transit_entries)
 all_known = (tt, (tt, (tt, (tt, (tt, (tt, (designated_known, (other_known, (forwarded_known, (by_inner, (by_unlinked, tt)))))))))))
 
 complete : (o : Offer) → Offers said transit_root o → Contains offers o
 complete o (Within x) = one_of (λ (y : Offer). Contains offers y) nearby ((0, omega arith, refl), ((1, omega arith, refl), ((2, omega arith, refl), tt))) o (within o x)
+complete o (Between x) = absurd (nothing_between 0 transit_entries refl transit_root o x)
 complete o (External x) =
     one_of (λ (s : Key × Body). IsKnown s.0 s.1) (sayings transit_entries) all_known (key 5 x.id x.originator, body.External x.lsa) (is_said 0 transit_entries _ (body.External x.lsa) x.its) o
     (record { prefix = x.prefix; is_prefix = x.is_prefix; way = x.way; is_way = x.is_way; is = x.is })
@@ -423,7 +434,7 @@ designated_offered = External (record {
   way = record { distance = 10; hops = 2 };
   is_way = record {
     boundary = record { distance = 10; hops = 2 };
-    reaches = record { lsa = router_lsa designated_links; its = designated_says; has_e = refl; reached = designated_way };
+    reaches = Inside (record { lsa = router_lsa designated_links; its = designated_says; has_e = refl; reached = designated_way });
     direct = λ _. refl;
     forwarded = λ some. absurd (some refl);
   };
@@ -443,7 +454,7 @@ other_offered = External (record {
   way = record { distance = 15; hops = 6 };
   is_way = record {
     boundary = record { distance = 15; hops = 6 };
-    reaches = record { lsa = router_lsa other_links; its = other_says; has_e = refl; reached = other_way };
+    reaches = Inside (record { lsa = router_lsa other_links; its = other_says; has_e = refl; reached = other_way });
     direct = λ _. refl;
     forwarded = λ some. absurd (some refl);
   };
@@ -463,7 +474,7 @@ forwarded_offered = External (record {
   way = forward_way;
   is_way = record {
     boundary = record { distance = 10; hops = 2 };
-    reaches = record { lsa = router_lsa designated_links; its = designated_says; has_e = refl; reached = designated_way };
+    reaches = Inside (record { lsa = router_lsa designated_links; its = designated_says; has_e = refl; reached = designated_way });
     direct = λ e. absurd (is_forwarded e);
     forwarded = λ _. forwarded_way;
   };

@@ -3,14 +3,14 @@ use Rattle.std.proofs.Common.{◌≡◌, ℕ, ◌⊎◌, inl, inr, IsTrue, [], �
 use Rattle.std.specs.List.{Contains}
 use Rattle.words.specs.Interfaces.{has_interface}
 use Rattle.words.specs.declared.route.Route.{Route}
-use Rattle.words.specs.declared.route.RouteKind.TheVariants.{External1, External2}
+use Rattle.words.specs.declared.route.RouteKind.TheVariants.{External1, External2, Intra}
 use Rattle.routes.specs.Routes.{AreRoutesAmong, IsBestAmong, IsNoLater, IsNoWorse, IsRouteAmong}
 use Rattle.routes.specs.Routes.IsNoLater.{ByTag}
 use Rattle.routes.specs.Routes.IsNoWorse.{ByCost, ByDistance, ByKind}
 use Rattle.routes.specs.declared.offer.Offer.{Offer}
 use Rattle.routes.proofs.Determined.{one_route}
 use Rattle.routes.proofs.Lists.{first_is, of_cons, of_empty}
-use Rattle.route_laws.specs.WorkedOffers.{WorkedOffers, offer_of, route_to, two_distances, two_tags}
+use Rattle.route_laws.specs.WorkedOffers.{WorkedOffers, between_15, offer_of, route_to, two_distances, two_kinds, two_tags}
 use Rattle.route_laws.proofs.Alone.{IsAloneAmong, alone_among, no_worse_itself}
 
 -- one of two
@@ -96,10 +96,30 @@ near_alone : IsAloneAmong IsEither near
 near_alone o offered e =
     either (λ x. (x ≡ near) ⊎ (IsNoWorse near x × (IsNoWorse x near → ⊥))) near farther (inl refl) (inr (ByDistance refl refl (omega arith), not_better)) o offered
 
+-- ---- two kinds
+
+abbrev inner : Offer
+inner = offer_of Intra 0 2 0
+
+no_kinder : IsNoWorse between_15 inner → ⊥
+no_kinder (ByKind p) = omega (arith, p)
+no_kinder (ByCost p q) = omega (arith, p)
+no_kinder (ByDistance p q r) = omega (arith, p)
+
+abbrev IsOfKind : Offer → Type 0
+IsOfKind o = Contains two_kinds o
+
+inner_alone : IsAloneAmong IsOfKind inner
+inner_alone o offered e =
+    either (λ x. (x ≡ inner) ⊎ (IsNoWorse inner x × (IsNoWorse x inner → ⊥))) between_15 inner (inr (ByKind (omega arith), no_kinder)) (inl refl) o offered
+
 pub worked : WorkedOffers
 worked = record {
   least_tag = only IsTagged (route_to External1 0 2 3) tagged (λ o t. either (λ x. x.prefix ≡ three.prefix) five three refl refl o t);
   nearer =
       only IsEither (route_to External2 10 2 0) (alone_among IsEither near (first_is near (farther ∷ [])) near_alone)
       (λ o t. either (λ x. x.prefix ≡ near.prefix) near farther refl refl o t);
+  within_first =
+      only IsOfKind (route_to Intra 0 2 0) (alone_among IsOfKind inner (1, omega arith, refl) inner_alone)
+      (λ o t. either (λ x. x.prefix ≡ inner.prefix) between_15 inner refl refl o t);
 }

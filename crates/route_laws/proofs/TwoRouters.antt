@@ -16,7 +16,7 @@ use Rattle.lsa.specs.declared.body.ExternalLsa.{ExternalLsa}
 use Rattle.lsa.specs.declared.body.Link.{Link}
 use Rattle.routes.specs.Candidates.{AreCandidates, IsCandidate, Offers, OffersExternal, external_offer}
 use Rattle.routes.specs.Routes.IsBefore.{ByAddress}
-use Rattle.routes.specs.Candidates.Offers.{External, Within}
+use Rattle.routes.specs.Candidates.Offers.{Between, External, Within}
 use Rattle.routes.specs.Links.{IsRouterLsa, Leads}
 use Rattle.routes.specs.declared.node.Node.TheVariants.{ARouter}
 use Rattle.routes.specs.Offers.{OffersWithin, intra}
@@ -32,6 +32,8 @@ use Rattle.routes.proofs.Lists.{first_is, later_is, of_cons, of_empty}
 use Rattle.route_laws.proofs.Made.{back, from_root, linked, only_one, says}
 use Rattle.routes.specs.Said.{said_at}
 use Rattle.routes.specs.Routes.{IsBefore, IsNoWorse, rank}
+use Rattle.route_laws.proofs.NoSummaries.{is_inside, nothing_between}
+use Rattle.routes.specs.Summaries.IsBoundaryWay.{Inside}
 
 abbrev pub near : ℕ
 near = dotted 1 1 1 1
@@ -241,6 +243,7 @@ is_router (k, body.External e) = false
 
 plain_offers : (o : Offer) → Offers (said_at 0 (database (two_routers []))) near_router o → IsWithin o ⊎ ⊥
 plain_offers o (Within x) = inl (each_within 0 (two_routers []) near_router IsWithin refl (known [] plain_labels) o x)
+plain_offers o (Between x) = absurd (nothing_between 0 (two_routers []) refl near_router o x)
 plain_offers o (External x) = absurd (let e : false ≡ true = all_pass is_router (sayings (two_routers [])) refl (key 5 x.id x.originator, body.External x.lsa) (is_said 0 (two_routers []) _ (body.External x.lsa) x.its) in cc)
 
 within : AreCandidates (said_at 0 (database (two_routers []))) near_router (own_network ∷ next_network ∷ [])
@@ -282,7 +285,7 @@ module _ (t : ExternalType) where
   abroad_is o x =
       let a = which x.id x.originator x.lsa (is_said 0 (two_routers (abroad t)) _ (body.External x.lsa) x.its) in
       let Reaches : ℕ → Type 0 = λ router. IsWay (Leads (said_at 0 (database (two_routers (abroad t)))) near_router) (ARouter near) (ARouter router) x.is_way.boundary in
-      let boundary : far_way ≡ x.is_way.boundary = one_way (Leads (said_at 0 (database (two_routers (abroad t)))) near_router) (ARouter near) (ARouter far) far_way x.is_way.boundary (far_is (abroad t) labels_abroad) (subst Reaches (sym a.originator_is) x.is_way.reaches.reached) in
+      let boundary : far_way ≡ x.is_way.boundary = one_way (Leads (said_at 0 (database (two_routers (abroad t)))) near_router) (ARouter near) (ARouter far) far_way x.is_way.boundary (far_is (abroad t) labels_abroad) (subst Reaches (sym a.originator_is) (is_inside 0 (two_routers (abroad t)) refl near_router x.originator x.is_way.boundary x.is_way.reaches).reached) in
       let direct : x.way ≡ x.is_way.boundary = x.is_way.direct (sym (ap (λ (l : ExternalLsa). l.forwarding) a.lsa_is)) in
       let w : far_way ≡ x.way = boundary ∙ sym direct in
       let p : network_24 203 0 113 ≡ x.prefix =
@@ -292,6 +295,7 @@ module _ (t : ExternalType) where
 
   all_offers : (o : Offer) → Offers (said_at 0 (database (two_routers (abroad t)))) near_router o → IsWithin o ⊎ (abroad_offer t ≡ o)
   all_offers o (Within x) = inl (each_within 0 (two_routers (abroad t)) near_router IsWithin refl (known (abroad t) labels_abroad) o x)
+  all_offers o (Between x) = absurd (nothing_between 0 (two_routers (abroad t)) refl near_router o x)
   all_offers o (External x) = inr (abroad_is o x)
 
   abroad_prefix : (k : ExternalType) → (abroad_offer k).prefix ≡ network_24 203 0 113
@@ -320,7 +324,7 @@ module _ (t : ExternalType) where
     way = far_way;
     is_way = record {
       boundary = far_way;
-      reaches = record { lsa = router_lsa far_links; its = far_says (abroad t) labels_abroad; has_e = refl; reached = far_is (abroad t) labels_abroad };
+      reaches = Inside (record { lsa = router_lsa far_links; its = far_says (abroad t) labels_abroad; has_e = refl; reached = far_is (abroad t) labels_abroad });
       direct = λ _. refl;
       forwarded = λ other. absurd (other refl);
     };

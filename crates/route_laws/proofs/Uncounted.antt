@@ -8,7 +8,7 @@ use Rattle.lsa.specs.declared.body.Body.TheVariants as body
 use Rattle.lsa.specs.declared.body.Link.{Link}
 use Rattle.lsa.specs.declared.body.LinkKind.TheVariants.{PointToPoint}
 use Rattle.routes.specs.Candidates.{IsCandidate, Offers}
-use Rattle.routes.specs.Candidates.Offers.{External, Within}
+use Rattle.routes.specs.Candidates.Offers.{Between, External, Within}
 use Rattle.routes.specs.Links.{IsRouterLsa, Leads, LeadsTo, LinksBack}
 use Rattle.routes.specs.declared.node.Node.{Node}
 use Rattle.routes.specs.declared.node.Node.TheVariants.{ANetwork, ARouter}
@@ -27,6 +27,7 @@ use Rattle.route_laws.proofs.Networks.{AreRising, IsStubKnown, at, each_offer, p
 use Rattle.route_laws.proofs.Parts.{in_front, nobody, one_of}
 use Rattle.routes.specs.Said.{Said, said_at}
 use Rattle.routes.specs.Routes.{IsBefore}
+use Rattle.route_laws.proofs.NoSummaries.{nothing_between}
 
 -- ---- walks that don't leave a set of routers, where there are no networks
 
@@ -189,6 +190,7 @@ is_router (k, body.External e) = false
 
 only_offer : (o : Offer) → Offers said near_router o → offer ≡ o
 only_offer o (Within x) = within o x
+only_offer o (Between x) = absurd (nothing_between 0 uncounted refl near_router o x)
 only_offer o (External x) = absurd (let e : false ≡ true = all_pass is_router (sayings uncounted) refl (key 5 x.id x.originator, body.External x.lsa) (is_said 0 uncounted _ (body.External x.lsa) x.its) in cc)
 
 offered : Offers said near_router offer

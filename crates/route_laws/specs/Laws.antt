@@ -9,19 +9,24 @@ use Rattle.routes.specs.Candidates.{AreCandidates, IsCandidate, Offers}
 use Rattle.routes.specs.Links.{Leads}
 use Rattle.routes.specs.declared.node.Node.{Node}
 use Rattle.routes.specs.declared.node.Node.TheVariants.{ARouter}
-use Rattle.routes.specs.Offers.{Attaches, OffersWithin}
+use Rattle.routes.specs.Offers.{Attaches}
 use Rattle.routes.specs.declared.offer.Offer.{Offer}
 use Rattle.routes.specs.Paths.{IsWalk, IsWay, Step, Way, price_of}
 use Rattle.routes.specs.Tables.{Answers, IsAnswered, IsLetIn, IsStale, IsTable}
 use Rattle.routes.specs.declared.root.Root.{Root}
 use Rattle.routes.specs.Said.{Said}
 use Rattle.routes.specs.Routes.{IsForwarded}
+use Rattle.routes.specs.Summaries.{IsBoundaryWay, OffersInside}
 
 -- ---- one answer
 
 -- a forwarding address has one way
 abbrev pub ForwardingIsDetermined : Type 0
-ForwardingIsDetermined = (said : Said) (root : Root) (address : ℕ) (a b : Way) → IsForwarded (OffersWithin said root) address a → IsForwarded (OffersWithin said root) address b → a ≡ b
+ForwardingIsDetermined = (said : Said) (root : Root) (address : ℕ) (a b : Way) → IsForwarded (OffersInside said root) address a → IsForwarded (OffersInside said root) address b → a ≡ b
+
+-- an AS boundary router has one way, within the area or between areas
+abbrev pub BoundaryWaysAreDetermined : Type 0
+BoundaryWaysAreDetermined = (said : Said) (root : Root) (router : ℕ) (a b : Way) → IsBoundaryWay said root router a → IsBoundaryWay said root router b → a ≡ b
 
 -- a prefix that is offered has a candidate, so that a list of all candidates has a route for it
 abbrev pub EveryOfferHasACandidate : Type 0

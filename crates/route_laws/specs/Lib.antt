@@ -4,3 +4,4 @@ pub mod WorkedExternals
 pub mod WorkedTransit
 pub mod WorkedUncounted
 pub mod WorkedOffers
+pub mod WorkedSummaries

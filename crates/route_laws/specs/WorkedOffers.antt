@@ -3,7 +3,7 @@ use Rattle.std.specs.Prelude.{ℕ, List, [], ◌∷◌}
 use Rattle.std.specs.List.{Contains}
 use Rattle.words.specs.declared.route.Route.{Route}
 use Rattle.words.specs.declared.route.RouteKind.{RouteKind}
-use Rattle.words.specs.declared.route.RouteKind.TheVariants.{External1, External2}
+use Rattle.words.specs.declared.route.RouteKind.TheVariants.{External1, External2, Inter, Intra}
 use Rattle.routes.specs.Routes.{AreRoutesAmong}
 use Rattle.routes.specs.declared.offer.Offer.{Offer}
 use Rattle.route_laws.specs.Worked.{dotted, network_24}
@@ -31,8 +31,17 @@ two_tags = offer_of External1 0 2 5 ∷ offer_of External1 0 2 3 ∷ []
 abbrev pub two_distances : List Offer
 two_distances = offer_of External2 10 2 0 ∷ offer_of External2 20 4 0 ∷ []
 
+-- a network within the area at 20, and between areas at 15
+abbrev pub between_15 : Offer
+between_15 = record (offer_of Inter 0 4 0) { cost = 15 }
+
+abbrev pub two_kinds : List Offer
+two_kinds = between_15 ∷ offer_of Intra 0 2 0 ∷ []
+
 pub record WorkedOffers : Type 0 where
   -- the tag is 3
   pub least_tag : AreRoutesAmong (λ o. Contains two_tags o) (route_to External1 0 2 3 ∷ [])
   -- the nearer one alone
   pub nearer : AreRoutesAmong (λ o. Contains two_distances o) (route_to External2 10 2 0 ∷ [])
+  -- the one within the area, though it is dearer
+  pub within_first : AreRoutesAmong (λ o. Contains two_kinds o) (route_to Intra 0 2 0 ∷ [])

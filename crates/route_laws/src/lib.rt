@@ -2,16 +2,22 @@
 //! (RFC 2328, sections 16.1 and 16.4).
 #![tactic(auto)]
 
-ghost use Rattle.route_laws.specs.Laws.{AnswersToAllAreNotStale, CandidatesAreCheapestWalks, EveryOfferHasACandidate, ForwardingIsDetermined, TablesAreDetermined, TablesArePartsOfCandidates};
+ghost use Rattle.route_laws.specs.Laws.{AnswersToAllAreNotStale, BoundaryWaysAreDetermined, CandidatesAreCheapestWalks, EveryOfferHasACandidate, ForwardingIsDetermined, TablesAreDetermined, TablesArePartsOfCandidates};
 ghost use Rattle.route_laws.specs.Worked.{WorkedSquare, WorkedTwoRouters};
 ghost use Rattle.route_laws.specs.WorkedExternals.{WorkedExternals};
 ghost use Rattle.route_laws.specs.WorkedOffers.{WorkedOffers};
+ghost use Rattle.route_laws.specs.WorkedSummaries.{WorkedSummaries};
 ghost use Rattle.route_laws.specs.WorkedTransit.{WorkedTransit};
 ghost use Rattle.route_laws.specs.WorkedUncounted.{WorkedUncounted};
 
 /// A forwarding address has one distance and one set of next hops (RFC 2328, section 16.4).
 pub fn forwarding_is_determined()
     ensures { ForwardingIsDetermined }
+{}
+
+/// An AS boundary router has one distance and one set of next hops, within the area or by area border routers (RFC 2328, section 16.4).
+pub fn boundary_ways_are_determined()
+    ensures { BoundaryWaysAreDetermined }
 {}
 
 /// A prefix that is offered has a candidate: a list of all candidates has a route for it.
@@ -73,4 +79,10 @@ pub fn worked_uncounted()
 /// metric, at the distances 10 and 20, the nearer one alone (RFC 2328, section 16.4).
 pub fn worked_offers()
     ensures { WorkedOffers }
+{}
+
+/// The candidates where a neighbor tells of a network and of AS boundary routers in other areas, as an area border router and as none; a
+/// boundary router within the area is reached there, though it is told of as nearer (RFC 2328, sections 16.2 and 16.4).
+pub fn worked_summaries()
+    ensures { WorkedSummaries }
 {}

@@ -8,10 +8,11 @@ use Rattle.words.specs.declared.route.RouteKind.TheVariants.{External1, External
 use Rattle.lsa.specs.declared.body.Body.TheVariants as body
 use Rattle.lsa.specs.declared.body.ExternalLsa.{ExternalLsa}
 use Rattle.routes.specs.Links.{Says}
-use Rattle.routes.specs.Offers.{IsPrefix, OffersWithin, ReachesBoundaryRouter}
+use Rattle.routes.specs.Offers.{IsPrefix, OffersWithin}
 use Rattle.routes.specs.Paths.{Way}
 use Rattle.routes.specs.Routes.{AreRoutesAmong, IsBestAmong, IsForwarded, IsRouteAmong}
 use Rattle.routes.specs.Said.{Said}
+use Rattle.routes.specs.Summaries.{IsBoundaryWay, OffersBetween, OffersInside}
 use Rattle.routes.specs.declared.offer.Offer.{Offer}
 use Rattle.routes.specs.declared.root.Root.{Root}
 
@@ -20,9 +21,9 @@ use Rattle.routes.specs.declared.root.Root.{Root}
 -- by the forwarding address, or by the originator where that is 0.0.0.0
 pub record IsExternalWay (said : Said) (root : Root) (originator : ℕ) (lsa : ExternalLsa) (way : Way) : Type 0 where
   pub boundary : Way
-  pub reaches : ReachesBoundaryRouter said root originator boundary
+  pub reaches : IsBoundaryWay said root originator boundary
   pub direct : lsa.forwarding ≡ 0 → way ≡ boundary
-  pub forwarded : lsa.forwarding ≢ 0 → IsForwarded (OffersWithin said root) lsa.forwarding way
+  pub forwarded : lsa.forwarding ≢ 0 → IsForwarded (OffersInside said root) lsa.forwarding way
 
 abbrev pub external_offer : ExternalType → Network → ExternalLsa → ℕ → Way → Offer
 external_offer Type1 prefix lsa originator way =
@@ -48,6 +49,7 @@ pub record OffersExternal (said : Said) (root : Root) (o : Offer) : Type 0 where
 
 pub data Offers (said : Said) (root : Root) (o : Offer) : Type 0 where
   Within : OffersWithin said root o → Offers said root o
+  Between : OffersBetween said root o → Offers said root o
   External : OffersExternal said root o → Offers said root o
 
 abbrev pub IsBest : Said → Root → Network → Offer → Type 0

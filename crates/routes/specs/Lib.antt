@@ -3,6 +3,7 @@ pub mod Paths
 pub mod Links
 pub mod Routes
 pub mod Offers
+pub mod Summaries
 pub mod Candidates
 pub mod Tables
 pub mod Laws

@@ -1,0 +1,5 @@
+use Rattle.route_laws.proofs.Forwarding.{boundary}
+use Rattle.route_laws.proofs.boundary_ways_are_determined.Goals as goal
+
+pub returns : goal.returns
+returns c = boundary

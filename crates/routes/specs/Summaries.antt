@@ -1,0 +1,75 @@
+-- What area border routers tell of other areas (RFC 2328, sections 16.2 and 16.4): networks, and AS boundary routers.
+use Rattle.std.specs.Prelude.{◌≡◌, ◌≢◌, ℕ, ◌+◌, ◌<◌, ◌≤◌, ◌↔◌, ◌⊎◌, IsTrue, bit_and}
+use Rattle.words.specs.Interfaces.{has_interface}
+use Rattle.words.specs.Prefixes.{Network}
+use Rattle.words.specs.declared.key.Key.{Key}
+use Rattle.words.specs.declared.route.RouteKind.TheVariants.{Inter}
+use Rattle.lsa.specs.declared.body.Body.TheVariants as body
+use Rattle.lsa.specs.declared.body.RouterLsa.{RouterLsa}
+use Rattle.lsa.specs.declared.body.SummaryLsa.{SummaryLsa}
+use Rattle.routes.specs.Links.{IsRouterLsa, Leads, Says}
+use Rattle.routes.specs.Offers.{IsPrefix, OffersWithin, ReachesBoundaryRouter}
+use Rattle.routes.specs.Paths.{IsWay, Way}
+use Rattle.routes.specs.Said.{Said}
+use Rattle.routes.specs.declared.node.Node.TheVariants.{ARouter}
+use Rattle.routes.specs.declared.offer.Offer.{Offer}
+use Rattle.routes.specs.declared.root.Root.{Root}
+
+-- the router is reachable, and its flags have B
+pub record ReachesBorderRouter (said : Said) (root : Root) (router : ℕ) (way : Way) : Type 0 where
+  pub lsa : RouterLsa
+  pub its : IsRouterLsa said router lsa
+  pub has_b : bit_and lsa.flags 1 ≡ 1
+  pub reached : IsWay (Leads said root) (ARouter root.router) (ARouter router) way
+
+-- a summary of a metric below LSInfinity, of another router, which is an area border router that is reached by this way
+pub record CountsAsSummary (said : Said) (root : Root) (originator : ℕ) (lsa : SummaryLsa) (border : Way) : Type 0 where
+  pub reachable : lsa.metric < 16777215
+  pub of_another : originator ≢ root.router
+  pub reaches : ReachesBorderRouter said root originator border
+
+abbrev pub summary_key : ℕ → ℕ → ℕ → Key
+summary_key ls_type id originator = record { ls_type = ls_type; link_state_id = id; advertising_router = originator }
+
+-- ---- networks (section 16.2)
+
+abbrev pub inter : Network → ℕ → ℕ → Offer
+inter prefix cost hops = record { prefix = prefix; kind = Inter; cost = cost; distance = 0; hops = hops; tag = 0; originator = 0 }
+
+pub record OffersBetween (said : Said) (root : Root) (o : Offer) : Type 0 where
+  pub id : ℕ
+  pub originator : ℕ
+  pub lsa : SummaryLsa
+  pub its : Says said (summary_key 3 id originator) (body.NetworkSummary lsa)
+  pub border : Way
+  pub counts : CountsAsSummary said root originator lsa border
+  pub prefix : Network
+  pub is_prefix : IsPrefix id lsa.mask prefix
+  pub is : o ≡ inter prefix (border.distance + lsa.metric) border.hops
+
+-- what a forwarding address may lead by
+abbrev pub OffersInside : Said → Root → Offer → Type 0
+OffersInside said root o = OffersWithin said root o ⊎ OffersBetween said root o
+
+-- ---- AS boundary routers (section 16.4)
+
+-- an area border router tells of a way of this cost to the router
+pub record IsToldOf (said : Said) (root : Root) (router distance : ℕ) (border : Way) : Type 0 where
+  pub originator : ℕ
+  pub lsa : SummaryLsa
+  pub its : Says said (summary_key 4 router originator) (body.RouterSummary lsa)
+  pub counts : CountsAsSummary said root originator lsa border
+  pub is : distance ≡ border.distance + lsa.metric
+
+-- the least of those ways, with the next hops of all of its cost
+pub record IsWayBetween (said : Said) (root : Root) (router : ℕ) (way : Way) : Type 0 where
+  pub border : Way
+  pub told : IsToldOf said root router way.distance border
+  pub least : (distance : ℕ) (other : Way) → IsToldOf said root router distance other → way.distance ≤ distance
+  pub hops : (interface : ℕ) → IsTrue (has_interface way.hops interface)
+      ↔ ((other : Way) × IsToldOf said root router way.distance other × IsTrue (has_interface other.hops interface))
+
+-- within the area where there is such a way, else between areas
+pub data IsBoundaryWay (said : Said) (root : Root) (router : ℕ) (way : Way) : Type 0 where
+  Inside : ReachesBoundaryRouter said root router way → IsBoundaryWay said root router way
+  Outside : ((other : Way) → ReachesBoundaryRouter said root router other → ⊥) → IsWayBetween said root router way → IsBoundaryWay said root router way
