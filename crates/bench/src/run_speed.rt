@@ -8,10 +8,8 @@ use interp::run_checked;
 use isa::{Code, Hook, decode};
 use machine::Input;
 use maps::{Seat, Shared};
-use std::alloc::Global;
 use std::rt::Clock;
 use std::time::Instant;
-use words::Sequence;
 
 /// More than any program here takes.
 const LIMIT: u64 = 10_000_000;
@@ -40,11 +38,11 @@ fn repeat(code: &Code, input: &Input, shared: &Shared, seat: &mut Seat, rounds: 
 }
 
 /// An input of zeros with no packet and no table rows.
-fn empty_input(alloc: Global) -> Input {
+fn empty_input() -> Input<'static> {
     Input {
         context: [0; 64],
-        packet: Sequence::from_vec(Vec::new(alloc)),
-        rows: Sequence::from_vec(Vec::new(alloc)),
+        packet: &[],
+        rows: &[],
     }
 }
 
@@ -58,7 +56,7 @@ pub fn measure<R: Clock + Print + AllocGlobal>(
 ) -> Result<u128> {
     let alloc = rt.alloc();
     let code = decode(alloc, bytes).map_err(|_| anyhow!("the code of {what} isn't decoded"))?;
-    let input = empty_input(alloc);
+    let input = empty_input();
     let (shared, mut seats) = Shared::new(alloc, 1)?;
     let Some(mut seat) = seats.pop() else {
         return Ok(0);

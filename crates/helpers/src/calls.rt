@@ -1,7 +1,7 @@
 //! Calls of helpers by number, with every test that the machine asks for.
 ghost use Rattle.std.specs.Prelude.{◌≡◌, ◌<◌, ℕ, [], ◌∷◌, IfOk, IfErr, OnErr, Some};
 ghost use Rattle.machine.specs.declared.helper.Helper.TheVariants.{CounterAdd, CounterRead, PacketByte, TableCost};
-ghost use Rattle.machine.specs.declared.input.Input.{Input};
+ghost use Rattle.machine.specs.Given.{Given, given_by};
 ghost use Rattle.machine.specs.declared.state.Content.TheVariants.{Number};
 ghost use Rattle.machine.specs.Helpers.{helper_of, Answers, Answered};
 ghost use Rattle.machine.specs.Label.{Label, Silent};
@@ -50,7 +50,7 @@ fn call_counter_add(
 ) -> Result<u64, Fault>
     requires table { IsOf shared.now seat.old }
     ensures ok { IfOk result (λ answer. (label : Label) × Makes seat.old (label ∷ []) seat.new
-        × ((input : Input) → Answers CounterAdd input (first ∷ second ∷ []) label answer)) }
+        × ((input : Given) → Answers CounterAdd input (first ∷ second ∷ []) label answer)) }
     ensures err { IfErr result (λ fault. fault_of_call (Some CounterAdd) first second ≡ Some fault) }
     ensures unchanged { OnErr result (seat.new ≡ seat.old) }
 {
@@ -69,7 +69,7 @@ fn call_counter_read(
 ) -> Result<u64, Fault>
     requires table { IsOf shared.now seat.old }
     ensures ok { IfOk result (λ answer. (label : Label) × Makes seat.old (label ∷ []) seat.new
-        × ((input : Input) → Answers CounterRead input (first ∷ []) label answer)) }
+        × ((input : Given) → Answers CounterRead input (first ∷ []) label answer)) }
     ensures err { IfErr result (λ fault. fault_of_call (Some CounterRead) first second ≡ Some fault) }
     ensures unchanged { OnErr result (seat.new ≡ seat.old) }
 {
@@ -81,7 +81,7 @@ fn call_counter_read(
 }
 
 fn call_packet_byte(first: Content, second: Content, input: &Input) -> Result<u64, Fault>
-    ensures ok { IfOk result (λ answer. Answers PacketByte input.now (first ∷ []) Silent answer) }
+    ensures ok { IfOk result (λ answer. Answers PacketByte (given_by input.now) (first ∷ []) Silent answer) }
     ensures err { IfErr result (λ fault. fault_of_call (Some PacketByte) first second ≡ Some fault) }
 {
     let offset = number_in(first)?;
@@ -89,7 +89,7 @@ fn call_packet_byte(first: Content, second: Content, input: &Input) -> Result<u6
 }
 
 fn call_table_cost(first: Content, second: Content, input: &Input) -> Result<u64, Fault>
-    ensures ok { IfOk result (λ answer. Answers TableCost input.now (first ∷ second ∷ []) Silent answer) }
+    ensures ok { IfOk result (λ answer. Answers TableCost (given_by input.now) (first ∷ second ∷ []) Silent answer) }
     ensures err { IfErr result (λ fault. fault_of_call (Some TableCost) first second ≡ Some fault) }
 {
     let (prefix, length) = numbers_in(first, second)?;
@@ -114,7 +114,7 @@ pub fn call(
 ) -> Result<u64, Fault>
     requires table { IsOf shared.now seat.old }
     ensures ok { IfOk result (λ answer. (label : Label) × Makes seat.old (label ∷ []) seat.new
-        × Answered hook number first second input.now label answer) }
+        × Answered hook number first second (given_by input.now) label answer) }
     ensures err { IfErr result (λ fault. fault_of_call (helper_of hook number) first second ≡ Some fault) }
     ensures unchanged { OnErr result (seat.new ≡ seat.old) }
 {

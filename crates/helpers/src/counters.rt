@@ -1,7 +1,7 @@
 //! The steps that a program makes on the shared words, with the label of each.
 ghost use Rattle.std.specs.Prelude.{◌≡◌, ◌<◌, ◌^◌, ℕ, [], ◌∷◌};
 ghost use Rattle.machine.specs.declared.helper.Helper.TheVariants.{CounterAdd, CounterRead};
-ghost use Rattle.machine.specs.declared.input.Input.{Input};
+ghost use Rattle.machine.specs.Given.{Given};
 ghost use Rattle.machine.specs.declared.state.Content.TheVariants.{Number};
 ghost use Rattle.machine.specs.Helpers.{Answers};
 ghost use Rattle.machine.specs.Label.{Label, Read, Cell, SetCell};
@@ -17,7 +17,7 @@ pub fn counter_add(shared: &Shared, seat: &mut Seat, counter: u64, amount: u64) 
     requires counter { counter < 256 }
     requires amount { amount < 2 ^ 24 }
     ensures { (label : Label) × Makes seat.old (label ∷ []) seat.new
-        × ((input : Input) → Answers CounterAdd input (Number counter ∷ Number amount ∷ []) label result) }
+        × ((input : Given) → Answers CounterAdd input (Number counter ∷ Number amount ∷ []) label result) }
 {
     shared.add(seat, counter as usize, amount)
 }
@@ -27,7 +27,7 @@ pub fn counter_read(shared: &Shared, seat: &mut Seat, counter: u64) -> u64
     requires table { IsOf shared.now seat.old }
     requires counter { counter < 256 }
     ensures made { Makes seat.old (Read counter result ∷ []) seat.new }
-    ensures answers { (input : Input) → Answers CounterRead input (Number counter ∷ []) (Read counter result) result }
+    ensures answers { (input : Given) → Answers CounterRead input (Number counter ∷ []) (Read counter result) result }
 {
     shared.read(seat, counter as usize)
 }

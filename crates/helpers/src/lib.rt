@@ -8,6 +8,3 @@ mod lookups;
 pub use calls::call;
 pub use counters::{cell_read, cell_write, counter_add, counter_read};
 pub use lookups::{packet_byte, table_cost};
-
-#[cfg(test)]
-mod tests;

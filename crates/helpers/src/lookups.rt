@@ -1,5 +1,6 @@
 //! The helpers that answer by the input alone.
 ghost use Rattle.std.specs.Prelude.{◌≡◌, ◌≤◌, ◌^◌, slice_index_or};
+ghost use Rattle.machine.specs.Given.{given_by};
 ghost use Rattle.machine.specs.Helpers.{is_row_of, table_cost};
 
 use machine::{Input, TableRow};
@@ -12,11 +13,10 @@ const NO_ROW: u64 = 1 << 32;
 
 /// The byte of the packet at an offset, or 256 past its end.
 pub fn packet_byte(input: &Input, offset: u64) -> u64
-    ensures byte { result ≡ slice_index_or input.now.packet offset 256 }
+    ensures byte { result ≡ slice_index_or (given_by input.now).packet offset 256 }
     ensures within { result ≤ 256 }
 {
-    let packet = input.packet.as_slice();
-    match packet.get(offset as usize) {
+    match input.packet.get(offset as usize) {
         Some(byte) => u64::from(*byte),
         None => PAST_THE_END,
     }
@@ -31,10 +31,10 @@ fn is_row_of(prefix: u64, length: u64, row: &TableRow) -> bool
 /// The cost of the first row with exactly this prefix and length, or 2^32 where there is none: so also where the
 /// length is above 32 or a host bit is set.
 pub fn table_cost(input: &Input, prefix: u64, length: u64) -> u64
-    ensures cost { result ≡ table_cost input.now.rows prefix length }
+    ensures cost { result ≡ table_cost (given_by input.now).rows prefix length }
     ensures within { result ≤ 2 ^ 32 }
 {
-    for row in input.rows.as_slice() {
+    for row in input.rows {
         if is_row_of(prefix, length, row) {
             return u64::from(row.cost);
         }

@@ -1,6 +1,7 @@
 //! Instructions that choose the next slot.
 ghost use Rattle.std.specs.Prelude.{◌≡◌, ◌<◌, [], ◌∷◌, OnOk, OnErr, IfOk, IfErr, Some};
 ghost use Rattle.machine.specs.declared.state.Content.TheVariants.{Number};
+ghost use Rattle.machine.specs.Given.{given_by};
 ghost use Rattle.machine.specs.State.{Setting, held, operand};
 ghost use Rattle.machine.specs.Label.{Label, Silent};
 ghost use Rattle.machine.specs.Steps.{Branches, tested};
@@ -67,7 +68,7 @@ pub(crate) fn call(
 ) -> Result<(), Fault>
     requires slot { state.old.slot < 4096 }
     requires table { IsOf shared.now seat.old }
-    ensures ok { OnOk result ((label : Label) × CallsInto hook number input.now state.old label state.new × Makes seat.old (label ∷ []) seat.new) }
+    ensures ok { OnOk result ((label : Label) × CallsInto hook number (given_by input.now) state.old label state.new × Makes seat.old (label ∷ []) seat.new) }
     ensures err { IfErr result (λ fault. fault_of_call (helper_of hook number) (held state.old 1) (held state.old 2) ≡ Some fault) }
     ensures unchanged { OnErr result (seat.new ≡ seat.old) }
 {

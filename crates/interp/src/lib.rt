@@ -16,6 +16,3 @@ mod trap;
 
 pub use run::{Run, run_checked};
 pub use trap::Trap;
-
-#[cfg(test)]
-mod tests;

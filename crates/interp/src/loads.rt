@@ -3,7 +3,7 @@ ghost use Rattle.std.specs.Prelude.{◌≡◌, ◌≢◌, ℕ, ◌+◌, ◌<◌,
 ghost use Rattle.machine.specs.declared.state.Content.{Content};
 ghost use Rattle.machine.specs.declared.state.Pointer.{Pointer};
 ghost use Rattle.machine.specs.declared.state.Pointer.TheVariants as pointers;
-ghost use Rattle.machine.specs.declared.input.Input.{Input};
+ghost use Rattle.machine.specs.Given.{Given, given_by};
 ghost use Rattle.machine.specs.State.{held, filled};
 ghost use Rattle.machine.specs.Label.{Label, Silent};
 ghost use Rattle.machine.specs.Memory.{Loads, StackGives, load_length, number_of, loaded};
@@ -25,7 +25,7 @@ fn load_context(
     input: &Input,
 ) -> Result<(), Fault>
     requires { state.old.slot < 4096 }
-    ensures ok { OnOk result (LoadsInto size (pointers.Context at) input.now target state.old Silent state.new) }
+    ensures ok { OnOk result (LoadsInto size (pointers.Context at) (given_by input.now) target state.old Silent state.new) }
     ensures err { IfErr result (λ fault. fault_of_load state.old size (pointers.Context at) target ≡ Some fault) }
 {
     let length = pieces::load_length(size);
@@ -44,7 +44,7 @@ fn load_context(
 
 /// What a load from the stack finds.
 fn stack_content(state: &State, size: LoadSize, at: u64) -> Result<Content, Fault>
-    ensures ok { IfOk result (λ content. (input : Input) → Loads size (pointers.Stack at) input state.now Silent content) }
+    ensures ok { IfOk result (λ content. (input : Given) → Loads size (pointers.Stack at) input state.now Silent content) }
     ensures err { IfErr result (λ fault. (target : ℕ) → fault_of_load state.now size (pointers.Stack at) target ≡ Some fault) }
 {
     let length = pieces::load_length(size);
@@ -70,7 +70,7 @@ fn stack_content(state: &State, size: LoadSize, at: u64) -> Result<Content, Faul
 /// A load from the stack.
 fn load_stack(state: &mut State, size: LoadSize, target: Register, at: u64) -> Result<(), Fault>
     requires { state.old.slot < 4096 }
-    ensures ok { OnOk result ((input : Input) → LoadsInto size (pointers.Stack at) input target state.old Silent state.new) }
+    ensures ok { OnOk result ((input : Given) → LoadsInto size (pointers.Stack at) input target state.old Silent state.new) }
     ensures err { IfErr result (λ fault. fault_of_load state.old size (pointers.Stack at) target ≡ Some fault) }
 {
     let content = stack_content(state, size, at)?;
@@ -104,7 +104,7 @@ fn load_map(
 ) -> Result<(), Fault>
     requires slot { state.old.slot < 4096 }
     requires table { IsOf shared.now seat.old }
-    ensures ok { OnOk result ((label : Label) × ((input : Input) → LoadsInto size (pointers.Map map at) input target state.old label state.new) × Makes seat.old (label ∷ []) seat.new) }
+    ensures ok { OnOk result ((label : Label) × ((input : Given) → LoadsInto size (pointers.Map map at) input target state.old label state.new) × Makes seat.old (label ∷ []) seat.new) }
     ensures err { IfErr result (λ fault. fault_of_load state.old size (pointers.Map map at) target ≡ Some fault) }
     ensures unchanged { OnErr result (seat.new ≡ seat.old) }
 {
@@ -138,7 +138,7 @@ fn load_at(
 ) -> Result<(), Fault>
     requires slot { state.old.slot < 4096 }
     requires table { IsOf shared.now seat.old }
-    ensures ok { OnOk result ((label : Label) × LoadsInto size pointer input.now target state.old label state.new × Makes seat.old (label ∷ []) seat.new) }
+    ensures ok { OnOk result ((label : Label) × LoadsInto size pointer (given_by input.now) target state.old label state.new × Makes seat.old (label ∷ []) seat.new) }
     ensures err { IfErr result (λ fault. fault_of_load state.old size pointer target ≡ Some fault) }
     ensures unchanged { OnErr result (seat.new ≡ seat.old) }
 {
@@ -162,7 +162,7 @@ pub(crate) fn load(
 ) -> Result<(), Fault>
     requires slot { state.old.slot < 4096 }
     requires table { IsOf shared.now seat.old }
-    ensures ok { OnOk result ((label : Label) × LoadsFrom size base offset input.now target state.old label state.new × Makes seat.old (label ∷ []) seat.new) }
+    ensures ok { OnOk result ((label : Label) × LoadsFrom size base offset (given_by input.now) target state.old label state.new × Makes seat.old (label ∷ []) seat.new) }
     ensures err { IfErr result (λ fault. fault_of_base_load state.old size (held state.old base) offset target ≡ Some fault) }
     ensures unchanged { OnErr result (seat.new ≡ seat.old) }
 {

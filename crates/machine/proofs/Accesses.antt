@@ -14,7 +14,7 @@ use Rattle.machine.specs.declared.state.Pointer.TheVariants as pointers
 use Rattle.machine.specs.declared.state.StackByte.{StackByte}
 use Rattle.machine.specs.declared.state.State.{State}
 use Rattle.machine.specs.Label.{Label}
-use Rattle.machine.specs.declared.input.Input.{Input}
+use Rattle.machine.specs.Given.{Given}
 use Rattle.machine.specs.Memory.{Loads, Stores, StackGives, is_within, load_length, store_length}
 use Rattle.machine.specs.Helpers.{Answers, arguments}
 use Rattle.machine.specs.Faults.{has, is_nothing, is_address, is_nothing_byte, is_word_load, is_word_store, is_readable, stack_bytes_found, is_misaligned, is_misplaced, passes_too_much, exceeds}
@@ -31,7 +31,7 @@ stack_full : (size : LoadSize) (bytes : List StackByte) (content : Content) → 
 stack_full size bytes content (inl (xs, e, _)) = (rw e (no_nothing_of_bytes xs), rw (e, bytes_of_bytes xs) refl)
 stack_full size bytes content (inr (p, word, e, _)) = (rw e refl, rw (e, word, whole_pieces p) refl)
 
-pub loads_clean : (size : LoadSize) (q : Pointer) (input : Input) (s : State) (label : Label) (content : Content)
+pub loads_clean : (size : LoadSize) (q : Pointer) (input : Given) (s : State) (label : Label) (content : Content)
     → Loads size q input s label content → Readable s size q
 loads_clean size (pointers.Context a) input s label content h = record {
   full = refl;
@@ -97,7 +97,7 @@ pub record Callable (helper : Helper) (first second : Content) : Type 0 where
   pub numbers : has is_address (arguments helper first second) ≡ false
   pub small : passes_too_much (Some helper) first second ≡ false
 
-module _ (input : Input) (label : Label) (n : ℕ) where
+module _ (input : Given) (label : Label) (n : ℕ) where
   add_clean : (a b : Content) → Answers helpers.CounterAdd input (a ∷ b ∷ []) label n
       → (has is_nothing (a ∷ b ∷ []) ≡ false) × (has is_address (a ∷ b ∷ []) ≡ false) × ((exceeds 255 a || exceeds 16777215 b) ≡ false)
   add_clean (Number a) (Number b) h = (refl, refl, rw (le-leb a 255 (omega (arith, h.0)), le-leb b 16777215 (omega (arith, h.1))) refl)
@@ -126,7 +126,7 @@ module _ (input : Input) (label : Label) (n : ℕ) where
   cost_clean (Number a) Nothing h = elim h [ ]
   cost_clean (Number a) (Address p) h = elim h [ ]
 
-pub answers_clean : (helper : Helper) (input : Input) (first second : Content) (label : Label) (n : ℕ)
+pub answers_clean : (helper : Helper) (input : Given) (first second : Content) (label : Label) (n : ℕ)
     → Answers helper input (arguments helper first second) label n → Callable helper first second
 answers_clean helpers.CounterAdd input a b label n h = let c = add_clean input label n a b h in record { full = c.0; numbers = c.1; small = c.2 }
 answers_clean helpers.CounterRead input a b label n h = let c = read_clean input label n a h in record { full = c.0; numbers = c.1; small = c.2 }

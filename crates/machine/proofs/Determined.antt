@@ -5,7 +5,7 @@ use Rattle.isa.specs.declared.instruction.StoreSize.{StoreSize}
 use Rattle.isa.specs.declared.instruction.Instruction.{Instruction}
 use Rattle.isa.specs.declared.instruction.Instruction.TheVariants as instructions
 use Rattle.machine.specs.declared.helper.Helper.{Helper}
-use Rattle.machine.specs.declared.input.Input.{Input}
+use Rattle.machine.specs.Given.{Given}
 use Rattle.machine.specs.declared.helper.Helper.TheVariants as helpers
 use Rattle.machine.specs.declared.state.Content.{Content}
 use Rattle.machine.specs.declared.state.Content.TheVariants.{Nothing, Number, Address}
@@ -39,7 +39,7 @@ same_found size bytes c d (inl (xs, e, f)) (inr (p, w, g, h)) = absurd (no_piece
 same_found size bytes c d (inr (p, w, g, h)) (inl (xs, e, f)) = absurd (no_pieces xs p (sym e ∙ g))
 same_found size bytes c d (inr (p, w, g, h)) (inr (q, v, k, l)) = let same : pieces p ≡ pieces q = sym g ∙ k in cc
 
-loads_one : (size : LoadSize) (q : Pointer) (input : Input) (s : State) (label : Label) (c d : Content)
+loads_one : (size : LoadSize) (q : Pointer) (input : Given) (s : State) (label : Label) (c d : Content)
     → Loads size q input s label c → Loads size q input s label d → c ≡ d
 loads_one size (pointers.Context a) input s label c d (_, _, m, e, _, h) (_, _, n, f, _, k) = let same : m ≡ n = e ∙ sym f in rw (h, k, same) refl
 loads_one size (pointers.Stack a) input s label c d (_, _, h) (_, _, k) = same_found size _ c d h k
@@ -57,7 +57,7 @@ stores_one size (pointers.Map Counters o) content s label a b h k = elim h [ ]
 stores_one size (pointers.Map Cells o) Nothing s label a b h k = elim h [ ]
 stores_one size (pointers.Map Cells o) (Address p) s label a b h k = elim h [ ]
 
-module _ (input : Input) (label : Label) (m n : ℕ) where
+module _ (input : Given) (label : Label) (m n : ℕ) where
   add_one_answer : (a b : Content) → Answers helpers.CounterAdd input (a ∷ b ∷ []) label m → Answers helpers.CounterAdd input (a ∷ b ∷ []) label n → m ≡ n
   add_one_answer (Number a) (Number b) (_, _, inl (e, f)) (_, _, inl (g, h)) = f ∙ sym h
   add_one_answer (Number a) (Number b) (_, _, inr (e, f)) (_, _, inr (g, h)) = f ∙ sym h
@@ -85,7 +85,7 @@ module _ (input : Input) (label : Label) (m n : ℕ) where
   cost_one_answer (Number a) Nothing h k = elim h [ ]
   cost_one_answer (Number a) (Address p) h k = elim h [ ]
 
-one_answer : (helper : Helper) (input : Input) (a b : Content) (label : Label) (m n : ℕ)
+one_answer : (helper : Helper) (input : Given) (a b : Content) (label : Label) (m n : ℕ)
     → Answers helper input (arguments helper a b) label m → Answers helper input (arguments helper a b) label n → m ≡ n
 one_answer helpers.CounterAdd input a b label m n h k = add_one_answer input label m n a b h k
 one_answer helpers.CounterRead input a b label m n h k = read_one_answer input label m n a h k

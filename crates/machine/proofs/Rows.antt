@@ -1,12 +1,12 @@
 -- Worked examples of runs.
 use Rattle.std.proofs.Common.{[], ◌∷◌, refl, inl, arith, lit<}
 use Rattle.machine.specs.declared.helper.Helper.TheVariants.{CounterAdd}
-use Rattle.machine.specs.declared.input.Input.{Input}
+use Rattle.machine.specs.Given.{Given}
 use Rattle.machine.specs.Label.{Silent, Add}
 use Rattle.machine.specs.Runs.{Ends}
 use Rattle.machine.specs.Laws.{adding}
 
-pub adding-ends : (input : Input) → Ends (adding input) 4 (Silent ∷ Silent ∷ Add 5 3 ∷ []) 0
+pub adding-ends : (input : Given) → Ends (adding input) 4 (Silent ∷ Silent ∷ Add 5 3 ∷ []) 0
 adding-ends input = record {
   last = _;
   steps = refl;

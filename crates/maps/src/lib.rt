@@ -31,6 +31,3 @@ pub const SEATS: usize = 64;
 
 /// The most adds of one seat.
 pub const ADDS: u64 = 1 << 31;
-
-#[cfg(test)]
-mod tests;

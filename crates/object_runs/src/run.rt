@@ -1,5 +1,6 @@
 //! One run of an object file.
 ghost use Rattle.std.specs.Prelude.{◌≡◌, IfOk, IfErr, OnErr};
+ghost use Rattle.machine.specs.Given.{given_by};
 ghost use Rattle.maps.specs.Words.{IsOf};
 ghost use Rattle.object_runs.specs.ObjectRuns.{RunsObject, Refuses};
 
@@ -27,7 +28,7 @@ pub fn run_object(
     seat: &mut Seat,
 ) -> Result<Result<Run, Trap>, RunError>
     requires { IsOf shared.now seat.old }
-    ensures runs { IfOk result (λ outcome. RunsObject bytes.now limit input.now seat.old outcome seat.new) }
+    ensures runs { IfOk result (λ outcome. RunsObject bytes.now limit (given_by input.now) seat.old outcome seat.new) }
     ensures table { IsOf shared.now seat.new }
     ensures refuses { IfErr result (Refuses bytes.now) }
     ensures same { OnErr result (seat.new ≡ seat.old) }

@@ -1,6 +1,6 @@
 -- What is told of one run of an object's program.
 use Rattle.std.specs.Prelude.{◌≡◌, ℕ, ◌⊎◌, List, [], ◌∷◌, ◌++◌, codes, decimal, string_bytes, Result, Ok, Err, is_err}
-use Rattle.machine.specs.declared.input.Input.{Input}
+use Rattle.machine.specs.Given.{Given}
 use Rattle.maps.specs.Words.{SeatView, fresh}
 use Rattle.interp.specs.declared.run.Run.{Run}
 use Rattle.interp.specs.declared.trap.Trap.{Trap}
@@ -18,12 +18,12 @@ outcome_line (Ok run) = codes "answer " ++ (decimal run.answer ++ (codes " used 
 outcome_line (Err trap) = codes "trap " ++ decimal (trap_number trap) ++ 10 ∷ []
 
 -- no table rows
-abbrev pub input_of : List ℕ → List ℕ → Input
+abbrev pub input_of : List ℕ → List ℕ → Given
 input_of context packet = record { context = context; packet = packet; rows = [] }
 
 -- A seat of a table of one seat, that had done nothing, ran the program of the object file that the bytes are once on the input, for as
 -- many instructions as its object allows, with this end.
-pub record Ran (bytes : List ℕ) (input : Input) (outcome : Result Run Trap) : Type 0 where
+pub record Ran (bytes : List ℕ) (input : Given) (outcome : Result Run Trap) : Type 0 where
   pub seat : SeatView
   pub unused : seat ≡ fresh seat.table 0
   pub seat_after : SeatView

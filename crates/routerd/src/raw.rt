@@ -2,6 +2,7 @@
 
 ghost use Rattle.std.specs.Prelude.{◌≡◌, ◌++◌, ◌⊎◌, ℕ, List, length, map, IfOk, IfErr, OnOk, string_bytes, is_err};
 ghost use Rattle.std.specs.List.{All, list_any};
+ghost use Rattle.machine.specs.Given.{given_by};
 ghost use Rattle.routerd.specs.RawRuns.{EachRan, IsBareRefused, IsRawReport, Ran, counter_line, counter_lines, seat_line, seat_lines};
 
 use crate::fault::Fault;
@@ -15,7 +16,6 @@ use object_runs::MOST_INSTRUCTIONS;
 use std::alloc::{AllocError, Global};
 use std::rt::Files;
 use std::thread::{Threads, map_vec};
-use words::Sequence;
 
 /// A seat after its run, and how the run ended.
 #[derive(Drop)]
@@ -36,7 +36,7 @@ fn run_each<R: Threads + Sync>(
     requires { All (λ s. s.table ≡ shared.now.table) seats.items }
     ensures len { IfOk result (λ v. length v.items ≡ length seats.items) }
     ensures table { IfOk result (λ v. All (λ f. f.seat.table ≡ shared.now.table) v.items) }
-    ensures ran { IfOk result (λ v. EachRan (record { code = code.now; hook = hook; input = input.now }) seats.items v.items) }
+    ensures ran { IfOk result (λ v. EachRan (record { code = code.now; hook = hook; input = given_by input.now }) seats.items v.items) }
 {
     map_vec(
         rt,
@@ -44,7 +44,7 @@ fn run_each<R: Threads + Sync>(
         &|seat: Seat| -> Finished
             requires { seat.table ≡ shared.now.table }
             ensures table { result.seat.table ≡ shared.entry.now.table }
-            ensures ran { Ran (record { code = code.entry.now; hook = hook; input = input.entry.now }) seat result }
+            ensures ran { Ran (record { code = code.entry.now; hook = hook; input = given_by input.entry.now }) seat result }
         {
             let mut seat = seat;
             let outcome = run_checked(code, hook, MOST_INSTRUCTIONS, input, shared, &mut seat);
@@ -149,8 +149,8 @@ pub fn raw<'a, R: Files + AllocGlobal + Threads + Sync>(
     let (shared, seats) = Shared::new(alloc, seats)?;
     let input = Input {
         context: [0; 64],
-        packet: Sequence::from_vec(Vec::new(alloc)),
-        rows: Sequence::from_vec(Vec::new(alloc)),
+        packet: &[],
+        rows: &[],
     };
     let finished = run_each(rt, &code, hook, &input, &shared, seats)?;
     let mut text = String::new(alloc);

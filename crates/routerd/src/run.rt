@@ -1,6 +1,7 @@
 //! One run of an object's program.
 
 ghost use Rattle.std.specs.Prelude.{◌≡◌, ◌⊎◌, List, ℕ, IfOk, IfErr, string_bytes};
+ghost use Rattle.machine.specs.Given.{given_by};
 ghost use Rattle.routerd.specs.Runs.{IsRun, IsRunFault, Ran, outcome_line};
 
 use crate::fault::Fault;
@@ -12,7 +13,6 @@ use maps::Shared;
 use object_runs::{Limit, run_object};
 use std::alloc::{AllocError, Global};
 use std::rt::Files;
-use words::Sequence;
 
 fn text_of(alloc: Global, outcome: Result<Run, Trap>) -> Result<String, AllocError>
     ensures { IfOk result (λ text. string_bytes text ≡ outcome_line outcome) }
@@ -36,7 +36,7 @@ fn outcome_of<'a>(
     bytes: &[u8],
     input: &Input,
 ) -> Result<Result<Run, Trap>, Fault<'a>>
-    ensures run { IfOk result (Ran bytes.now input.now) }
+    ensures run { IfOk result (Ran bytes.now (given_by input.now)) }
     ensures fault { IfErr result (IsRunFault bytes.now) }
 {
     let (shared, mut seats) = Shared::new(alloc, 1)?;
@@ -60,8 +60,8 @@ fn run_of<'a>(
 {
     let input = Input {
         context,
-        packet: Sequence::from_vec(packet),
-        rows: Sequence::from_vec(Vec::new(alloc)),
+        packet: packet.as_slice(),
+        rows: &[],
     };
     let outcome = outcome_of(alloc, bytes, &input)?;
     Ok(Report {

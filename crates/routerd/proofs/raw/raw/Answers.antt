@@ -1,7 +1,6 @@
 use Rattle.std.proofs.Common.{rules, ◌≡◌, ℕ, ◌<◌, List, [], length, replicate, get_or, slice_index_or, ap, subst, ◌∙◌, arith}
 use Rattle.std.specs.List.{sum_by}
 use Rattle.std.proofs.lemmas.List.FromFn.{length-map-range_with_len, get_or-map-range_with_len}
-use Rattle.words.specs.declared.route.TableRow.{TableRow}
 use Rattle.maps.specs.Access.{adds_to}
 use Rattle.maps.specs.Words.{SeatView, fresh}
 use Rattle.routerd.specs.RawRuns.{Ran, setting_of}
@@ -27,8 +26,6 @@ pub returns-clause-runs : goal.returns-clause-runs
 returns-clause-runs g c =
     let table = c.in_ok-shared.shared.table in
     let many : length c.in_ok-shared.seats.items ≡ c.args.seats = ap length c.in_ok-shared.ensures.fresh ∙ length-map-range_with_len (fresh table) 0 c.args.seats in
-    let nothing : c.from_vec.result ≡ [] = c.from_vec.ensures ∙ c.new-2.ensures.items in
-    let no_rows : c.from_vec-2.result ≡ [] = c.from_vec-2.ensures ∙ c.new-3.ensures.items in
     record {
       bytes = c.as_slice.result.now;
       slots = c.in_ok-code.code;
@@ -42,13 +39,7 @@ returns-clause-runs g c =
           let one = slice_index_or c.in_ok-finished.finished.items i d in
           let at : get_or c.in_ok-shared.seats.items i s ≡ s =
           ap (λ (l : List SeatView). get_or l i s) c.in_ok-shared.ensures.fresh ∙ get_or-map-range_with_len (fresh table) 0 c.args.seats i i s lt (omega arith) in
-          subst (λ (x : SeatView). Ran (setting_of c.in_ok-code.code c.args.hook) x one) at (
-          subst (λ (p : List ℕ). Ran (record { code = c.in_ok-code.code; hook = c.args.hook; input = record { context = replicate 64 0; packet = p; rows = [] } }) (get_or c.in_ok-shared.seats.items i s) one) nothing (
-          subst (λ (r : List TableRow). Ran (record { code = c.in_ok-code.code; hook = c.args.hook; input = record { context = replicate 64 0; packet = c.from_vec.result; rows = r } }) (get_or c.in_ok-shared.seats.items i s) one) no_rows (
-          c.in_ok-finished.ensures.ran i s d (omega (arith, lt, many))
-          )
-          )
-          );
+          subst (λ (x : SeatView). Ran (setting_of c.in_ok-code.code c.args.hook) x one) at (c.in_ok-finished.ensures.ran i s d (omega (arith, lt, many)));
       sums = c.close-totals.result.sums;
       counters = search rules;
       exact = λ k lt. c.close-totals.ensures.sums k lt ∙ ap (sum_by (λ (s : SeatView). adds_to k s.accesses)) c.in_ok-seats.ensures.same;

@@ -1,8 +1,9 @@
+//! The shared maps.
 ghost use Rattle.std.specs.Prelude.{◌≡◌, length, map, IfOk};
 ghost use Rattle.std.specs.List.{range_with_len};
 ghost use Rattle.maps.specs.Words.{IsOf, fresh};
 
-use super::*;
+use maps::{MapsError, Seat, Shared};
 use std::alloc::Global;
 use std::test::Fail;
 use std::thread::join;

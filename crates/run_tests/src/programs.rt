@@ -1,3 +1,4 @@
+//! Runs of programs.
 ghost use Rattle.std.specs.Prelude.{◌≡◌, length, map, IfOk};
 ghost use Rattle.std.specs.List.{range_with_len};
 ghost use Rattle.maps.specs.Words.{IsOf, fresh};
@@ -9,13 +10,13 @@ mod jumps;
 mod pointers;
 mod runs;
 
-use super::*;
+use interp::{Run, Trap, run_checked};
 use isa::{Code, DecodeError, DecodeFault, decode};
 use machine::{Hook, Input, TableRow};
 use maps::{MapsError, Seat, Shared};
 use std::alloc::{AllocError, Global};
 use std::test::Fail;
-use words::{Address, Prefix, Sequence};
+use words::{Address, Prefix};
 
 // A slot is written as a number whose lowest byte is its first: the immediate, the offset, the registers (source and
 // target) and the opcode.
@@ -61,33 +62,40 @@ fn table(alloc: Global, count: usize) -> Result<(Shared, Vec<Seat>), MapsError>
     }
 }
 
-// A Hello of 44 bytes, and the routes 192.0.2.0/24 of cost 20 and 192.0.2.0/26 of cost 30. Byte k of the context is 128 + k.
-fn input_once(alloc: Global) -> Result<Input, AllocError> {
-    let mut context = [0u8; 64];
-    for (index, byte) in context.iter_mut().enumerate() {
-        *byte = 128 + (index % 64) as u8;
-    }
-    let hello = [
-        2, 1, 0, 0x2c, 2, 2, 2, 2, 0, 0, 0, 0, 0xf8, 0x9a, 0, 0, 0, 0, 0, 0, 0, 0, 0, 0, 0xff,
-        0xff, 0xff, 0, 0, 0x0a, 2, 1, 0, 0, 0, 0x28, 0, 0, 0, 0, 0, 0, 0, 0,
-    ];
+// The routes 192.0.2.0/24 of cost 20 and 192.0.2.0/26 of cost 30.
+fn rows_once(alloc: Global) -> Result<Vec<TableRow>, AllocError> {
     let mut rows = Vec::new(alloc);
     for (length, cost) in [(24, 20), (26, 30)] {
         if let Some(prefix) = Prefix::new(Address::new(0xc000_0200), length) {
             rows.push(TableRow { prefix, cost })?;
         }
     }
-    Ok(Input {
-        context,
-        packet: Sequence::from_vec(Vec::from_slice(alloc, &hello)?),
-        rows: Sequence::from_vec(rows),
-    })
+    Ok(rows)
 }
 
-fn input(alloc: Global) -> Result<Input, AllocError> {
-    match input_once(alloc) {
-        Err(_) => input_once(alloc),
+fn rows(alloc: Global) -> Result<Vec<TableRow>, AllocError> {
+    match rows_once(alloc) {
+        Err(_) => rows_once(alloc),
         made => made,
+    }
+}
+
+// A Hello of 44 bytes.
+static HELLO: [u8; 44] = [
+    2, 1, 0, 0x2c, 2, 2, 2, 2, 0, 0, 0, 0, 0xf8, 0x9a, 0, 0, 0, 0, 0, 0, 0, 0, 0, 0, 0xff, 0xff,
+    0xff, 0, 0, 0x0a, 2, 1, 0, 0, 0, 0x28, 0, 0, 0, 0, 0, 0, 0, 0,
+];
+
+// A Hello and these routes. Byte k of the context is 128 + k.
+fn input(rows: &[TableRow]) -> Input<'_> {
+    let mut context = [0u8; 64];
+    for (index, byte) in context.iter_mut().enumerate() {
+        *byte = 128 + (index % 64) as u8;
+    }
+    Input {
+        context,
+        packet: &HELLO,
+        rows,
     }
 }
 
@@ -107,7 +115,8 @@ fn outcome_within(
     slots: &[u64],
 ) -> Result<(u64, u64), Fail> {
     let code = code(alloc, slots)?;
-    let input = input(alloc)?;
+    let rows = rows(alloc)?;
+    let input = input(&rows);
     let (words, mut seats) = table(alloc, 1)?;
     let mut seat = seats.pop().ok_or("no seat")?;
     Ok(shown(run_checked(&code, hook, limit, &input, &words, &mut seat)))

@@ -24,7 +24,8 @@ const COUNTING: [u64; 6] = [
 #[test]
 fn two_seats_add_to_one_counter(rt: HostRuntime) -> Result<(), Fail> {
     let code = code(rt.alloc(), &ADDING)?;
-    let input = input(rt.alloc())?;
+    let rows = rows(rt.alloc())?;
+    let input = input(&rows);
     let (words, mut seats) = table(rt.alloc(), 2)?;
     let mut second = seats.pop().ok_or("no second seat")?;
     let mut first = seats.pop().ok_or("no first seat")?;
@@ -47,7 +48,8 @@ fn count(code: &Code, input: &Input, words: &Shared, seat: &mut Seat) -> (u64, u
 #[test]
 fn a_cell_is_the_seats_own(rt: HostRuntime) -> Result<(), Fail> {
     let code = code(rt.alloc(), &COUNTING)?;
-    let input = input(rt.alloc())?;
+    let rows = rows(rt.alloc())?;
+    let input = input(&rows);
     let (words, mut seats) = table(rt.alloc(), 2)?;
     let mut second = seats.pop().ok_or("no second seat")?;
     let mut first = seats.pop().ok_or("no first seat")?;

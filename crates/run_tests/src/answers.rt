@@ -1,13 +1,14 @@
+//! Calls of helpers.
 ghost use Rattle.std.specs.Prelude.{◌≡◌, length, map, IfOk};
 ghost use Rattle.std.specs.List.{range_with_len};
 ghost use Rattle.maps.specs.Words.{IsOf, fresh};
 
-use super::*;
+use helpers::{call, cell_read, cell_write, counter_add, counter_read, packet_byte, table_cost};
 use machine::{Content, Fault, Hook, Input, Pointer, TableRow};
 use maps::{MapsError, Seat, Shared};
 use std::alloc::{AllocError, Global};
 use std::test::Fail;
-use words::{Address, Prefix, Sequence};
+use words::{Address, Prefix};
 
 const NONE: Content = Content::Nothing;
 
@@ -28,7 +29,7 @@ fn row(bits: u32, length: u8, cost: u32) -> Option<TableRow> {
     Some(TableRow { prefix, cost })
 }
 
-fn rows(alloc: Global) -> Result<Vec<TableRow>, AllocError> {
+fn rows_once(alloc: Global) -> Result<Vec<TableRow>, AllocError> {
     let mut rows = Vec::new(alloc);
     for (bits, length, cost) in [
         (0x0a00_0000, 8, 5),
@@ -43,24 +44,25 @@ fn rows(alloc: Global) -> Result<Vec<TableRow>, AllocError> {
     Ok(rows)
 }
 
-fn input_once(alloc: Global) -> Result<Input, AllocError> {
-    Ok(Input {
-        context: [0; 64],
-        packet: Sequence::from_vec(vec![in alloc; 10, 20, 255]?),
-        rows: Sequence::from_vec(rows(alloc)?),
-    })
+fn rows(alloc: Global) -> Result<Vec<TableRow>, AllocError> {
+    match rows_once(alloc) {
+        Err(_) => rows_once(alloc),
+        made => made,
+    }
 }
 
-fn input(alloc: Global) -> Result<Input, AllocError> {
-    match input_once(alloc) {
-        Err(_) => input_once(alloc),
-        made => made,
+fn input(rows: &[TableRow]) -> Input<'_> {
+    Input {
+        context: [0; 64],
+        packet: &[10, 20, 255],
+        rows,
     }
 }
 
 #[test]
 fn a_byte_of_the_packet_or_256(rt: HostRuntime) -> Result<(), Fail> {
-    let input = input(rt.alloc())?;
+    let rows = rows(rt.alloc())?;
+    let input = input(&rows);
     for (offset, want) in [
         (0, 10),
         (1, 20),
@@ -76,7 +78,8 @@ fn a_byte_of_the_packet_or_256(rt: HostRuntime) -> Result<(), Fail> {
 
 #[test]
 fn the_cost_of_the_first_row_with_exactly_the_prefix(rt: HostRuntime) -> Result<(), Fail> {
-    let input = input(rt.alloc())?;
+    let rows = rows(rt.alloc())?;
+    let input = input(&rows);
     for (prefix, length, want) in [
         (0x0a00_0000, 8, 5),
         (0x0a00_0000, 16, 7),
@@ -104,7 +107,8 @@ fn called(
     first: Content,
     second: Content,
 ) -> Result<Result<u64, Fault>, Fail> {
-    let input = input(rt.alloc())?;
+    let rows = rows(rt.alloc())?;
+    let input = input(&rows);
     let (shared, mut seats) = table(rt.alloc())?;
     let mut seat = seats.pop().ok_or("no seat")?;
     Ok(call(hook, number, first, second, &input, &shared, &mut seat))
@@ -170,7 +174,8 @@ fn each_helper_answers_at_its_hooks(rt: HostRuntime) -> Result<(), Fail> {
 
 #[test]
 fn counters_and_cells(rt: HostRuntime) -> Result<(), Fail> {
-    let input = input(rt.alloc())?;
+    let rows = rows(rt.alloc())?;
+    let input = input(&rows);
     let (shared, mut seats) = table(rt.alloc())?;
     let mut seat = seats.pop().ok_or("no seat")?;
     assert_eq!(rt; counter_add(&shared, &mut seat, 5, 3), 0);
