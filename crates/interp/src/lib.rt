@@ -5,14 +5,17 @@
 #![tactic(auto)]
 
 mod assignments;
+mod checked;
 mod contents;
 mod control;
+mod ending;
 mod loads;
 mod pieces;
 mod registers;
-mod run;
+mod steps;
 mod stores;
 mod trap;
 
-pub use run::{Run, run_checked};
+pub use checked::run_checked;
+pub use ending::Run;
 pub use trap::Trap;

@@ -9,7 +9,7 @@ use Rattle.isa.specs.Spelling as code
 use Rattle.machine.specs.State.{Setting}
 use Rattle.maps.specs.Access.{adds_to}
 use Rattle.maps.specs.Words.{SeatView, SharedWords, fresh}
-use Rattle.interp.specs.declared.run.Run.{Run}
+use Rattle.interp.specs.declared.ending.Run.{Run}
 use Rattle.interp.specs.declared.trap.Trap.{Trap}
 use Rattle.interp.specs.Outcome.{Outcome, trap_number}
 use Rattle.object_runs.specs.Limits.{most_instructions}
