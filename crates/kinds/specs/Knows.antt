@@ -1,0 +1,76 @@
+-- What is known wherever a state holds, and what stays known.
+use Rattle.std.specs.Prelude.{◌≡◌, ◌+◌, ◌≤◌, ◌<◌, ℕ, List, length, slice_set, Option}
+use Rattle.isa.specs.Arithmetic.{operate, low}
+use Rattle.isa.specs.declared.instruction.Width.TheVariants.{Bits64}
+use Rattle.isa.specs.declared.instruction.Operation.TheVariants.{Add, Subtract}
+use Rattle.machine.specs.declared.state.Content.{Content}
+use Rattle.machine.specs.declared.state.Content.TheVariants as contents
+use Rattle.machine.specs.declared.state.StackByte.{StackByte}
+use Rattle.machine.specs.declared.state.State.{State as Machine}
+use Rattle.machine.specs.Memory.{overwritten}
+use Rattle.kinds.specs.declared.state.Kind.{Kind}
+use Rattle.kinds.specs.declared.state.Entry.{Entry}
+use Rattle.kinds.specs.declared.state.Fact.{Fact}
+use Rattle.kinds.specs.declared.state.State.{State}
+use Rattle.kinds.specs.Meaning.{KindHolds, FactHolds, EntryHolds, StackHolds, StateHolds}
+
+-- what is read of each machine that the state describes is of the kind
+abbrev pub KnowsKind : {D : Type 0} → (D → ℕ → Type 0) → State D → (Machine → Content) → Kind D
+    → Type 0
+KnowsKind contains state read kind =
+    (start now : Machine) → StateHolds contains state start now → KindHolds contains kind (read now)
+
+-- and it follows from the start of the segment as the fact says
+abbrev pub KnowsFact : {D : Type 0} → (D → ℕ → Type 0) → State D → (Machine → Content)
+    → Option Fact → Type 0
+KnowsFact contains state read fact =
+    (start now : Machine) → StateHolds contains state start now → FactHolds fact start (read now)
+
+-- once the register is filled with a content of the kind, at any slot, the other state describes the
+-- machine
+abbrev pub KnowsFilled : {D : Type 0} → (D → ℕ → Type 0) → State D → ℕ → Kind D → Option Fact
+    → State D → Type 0
+KnowsFilled contains state target kind fact after =
+    (start now : Machine) (content : Content) (slot : ℕ)
+    → StateHolds contains state start now
+    → KindHolds contains kind content → FactHolds fact start content
+    → StateHolds contains after start
+    (record now { slot = slot; registers = slice_set now.registers target content })
+
+-- sums and differences of 64 bits
+abbrev pub plus : ℕ → ℕ → ℕ
+plus amount y = operate Bits64 Add (low Bits64 y) (low Bits64 amount)
+
+abbrev pub minus : ℕ → ℕ → ℕ
+minus amount y = operate Bits64 Subtract (low Bits64 y) (low Bits64 amount)
+
+-- where the fact is of one of the value's numbers, the other fact is of what becomes of that number
+abbrev pub MovesFact : {D : Type 0} → (D → ℕ → Type 0) → D → (ℕ → ℕ) → Option Fact → Option Fact
+    → Type 0
+MovesFact contains value becomes fact after =
+    (start : Machine) (y : ℕ) → contains value y
+    → FactHolds fact start (contents.Number y) → FactHolds after start (contents.Number (becomes y))
+
+-- each of the bytes that are put from start to end has what is known inside
+abbrev pub PutsInside : {D : Type 0} → (D → ℕ → Type 0) → Entry D → ℕ → ℕ
+    → List StackByte → List StackByte → Type 0
+PutsInside contains inside start end old bytes =
+    (at : ℕ) → start ≤ at → at < end → EntryHolds contains inside (overwritten old start bytes) at
+
+-- after bytes are put from start to end, of each of which `inside` is known, the entries hold
+abbrev pub KnowsOverwritten : {D : Type 0} → (D → ℕ → Type 0) → List (Entry D) → ℕ → ℕ → Entry D
+    → List (Entry D) → Type 0
+KnowsOverwritten contains entries start end inside after =
+    (old bytes : List StackByte) → StackHolds contains entries old
+    → start + length bytes ≡ end → end ≤ length old
+    → PutsInside contains inside start end old bytes
+    → StackHolds contains after (overwritten old start bytes)
+
+-- the same of the entry at one byte
+abbrev pub KnowsEntryOverwritten : {D : Type 0} → (D → ℕ → Type 0) → Entry D → ℕ → ℕ → ℕ → Entry D
+    → Entry D → Type 0
+KnowsEntryOverwritten contains entry at start end inside after =
+    (old bytes : List StackByte) → EntryHolds contains entry old at
+    → start + length bytes ≡ end → end ≤ length old
+    → (start ≤ at → at < end → EntryHolds contains inside (overwritten old start bytes) at)
+    → EntryHolds contains after (overwritten old start bytes) at
