@@ -27,6 +27,10 @@ const RUN: &str =
 
 const RUN_EXAMPLE: &str = "Example: routerd run sum.o - -";
 
+const CONTEXT: &str = "The 64 bytes of the context as 128 hex digits, or - for zeros";
+
+const PACKET: &str = "The bytes of the packet in hex digits, or - for none";
+
 const ASM: &str = "Assembles a text into an object file, and prints how many slots its code has";
 
 const ASM_EXAMPLE: &str = "Example: routerd asm sum.s sum.o";
@@ -85,36 +89,23 @@ fn run<'a>(alloc: Global) -> Result<Command<'a>, AllocError>
     ensures app { IfOk result (λ c. shape_of c ≡ line.run) }
     ensures local { IfOk result (λ c. (fields_of c).has_globals ≡ false) }
 {
-    let object = required(alloc, "OBJECT", "The object file");
-    let context = required(
-        alloc,
-        "CONTEXT",
-        "The 64 bytes of the context as 128 hex digits, or - for zeros",
-    );
-    let packet = required(
-        alloc,
-        "PACKET",
-        "The bytes of the packet in hex digits, or - for none",
-    );
     Command::new(alloc, "run")
         .about(RUN)
         .after_help(RUN_EXAMPLE)
-        .arg(object)?
-        .arg(context)?
-        .arg(packet)
+        .arg(required(alloc, "OBJECT", "The object file"))?
+        .arg(required(alloc, "CONTEXT", CONTEXT))?
+        .arg(required(alloc, "PACKET", PACKET))
 }
 
 fn asm<'a>(alloc: Global) -> Result<Command<'a>, AllocError>
     ensures app { IfOk result (λ c. shape_of c ≡ line.asm) }
     ensures local { IfOk result (λ c. (fields_of c).has_globals ≡ false) }
 {
-    let source = required(alloc, "SOURCE", "The text");
-    let object = required(alloc, "OBJECT", "The object file that is written");
     Command::new(alloc, "asm")
         .about(ASM)
         .after_help(ASM_EXAMPLE)
-        .arg(source)?
-        .arg(object)
+        .arg(required(alloc, "SOURCE", "The text"))?
+        .arg(required(alloc, "OBJECT", "The object file that is written"))
 }
 
 fn list<'a>(alloc: Global) -> Result<Command<'a>, AllocError>
