@@ -1,6 +1,7 @@
 -- The words that name one thing of several.
 use Rattle.std.specs.Prelude.{ℕ, List, [], ◌∷◌, Option, Some, None, if◌then◌else◌, codes, ◌==◌, ◌+◌}
 use Rattle.std.specs.Str.{bytes_eq}
+use Rattle.isa.specs.Hooks.{hook_name}
 use Rattle.isa.specs.declared.hook.Hook.{Hook}
 use Rattle.isa.specs.declared.hook.Hook.TheVariants as hooks
 use Rattle.isa.specs.declared.instruction.Width.{Width}
@@ -64,13 +65,12 @@ test_of = first_match ((codes "==", tests.Equal) ∷ (codes ">", tests.Greater) 
 
 -- the names of the hooks
 abbrev pub hook_word : Hook → List ℕ
-hook_word hooks.Count = codes "count"
-hook_word hooks.Tag = codes "tag"
-hook_word hooks.Price = codes "price"
-hook_word hooks.Veto = codes "veto"
+hook_word hook = hook_name hook
 
 abbrev pub hook_of : List ℕ → Option Hook
-hook_of = first_match ((codes "count", hooks.Count) ∷ (codes "tag", hooks.Tag) ∷ (codes "price", hooks.Price) ∷ (codes "veto", hooks.Veto) ∷ [])
+hook_of =
+    first_match ((hook_name hooks.Count, hooks.Count) ∷ (hook_name hooks.Tag, hooks.Tag)
+    ∷ (hook_name hooks.Price, hooks.Price) ∷ (hook_name hooks.Veto, hooks.Veto) ∷ [])
 
 -- what a load reads
 abbrev pub load_word : LoadSize → List ℕ

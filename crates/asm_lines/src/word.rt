@@ -100,12 +100,7 @@ pub(crate) fn hook_word(hook: Hook) -> &'static str
     ensures value { result.now ≡ hook_word hook }
     ensures word { is_word result.now ≡ true }
 {
-    match hook {
-        Hook::Count => "count",
-        Hook::Tag => "tag",
-        Hook::Price => "price",
-        Hook::Veto => "veto",
-    }
+    hook.name()
 }
 
 /// The hook of this name.

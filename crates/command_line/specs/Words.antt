@@ -1,14 +1,7 @@
 -- The words that stand for hooks, contexts and packets.
 use Rattle.std.specs.Prelude.{◌≡◌, ◌≢◌, ◌⊎◌, ℕ, List, [], codes, replicate, Ok}
 use Rattle.hex.specs.Hex.{decode_of, decode_sized}
-use Rattle.isa.specs.declared.hook.Hook.{Hook}
-use Rattle.isa.specs.declared.hook.Hook.TheVariants as hooks
-
-abbrev pub hook_name : Hook → List ℕ
-hook_name hooks.Count = codes "count"
-hook_name hooks.Tag = codes "tag"
-hook_name hooks.Price = codes "price"
-hook_name hooks.Veto = codes "veto"
+pub use Rattle.isa.specs.Hooks.{hook_name}
 
 -- 64 zeros for `-`, else 64 bytes in hex
 abbrev pub IsContext : List ℕ → List ℕ → Type 0

@@ -11,7 +11,6 @@ ghost use Rattle.hex.specs.declared.error.FromHexError.TheVariants.{OutOfMemory}
 ghost use Rattle.hex.specs.Hex.{decode_of, decode_sized};
 ghost use Rattle.isa.specs.declared.hook.Hook.{Hook};
 ghost use Rattle.command_line.specs.Requests.{HasSeats, IsWrong, IsWrongWord, MadeBy, Makes};
-ghost use Rattle.command_line.specs.Words.{hook_name};
 
 use crate::commands::wrong_value;
 use clap::{ArgMatches, Error};
@@ -43,19 +42,6 @@ pub enum Request<'a> {
     List {
         object: &'a str,
     },
-}
-
-fn hook_named(name: &str) -> Option<Hook>
-    ensures found { IfSome result (λ hook. name.now ≡ hook_name hook) }
-    ensures only { (hook : Hook) → name.now ≡ hook_name hook → result ≡ Some hook }
-{
-    match name {
-        "count" => Some(Hook::Count),
-        "tag" => Some(Hook::Tag),
-        "price" => Some(Hook::Price),
-        "veto" => Some(Hook::Veto),
-        _ => None,
-    }
 }
 
 /// The context that a word stands for: zeros for `-`, else 64 bytes in hex. None where it is neither.
@@ -101,7 +87,7 @@ fn seats_of(matches: &ArgMatches<'_>) -> Option<usize>
 fn raw_request<'a>(matches: &ArgMatches<'a>) -> Option<Request<'a>>
     ensures { MadeBy (codes "raw") (rows_of (found_of matches.now)) result }
 {
-    let hook = hook_named(word_of(matches, "HOOK")?)?;
+    let hook = Hook::from_name(word_of(matches, "HOOK")?)?;
     let file = word_of(matches, "FILE")?;
     let seats = seats_of(matches)?;
     Some(Request::Raw { hook, file, seats })

@@ -64,9 +64,9 @@ pub record FailsAt (bytes : List ℕ) (slot : ℕ) (fault : DecodeFault) : Type 
   pub some : 1 ≤ length rest
   pub fails : Fails rest fault
 
--- why bytes aren't code, and at which slot
+-- Why bytes aren't code, and at which slot. Memory is asked for only where the length is right.
 abbrev pub Refuses : List ℕ → ℕ → DecodeFault → Type 0
 Refuses bytes slot faults.Length = (slot ≡ 0) × ((length bytes ≡ 0) ⊎ (length bytes % 8 ≢ 0))
 Refuses bytes slot faults.TooLong = (slot ≡ 0) × (length bytes % 8 ≡ 0) × (4096 < length bytes / 8)
-Refuses bytes slot faults.Memory = slot ≡ 0
+Refuses bytes slot faults.Memory = (slot ≡ 0) × AreSlots bytes
 Refuses bytes slot fault = AreSlots bytes × FailsAt bytes slot fault

@@ -1,6 +1,6 @@
 ghost use Rattle.std.specs.Prelude.{◌≡◌, IfSome, Some};
 ghost use Rattle.isa.specs.declared.hook.Hook.{Hook};
-ghost use Rattle.isa.specs.Hooks.{hook_number};
+ghost use Rattle.isa.specs.Hooks.{hook_number, hook_name};
 
 /// Where in the router a program is asked.
 #[derive(Clone, Copy, PartialEq, Eq, Debug)]
@@ -25,6 +25,32 @@ impl Hook {
             Hook::Tag => 2,
             Hook::Price => 3,
             Hook::Veto => 4,
+        }
+    }
+
+    /// Its name in texts and on command lines.
+    pub fn name(self) -> &'static str
+        ensures { result.now ≡ hook_name self }
+    {
+        match self {
+            Hook::Count => "count",
+            Hook::Tag => "tag",
+            Hook::Price => "price",
+            Hook::Veto => "veto",
+        }
+    }
+
+    /// The hook with this name, if there is one.
+    pub fn from_name(name: &str) -> Option<Hook>
+        ensures found { IfSome result (λ hook. name.now ≡ hook_name hook) }
+        ensures only { (hook : Hook) → name.now ≡ hook_name hook → result ≡ Some hook }
+    {
+        match name {
+            "count" => Some(Hook::Count),
+            "tag" => Some(Hook::Tag),
+            "price" => Some(Hook::Price),
+            "veto" => Some(Hook::Veto),
+            _ => None,
         }
     }
 

@@ -57,11 +57,13 @@ impl Shared {
         Ok((Shared { table }, seats))
     }
 
-    /// Ends the table, whose seats are these in any order, and gives each counter's sum of their adds.
+    /// Ends the table, whose seats are these in any order, and gives each counter's sum of their adds, which
+    /// is below 2^61.
     pub fn close(self, seats: Vec<Seat>) -> Totals
         requires all { length seats.items ≡ self.seats }
         requires table { All (IsOf self) seats.items }
         ensures sums { (k : ℕ) → k < 256 → slice_index result.sums k ≡ sum_by (λ s. adds_to k s.accesses) seats.items }
+        ensures small { (k : ℕ) → k < 256 → slice_index result.sums k < 2 ^ 61 }
         ensures lists { All (λ s. IsLawful result.sums s.accesses) seats.items }
     {
         let Shared { table } = self;
@@ -129,7 +131,7 @@ impl Shared {
 
 // Cuts the view of all lists into seats of one list each.
 fn deal(alloc: Global, words: &Top, mut all: Place, count: usize) -> Result<Vec<Seat>, AllocError>
-    requires table { (all.table_id ≡ words.now.table_id) × IsSized words.now.table_id count × (words.now.key ≡ count) × (count ≤ 64) }
+    requires table { (all.table_id ≡ words.now.table_id) × IsSized words.now.table_id count × (words.now.key ≡ count) }
     requires view { all.me ≡ (blank_lists 0 count, []) }
     ensures { IfOk result (λ v. v.items ≡ map (fresh words.now.table_id) (range_with_len 0 count)) }
 {

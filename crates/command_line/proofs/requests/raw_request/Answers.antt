@@ -13,7 +13,7 @@ pub returns-in_err-hook : goal.returns-in_err-hook
 returns-in_err-hook c =
     let rows = rows_of (found_of c.args.matches.now) in
     rw c.from_residual-in_err-hook.ensures (no_raw rows (λ hook file seats has rest more.
-    some≢none hook (sym (c.hook_named.ensures.only hook (some_is (c.in_ok-word_of.ensures ∙ has))) ∙ c.in_err-hook.was)))
+    some≢none hook (sym (c.from_name.ensures.only hook (some_is (c.in_ok-word_of.ensures ∙ has))) ∙ c.in_err-hook.was)))
 
 pub returns-in_err-file : goal.returns-in_err-file
 returns-in_err-file c =
