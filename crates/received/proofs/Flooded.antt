@@ -18,7 +18,7 @@ use Rattle.received.specs.Laws.{FloodingReplacesOlderInstances}
 inserted : (m : ByKey ListEntry) (k : Key) (x : ListEntry) → finite.get (finite.insert m k x) k ≡ Some x
 inserted m k x = finite.get-insert keys_total m k x k ∙ ap (λ (o : Ordering). cond (is_eq o) (Some x) (finite.get m k)) (tied_itself keys_total k)
 
-removed : (m : ByKey ListEntry) (k : Key) → finite.get (finite.remove m k) k ≡ None
+pub removed : (m : ByKey ListEntry) (k : Key) → finite.get (finite.remove m k) k ≡ None
 removed m k = finite.get-remove keys_total m k k ∙ ap (λ (o : Ordering). cond (is_eq o) None (finite.get m k)) (tied_itself keys_total k)
 
 by_gets : (moment : ℕ) (lsa : Lsa) (m : Neighbor) (sends : Step) (b : Bool)

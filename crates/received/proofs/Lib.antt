@@ -3,3 +3,4 @@ pub mod Firsts
 pub mod Holding
 pub mod Roomy
 pub mod Told
+pub mod Examined

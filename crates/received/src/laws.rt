@@ -1,5 +1,5 @@
 //! Laws of flooding, each carried by a function with an empty body.
-ghost use Rattle.received.specs.Laws.{ExactlyOneCaseApplies, FloodingReplacesOlderInstances};
+ghost use Rattle.received.specs.Laws.{ExactlyOneCaseApplies, FloodingReplacesOlderInstances, FloodingExaminesEachNeighbor};
 ghost use Rattle.received.specs.Worked.{WorkedCases};
 ghost use Rattle.received.specs.WorkedTable.{WorkedTable};
 
@@ -23,4 +23,10 @@ pub fn worked_cases()
 /// acknowledgment, a duplicate, and a newer copy that wraps, was just sent or is sent back (RFC 2328, section 13).
 pub fn the_table_of_received_lsas()
     ensures { WorkedTable }
+{}
+
+/// What flooding makes of each neighbor, in the words of RFC 2328, section 13.3: before Exchange nothing; a request goes unless a newer
+/// instance is requested; the LSA is sent unless it came from this neighbor or is not more recent than what is requested.
+pub fn flooding_examines_each_neighbor()
+    ensures { FloodingExaminesEachNeighbor }
 {}
