@@ -6,6 +6,8 @@ mod advertisements;
 #[cfg(test)]
 mod names;
 #[cfg(test)]
+mod orders;
+#[cfg(test)]
 mod packets;
 #[cfg(test)]
 mod summaries;
