@@ -13,10 +13,10 @@ use Rattle.interp.specs.declared.ending.Run.{Run}
 use Rattle.interp.specs.declared.trap.Trap.{Trap}
 use Rattle.interp.specs.Outcome.{Outcome, trap_number}
 use Rattle.object_runs.specs.Limits.{most_instructions}
-use Rattle.routerd.specs.declared.fault.Fault.{Fault}
-use Rattle.routerd.specs.declared.raw.Finished.{Finished}
-use Rattle.routerd.specs.declared.report.Report.{Report}
-use Rattle.routerd.specs.Statuses.{fault_of_refusal}
+use Rattle.commands.specs.declared.fault.Fault.{Fault}
+use Rattle.commands.specs.declared.raw.Finished.{Finished}
+use Rattle.commands.specs.declared.report.Report.{Report}
+use Rattle.commands.specs.Statuses.{fault_of_refusal}
 
 -- how the seat of this number ended
 abbrev pub seat_line : ℕ → Result Run Trap → List ℕ

@@ -3,7 +3,7 @@
 ghost use Rattle.std.specs.Prelude.{◌≡◌, ◌++◌, ◌⊎◌, ℕ, List, length, map, IfOk, IfErr, OnOk, string_bytes, is_err};
 ghost use Rattle.std.specs.List.{All, list_any};
 ghost use Rattle.machine.specs.Given.{given_by};
-ghost use Rattle.routerd.specs.RawRuns.{EachRan, IsBareRefused, IsRawReport, Ran, counter_line, counter_lines, seat_line, seat_lines};
+ghost use Rattle.commands.specs.RawRuns.{EachRan, IsBareRefused, IsRawReport, Ran, counter_line, counter_lines, seat_line, seat_lines};
 
 use crate::fault::Fault;
 use crate::files;

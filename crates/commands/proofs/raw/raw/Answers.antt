@@ -3,8 +3,8 @@ use Rattle.std.specs.List.{sum_by}
 use Rattle.std.proofs.lemmas.List.FromFn.{length-map-range_with_len, get_or-map-range_with_len}
 use Rattle.maps.specs.Access.{adds_to}
 use Rattle.maps.specs.Words.{SeatView, fresh}
-use Rattle.routerd.specs.RawRuns.{Ran, setting_of}
-use Rattle.routerd.proofs.raw.raw.Goals as goal
+use Rattle.commands.specs.RawRuns.{Ran, setting_of}
+use Rattle.commands.proofs.raw.raw.Goals as goal
 
 pub run_each-requires-after_bounds : goal.run_each-requires-after_bounds
 run_each-requires-after_bounds g c lifetimes within i x lt =
