@@ -62,3 +62,8 @@ fn stepped(core: &mut Core, moment: u64, event: &Event) -> Result<Vec<Out>, Core
         answer => answer,
     }
 }
+
+// How many packets the event sends.
+fn sent(core: &mut Core, moment: u64, event: &Event) -> Result<usize, CoreError> {
+    Ok(stepped(core, moment, event)?.len())
+}

@@ -1,16 +1,7 @@
-//! `routerd`: assembles, lists and runs the programs of a router.
+//! `routerd`: assembles, lists and runs the programs of a router. What it does stands in `commands`.
 #![tactic(auto)]
 
-mod assembly;
-mod fault;
-mod files;
-mod program;
-mod raw;
-mod report;
-mod run;
-#[cfg(test)]
-mod tests;
-
+use commands::program;
 use std::alloc::{AllocError, Global};
 use std::process::ExitCode;
 use std::{env, io};

@@ -154,11 +154,11 @@ fn a_copy_goes_its_own_way(rt: HostRuntime) -> Result<(), Fail> {
     let config = configured(rt.alloc(), 3)?.copy()?;
     let mut core = Core::new(rt.alloc(), config)?;
     let last_heard = packet(rt.alloc(), 1, packets::HEARD)?.copy()?;
-    assert_eq!(rt; stepped(&mut core, 3, &last_heard)?.len(), 0);
+    assert_eq!(rt; sent(&mut core, 3, &last_heard)?, 0);
     let mut copy = core.copy()?;
     assert_eq!(rt; copy.neighbor(1), Some((peer(), State::Init)));
     let tick = Event::Tick.copy()?;
-    assert_eq!(rt; stepped(&mut copy, 43, &tick)?.len(), 1);
+    assert_eq!(rt; sent(&mut copy, 43, &tick)?, 1);
     assert_eq!(rt; copy.neighbor(1), None);
     assert_eq!(rt; core.neighbor(1), Some((peer(), State::Init)));
     assert_eq!(rt; core.moment(), Second::new(3));

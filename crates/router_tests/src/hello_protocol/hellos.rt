@@ -5,7 +5,7 @@ use super::{packets, *};
 fn hears_greets_and_forgets(rt: HostRuntime) -> Result<(), Fail> {
     let mut core = started(rt.alloc())?;
     let last_heard = packet(rt.alloc(), 1, packets::HEARD)?;
-    assert_eq!(rt; stepped(&mut core, 0, &last_heard)?.len(), 0);
+    assert_eq!(rt; sent(&mut core, 0, &last_heard)?, 0);
     assert_eq!(rt; core.neighbor(1), Some((peer(), State::Init)));
     for moment in [0, 39] {
         let outs = stepped(&mut core, moment, &Event::Tick)?;
@@ -14,7 +14,7 @@ fn hears_greets_and_forgets(rt: HostRuntime) -> Result<(), Fail> {
         assert_eq!(rt; outs[0].bytes.as_slice(), packets::GREETING);
         assert_eq!(rt; core.neighbor(1), Some((peer(), State::Init)));
     }
-    assert_eq!(rt; stepped(&mut core, 40, &Event::Tick)?.len(), 0);
+    assert_eq!(rt; sent(&mut core, 40, &Event::Tick)?, 0);
     assert_eq!(rt; core.neighbor(1), None);
     let outs = stepped(&mut core, 49, &Event::Tick)?;
     assert_eq!(rt; outs.len(), 1);
@@ -34,7 +34,7 @@ fn each_hello_starts_the_inactivity_time_again(rt: HostRuntime) -> Result<(), Fa
     let mut core = started(rt.alloc())?;
     let last_heard = packet(rt.alloc(), 1, packets::HEARD)?;
     for moment in [0, 30] {
-        assert_eq!(rt; stepped(&mut core, moment, &last_heard)?.len(), 0);
+        assert_eq!(rt; sent(&mut core, moment, &last_heard)?, 0);
     }
     for (moment, sent, neighbor) in [(40, 1, true), (49, 0, true), (69, 1, true), (70, 0, false)] {
         let outs = stepped(&mut core, moment, &Event::Tick)?;
@@ -59,13 +59,13 @@ fn other_hellos_are_discarded(rt: HostRuntime) -> Result<(), Fail> {
     ] {
         let mut core = started(rt.alloc())?;
         let event = packet(rt.alloc(), 1, bytes)?;
-        assert_eq!(rt; stepped(&mut core, 0, &event)?.len(), 0);
+        assert_eq!(rt; sent(&mut core, 0, &event)?, 0);
         assert_eq!(rt; core.neighbor(1), None);
     }
     for bytes in [packets::NAMING, packets::OTHER_MASK, packets::ALL_OPTIONS] {
         let mut core = started(rt.alloc())?;
         let event = packet(rt.alloc(), 1, bytes)?;
-        assert_eq!(rt; stepped(&mut core, 0, &event)?.len(), 0);
+        assert_eq!(rt; sent(&mut core, 0, &event)?, 0);
         assert_eq!(rt; core.neighbor(1), Some((peer(), State::Init)));
     }
     Ok(())
@@ -76,12 +76,12 @@ fn a_second_neighbor_is_not_heard(rt: HostRuntime) -> Result<(), Fail> {
     let mut core = started(rt.alloc())?;
     let last_heard = packet(rt.alloc(), 1, packets::HEARD)?;
     let second = packet(rt.alloc(), 1, packets::SECOND)?;
-    assert_eq!(rt; stepped(&mut core, 0, &last_heard)?.len(), 0);
-    assert_eq!(rt; stepped(&mut core, 30, &second)?.len(), 0);
+    assert_eq!(rt; sent(&mut core, 0, &last_heard)?, 0);
+    assert_eq!(rt; sent(&mut core, 30, &second)?, 0);
     assert_eq!(rt; core.neighbor(1), Some((peer(), State::Init)));
-    assert_eq!(rt; stepped(&mut core, 40, &Event::Tick)?.len(), 1);
+    assert_eq!(rt; sent(&mut core, 40, &Event::Tick)?, 1);
     assert_eq!(rt; core.neighbor(1), None);
-    assert_eq!(rt; stepped(&mut core, 40, &second)?.len(), 0);
+    assert_eq!(rt; sent(&mut core, 40, &second)?, 0);
     let third = RouterId::new(0x0303_0303);
     assert_eq!(rt; core.neighbor(1), Some((third, State::Init)));
     Ok(())
@@ -103,7 +103,7 @@ fn sixty_three_interfaces_greet_in_order(rt: HostRuntime) -> Result<(), Fail> {
     };
     let mut core = Core::new(rt.alloc(), config)?;
     let last_heard = packet(rt.alloc(), 63, packets::HEARD)?;
-    assert_eq!(rt; stepped(&mut core, 0, &last_heard)?.len(), 0);
+    assert_eq!(rt; sent(&mut core, 0, &last_heard)?, 0);
     for (moment, sent) in [(0, 63), (9, 0), (10, 63), (19, 0), (20, 63)] {
         let outs = stepped(&mut core, moment, &Event::Tick)?;
         assert_eq!(rt; outs.len(), sent, "at {moment}");
@@ -141,7 +141,7 @@ fn a_hello_has_at_most_8192_bytes(rt: HostRuntime) -> Result<(), Fail> {
     assert!(rt; matches!(answer, Err(CoreError::BadPacket(packet::Fault::Length))));
     assert_eq!(rt; core.neighbor(1), None);
     let most = crowd(rt.alloc(), packets::CROWD, 2037)?;
-    assert_eq!(rt; stepped(&mut core, 0, &most)?.len(), 0);
+    assert_eq!(rt; sent(&mut core, 0, &most)?, 0);
     assert_eq!(rt; core.neighbor(1), Some((peer(), State::Init)));
     Ok(())
 }

@@ -17,8 +17,8 @@ use Rattle.asm.specs.declared.error.AsmError.{AsmError}
 use Rattle.asm.specs.declared.error.AsmFault.{AsmFault}
 use Rattle.asm.specs.declared.error.AsmFault.TheVariants as texts
 use Rattle.asm.specs.Faults as asm_faults
-use Rattle.routerd.specs.declared.fault.Fault.{Fault}
-use Rattle.routerd.specs.declared.fault.Fault.TheVariants as faults
+use Rattle.commands.specs.declared.fault.Fault.{Fault}
+use Rattle.commands.specs.declared.fault.Fault.TheVariants as faults
 
 -- help and the version are what the user asked for
 abbrev pub status_of_usage : ErrorKind → ℕ

@@ -7,10 +7,10 @@ use Rattle.clap.specs.declared.error.kind.ErrorKind.{ErrorKind}
 use Rattle.clap.specs.declared.error.kind.ErrorKind.TheVariants as kinds
 use Rattle.command_line.specs.Requests.{Asks, IsMistake, IsRefusal}
 use Rattle.command_line.specs.declared.requests.Request.{Request}
-use Rattle.routerd.specs.Endings.{IsFaultOf}
-use Rattle.routerd.specs.Statuses.{fault_of_kind_of_words, fault_of_words}
-use Rattle.routerd.specs.declared.fault.Fault.{Fault}
-use Rattle.routerd.specs.declared.fault.Fault.TheVariants as faults
+use Rattle.commands.specs.Endings.{IsFaultOf}
+use Rattle.commands.specs.Statuses.{fault_of_kind_of_words, fault_of_words}
+use Rattle.commands.specs.declared.fault.Fault.{Fault}
+use Rattle.commands.specs.declared.fault.Fault.TheVariants as faults
 
 -- clap's own text is told, or want of memory
 text_or_memory : (kind : ErrorKind) (error : Error) → (fault_of_kind_of_words kind error ≡ faults.Memory) ⊎ (fault_of_kind_of_words kind error ≡ faults.Usage error)

@@ -1,10 +1,10 @@
-use Rattle.std.proofs.Common.{rules, ◌≡◌, ℕ, ◌<◌, List, [], length, replicate, get_or, slice_index_or, ap, subst, ◌∙◌, arith}
+use Rattle.std.proofs.Common.{rules, ◌≡◌, ℕ, ◌<◌, List, length, get_or, slice_index_or, ap, subst, ◌∙◌, arith}
 use Rattle.std.specs.List.{sum_by}
 use Rattle.std.proofs.lemmas.List.FromFn.{length-map-range_with_len, get_or-map-range_with_len}
 use Rattle.maps.specs.Access.{adds_to}
 use Rattle.maps.specs.Words.{SeatView, fresh}
-use Rattle.routerd.specs.RawRuns.{Ran, setting_of}
-use Rattle.routerd.proofs.raw.raw.Goals as goal
+use Rattle.commands.specs.RawRuns.{Ran, setting_of}
+use Rattle.commands.proofs.raw.report_of.Goals as goal
 
 pub run_each-requires-after_bounds : goal.run_each-requires-after_bounds
 run_each-requires-after_bounds g c lifetimes within i x lt =
@@ -27,9 +27,6 @@ returns-clause-runs g c =
     let table = c.in_ok-shared.shared.table in
     let many : length c.in_ok-shared.seats.items ≡ c.args.seats = ap length c.in_ok-shared.ensures.fresh ∙ length-map-range_with_len (fresh table) 0 c.args.seats in
     record {
-      bytes = c.as_slice.result.now;
-      slots = c.in_ok-code.code;
-      decoded = c.in_ok-code.ensures.found;
       shared = c.in_ok-shared.shared;
       dealt = c.in_ok-shared.ensures.table;
       finished = c.in_ok-finished.finished.items;
@@ -39,7 +36,7 @@ returns-clause-runs g c =
           let one = slice_index_or c.in_ok-finished.finished.items i d in
           let at : get_or c.in_ok-shared.seats.items i s ≡ s =
           ap (λ (l : List SeatView). get_or l i s) c.in_ok-shared.ensures.fresh ∙ get_or-map-range_with_len (fresh table) 0 c.args.seats i i s lt (omega arith) in
-          subst (λ (x : SeatView). Ran (setting_of c.in_ok-code.code c.args.hook) x one) at (c.in_ok-finished.ensures.ran i s d (omega (arith, lt, many)));
+          subst (λ (x : SeatView). Ran (setting_of c.args.code.now c.args.hook) x one) at (c.in_ok-finished.ensures.ran i s d (omega (arith, lt, many)));
       sums = c.close-totals.result.sums;
       counters = search rules;
       exact = λ k lt. c.close-totals.ensures.sums k lt ∙ ap (sum_by (λ (s : SeatView). adds_to k s.accesses)) c.in_ok-seats.ensures.same;

@@ -1,7 +1,7 @@
 //! Writers that fail, and words that can't be read.
 
 use super::{ADDS, path_for, run};
-use crate::program::{end_without_words, program};
+use commands::program::{end_without_words, program};
 use std::rt::Files;
 use std::test::Fail;
 use std::thread::Threads;

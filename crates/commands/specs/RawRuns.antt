@@ -13,10 +13,10 @@ use Rattle.interp.specs.declared.ending.Run.{Run}
 use Rattle.interp.specs.declared.trap.Trap.{Trap}
 use Rattle.interp.specs.Outcome.{Outcome, trap_number}
 use Rattle.object_runs.specs.Limits.{most_instructions}
-use Rattle.routerd.specs.declared.fault.Fault.{Fault}
-use Rattle.routerd.specs.declared.raw.Finished.{Finished}
-use Rattle.routerd.specs.declared.report.Report.{Report}
-use Rattle.routerd.specs.Statuses.{fault_of_refusal}
+use Rattle.commands.specs.declared.fault.Fault.{Fault}
+use Rattle.commands.specs.declared.raw.Finished.{Finished}
+use Rattle.commands.specs.declared.report.Report.{Report}
+use Rattle.commands.specs.Statuses.{fault_of_refusal}
 
 -- how the seat of this number ended
 abbrev pub seat_line : ℕ → Result Run Trap → List ℕ
@@ -47,12 +47,9 @@ Ran setting seat one = Outcome setting most_instructions seat one.outcome one.se
 abbrev pub EachRan : Setting → List SeatView → List Finished → Type 0
 EachRan setting seats finished = (i : ℕ) (s : SeatView) (d : Finished) → i < length seats → Ran setting (slice_index_or seats i s) (slice_index_or finished i d)
 
--- The bytes spell code, which each of the seats of one table, that had done nothing, ran once at the hook. Each seat's end is told in
--- their order, and then the counters above 0, which are the sums of all that the seats added.
-pub record IsRawReport (hook : Hook) (seats : ℕ) (report : Report) : Type 0 where
-  pub bytes : List ℕ
-  pub slots : List Slot
-  pub decoded : code.Spells bytes slots
+-- Each of the seats of one table, that had done nothing, ran the code once at the hook. Each seat's end is told in their order, and then
+-- the counters above 0, which are the sums of all that the seats added.
+pub record IsToldOfRuns (slots : List Slot) (hook : Hook) (seats : ℕ) (report : Report) : Type 0 where
   pub shared : SharedWords
   pub dealt : shared.seats ≡ seats
   pub finished : List Finished
@@ -63,6 +60,13 @@ pub record IsRawReport (hook : Hook) (seats : ℕ) (report : Report) : Type 0 wh
   pub exact : (k : ℕ) → k < 256 → slice_index sums k ≡ sum_by (λ s. adds_to k s.accesses) (map (λ one. one.seat) finished)
   pub told : string_bytes report.text ≡ seat_lines 1 finished ++ counter_lines 0 sums
   pub stuck : report.is_stuck ≡ list_any (λ one. is_err one.outcome) finished
+
+-- The bytes spell code, and what is told is of its runs.
+pub record IsRawReport (hook : Hook) (seats : ℕ) (report : Report) : Type 0 where
+  pub bytes : List ℕ
+  pub slots : List Slot
+  pub decoded : code.Spells bytes slots
+  pub runs : IsToldOfRuns slots hook seats report
 
 -- the refusal of bytes that are no code
 pub record IsBareRefused (bytes : List ℕ) (fault : Fault) : Type 0 where

@@ -4,7 +4,7 @@ ghost use Rattle.std.specs.Prelude.{◌≡◌, ◌++◌, ◌⊎◌, [], ◌∷�
 ghost use Rattle.asm.specs.Assembling.{TextSpells};
 ghost use Rattle.object.specs.Objects.{slots_of};
 ghost use Rattle.object.specs.Spelling.{Spells};
-ghost use Rattle.routerd.specs.Assembly.{IsAssembled, IsListFault, IsListing, IsTextFault};
+ghost use Rattle.commands.specs.Assembly.{IsAssembled, IsListFault, IsListing, IsTextFault};
 
 use crate::fault::Fault;
 use crate::files;

@@ -1,6 +1,6 @@
 ghost use Rattle.std.specs.Prelude.{◌≡◌, ◌≤◌};
-ghost use Rattle.routerd.specs.Statuses.{fault_of_object, fault_of_refusal, fault_of_run, fault_of_text, fault_of_words, status_of};
-ghost use Rattle.routerd.specs.declared.fault.Fault.TheVariants.{Memory};
+ghost use Rattle.commands.specs.Statuses.{fault_of_object, fault_of_refusal, fault_of_run, fault_of_text, fault_of_words, status_of};
+ghost use Rattle.commands.specs.declared.fault.Fault.TheVariants.{Memory};
 
 use asm::{AsmError, AsmFault};
 use clap::error::ErrorKind;

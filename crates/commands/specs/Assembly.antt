@@ -9,10 +9,10 @@ use Rattle.object.specs.Refusals as objects
 use Rattle.asm.specs.declared.error.AsmError.{AsmError}
 use Rattle.asm.specs.Assembling.{TextSpells}
 use Rattle.asm.specs.Assembling as texts
-use Rattle.routerd.specs.declared.fault.Fault.{Fault}
-use Rattle.routerd.specs.declared.fault.Fault.TheVariants as faults
-use Rattle.routerd.specs.declared.report.Report.{Report}
-use Rattle.routerd.specs.Statuses.{fault_of_object, fault_of_refusal, fault_of_text}
+use Rattle.commands.specs.declared.fault.Fault.{Fault}
+use Rattle.commands.specs.declared.fault.Fault.TheVariants as faults
+use Rattle.commands.specs.declared.report.Report.{Report}
+use Rattle.commands.specs.Statuses.{fault_of_object, fault_of_refusal, fault_of_text}
 
 -- The text spells an object, and so many slots are told.
 pub record IsAssembled (text : List ℕ) (report : Report) : Type 0 where

@@ -3,7 +3,7 @@
 mod objects;
 mod streams;
 
-use crate::program::program;
+use commands::program::program;
 use std::process::Abort;
 use std::rt::{Env, Files};
 use std::test::Fail;

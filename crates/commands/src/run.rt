@@ -2,7 +2,7 @@
 
 ghost use Rattle.std.specs.Prelude.{◌≡◌, ◌⊎◌, List, ℕ, IfOk, IfErr, string_bytes};
 ghost use Rattle.machine.specs.Given.{given_by};
-ghost use Rattle.routerd.specs.Runs.{IsRun, IsRunFault, Ran, outcome_line};
+ghost use Rattle.commands.specs.Runs.{IsRun, IsRunFault, Ran, outcome_line};
 
 use crate::fault::Fault;
 use crate::files;

@@ -2,11 +2,11 @@
 
 ghost use Rattle.std.specs.Prelude.{◌≡◌, ◌≤◌, ◌⊎◌, IfErr, IfOk, Result, map};
 ghost use Rattle.std.specs.IoError.{error_kind};
-ghost use Rattle.routerd.specs.declared.fault.Fault.{Fault};
-ghost use Rattle.routerd.specs.declared.report.Report.{Report};
+ghost use Rattle.commands.specs.declared.fault.Fault.{Fault};
+ghost use Rattle.commands.specs.declared.report.Report.{Report};
 ghost use Rattle.clap.specs.Simple.{App};
 ghost use Rattle.command_line.specs.CommandLine.{IsCommandLine};
-ghost use Rattle.routerd.specs.Endings.{Ends, IsFaultOf, IsMadeOf, IsOutcome, Prints, Tells};
+ghost use Rattle.commands.specs.Endings.{Ends, IsFaultOf, IsMadeOf, IsOutcome, Prints, Tells};
 
 use crate::fault::{DONE, Fault, REFUSED};
 use crate::report::Report;

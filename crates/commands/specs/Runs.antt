@@ -7,10 +7,10 @@ use Rattle.interp.specs.declared.trap.Trap.{Trap}
 use Rattle.interp.specs.Outcome.{trap_number}
 use Rattle.object_runs.specs.ObjectRuns.{RunsObject}
 use Rattle.object_runs.specs.declared.limit.Limit.TheVariants.{Own}
-use Rattle.routerd.specs.declared.fault.Fault.{Fault}
-use Rattle.routerd.specs.declared.fault.Fault.TheVariants as faults
-use Rattle.routerd.specs.declared.report.Report.{Report}
-use Rattle.routerd.specs.Assembly.{IsObjectRefused, IsCodeRefused}
+use Rattle.commands.specs.declared.fault.Fault.{Fault}
+use Rattle.commands.specs.declared.fault.Fault.TheVariants as faults
+use Rattle.commands.specs.declared.report.Report.{Report}
+use Rattle.commands.specs.Assembly.{IsObjectRefused, IsCodeRefused}
 
 -- the line that is printed
 abbrev pub outcome_line : Result Run Trap → List ℕ

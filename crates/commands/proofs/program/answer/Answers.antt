@@ -1,6 +1,6 @@
 use Rattle.std.proofs.Common.{map}
-use Rattle.routerd.proofs.Told.{told}
-use Rattle.routerd.proofs.program.answer.Goals as goal
+use Rattle.commands.proofs.Told.{told}
+use Rattle.commands.proofs.program.answer.Goals as goal
 
 pub returns-in-Err : goal.returns-in-Err
 returns-in-Err g c =

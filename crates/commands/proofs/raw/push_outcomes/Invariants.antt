@@ -1,6 +1,6 @@
 use Rattle.std.proofs.Common.{◌≡◌, ◌+◌, ◌++◌, drop, string_bytes}
-use Rattle.routerd.specs.RawRuns.{seat_lines}
-use Rattle.routerd.proofs.raw.push_outcomes.Given as goal
+use Rattle.commands.specs.RawRuns.{seat_lines}
+use Rattle.commands.proofs.raw.push_outcomes.Given as goal
 
 -- what is written so far, and the lines of the seats that are left
 abbrev pub invariant-loop-index : goal.invariant-loop-index

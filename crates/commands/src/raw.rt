@@ -3,7 +3,7 @@
 ghost use Rattle.std.specs.Prelude.{◌≡◌, ◌++◌, ◌⊎◌, ℕ, List, length, map, IfOk, IfErr, OnOk, string_bytes, is_err};
 ghost use Rattle.std.specs.List.{All, list_any};
 ghost use Rattle.machine.specs.Given.{given_by};
-ghost use Rattle.routerd.specs.RawRuns.{EachRan, IsBareRefused, IsRawReport, Ran, counter_line, counter_lines, seat_line, seat_lines};
+ghost use Rattle.commands.specs.RawRuns.{EachRan, IsBareRefused, IsRawReport, IsToldOfRuns, Ran, counter_line, counter_lines, seat_line, seat_lines};
 
 use crate::fault::Fault;
 use crate::files;
@@ -131,6 +131,33 @@ fn push_counters(text: &mut String, sums: &[u64]) -> Result<(), AllocError>
     Ok(())
 }
 
+// Runs the code once on each of so many seats of a new table, and tells how they ended and what they counted.
+fn report_of<'a, R: AllocGlobal + Threads + Sync>(
+    rt: &R,
+    code: &Code,
+    hook: Hook,
+    seats: usize,
+) -> Result<Report, Fault<'a>>
+    ensures runs { IfOk result (IsToldOfRuns code.now hook seats) }
+    ensures fault { IfErr result (λ fault. fault ≡ Fault.Memory) }
+{
+    let alloc = rt.alloc();
+    let (shared, seats) = Shared::new(alloc, seats)?;
+    let input = Input {
+        context: [0; 64],
+        packet: &[],
+        rows: &[],
+    };
+    let finished = run_each(rt, code, hook, &input, &shared, seats)?;
+    let mut text = String::new(alloc);
+    push_outcomes(&mut text, &finished)?;
+    let is_stuck = is_any_stuck(&finished);
+    let seats = seats_of(alloc, &shared, finished)?;
+    let totals = shared.close(seats);
+    push_counters(&mut text, &totals.sums)?;
+    Ok(Report { text, is_stuck })
+}
+
 /// Runs the bare code of the file at `path` once on each of `seats` threads, all on the same counters.
 ///
 /// A fault where the file can't be read, holds no code, or memory is refused.
@@ -143,21 +170,7 @@ pub fn raw<'a, R: Files + AllocGlobal + Threads + Sync>(
     ensures runs { IfOk result (λ report. IsRawReport hook seats report) }
     ensures fault { IfErr result (λ fault. (fault ≡ Fault.Read path.entry) ⊎ (fault ≡ Fault.Memory) ⊎ ((bytes : List ℕ) × IsBareRefused bytes fault)) }
 {
-    let alloc = rt.alloc();
     let bytes = files::read(rt, path)?;
-    let code = decode(alloc, bytes.as_slice())?;
-    let (shared, seats) = Shared::new(alloc, seats)?;
-    let input = Input {
-        context: [0; 64],
-        packet: &[],
-        rows: &[],
-    };
-    let finished = run_each(rt, &code, hook, &input, &shared, seats)?;
-    let mut text = String::new(alloc);
-    push_outcomes(&mut text, &finished)?;
-    let is_stuck = is_any_stuck(&finished);
-    let seats = seats_of(alloc, &shared, finished)?;
-    let totals = shared.close(seats);
-    push_counters(&mut text, &totals.sums)?;
-    Ok(Report { text, is_stuck })
+    let code = decode(rt.alloc(), bytes.as_slice())?;
+    report_of(rt, &code, hook, seats)
 }

@@ -1,18 +1,18 @@
 -- How the program ends: what it prints of what a command made, and with which status.
 use Rattle.std.specs.Prelude.{◌≡◌, ℕ, ◌⊎◌, List, Bool, true, false, Option, Result, Ok, Err, string_bytes}
 use Rattle.std.specs.Io.KnownBytes.{Appends}
-use Rattle.routerd.specs.declared.fault.Fault.{Fault}
-use Rattle.routerd.specs.declared.report.Report.{Report}
-use Rattle.routerd.specs.declared.fault.Fault.TheVariants as faults
+use Rattle.commands.specs.declared.fault.Fault.{Fault}
+use Rattle.commands.specs.declared.report.Report.{Report}
+use Rattle.commands.specs.declared.fault.Fault.TheVariants as faults
 use Rattle.clap.specs.Simple.{App}
 use Rattle.clap.specs.declared.error.Error.{Error}
 use Rattle.command_line.specs.Requests.{Asks, IsMistake}
 use Rattle.command_line.specs.declared.requests.Request.{Request}
 use Rattle.command_line.specs.declared.requests.Request.TheVariants as requests
-use Rattle.routerd.specs.Statuses.{status_of}
-use Rattle.routerd.specs.RawRuns.{IsBareRefused, IsRawReport}
-use Rattle.routerd.specs.Runs.{IsRun, IsRunFault}
-use Rattle.routerd.specs.Assembly.{IsAssembled, IsListFault, IsListing, IsTextFault}
+use Rattle.commands.specs.Statuses.{status_of}
+use Rattle.commands.specs.RawRuns.{IsBareRefused, IsRawReport}
+use Rattle.commands.specs.Runs.{IsRun, IsRunFault}
+use Rattle.commands.specs.Assembly.{IsAssembled, IsListFault, IsListing, IsTextFault}
 
 -- The request was carried out, and this is told: of some file, since no contract says what a file gives.
 abbrev pub IsMadeOf : Request → Report → Type 0

@@ -1,0 +1,13 @@
+//! What the words of `routerd`'s command line ask for, carried out: files, threads and texts.
+#![tactic(auto)]
+
+mod assembly;
+mod fault;
+mod files;
+pub mod program;
+mod raw;
+mod report;
+mod run;
+
+pub use fault::Fault;
+pub use report::Report;
