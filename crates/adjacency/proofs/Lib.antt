@@ -5,3 +5,6 @@ pub mod Roomy
 pub mod Outstanding
 pub mod Maps
 pub mod Told
+pub mod Neighbors
+pub mod Floods
+pub mod Sets

@@ -1,0 +1,23 @@
+-- Flooding's step by its tests, and a draft with one content more.
+use Rattle.std.proofs.Common.{◌≡◌, ℕ, Bool, true, false, cond, [], ◌∷◌, refl, sym, ap}
+use Rattle.lsdb.specs.Headers.{Lsa}
+use Rattle.adjacency.specs.Contents.{Content, no_sends}
+use Rattle.adjacency.specs.Neighbors.{Neighbor, is_exchange_or_later}
+use Rattle.adjacency.specs.Drafts.{Drafted, adds, drafting}
+use Rattle.adjacency.specs.Floods.{flooded, flooded_in_exchange}
+
+pub drafting-none : (delay : ℕ) (d : Drafted) → d ≡ drafting delay [] d
+unfolding drafting
+drafting-none delay d = refl
+
+pub drafting-one : (delay : ℕ) (c : Content) (d : Drafted) → adds delay d c ≡ drafting delay (c ∷ []) d
+unfolding drafting
+drafting-one delay c d = refl
+
+pub floods : (moment : ℕ) (from : Bool) (lsa : Lsa) (n : Neighbor) → is_exchange_or_later n.state ≡ true → flooded_in_exchange moment from lsa n ≡ flooded moment from lsa n
+unfolding flooded
+floods moment from lsa n is = ap (λ b. cond b (flooded_in_exchange moment from lsa n) (no_sends n)) (sym is)
+
+pub rests : (moment : ℕ) (from : Bool) (lsa : Lsa) (n : Neighbor) → is_exchange_or_later n.state ≡ false → no_sends n ≡ flooded moment from lsa n
+unfolding flooded
+rests moment from lsa n is = ap (λ b. cond b (flooded_in_exchange moment from lsa n) (no_sends n)) (sym is)

@@ -1,0 +1,44 @@
+-- Flooding's step of one neighbor (RFC 2328, section 13.3), by whether the LSA came from it.
+use Rattle.std.specs.Prelude.{ℕ, Bool, true, false, not, ◌&&◌, if◌then◌else◌, List, [], ◌∷◌, Option, None, Some}
+use Rattle.lsdb.specs.Headers.{Lsa, lsa_key}
+use Rattle.lsdb.specs.Instances.{ListEntry, newer_than_listed, older_than_listed}
+use Rattle.adjacency.specs.Contents.{Step, Updates, no_sends}
+use Rattle.adjacency.specs.Neighbors.{Neighbor, is_exchange_or_loading, is_exchange_or_later}
+use Rattle.adjacency.specs.Requests.{requested, without_request}
+use Rattle.adjacency.specs.Retransmissions.{add_retransmission, remove_retransmission}
+
+-- the instance that is requested isn't newer than the LSA, so that the LSA meets the request
+abbrev pub meets : ℕ → Lsa → Option ListEntry → Bool
+meets moment lsa None = false
+meets moment lsa (Some r) = not (older_than_listed moment lsa.header r)
+
+-- nothing is requested, or the LSA is newer than what is
+abbrev pub passes : ℕ → Lsa → Option ListEntry → Bool
+passes moment lsa None = true
+passes moment lsa (Some r) = newer_than_listed moment lsa.header r
+
+-- what a neighbor in Exchange or Loading is requested under the LSA's key
+abbrev pub request_of : Neighbor → Lsa → Option ListEntry
+request_of n lsa = if is_exchange_or_loading n.state then requested n (lsa_key lsa) else None
+
+abbrev pub without_met_request : ℕ → Lsa → Neighbor → Neighbor
+without_met_request moment lsa n = if meets moment lsa (request_of n lsa) then without_request (lsa_key lsa) n else n
+
+-- the request goes where it is met; the old instance leaves the retransmission list, and the LSA enters it and is sent exactly where the
+-- neighbor gets it: it isn't the one that it came from, and wants nothing newer
+abbrev pub flooded_in_exchange : ℕ → Bool → Lsa → Neighbor → Step
+flooded_in_exchange moment from lsa n =
+    if not from && passes moment lsa (request_of n lsa)
+    then record { neighbor = add_retransmission moment lsa.header (without_met_request moment lsa n); sends = Updates lsa ∷ [] }
+    else no_sends (remove_retransmission (lsa_key lsa) (without_met_request moment lsa n))
+
+abbrev pub flooding : ℕ → Bool → Lsa → Neighbor → Step
+flooding moment from lsa n = if is_exchange_or_later n.state then flooded_in_exchange moment from lsa n else no_sends n
+
+-- the same under a name that contracts use
+unfoldable pub flooded : ℕ → Bool → Lsa → Neighbor → Step
+flooded moment from lsa n = flooding moment from lsa n
+
+abbrev pub is_any : {A : Type 0} → List A → Bool
+is_any [] = false
+is_any (x ∷ xs) = true

@@ -1,0 +1,97 @@
+-- A neighbor's fields as the definitions' neighbor.
+use Rattle.std.specs.Prelude.{ℕ, Bool, true, false, not, Option, None, Some}
+use Rattle.std.specs.FinMap as finite
+use Rattle.std.specs.FinSet as set
+use Rattle.lsdb.specs.Instances.{ListEntry}
+use Rattle.lsdb.specs.Keys.{ByKey, KeySet}
+use Rattle.packet.specs.declared.model.Description.{Description}
+use Rattle.adjacency.specs.Kept.{Kept}
+use Rattle.adjacency.specs.Neighbors.{Neighbor, fresh}
+use Rattle.adjacency.specs.declared.state.State.TheVariants.{Init, ExStart, Exchange, Loading, Full}
+use Rattle.adjacency.specs.declared.state.State.{State}
+use Rattle.adjacency.specs.Adjacencies.{after_hello, two_way_received}
+use Rattle.adjacency.specs.Contents.{Step}
+use Rattle.adjacency.specs.declared.standing.Standing.{Standing}
+
+abbrev pub keys_of : {X : Type 0} → ByKey X → KeySet
+keys_of m = set.from_list (finite.keys m)
+
+unfoldable pub neighbor_of : {X : Type 0} → Standing → Option Description → ByKey ListEntry → ByKey ListEntry → ByKey X → ByKey ListEntry → Neighbor
+neighbor_of s described summary requests outstanding retransmissions = record {
+  router = s.router;
+  state = s.state;
+  is_master = s.is_master;
+  sequence = s.sequence;
+  dd_sequence_start = s.dd_sequence_start;
+  received = s.received;
+  described = described;
+  exchanged = s.exchanged;
+  summary = summary;
+  requests = requests;
+  retransmissions = retransmissions;
+  outstanding = keys_of outstanding;
+  last_heard = s.last_heard;
+  described_at = s.described_at;
+  requested_at = s.requested_at;
+  retransmitted_at = s.retransmitted_at;
+}
+
+-- what stood there before the first change of an event, else what stands there
+abbrev pub settled_value : {A : Type 0} → Option A → A → A
+settled_value None present = present
+settled_value (Some before) present = before
+
+abbrev pub present_of : Option (Kept Neighbor) → Option Neighbor
+present_of None = None
+present_of (Some n) = Some n.present
+
+abbrev pub settled_of : Option (Kept Neighbor) → Option Neighbor
+settled_of None = None
+settled_of (Some n) = Some n.settled
+
+-- the neighbor that was moved away, if one was, else the one that is there
+abbrev pub settled_among : Option (Option (Kept Neighbor)) → Option (Kept Neighbor) → Option Neighbor
+settled_among None there = settled_of there
+settled_among (Some before) there = settled_of before
+
+abbrev pub fresh_standing : ℕ → Option ℕ → ℕ → Standing
+fresh_standing router dd_sequence_start last_heard = record {
+  router = router;
+  state = Init;
+  is_master = false;
+  sequence = 0;
+  dd_sequence_start = dd_sequence_start;
+  received = None;
+  exchanged = None;
+  last_heard = last_heard;
+  described_at = 0;
+  requested_at = 0;
+  retransmitted_at = 0;
+}
+
+abbrev pub started_standing : ℕ → ℕ → ℕ → ℕ → Standing
+started_standing moment router number last_heard = record {
+  router = router;
+  state = ExStart;
+  is_master = true;
+  sequence = number;
+  dd_sequence_start = Some number;
+  received = None;
+  exchanged = None;
+  last_heard = last_heard;
+  described_at = moment;
+  requested_at = 0;
+  retransmitted_at = 0;
+}
+
+-- what a Hello makes of a neighbor in Init
+unfoldable pub begun : ℕ → ℕ → Option ℕ → Bool → Step
+begun moment router dd_sequence_start names = after_hello two_way_received moment router names (Some (fresh router dd_sequence_start moment))
+
+-- a Hello that doesn't name this router, or the first that does, begins anew
+abbrev pub begins : State → Bool → Bool
+begins Init names = true
+begins ExStart names = not names
+begins Exchange names = not names
+begins Loading names = not names
+begins Full names = not names

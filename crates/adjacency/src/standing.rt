@@ -1,0 +1,96 @@
+//! What is kept of a neighbor beside its lists.
+ghost use Rattle.std.specs.Prelude.{◌≡◌};
+ghost use Rattle.adjacency.specs.Views.{fresh_standing, started_standing};
+
+use crate::state::State;
+use std::marker::Model;
+use words::{RouterId, Second};
+
+/// By what a Database Description is known again: its flags, its Options and its sequence number (RFC 2328, section 10.6).
+#[derive(Clone, Copy, Debug)]
+pub struct ReceivedDescription {
+    pub options: u8,
+    pub init: bool,
+    pub more: bool,
+    pub master: bool,
+    pub sequence: u32,
+}
+
+impl Model for ReceivedDescription {
+    ghost use Rattle.adjacency.specs.Neighbors.{ReceivedDescription as Known};
+
+    ghost Value = { Known };
+
+    ghost view = { λ a. record { options = a.options; init = a.init; more = a.more; master = a.master; sequence = a.sequence } };
+
+    ghost inverse = { λ m. record { options = m.options; init = m.init; more = m.more; master = m.master; sequence = m.sequence } };
+}
+
+/// A neighbor's names, state, numbers and times.
+#[derive(Clone, Copy, Debug)]
+pub struct Standing {
+    pub router: RouterId,
+    pub state: State,
+    /// Whether this router is the master of the exchange.
+    pub is_master: bool,
+    /// The sequence number of the exchange.
+    pub sequence: u32,
+    /// The number of the last attempt at an exchange, since the neighbor was Down.
+    pub dd_sequence_start: Option<u32>,
+    /// The last Description received.
+    pub received: Option<ReceivedDescription>,
+    /// The moment at which the exchange was done.
+    pub exchanged: Option<Second>,
+    /// Since when the inactivity time runs, and since when those of the Description, the Request and the retransmissions.
+    pub last_heard: Second,
+    pub described_at: Second,
+    pub requested_at: Second,
+    pub retransmitted_at: Second,
+}
+
+impl Standing {
+    /// The same once more: a `Copy` struct with a field that has a model counts as moved where it is used.
+    pub fn same(&self) -> Standing
+        ensures { result ≡ self.now }
+    {
+        *self
+    }
+
+    /// In Init.
+    pub fn fresh(router: RouterId, dd_sequence_start: Option<u32>, last_heard: Second) -> Standing
+        ensures { result ≡ fresh_standing router dd_sequence_start last_heard }
+    {
+        Standing {
+            router,
+            state: State::Init,
+            is_master: false,
+            sequence: 0,
+            dd_sequence_start,
+            received: None,
+            exchanged: None,
+            last_heard,
+            described_at: Second::new(0),
+            requested_at: Second::new(0),
+            retransmitted_at: Second::new(0),
+        }
+    }
+
+    /// In ExStart, with the number of a new attempt.
+    pub fn started(moment: Second, router: RouterId, number: u32, last_heard: Second) -> Standing
+        ensures { result ≡ started_standing moment router number last_heard }
+    {
+        Standing {
+            router,
+            state: State::ExStart,
+            is_master: true,
+            sequence: number,
+            dd_sequence_start: Some(number),
+            received: None,
+            exchanged: None,
+            last_heard,
+            described_at: moment,
+            requested_at: Second::new(0),
+            retransmitted_at: Second::new(0),
+        }
+    }
+}
