@@ -6,9 +6,8 @@ use asm::{assemble, listing};
 use object::Object;
 use std::alloc::{AllocError, Global};
 use std::rt::Clock;
-use std::time::Instant;
 
-/// How often each is done for a figure.
+/// How often each is done for a measurement.
 const ROUNDS: u64 = 20;
 
 // The line of the instruction at a slot. Each fourth one jumps back to the slot three before it: by the label there, or by its distance.
@@ -38,9 +37,9 @@ fn text_of(alloc: Global, slots: usize, has_labels: bool) -> Result<String, Allo
 }
 
 // How often the text was assembled.
-fn assemble_often(alloc: Global, text: &str) -> u64 {
+fn assemble_often(alloc: Global, text: &str, rounds: u64) -> u64 {
     let mut done = 0u64;
-    for _round in 0..ROUNDS {
+    for _round in 0..rounds {
         if assemble(alloc, text).is_ok() {
             done = done.wrapping_add(1);
         }
@@ -49,9 +48,9 @@ fn assemble_often(alloc: Global, text: &str) -> u64 {
 }
 
 // How often the object was listed.
-fn list_often(alloc: Global, object: &Object) -> u64 {
+fn list_often(alloc: Global, object: &Object, rounds: u64) -> u64 {
     let mut done = 0u64;
-    for _round in 0..ROUNDS {
+    for _round in 0..rounds {
         if listing(alloc, object).is_ok() {
             done = done.wrapping_add(1);
         }
@@ -59,35 +58,52 @@ fn list_often(alloc: Global, object: &Object) -> u64 {
     done
 }
 
-fn measure<R: Clock + Print + AllocGlobal>(
+fn print_each<R: Clock + Print + AllocGlobal>(
     rt: &R,
     slots: usize,
     has_labels: bool,
-    what: &str,
 ) -> Result<()> {
     let alloc = rt.alloc();
     let text = text_of(alloc, slots, has_labels)?;
-    let object = assemble(alloc, text.as_str()).map_err(|_| anyhow!("the text isn't assembled"))?;
+    let Ok(object) = assemble(alloc, text.as_str()) else {
+        return Err(anyhow!("the text isn't assembled"));
+    };
     ensure!(
         object.slots() == slots,
         "a text of other than {slots} slots"
     );
-    let start = Instant::now(rt)?;
-    let _done = assemble_often(alloc, text.as_str());
-    report(rt, what, slots, "slots", ROUNDS, start)?;
-    if has_labels {
-        return Ok(());
-    }
-    let start = Instant::now(rt)?;
-    let _done = list_often(alloc, &object);
-    report(rt, "listing", slots, "slots", ROUNDS, start)
+    let labels = if has_labels {
+        "one for each four slots"
+    } else {
+        "none"
+    };
+    println!(rt; "a text of {slots} slots, labels: {labels}")?;
+    let assembling = |rounds| assemble_often(alloc, &text, rounds);
+    report(
+        rt,
+        "assembling it",
+        ROUNDS,
+        slots as u64,
+        "a slot",
+        &assembling,
+    )?;
+    let listings = |rounds| list_often(alloc, &object, rounds);
+    report(
+        rt,
+        "listing its object",
+        ROUNDS,
+        slots as u64,
+        "a slot",
+        &listings,
+    )?;
+    Ok(())
 }
 
 /// Prints how long texts take to assemble, with labels and with none, and how long their objects take to list.
 pub fn print<R: Clock + Print + AllocGlobal>(rt: &R) -> Result<()> {
     for slots in [1_024usize, 4_096] {
-        measure(rt, slots, false, "assembling, no labels")?;
-        measure(rt, slots, true, "assembling, a label for each four slots")?;
+        print_each(rt, slots, false)?;
+        print_each(rt, slots, true)?;
     }
     Ok(())
 }

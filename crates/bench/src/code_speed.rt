@@ -1,4 +1,5 @@
 //! How long decoding and encoding take.
+ghost use Rattle.std.specs.Prelude.{◌≤◌};
 
 use crate::figures::report;
 use crate::programs;
@@ -6,15 +7,14 @@ use anyhow::{Result, anyhow};
 use isa::{Code, decode, encode};
 use std::alloc::Global;
 use std::rt::Clock;
-use std::time::Instant;
 
-/// How often each is done for a figure.
+/// How often each is done for a measurement.
 const ROUNDS: u64 = 200;
 
 // How often the bytes were decoded.
-fn decode_often(alloc: Global, bytes: &[u8]) -> u64 {
+fn decode_often(alloc: Global, bytes: &[u8], rounds: u64) -> u64 {
     let mut done = 0u64;
-    for _round in 0..ROUNDS {
+    for _round in 0..rounds {
         if decode(alloc, bytes).is_ok() {
             done = done.wrapping_add(1);
         }
@@ -23,9 +23,9 @@ fn decode_often(alloc: Global, bytes: &[u8]) -> u64 {
 }
 
 // How often the code was encoded.
-fn encode_often(alloc: Global, code: &Code) -> u64 {
+fn encode_often(alloc: Global, code: &Code, rounds: u64) -> u64 {
     let mut done = 0u64;
-    for _round in 0..ROUNDS {
+    for _round in 0..rounds {
         if encode(alloc, code).is_ok() {
             done = done.wrapping_add(1);
         }
@@ -33,27 +33,53 @@ fn encode_often(alloc: Global, code: &Code) -> u64 {
     done
 }
 
+fn print_decoding<R: Clock + Print + AllocGlobal>(rt: &R, slots: u16) -> Result<()>
+    requires { 2 ≤ slots }
+{
+    let alloc = rt.alloc();
+    let bytes = programs::straight_line(alloc, usize::from(slots))?;
+    println!(rt; "code of {slots} slots")?;
+    let decoding = |rounds| decode_often(alloc, &bytes, rounds);
+    report(
+        rt,
+        "decoding it",
+        ROUNDS,
+        u64::from(slots),
+        "a slot",
+        &decoding,
+    )?;
+    Ok(())
+}
+
+fn print_encoding<R: Clock + Print + AllocGlobal>(rt: &R, slots: u16) -> Result<()>
+    requires { 2 ≤ slots }
+{
+    let alloc = rt.alloc();
+    let bytes = programs::straight_line(alloc, usize::from(slots))?;
+    let Ok(code) = decode(alloc, &bytes) else {
+        return Err(anyhow!("the code isn't decoded"));
+    };
+    println!(rt; "code of {slots} slots")?;
+    let encoding = |rounds| encode_often(alloc, &code, rounds);
+    report(
+        rt,
+        "encoding it",
+        ROUNDS,
+        u64::from(slots),
+        "a slot",
+        &encoding,
+    )?;
+    Ok(())
+}
+
 /// Prints how long decoding takes.
 pub fn print_decode<R: Clock + Print + AllocGlobal>(rt: &R) -> Result<()> {
-    let alloc = rt.alloc();
-    for slots in [1_024usize, 4_096] {
-        let bytes = programs::straight_line(alloc, slots)?;
-        let start = Instant::now(rt)?;
-        let _done = decode_often(alloc, &bytes);
-        report(rt, "decoding", slots, "slots", ROUNDS, start)?;
-    }
-    Ok(())
+    print_decoding(rt, 1_024)?;
+    print_decoding(rt, 4_096)
 }
 
 /// Prints how long encoding takes.
 pub fn print_encode<R: Clock + Print + AllocGlobal>(rt: &R) -> Result<()> {
-    let alloc = rt.alloc();
-    for slots in [1_024usize, 4_096] {
-        let bytes = programs::straight_line(alloc, slots)?;
-        let code = decode(alloc, &bytes).map_err(|_| anyhow!("the code isn't decoded"))?;
-        let start = Instant::now(rt)?;
-        let _done = encode_often(alloc, &code);
-        report(rt, "encoding", slots, "slots", ROUNDS, start)?;
-    }
-    Ok(())
+    print_encoding(rt, 1_024)?;
+    print_encoding(rt, 4_096)
 }

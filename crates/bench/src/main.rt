@@ -13,13 +13,13 @@ mod texts_speed;
 use std::env;
 use std::process::ExitCode;
 use std::rt::Clock;
+use std::sync::Wait;
 use std::thread::Threads;
-use std::time::Instant;
 
 const USAGE: &str = "usage: bench run | decode | encode | asm | objects | maps | texts";
 
 /// Prints the figures of this name. False where no figures have it.
-fn measure<R: Clock + Print + AllocGlobal + Threads + Sync>(
+fn measure<R: Clock + Print + AllocGlobal + Threads + Wait + Copy + Send + 'static>(
     rt: &R,
     name: &str,
 ) -> anyhow::Result<bool> {
@@ -29,17 +29,11 @@ fn measure<R: Clock + Print + AllocGlobal + Threads + Sync>(
         "encode" => code_speed::print_encode(rt)?,
         "asm" => asm_speed::print(rt)?,
         "objects" => object_speed::print(rt)?,
-        "maps" => maps_speed::print(rt)?,
+        "maps" => maps_speed::print(*rt)?,
         "texts" => texts_speed::print(rt)?,
         _ => return Ok(false),
     }
     Ok(true)
-}
-
-/// Nanoseconds since the start.
-pub fn nanoseconds_since<R: Clock>(rt: &R, start: Instant) -> anyhow::Result<u64> {
-    let nanos = start.elapsed(rt)?.as_nanos();
-    Ok((nanos % 18_446_744_073_709_551_616) as u64)
 }
 
 fn main(rt: HostRuntime) -> anyhow::Result<ExitCode> {

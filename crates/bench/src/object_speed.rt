@@ -11,9 +11,8 @@ use object::{
 };
 use std::alloc::Global;
 use std::rt::Clock;
-use std::time::Instant;
 
-/// How often each is done for a figure.
+/// How often each is done for a measurement.
 const ROUNDS: u64 = 50;
 
 // A statement at a slot: a number in r0 and r1, a pointer in r2, r3 and r4, 64 stack bytes, and a rank over r1.
@@ -57,9 +56,9 @@ fn object_of(alloc: Global, slots: usize, statements: u16) -> Result<Object>
 }
 
 // How often the bytes were read.
-fn read_often(alloc: Global, bytes: &[u8]) -> u64 {
+fn read_often(alloc: Global, bytes: &[u8], rounds: u64) -> u64 {
     let mut done = 0u64;
-    for _round in 0..ROUNDS {
+    for _round in 0..rounds {
         if object::read(alloc, bytes).is_ok() {
             done = done.wrapping_add(1);
         }
@@ -68,9 +67,9 @@ fn read_often(alloc: Global, bytes: &[u8]) -> u64 {
 }
 
 // How often the object was written.
-fn write_often(alloc: Global, object: &Object) -> u64 {
+fn write_often(alloc: Global, object: &Object, rounds: u64) -> u64 {
     let mut done = 0u64;
-    for _round in 0..ROUNDS {
+    for _round in 0..rounds {
         if object::write(alloc, object).is_ok() {
             done = done.wrapping_add(1);
         }
@@ -78,25 +77,24 @@ fn write_often(alloc: Global, object: &Object) -> u64 {
     done
 }
 
-fn measure<R: Clock + Print + AllocGlobal>(rt: &R, slots: usize, statements: u16) -> Result<()>
+fn print_each<R: Clock + Print + AllocGlobal>(rt: &R, slots: usize, statements: u16) -> Result<()>
     requires { 2 ≤ slots }
 {
     let alloc = rt.alloc();
     let object = object_of(alloc, slots, statements)?;
     let bytes = object::write(alloc, &object)?;
-    let size = bytes.len();
+    let size = bytes.len() as u64;
     println!(rt; "an object of {slots} slots and {statements} statements")?;
-    let start = Instant::now(rt)?;
-    let _done = read_often(alloc, &bytes);
-    report(rt, "reading it", size, "bytes", ROUNDS, start)?;
-    let start = Instant::now(rt)?;
-    let _done = write_often(alloc, &object);
-    report(rt, "writing it", size, "bytes", ROUNDS, start)
+    let reading = |rounds| read_often(alloc, &bytes, rounds);
+    report(rt, "reading it", ROUNDS, size, "a byte", &reading)?;
+    let writing = |rounds| write_often(alloc, &object, rounds);
+    report(rt, "writing it", ROUNDS, size, "a byte", &writing)?;
+    Ok(())
 }
 
 /// Prints how long objects of up to 4,096 slots and 1,000 statements take to read and to write.
 pub fn print<R: Clock + Print + AllocGlobal>(rt: &R) -> Result<()> {
-    measure(rt, 1_024, 250)?;
-    measure(rt, 4_096, 0)?;
-    measure(rt, 4_096, 1_000)
+    print_each(rt, 1_024, 250)?;
+    print_each(rt, 4_096, 0)?;
+    print_each(rt, 4_096, 1_000)
 }

@@ -36,48 +36,62 @@ pub fn straight_line(alloc: Global, slots: usize) -> Result<Vec<u8>, AllocError>
     Ok(bytes)
 }
 
+// The bytes of these slots: opcode, registers, offset and number.
+fn slots(alloc: Global, all: &[(u8, u8, u8, u8)]) -> Result<Vec<u8>, AllocError> {
+    let mut bytes = Vec::new(alloc);
+    for (opcode, registers, offset, number) in all.iter().copied() {
+        push_slot(&mut bytes, opcode, registers, offset, number)?;
+    }
+    Ok(bytes)
+}
+
 /// `r0 = 0; r1 = 255 << 11; L: r1 -= 1; if r1 != 0 goto L; exit`: more than a million instructions.
 pub fn counting_loop(alloc: Global) -> Result<Vec<u8>, AllocError> {
-    let mut bytes = Vec::new(alloc);
-    push_slot(&mut bytes, 0xb7, 0, 0, 0)?;
-    push_slot(&mut bytes, 0xb7, 1, 0, 255)?;
-    push_slot(&mut bytes, 0x67, 1, 0, 11)?;
-    push_slot(&mut bytes, 0x17, 1, 0, 1)?;
-    push_slot(&mut bytes, 0x55, 1, 254, 0)?;
-    push_slot(&mut bytes, 0x95, 0, 0, 0)?;
-    Ok(bytes)
+    let all = [
+        (0xb7, 0, 0, 0),
+        (0xb7, 1, 0, 255),
+        (0x67, 1, 0, 11),
+        (0x17, 1, 0, 1),
+        (0x55, 1, 254, 0),
+        (0x95, 0, 0, 0),
+    ];
+    slots(alloc, &all)
 }
 
 /// A loop of 256 turns whose body is one helper call (`r1 = 5; r2 = 1; call 1`), or the same with `r0 = 0` for the call.
 pub fn adding_loop(alloc: Global, adds: bool) -> Result<Vec<u8>, AllocError> {
-    let mut bytes = Vec::new(alloc);
-    push_slot(&mut bytes, 0xb7, 6, 0, 255)?;
-    push_slot(&mut bytes, 0xb7, 1, 0, 5)?;
-    push_slot(&mut bytes, 0xb7, 2, 0, 1)?;
-    if adds {
-        push_slot(&mut bytes, 0x85, 0, 0, 1)?;
+    let body = if adds {
+        (0x85, 0, 0, 1)
     } else {
-        push_slot(&mut bytes, 0xb7, 0, 0, 0)?;
-    }
-    push_slot(&mut bytes, 0x17, 6, 0, 1)?;
-    push_slot(&mut bytes, 0x55, 6, 251, 0)?;
-    push_slot(&mut bytes, 0x95, 0, 0, 0)?;
-    Ok(bytes)
+        (0xb7, 0, 0, 0)
+    };
+    let all = [
+        (0xb7, 6, 0, 255),
+        (0xb7, 1, 0, 5),
+        (0xb7, 2, 0, 1),
+        body,
+        (0x17, 6, 0, 1),
+        (0x55, 6, 251, 0),
+        (0x95, 0, 0, 0),
+    ];
+    slots(alloc, &all)
 }
 
 /// A loop of 255 turns that loads an own cell (`r0 = *u64 r7 0`), or sets `r0 = 0` in its place.
 pub fn loading_loop(alloc: Global, loads: bool) -> Result<Vec<u8>, AllocError> {
-    let mut bytes = Vec::new(alloc);
-    push_slot(&mut bytes, 0x18, 0x67, 0, 1)?;
-    push_slot(&mut bytes, 0, 0, 0, 0)?;
-    push_slot(&mut bytes, 0xb7, 6, 0, 255)?;
-    if loads {
-        push_slot(&mut bytes, 0x79, 0x70, 0, 0)?;
+    let body = if loads {
+        (0x79, 0x70, 0, 0)
     } else {
-        push_slot(&mut bytes, 0xb7, 0, 0, 0)?;
-    }
-    push_slot(&mut bytes, 0x17, 6, 0, 1)?;
-    push_slot(&mut bytes, 0x55, 6, 253, 0)?;
-    push_slot(&mut bytes, 0x95, 0, 0, 0)?;
-    Ok(bytes)
+        (0xb7, 0, 0, 0)
+    };
+    let all = [
+        (0x18, 0x67, 0, 1),
+        (0, 0, 0, 0),
+        (0xb7, 6, 0, 255),
+        body,
+        (0x17, 6, 0, 1),
+        (0x55, 6, 253, 0),
+        (0x95, 0, 0, 0),
+    ];
+    slots(alloc, &all)
 }

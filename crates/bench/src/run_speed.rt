@@ -2,19 +2,20 @@
 ghost use Rattle.std.specs.Prelude.{◌≡◌};
 ghost use Rattle.maps.specs.Words.{IsOf};
 
-use crate::{nanoseconds_since, programs};
+use crate::figures::{Figure, report};
+use crate::programs;
 use anyhow::{Result, anyhow};
 use interp::run_checked;
 use isa::{Code, Hook, decode};
 use machine::Input;
 use maps::{Seat, Shared};
+use std::alloc::Global;
 use std::rt::Clock;
-use std::time::Instant;
 
 /// More than any program here takes.
 const LIMIT: u64 = 10_000_000;
 
-/// Runs the code once, and answers how many instructions it took.
+/// Runs the code once, and answers how many instructions it took; 0 where it didn't end.
 fn once(code: &Code, input: &Input, shared: &Shared, seat: &mut Seat) -> u64
     requires { IsOf shared.now seat.old }
     ensures { seat.new.table ≡ seat.old.table }
@@ -25,16 +26,43 @@ fn once(code: &Code, input: &Input, shared: &Shared, seat: &mut Seat) -> u64
     }
 }
 
-/// Runs the code so many times, and answers how many instructions that took in all.
-fn repeat(code: &Code, input: &Input, shared: &Shared, seat: &mut Seat, rounds: u64) -> u64
+/// Runs the code so many times, and answers how many of the runs took so many instructions.
+fn repeat(
+    code: &Code,
+    input: &Input,
+    shared: &Shared,
+    seat: &mut Seat,
+    used: u64,
+    rounds: u64,
+) -> u64
     requires { IsOf shared.now seat.old }
-    ensures { seat.new.table ≡ seat.old.table }
 {
-    let mut used = 0u64;
+    let mut done = 0u64;
     for _round in 0..rounds {
-        used = used.wrapping_add(once(code, input, shared, seat));
+        if once(code, input, shared, seat) == used {
+            done = done.wrapping_add(1);
+        }
     }
-    used
+    done
+}
+
+/// The same on the only seat of a table of its own.
+fn repeat_afresh(alloc: Global, code: &Code, input: &Input, used: u64, rounds: u64) -> u64 {
+    let Ok((shared, mut seats)) = Shared::new(alloc, 1) else {
+        return 0;
+    };
+    let mut seat = seats.remove(0);
+    repeat(code, input, &shared, &mut seat, used, rounds)
+}
+
+/// How many instructions one run takes.
+fn instructions(alloc: Global, code: &Code, input: &Input) -> Result<u64> {
+    let (shared, mut seats) = Shared::new(alloc, 1)?;
+    let mut seat = seats.remove(0);
+    match once(code, input, &shared, &mut seat) {
+        0 => Err(anyhow!("a run that didn't end")),
+        used => Ok(used),
+    }
 }
 
 /// An input of zeros with no packet and no table rows.
@@ -46,29 +74,23 @@ fn empty_input() -> Input<'static> {
     }
 }
 
-/// Decodes the bytes, runs the code so many times and prints how long an instruction took. The answer is how long a run took, in
-/// hundredths of a nanosecond.
-pub fn measure<R: Clock + Print + AllocGlobal>(
+/// Decodes the bytes, runs the code so many times for each measurement, and prints how long an instruction takes. The answer is how long
+/// a run takes.
+fn print_each<R: Clock + Print + AllocGlobal>(
     rt: &R,
     what: &str,
     bytes: &[u8],
     rounds: u64,
-) -> Result<u128> {
+) -> Result<Figure> {
     let alloc = rt.alloc();
-    let code = decode(alloc, bytes).map_err(|_| anyhow!("the code of {what} isn't decoded"))?;
-    let input = empty_input();
-    let (shared, mut seats) = Shared::new(alloc, 1)?;
-    let Some(mut seat) = seats.pop() else {
-        return Ok(0);
+    let Ok(code) = decode(alloc, bytes) else {
+        return Err(anyhow!("the code of {what} isn't decoded"));
     };
-    let start = Instant::now(rt)?;
-    let used = repeat(&code, &input, &shared, &mut seat, rounds);
-    let nanos = nanoseconds_since(rt, start)?;
-    let each = (nanos as u128) * 100 / (used.max(1) as u128);
-    let whole = each / 100;
-    let part = each % 100;
-    println!(rt; "{what}: {used} instructions, {whole}.{part:02} ns each")?;
-    Ok((nanos as u128) * 100 / (rounds.max(1) as u128))
+    let input = empty_input();
+    let used = instructions(alloc, &code, &input)?;
+    println!(rt; "{what}: {used} instructions a run")?;
+    let runs = |n| repeat_afresh(alloc, &code, &input, used, n);
+    report(rt, "  they take", rounds, used, "each", &runs)
 }
 
 /// Prints how long short straight-line code takes: what a run costs before its first instruction counts in there, and in the
@@ -76,14 +98,33 @@ pub fn measure<R: Clock + Print + AllocGlobal>(
 fn print_short<R: Clock + Print + AllocGlobal>(rt: &R) -> Result<()> {
     let alloc = rt.alloc();
     let shortest = programs::straight_line(alloc, 2)?;
-    let two = measure(rt, "straight-line arithmetic, 2 slots", &shortest, 400_000)?;
+    let two = print_each(rt, "straight-line arithmetic, 2 slots", &shortest, 100_000)?;
+    two.print(rt, "  a run takes", "in all")?;
     let short = programs::straight_line(alloc, 10)?;
-    let ten = measure(rt, "straight-line arithmetic, 10 slots", &short, 400_000)?;
-    let each = ten.saturating_sub(two) / 8;
-    let whole = each / 100;
-    let part = each % 100;
-    println!(rt; "each instruction from the third to the tenth: {whole}.{part:02} ns")?;
-    Ok(())
+    let ten = print_each(rt, "straight-line arithmetic, 10 slots", &short, 100_000)?;
+    ten.print(rt, "  a run takes", "in all")?;
+    let what = "from the third instruction to the tenth";
+    ten.less(two, 8).print(rt, what, "each")
+}
+
+/// Prints how long a loop of 255 turns takes without and with accesses of the maps, and by how much each access is dearer than
+/// `r0 = 0`.
+fn print_loops<R: Clock + Print + AllocGlobal>(rt: &R) -> Result<()> {
+    let alloc = rt.alloc();
+    let plain = programs::adding_loop(alloc, false)?;
+    let plain = print_each(rt, "loop of 255 turns without counter adds", &plain, 2_000)?;
+    let adding = programs::adding_loop(alloc, true)?;
+    let adding = print_each(rt, "the same with counter adds", &adding, 2_000)?;
+    adding
+        .less(plain, 255)
+        .print(rt, "an add is dearer by", "each")?;
+    let plain = programs::loading_loop(alloc, false)?;
+    let plain = print_each(rt, "loop of 255 turns without cell loads", &plain, 2_000)?;
+    let loading = programs::loading_loop(alloc, true)?;
+    let loading = print_each(rt, "the same with cell loads", &loading, 2_000)?;
+    loading
+        .less(plain, 255)
+        .print(rt, "a load is dearer by", "each")
 }
 
 /// Prints how long straight-line code, a loop, and programs with accesses of the maps take.
@@ -91,16 +132,8 @@ pub fn print<R: Clock + Print + AllocGlobal>(rt: &R) -> Result<()> {
     print_short(rt)?;
     let alloc = rt.alloc();
     let long = programs::straight_line(alloc, 4_000)?;
-    measure(rt, "straight-line arithmetic, 4,000 slots", &long, 1_000)?;
+    print_each(rt, "straight-line arithmetic, 4,000 slots", &long, 1_000)?;
     let counting = programs::counting_loop(alloc)?;
-    measure(rt, "counting loop", &counting, 4)?;
-    let plain = programs::adding_loop(alloc, false)?;
-    measure(rt, "loop of 255 turns without counter adds", &plain, 2_000)?;
-    let adding = programs::adding_loop(alloc, true)?;
-    measure(rt, "the same with counter adds", &adding, 2_000)?;
-    let plain = programs::loading_loop(alloc, false)?;
-    measure(rt, "loop of 255 turns without cell loads", &plain, 2_000)?;
-    let loading = programs::loading_loop(alloc, true)?;
-    measure(rt, "the same with cell loads", &loading, 2_000)?;
-    Ok(())
+    print_each(rt, "counting loop", &counting, 4)?;
+    print_loops(rt)
 }

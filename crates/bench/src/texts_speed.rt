@@ -2,17 +2,16 @@
 ghost use Rattle.std.specs.Prelude.{◌≡◌, ◌≤◌, ◌<◌, ◌^◌, length};
 ghost use Rattle.packet.specs.Text.{closed, lsa_count, text};
 
-use crate::nanoseconds_since;
+use crate::figures::report;
 use anyhow::{Result, anyhow};
 use lsa::{Lsa, checksum_holds, seal};
 use packet::Packet;
 use std::alloc::{AllocError, Global};
 use std::rt::Clock;
-use std::time::Instant;
 use words::{put_u8, put_u16, put_u32};
 
-/// About how many bytes each figure is taken over.
-const BYTES: u64 = 40_000_000;
+/// About how many bytes each measurement is taken over.
+const BYTES: u64 = 10_000_000;
 
 // A link to a stub network; the last of an LSA has a TOS metric.
 fn put_link(out: &mut Vec<u8>, number: u16, is_last: bool) -> Result<(), AllocError> {
@@ -134,25 +133,27 @@ fn write_lsas(alloc: Global, lsa: &Lsa, rounds: u64) -> u64 {
     done
 }
 
-// Seals the bytes again and again, one of them changed each time.
-fn seal_often(bytes: &mut [u8], rounds: u64)
-    requires whole { 20 ≤ length bytes.old }
-    requires within { length bytes.old ≤ 65535 }
-    ensures { length bytes.new ≡ length bytes.old }
+// How often the bytes were sealed so that the checksum holds, one of them changed each time.
+fn seal_often(alloc: Global, bytes: &[u8], rounds: u64) -> u64
+    requires whole { 20 ≤ length bytes.now }
+    requires within { length bytes.now ≤ 65535 }
 {
+    let Ok(mut bytes) = bytes.to_vec(alloc) else {
+        return 0;
+    };
+    let mut done = 0u64;
     for round in 0..rounds {
         bytes[4] = (round % 256) as u8;
-        seal(bytes);
+        seal(&mut bytes);
+        done = done.wrapping_add(1);
     }
+    done
 }
 
-// How often the checksum holds, one byte being changed each time.
-fn check_often(bytes: &mut [u8], rounds: u64) -> u64
-    requires { 20 ≤ length bytes.old }
-{
+// How often the checksum was found to hold.
+fn check_often(bytes: &[u8], rounds: u64) -> u64 {
     let mut held = 0u64;
-    for round in 0..rounds {
-        bytes[4] = (round % 256) as u8;
+    for _round in 0..rounds {
         if checksum_holds(bytes) {
             held = held.wrapping_add(1);
         }
@@ -160,73 +161,76 @@ fn check_often(bytes: &mut [u8], rounds: u64) -> u64
     held
 }
 
-// Prints what so many rounds over so many bytes took since the start.
-fn report<R: Clock + Print>(
-    rt: &R,
-    what: &str,
-    size: usize,
-    rounds: u64,
-    start: Instant,
-) -> Result<()> {
-    let nanos = nanoseconds_since(rt, start)?;
-    let each = (nanos as u128) * 100 / ((size as u128) * (rounds as u128)).max(1);
-    let whole = each / 100;
-    let part = each % 100;
-    println!(rt; "{what}, {size} bytes: {whole}.{part:02} ns a byte")?;
-    Ok(())
-}
-
 fn rounds_of(size: usize) -> u64 {
     BYTES / (size as u64).max(1)
 }
 
-fn measure_update<R: Clock + Print + AllocGlobal>(rt: &R, count: u8) -> Result<()> {
+fn print_update<R: Clock + Print + AllocGlobal>(rt: &R, count: u8) -> Result<()> {
     let alloc = rt.alloc();
     let lsa = router_lsa(alloc, 50)?;
     let bytes = update(alloc, &lsa, count)?;
     let size = bytes.len();
     let rounds = rounds_of(size);
-    let packet = packet::read(alloc, &bytes).map_err(|_| anyhow!("the Update isn't read"))?;
-    let start = Instant::now(rt)?;
-    let _read = read_packets(alloc, &bytes, rounds);
-    report(rt, "reading an Update", size, rounds, start)?;
-    let start = Instant::now(rt)?;
-    let _written = write_packets(alloc, &packet, rounds);
-    report(rt, "writing an Update", size, rounds, start)
+    let Ok(packet) = packet::read(alloc, &bytes) else {
+        return Err(anyhow!("the Update isn't read"));
+    };
+    println!(rt; "an Update of {size} bytes")?;
+    let reading = |n| read_packets(alloc, &bytes, n);
+    report(rt, "reading it", rounds, size as u64, "a byte", &reading)?;
+    let writing = |n| write_packets(alloc, &packet, n);
+    report(rt, "writing it", rounds, size as u64, "a byte", &writing)?;
+    Ok(())
 }
 
-fn measure_lsa<R: Clock + Print + AllocGlobal>(rt: &R, links: u16) -> Result<()>
-    requires { links < 5000 }
-{
+// Reading and writing an LSA.
+fn print_coding<R: Clock + Print + AllocGlobal>(rt: &R, bytes: &[u8]) -> Result<()> {
     let alloc = rt.alloc();
-    let mut bytes = router_lsa(alloc, links)?;
     let size = bytes.len();
     let rounds = rounds_of(size);
-    let lsa = lsa::read(alloc, &bytes).map_err(|_| anyhow!("the LSA isn't read"))?;
-    let start = Instant::now(rt)?;
-    let _read = read_lsas(alloc, &bytes, rounds);
-    report(rt, "reading a router-LSA", size, rounds, start)?;
-    let start = Instant::now(rt)?;
-    let _written = write_lsas(alloc, &lsa, rounds);
-    report(rt, "writing a router-LSA", size, rounds, start)?;
-    if size < 20 || size > 65535 {
-        return Ok(());
+    let Ok(lsa) = lsa::read(alloc, bytes) else {
+        return Err(anyhow!("the LSA isn't read"));
+    };
+    println!(rt; "a router-LSA of {size} bytes")?;
+    let reading = |n| read_lsas(alloc, bytes, n);
+    report(rt, "reading it", rounds, size as u64, "a byte", &reading)?;
+    let writing = |n| write_lsas(alloc, &lsa, n);
+    report(rt, "writing it", rounds, size as u64, "a byte", &writing)?;
+    Ok(())
+}
+
+// Its checksum.
+fn print_checksums<R: Clock + Print + AllocGlobal>(rt: &R, bytes: &[u8]) -> Result<()>
+    requires whole { 20 ≤ length bytes.now }
+    requires within { length bytes.now ≤ 65535 }
+{
+    let alloc = rt.alloc();
+    let size = bytes.len();
+    let rounds = rounds_of(size);
+    let sealing = |n| seal_often(alloc, bytes, n);
+    report(rt, "sealing it", rounds, size as u64, "a byte", &sealing)?;
+    let checking = |n| check_often(bytes, n);
+    report(rt, "checking it", rounds, size as u64, "a byte", &checking)?;
+    Ok(())
+}
+
+fn print_lsa<R: Clock + Print + AllocGlobal>(rt: &R, links: u16) -> Result<()>
+    requires { links < 5000 }
+{
+    let bytes = router_lsa(rt.alloc(), links)?;
+    if bytes.len() < 20 || bytes.len() > 65535 {
+        return Err(anyhow!("an LSA of {} bytes", bytes.len()));
     }
-    let start = Instant::now(rt)?;
-    seal_often(&mut bytes, rounds);
-    report(rt, "sealing a router-LSA", size, rounds, start)?;
-    let start = Instant::now(rt)?;
-    let _held = check_often(&mut bytes, rounds);
-    report(rt, "checking a router-LSA", size, rounds, start)
+    print_coding(rt, &bytes)?;
+    print_checksums(rt, &bytes)
 }
 
 /// Prints how long Updates of up to 8,192 bytes and router-LSAs of up to 60,004 bytes take, in nanoseconds a byte.
 pub fn print<R: Clock + Print + AllocGlobal>(rt: &R) -> Result<()> {
     for count in [1u8, 3, 6, 13] {
-        measure_update(rt, count)?;
+        print_update(rt, count)?;
     }
     for links in [2u16, 50, 678, 4_998] {
-        measure_lsa(rt, links)?;
+        print_lsa(rt, links)?;
     }
     Ok(())
 }
