@@ -3,6 +3,7 @@ ghost use Rattle.std.specs.Prelude.{◌≡◌, ◌≢◌, ◌≤◌, ◌⊎◌, 
 ghost use Rattle.lsa.specs.Text.{IsBody, LsaText, Parts, body_text, max_age, reserved_sequence, text};
 ghost use Rattle.lsa.specs.Origination.{aged, sealed_lsa};
 ghost use Rattle.lsa.specs.Outcome.{Reads};
+ghost use Rattle.lsa.specs.Ranges.{BodyFits};
 
 use crate::body::Body;
 use crate::checksum::checksum_of;
@@ -38,11 +39,12 @@ impl Lsa {
     pub fn new(alloc: Global, header: Header, body: Body) -> Result<Self, AllocError>
         requires age { header.age ≤ max_age }
         requires sequence { header.sequence ≢ reserved_sequence }
-        requires body { IsBody body }
+        requires body { BodyFits body }
         requires size { length (body_text body) ≤ 65515 }
         ensures { IfOk result (λ lsa. lsa ≡ sealed_lsa (record { header = header; body = body })) }
     {
         header.check_ranges();
+        body.check_ranges();
         let mut rest = Vec::new(alloc);
         put_body(&mut rest, &body)?;
         let unchecked = Header {
@@ -67,11 +69,18 @@ impl Lsa {
         self.header.age = age;
     }
 
+    /// Says that its age is at most 3600 (MaxAge), as the type keeps it. It does nothing when the program runs.
+    pub fn check_age(&self)
+        ensures { self.now.header.age ≤ max_age }
+    {
+        let _header = &self.header;
+    }
+
     /// The same LSA once more.
-    pub fn copy(&self, alloc: Global) -> Result<Self, AllocError>
+    pub fn copy(&self) -> Result<Self, AllocError>
         ensures { IfOk result (λ copy. copy ≡ self.now) }
     {
-        let body = copy_body(alloc, &self.body)?;
+        let body = copy_body(&self.body)?;
         Ok(Lsa {
             header: self.header,
             body,

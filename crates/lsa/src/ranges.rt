@@ -1,0 +1,123 @@
+//! What the types of a body's fields keep, told to proofs: nothing here does anything when the program runs.
+ghost use Rattle.std.specs.List.{AllByRecursion};
+ghost use Rattle.lsa.specs.Text.{IsAttached, IsLinkTos};
+ghost use Rattle.lsa.specs.Ranges.{BodyIsTyped, ExternalIsTyped, ExternalTosIsTyped, LinkIsTyped, RouterIsTyped, SummaryIsTyped, SummaryTosIsTyped};
+
+use crate::body::{
+    Body, ExternalLsa, ExternalTos, Link, LinkTos, RouterLsa, SummaryLsa, SummaryTos,
+};
+use words::RouterId;
+
+fn check_metric(metric: &LinkTos)
+    ensures { IsLinkTos metric.now }
+{
+    let _tos = metric.tos;
+    let _unused = metric.unused;
+    let _metric = metric.metric;
+}
+
+fn check_metrics(metrics: &[LinkTos])
+    ensures { AllByRecursion IsLinkTos metrics.now }
+{
+    for metric in metrics {
+        check_metric(metric);
+    }
+}
+
+fn check_link(link: &Link)
+    ensures { LinkIsTyped link.now }
+{
+    let _link_id = link.link_id;
+    let _link_data = link.link_data;
+    let _metric = link.metric;
+    check_metrics(link.tos.as_slice());
+}
+
+fn check_links(links: &[Link])
+    ensures { AllByRecursion LinkIsTyped links.now }
+{
+    for link in links {
+        check_link(link);
+    }
+}
+
+fn check_router(router: &RouterLsa)
+    ensures { RouterIsTyped router.now }
+{
+    let _flags = router.flags;
+    check_links(router.links.as_slice());
+}
+
+fn check_attached(routers: &[RouterId])
+    ensures { AllByRecursion IsAttached routers.now }
+{
+    for router in routers {
+        let _number = router.number();
+    }
+}
+
+fn check_summary_metric(metric: &SummaryTos)
+    ensures { SummaryTosIsTyped metric.now }
+{
+    let _tos = metric.tos;
+}
+
+fn check_summary_metrics(metrics: &[SummaryTos])
+    ensures { AllByRecursion SummaryTosIsTyped metrics.now }
+{
+    for metric in metrics {
+        check_summary_metric(metric);
+    }
+}
+
+fn check_summary(summary: &SummaryLsa)
+    ensures { SummaryIsTyped summary.now }
+{
+    let _mask = summary.mask.bits();
+    check_summary_metrics(summary.tos.as_slice());
+}
+
+fn check_block(block: &ExternalTos)
+    ensures { ExternalTosIsTyped block.now }
+{
+    let _tos = block.tos;
+    let _forwarding = block.forwarding.bits();
+    let _tag = block.tag;
+}
+
+fn check_blocks(blocks: &[ExternalTos])
+    ensures { AllByRecursion ExternalTosIsTyped blocks.now }
+{
+    for block in blocks {
+        check_block(block);
+    }
+}
+
+fn check_external(external: &ExternalLsa)
+    ensures { ExternalIsTyped external.now }
+{
+    let _mask = external.mask.bits();
+    let _forwarding = external.forwarding.bits();
+    let _tag = external.tag;
+    check_blocks(external.tos.as_slice());
+}
+
+impl Body {
+    /// Says that every field is in its range, as the fields' types keep it. It does nothing when the program runs.
+    ///
+    /// The types don't keep that a list is no longer than its count can say, and that a metric of three bytes is below 2^24.
+    pub fn check_ranges(&self)
+        ensures { BodyIsTyped self.now }
+    {
+        match self {
+            Body::Router(router) => check_router(router),
+            Body::Network(network) => {
+                let _mask = network.mask.bits();
+                check_attached(network.attached.as_slice());
+            }
+            Body::NetworkSummary(summary) => check_summary(summary),
+            Body::RouterSummary(summary) => check_summary(summary),
+            Body::External(external) => check_external(external),
+        }
+    }
+}
