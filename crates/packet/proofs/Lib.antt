@@ -6,4 +6,5 @@ pub mod Bodies
 pub mod Again
 pub mod Whole
 pub mod Patch
+mod Typed
 pub mod Writable

@@ -1,6 +1,6 @@
 -- Where nothing is wrong with bytes, they are a text of what they say, and nothing is wrong with a text.
-use Rattle.std.proofs.Common.{◌≡◌, ℕ, ◌+◌, ◌^◌, ◌<◌, ◌≤◌, ◌⊎◌, inl, inr, true, false, not, cond, eqb, List, [], ◌∷◌, ◌++◌, length, drop, Option, Some, Result, Ok, Err, refl, sym, ap, subst, ◌∙◌, arith}
-use Rattle.std.specs.Prelude.{IfOk, is_none}
+use Rattle.std.proofs.Common.{◌≡◌, ℕ, ◌+◌, ◌^◌, ◌<◌, ◌≤◌, ◌⊎◌, inl, inr, true, false, not, cond, eqb, List, [], ◌∷◌, ◌++◌, length, drop, Option, None, Some, Result, Ok, Err, refl, sym, ap, subst, ◌∙◌, arith}
+use Rattle.std.specs.Prelude.{IfOk, is_none, nat_lt}
 use Rattle.std.specs.List.{AllByRecursion}
 use Rattle.std.proofs.lemmas.Bool.{eqb-true, ltb-false, le-ltb}
 use Rattle.std.proofs.lemmas.List.{length-drop}
@@ -18,7 +18,7 @@ use Rattle.packet.specs.Reading.{body_of, fault_of, faults, is_filled_as, least_
 use Rattle.packet.specs.Outcome.{IsSound, Reads}
 use Rattle.packet.specs.Laws.{TextsAreFaultless, TextsAreOfOnePacket}
 use Rattle.packet.proofs.Records.{value}
-use Rattle.packet.proofs.Firsts.{Fails, all_fail, equal_from, from_equal, none_of}
+use Rattle.packet.proofs.Firsts.{Fails, all_fail, equal_from, from_equal, none_of, not_false}
 use Rattle.packet.proofs.Bodies.{Fills, body_spelled, filler_of}
 use Rattle.packet.proofs.Again.{body_again}
 
@@ -188,3 +188,22 @@ pub one_packet : TextsAreOfOnePacket
 one_packet bytes p q s t =
     let o = only bytes q t in
     read_as bytes p q (type_of q.body) s o.0 o.1
+
+-- bytes with no fault name a type, have room for a body of it, and that fills them
+sound : (bytes : List ℕ) → fault_of bytes ≡ None → (kind : PacketType) × IsSound bytes kind
+unfolding fault_of
+sound bytes none =
+    let h = all_fail (faults bytes) none in
+    by_type (type_at bytes) refl h.1.0 h.1.1.1.0 (not_false (is_filled_as (type_at bytes) (drop 24 bytes)) h.1.1.1.1.1.1.1.1.1.0)
+  where
+    by_type : (o : Option PacketType) → type_at bytes ≡ o → nat_lt (length bytes) (least_length o) ≡ false → is_none o ≡ false
+        → is_filled_as o (drop 24 bytes) ≡ true → (kind : PacketType) × IsSound bytes kind
+    by_type None named room known filled = absurd cc
+    by_type (Some kind) named room known filled =
+        (kind, record { faultless = none; named = named; room = ltb-false (length bytes) (least_length (Some kind)) room; filled = filled })
+
+pub faultless_text : (bytes : List ℕ) → IsBytes bytes → fault_of bytes ≡ None → (p : Packet) × PacketText bytes p
+faultless_text bytes fits none = let s = sound bytes none in (packet_as s.0 bytes, found bytes s.0 fits s.1)
+
+pub one_of_a_text : (bytes : List ℕ) → (p : Packet) × PacketText bytes p → fault_of bytes ≡ None
+one_of_a_text bytes t = faultless bytes t.0 t.1

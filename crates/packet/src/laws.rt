@@ -1,5 +1,5 @@
 //! Laws of the texts of packets, for every text and packet.
-ghost use Rattle.packet.specs.Laws.{TextsAreFaultless, TextsAreOfOnePacket};
+ghost use Rattle.packet.specs.Laws.{FaultlessBytesAreTexts, TextsAreFaultless, TextsAreOfOnePacket};
 
 /// A text is of one packet.
 pub fn texts_are_of_one_packet()
@@ -9,4 +9,9 @@ pub fn texts_are_of_one_packet()
 /// Nothing is wrong with a text of a packet.
 pub fn texts_are_faultless()
     ensures { TextsAreFaultless }
+{}
+
+/// Nothing is wrong just with the bytes that are a text of some packet.
+pub fn faultless_bytes_are_texts()
+    ensures { FaultlessBytesAreTexts }
 {}

@@ -8,6 +8,7 @@ mod checksum;
 mod judging;
 pub mod laws;
 mod model;
+mod ranges;
 mod reading;
 mod refusal;
 mod writing;

@@ -4,7 +4,8 @@ ghost use Rattle.std.specs.List.{flat_map};
 ghost use Rattle.byteorder.specs.Endian.{big_bytes};
 ghost use Rattle.words.specs.Fields.{fields};
 ghost use Rattle.lsa.specs.Headers.{header_text};
-ghost use Rattle.packet.specs.Text.{IsPacket, PacketText, body_text, canonical, closed, description, flags, header, hello, key_text, lsa_count, router_text, text, type_number, type_of};
+ghost use Rattle.packet.specs.Ranges.{LsasAreWhole};
+ghost use Rattle.packet.specs.Text.{PacketText, body_text, canonical, closed, description, flags, header, hello, key_text, lsa_count, router_text, text, type_number, type_of};
 
 use crate::checksum::checksum;
 use crate::model::{Body, Description, Hello, Packet, PacketType};
@@ -200,8 +201,10 @@ pub fn write(alloc: Global, packet: &Packet) -> Result<Vec<u8>, AllocError>
     // An Update's number of LSAs has 32 bits.
     requires count { lsa_count packet.now.body < 2 ^ 32 }
     ensures canonical { IfOk result (λ bytes. bytes.items ≡ canonical packet.now) }
-    ensures text { IsPacket packet.now → IfOk result (λ bytes. PacketText bytes.items packet.now) }
+    // It is a text where each LSA of an Update has the length that it says.
+    ensures text { LsasAreWhole packet.now.body → IfOk result (λ bytes. PacketText bytes.items packet.now) }
 {
+    packet.check_ranges();
     let mut out = draft(alloc, packet)?;
     let size = out.len() as u16;
     out[2] = (size / 256) as u8;

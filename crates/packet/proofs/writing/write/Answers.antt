@@ -2,11 +2,13 @@ use Rattle.std.proofs.Common.{◌≡◌, ◌<◌, set, ◌/◌, ◌%◌, ◌∙�
 use Rattle.packet.specs.Checksum.{packet_checksum}
 use Rattle.packet.specs.Text.{PacketText}
 use Rattle.packet.proofs.Patch.{canonical_is_text, patched_text, sized_text}
+use Rattle.packet.proofs.Typed.{is_packet}
 use Rattle.packet.proofs.writing.write.Goals as goal
 
 pub returns-clause-text : goal.returns-clause-text
-returns-clause-text c = λ is.
+returns-clause-text c = λ whole.
     let p = c.args.packet.now in
+    let is = is_packet p c.check_ranges.ensures whole in
     let out = c.in_ok-out.out.items in
     let size : c.len-size.result ≡ length c.in_ok-out.out.items = omega (arith, c.len-size.ensures, c.in_ok-out.out.ok.0) in
     let short : c.len-size.result < 65536 = omega (arith, size, ap length c.in_ok-out.ensures, c.requires.size) in

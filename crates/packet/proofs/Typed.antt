@@ -1,0 +1,23 @@
+-- What the types keep of a packet and what is shown of it make it a packet with a text.
+use Rattle.std.proofs.Common.{ℕ, List}
+use Rattle.std.specs.List.{AllByRecursion}
+use Rattle.words.specs.Fields.{AreBytes}
+use Rattle.words.proofs.Each.{each_both}
+use Rattle.packet.specs.declared.model.Body.{Body}
+use Rattle.packet.specs.declared.model.Body.TheVariants as body
+use Rattle.packet.specs.declared.model.Packet.{Packet}
+use Rattle.packet.specs.Ranges.{BodyIsTyped, IsWhole, LsasAreWhole, PacketIsTyped}
+use Rattle.packet.specs.Text.{IsBody, IsPacket, IsUnread}
+
+is_unread : (lsa : List ℕ) → AreBytes lsa → IsWhole lsa → IsUnread lsa
+is_unread lsa bytes whole = record { room = whole.room; said = whole.said; bytes = bytes }
+
+is_body : (b : Body) → BodyIsTyped b → LsasAreWhole b → IsBody b
+is_body (body.Hello h) typed whole = typed
+is_body (body.Description d) typed whole = typed
+is_body (body.Request keys) typed whole = typed
+is_body (body.Update lsas) typed whole = each_both AreBytes IsWhole IsUnread is_unread lsas typed whole
+is_body (body.Acknowledgment headers) typed whole = typed
+
+pub is_packet : (p : Packet) → PacketIsTyped p → LsasAreWhole p.body → IsPacket p
+is_packet p typed whole = record { router = typed.router; body = is_body p.body typed.body whole }

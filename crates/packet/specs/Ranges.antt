@@ -1,0 +1,37 @@
+-- What a Rust value of a packet keeps by the types of its fields, and what they don't keep: that each LSA of an Update
+-- has room for its header and the length that it says. Together they are `IsPacket`.
+use Rattle.std.specs.Prelude.{◌≡◌, ◌≤◌, ℕ, List, length}
+use Rattle.std.specs.List.{AllByRecursion}
+use Rattle.words.specs.Fields.{AreBytes, field}
+use Rattle.lsa.specs.Headers.{IsHeader}
+use Rattle.packet.specs.declared.model.Body.{Body}
+use Rattle.packet.specs.declared.model.Body.TheVariants as body
+use Rattle.packet.specs.declared.model.Packet.{Packet}
+use Rattle.packet.specs.Text.{IsDescription, IsHello, IsKey, IsRouter}
+
+-- ---- kept by the types
+
+abbrev pub BodyIsTyped : Body → Type 0
+BodyIsTyped (body.Hello h) = IsHello h
+BodyIsTyped (body.Description d) = IsDescription d
+BodyIsTyped (body.Request keys) = AllByRecursion IsKey keys
+BodyIsTyped (body.Update lsas) = AllByRecursion AreBytes lsas
+BodyIsTyped (body.Acknowledgment headers) = AllByRecursion IsHeader headers
+
+pub record PacketIsTyped (p : Packet) : Type 0 where
+  pub router : IsRouter p.router
+  pub body : BodyIsTyped p.body
+
+-- ---- left to show
+
+-- an unread LSA has room for a header, whose length field is the number of its bytes (A.4.1)
+pub record IsWhole (lsa : List ℕ) : Type 0 where
+  pub room : 20 ≤ length lsa
+  pub said : field lsa 18 2 ≡ length lsa
+
+abbrev pub LsasAreWhole : Body → Type 0
+LsasAreWhole (body.Hello h) = Unit {0}
+LsasAreWhole (body.Description d) = Unit {0}
+LsasAreWhole (body.Request keys) = Unit {0}
+LsasAreWhole (body.Update lsas) = AllByRecursion IsWhole lsas
+LsasAreWhole (body.Acknowledgment headers) = Unit {0}

@@ -1,0 +1,100 @@
+//! What the types of a packet's fields keep, told to proofs: nothing here does anything when the program runs.
+ghost use Rattle.std.specs.List.{AllByRecursion};
+ghost use Rattle.words.specs.Fields.{AreBytes};
+ghost use Rattle.lsa.specs.Headers.{IsHeader};
+ghost use Rattle.packet.specs.Text.{IsDescription, IsHello, IsKey, IsRouter};
+ghost use Rattle.packet.specs.Ranges.{BodyIsTyped, PacketIsTyped};
+
+use crate::model::{Body, Description, Hello, Packet};
+use lsa::Header;
+use words::{Key, RouterId, Sequence};
+
+fn check_routers(routers: &[RouterId])
+    ensures { AllByRecursion IsRouter routers.now }
+{
+    for router in routers {
+        let _number = router.number();
+    }
+}
+
+fn check_headers(headers: &[Header])
+    ensures { AllByRecursion IsHeader headers.now }
+{
+    for header in headers {
+        header.check_ranges();
+    }
+}
+
+fn check_key(key: &Key)
+    ensures { IsKey key.now }
+{
+    let _ls_type = key.ls_type;
+    let _link_state_id = key.link_state_id.number();
+    let _advertising_router = key.advertising_router.number();
+}
+
+fn check_keys(keys: &[Key])
+    ensures { AllByRecursion IsKey keys.now }
+{
+    for key in keys {
+        check_key(key);
+    }
+}
+
+fn check_bytes(bytes: &[u8])
+    ensures { AreBytes bytes.now }
+{
+    let _bytes = bytes;
+}
+
+fn check_lsas(lsas: &[Sequence<u8>])
+    ensures { AllByRecursion AreBytes lsas.now }
+{
+    for lsa in lsas {
+        check_bytes(lsa.as_slice());
+    }
+}
+
+fn check_hello(hello: &Hello)
+    ensures { IsHello hello.now }
+{
+    let _mask = hello.mask;
+    let _hello_interval = hello.hello_interval;
+    let _options = hello.options;
+    let _priority = hello.priority;
+    let _dead_interval = hello.dead_interval;
+    check_routers(hello.neighbors.as_slice());
+}
+
+fn check_description(description: &Description)
+    ensures { IsDescription description.now }
+{
+    let _mtu = description.mtu;
+    let _options = description.options;
+    let _sequence = description.sequence;
+    check_headers(description.headers.as_slice());
+}
+
+fn check_body(body: &Body)
+    ensures { BodyIsTyped body.now }
+{
+    match body {
+        Body::Hello(hello) => check_hello(hello),
+        Body::Description(description) => check_description(description),
+        Body::Request(keys) => check_keys(keys.as_slice()),
+        Body::Update(lsas) => check_lsas(lsas.as_slice()),
+        Body::Acknowledgment(headers) => check_headers(headers.as_slice()),
+    }
+}
+
+impl Packet {
+    /// Says that every field is in its range, as the fields' types keep it. It does nothing when the program runs.
+    ///
+    /// The types don't keep that each LSA of an Update has room for its header and the length that it says.
+    pub fn check_ranges(&self)
+        ensures { PacketIsTyped self.now }
+    {
+        let _router = self.router.number();
+        check_body(&self.body);
+    }
+}
