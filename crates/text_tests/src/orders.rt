@@ -16,8 +16,14 @@ fn keys_and_kinds_are_ordered(rt: HostRuntime) {
     assert_eq!(rt; key(1, 2, 2).compare(&key(3, 1, 1)), Ordering::Less);
     assert_eq!(rt; key(3, 2, 1).compare(&key(3, 1, 2)), Ordering::Greater);
     assert_eq!(rt; key(3, 1, 2).compare(&key(3, 1, 2)), Ordering::Equal);
-    assert_eq!(rt; RouteKind::Inter.compare(RouteKind::External1), Ordering::Less);
-    assert_eq!(rt; RouteKind::External2.compare(RouteKind::Intra), Ordering::Greater);
+    assert_eq!(rt;
+        RouteKind::Inter.compare(RouteKind::External1),
+        Ordering::Less
+    );
+    assert_eq!(rt;
+        RouteKind::External2.compare(RouteKind::Intra),
+        Ordering::Greater
+    );
 }
 
 #[test]
