@@ -1,0 +1,66 @@
+-- The start of a run is as the entry says.
+use Rattle.std.proofs.Common.{◌≡◌, ℕ, zero, suc, ◌+◌, ◌<◌, ◌≤◌, Bool, true, false, List, [], ◌∷◌, ◌++◌, Option, Some, None, refl, sym, subst, ◌∙◌, get_or, length, arith, ⊎_elim}
+use Rattle.std.specs.Prelude.{replicate}
+use Rattle.std.proofs.lemmas.List.{get_or-replicate, length-replicate}
+use Rattle.std.proofs.lemmas.Bool.{cases_lt}
+use Rattle.object.specs.Sets.{has_byte, no_bytes}
+use Rattle.machine.specs.declared.state.Pointer.TheVariants as pointers
+use Rattle.machine.specs.declared.state.StackByte.TheVariants as stack_bytes
+use Rattle.machine.specs.declared.state.State.{State as Machine}
+use Rattle.machine.specs.State.{start, held}
+use Rattle.kinds.specs.declared.state.Kind.{Kind}
+use Rattle.kinds.specs.declared.state.Kind.TheVariants.{Empty, Pointer}
+use Rattle.kinds.specs.declared.state.Place.TheVariants.{Context}
+use Rattle.kinds.specs.declared.statement.Target.{Target}
+use Rattle.kinds.specs.Meaning.{KindHolds, TargetHolds, StatedHolds}
+use Rattle.verifier.specs.Places.{target_at}
+use Rattle.verifier.specs.Segments.{Enters}
+
+-- what is past the end stands there already
+pub pushed_default : {A : Type 0} (xs : List A) (d : A) (r : ℕ) → get_or (xs ++ d ∷ []) r d ≡ get_or xs r d
+pushed_default [] d zero = refl
+pushed_default [] d (suc r) = refl
+pushed_default (x ∷ xs) d zero = refl
+pushed_default (x ∷ xs) d (suc r) = pushed_default xs d r
+
+-- r1 points to the context, and nothing else is known
+abbrev pub entry_kinds : {D : Type 0} → List (Kind D)
+entry_kinds = Empty ∷ Pointer (Context 0) ∷ []
+
+entry_kind : {D : Type 0} (contains : D → ℕ → Type 0) (r : ℕ) → KindHolds contains (get_or (entry_kinds {D = D}) r Empty) (held start r)
+entry_kind contains zero = tt
+entry_kind contains (suc zero) = (pointers.Context 0, refl, refl)
+entry_kind contains (suc (suc r)) = tt
+
+true_is_false : (b : Bool) → b ≡ false → b ≡ true → ⊥
+true_is_false b no_byte byte = cc
+
+past_end : (xs : List Bool) (i : ℕ) → length xs ≤ i → get_or xs i false ≡ false
+past_end [] i past = refl
+past_end (x ∷ xs) zero past = absurd (omega (arith, past))
+past_end (x ∷ xs) (suc i) past = past_end xs i (omega (arith, past))
+
+none_stated : (at : ℕ) → has_byte no_bytes at ≡ true → ⊥
+none_stated at =
+    ⊎_elim
+    (λ (low : at < 512). true_is_false (has_byte no_bytes at) (get_or-replicate 512 at false false low))
+    (λ (high : 512 ≤ at). true_is_false (has_byte no_bytes at) (past_end no_bytes at (omega (arith, high, length-replicate 512 false))))
+    (cases_lt at 512)
+
+pub entry_holds : {D : Type 0} (contains : D → ℕ → Type 0) (entry : Target D) → entry.statement.now.stack ≡ no_bytes → ((r : ℕ) → get_or entry.kinds.items r Empty ≡ get_or entry_kinds r Empty) → TargetHolds contains entry start
+entry_holds contains entry stack kinds = record {
+  eleven = refl;
+  whole = length-replicate 512 stack_bytes.Nothing;
+  frame = refl;
+  registers = λ r small. rw (kinds r) (entry_kind contains r);
+  stack = λ at stated. absurd (none_stated at (rw stack at stated));
+}
+
+some_is_one : {A : Type 0} {x y : A} (o : Option A) → o ≡ Some x → o ≡ Some y → x ≡ y
+some_is_one o first second = cc
+
+-- the statement that is found is the one that is there
+pub edge_of : {D : Type 0} (contains : D → ℕ → Type 0) (targets : List (Option (Target D))) (entry found target : Target D) → target_at targets 0 ≡ Some found → target_at targets 0 ≡ Some target
+    → ((machine : Machine) → TargetHolds contains entry machine → Enters contains false entry found machine machine) → (machine : Machine) → TargetHolds contains entry machine → Enters contains false entry target machine machine
+edge_of {D} contains targets entry found target is_found stated enters machine holds =
+    subst (λ (t : Target D). Enters contains false entry t machine machine) (some_is_one (target_at targets 0) is_found stated) (enters machine holds)

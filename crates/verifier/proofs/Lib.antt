@@ -1,0 +1,4 @@
+pub mod Followed
+pub mod SegmentLemmas
+pub mod Soundness
+pub mod Entries

@@ -1,0 +1,156 @@
+-- A program whose slots are all fine is safe.
+use Rattle.std.proofs.Common.{◌≡◌, ℕ, zero, suc, ◌+◌, ◌-◌, ◌*◌, ◌<◌, ◌≤◌, true, false, List, [], ◌∷◌, Option, Some, None, ◌⊎◌, ⊎_elim, refl, sym, subst, length, arith}
+use Rattle.std.specs.Prelude.{slice_get, IsSomeAnd, IfSome, nat_le, if◌then◌else◌}
+use Rattle.std.proofs.Math.Nat.{mul-le-mul_left}
+use Rattle.std.proofs.lemmas.Bool.{cases_lt}
+use Rattle.std.proofs.lemmas.Bool.Decides.{nat_tests}
+use Rattle.std.proofs.lemmas.Option.{slice_get_past}
+use Rattle.isa.specs.declared.code.Slot.{Slot}
+use Rattle.isa.specs.declared.code.Slot.TheVariants.{Start}
+use Rattle.isa.specs.declared.hook.Hook.{Hook}
+use Rattle.isa.specs.declared.instruction.Instruction.{Instruction}
+use Rattle.isa.specs.Flow.{Begins, size}
+use Rattle.machine.specs.declared.fault.Fault.{Fault}
+use Rattle.machine.specs.declared.state.State.{State as Machine}
+use Rattle.machine.specs.Label.{Label}
+use Rattle.machine.specs.State.{start}
+use Rattle.machine.specs.Steps.{Step, Does}
+use Rattle.machine.specs.Faults.{Stuck}
+use Rattle.machine.specs.Runs.{Leads, Run, Safe}
+use Rattle.kinds.specs.declared.statement.Target.{Target}
+use Rattle.kinds.specs.Meaning.{TargetHolds}
+use Rattle.ranks.specs.Lines.{rank_value}
+use Rattle.transfer.specs.Given.{Given, setting_of}
+use Rattle.verifier.specs.Places.{target_at}
+use Rattle.verifier.specs.Segments.{Visits, at_entry, at_target, falls, Enters, EntersNext, IsFine}
+use Rattle.verifier.proofs.SegmentLemmas.{size_some}
+
+-- The steps that are left: the rank counts the turns that the code may still be gone through, and the slot what is left of this one.
+Left : ℕ → ℕ → ℕ → ℕ
+Left slots rank slot = rank * slots + (slots - slot)
+
+-- one step to a later slot of the same rank or less
+left_on : (slots rank rank' slot to : ℕ) → slot < to → to < slots → rank' ≤ rank → suc (Left slots rank' to) ≤ Left slots rank slot
+unfolding Left
+left_on slots rank rank' slot to later inside below = omega (arith, mul-le-mul_left slots below)
+
+-- one step back, to less rank
+left_back : (slots rank rank' slot to : ℕ) → slot < slots → rank' < rank → suc (Left slots rank' to) ≤ Left slots rank slot
+unfolding Left
+left_back slots rank rank' slot to inside below = omega (arith, mul-le-mul_left slots below)
+
+-- a step either way
+left_jump : (slots rank rank' slot to : ℕ) → slot < slots → to < slots → rank' + (if nat_le to slot then 1 else 0) ≤ rank → suc (Left slots rank' to) ≤ Left slots rank slot
+left_jump slots rank rank' slot to inside inside' below =
+    ⊎_elim
+    (λ (later : slot < to).
+    let forward : nat_le to slot ≡ false = grind (arith, nat_tests) in
+    let same : rank' ≤ rank = omega (arith, rw forward at below) in
+    left_on slots rank rank' slot to later inside' same)
+    (λ (back : to ≤ slot).
+    let backward : nat_le to slot ≡ true = grind (arith, nat_tests) in
+    let less : rank' < rank = omega (arith, rw backward at below) in
+    left_back slots rank rank' slot to inside less)
+    (cases_lt slot to)
+
+some_and : {A : Type 0} {P : A → Type 0} (o : Option A) → IsSomeAnd o P → (x : A) × (o ≡ Some x) × P x
+some_and None p = absurd p
+some_and (Some x) p = (x, refl, p)
+
+none_is_some : {A : Type 0} {x : A} (o : Option A) → o ≡ None → o ≡ Some x → ⊥
+none_is_some o none some = cc
+
+-- where an instruction begins the code has a slot
+pub inside_code : (code : List Slot) (slot : ℕ) → Begins code slot → slot < length code
+inside_code code slot begins =
+    ⊎_elim
+    (λ (inside : slot < length code). inside)
+    (λ (past : length code ≤ slot). absurd (none_is_some (slice_get code slot) (slice_get_past code slot past) begins.1))
+    (cases_lt slot (length code))
+
+module _ {D : Type 0} (contains : D → ℕ → Type 0) (code : List Slot) (hook : Hook) (targets : List (Option (Target D))) (entry : Target D) (limit : ℕ) (input : Given) where
+  -- the machine is in a segment, at an instruction, and has steps left
+  record Reached (steps : ℕ) (machine : Machine) : Type 0 where
+    segment : Target D
+    begin : Machine
+    visit : Visits contains (setting_of code hook input) targets entry segment begin machine
+    begins : Begins code machine.slot
+    bounded : steps + Left (length code) (rank_value segment.statement.now.rank begin) machine.slot ≤ limit
+
+  -- a step from there leads there
+  reached_next : (steps : ℕ) (now next : Machine) (label : Label) → ((slot : ℕ) → Begins code slot → IsFine contains code hook targets entry slot) → Reached steps now → Step (setting_of code hook input) now label next → Reached (suc steps) next
+  reached_next steps now next label fine reached step =
+      let leads = (fine now.slot reached.begins).leads_on input reached.segment reached.begin now next label step.instruction reached.visit refl step.at step.does in
+      let inside = inside_code code now.slot reached.begins in
+      let inside' = inside_code code next.slot leads.begins in
+      ⊎_elim
+      (λ (enters : EntersNext contains targets reached.segment now.slot reached.begin next).
+      let target = some_and {P = λ t. Enters contains (nat_le next.slot now.slot) reached.segment t reached.begin next} (target_at targets next.slot) enters in
+      let less = left_jump (length code) (rank_value reached.segment.statement.now.rank reached.begin) (rank_value target.0.statement.now.rank next) now.slot next.slot inside inside' target.2.rank in
+      let result : Reached (suc steps) next = record {
+        segment = target.0;
+        begin = next;
+        visit = at_target target.1 target.2.holds;
+        begins = leads.begins;
+        bounded = omega (arith, less, reached.bounded);
+      } in
+      result)
+      (λ (through : (next.slot ≡ now.slot + size step.instruction) × (target_at targets next.slot ≡ None)).
+      let some = size_some step.instruction in
+      let less = left_on (length code) (rank_value reached.segment.statement.now.rank reached.begin) (rank_value reached.segment.statement.now.rank reached.begin) now.slot next.slot (omega (arith, through.0, some)) inside' (omega arith) in
+      let result : Reached (suc steps) next = record {
+        segment = reached.segment;
+        begin = reached.begin;
+        visit = falls now label step.instruction reached.visit step.at step.does through.0 through.1;
+        begins = leads.begins;
+        bounded = omega (arith, less, reached.bounded);
+      } in
+      result)
+      leads.leads
+
+  -- so every run stays there
+  reached_along : ((slot : ℕ) → Begins code slot → IsFine contains code hook targets entry slot) → (labels : List Label) (steps : ℕ) (now end : Machine) → Reached steps now → Leads (setting_of code hook input) now labels end → Reached (steps + length labels) end
+  reached_along fine [] steps now end reached same =
+      let sum : steps + 0 ≡ steps = omega arith in
+      rw sum (subst (λ m. Reached steps m) same reached)
+  reached_along fine (label ∷ labels) steps now end reached leads =
+      let next = reached_next steps now leads.0 label fine reached leads.1 in
+      let later = reached_along fine labels (suc steps) leads.0 end next leads.2 in
+      let sum : steps + suc (length labels) ≡ suc steps + length labels = omega arith in
+      rw sum later
+
+  -- the entry goes into its own segment, or into the statement of slot 0
+  first_reached : Begins code 0 → TargetHolds contains entry start → ((target : Target D) → target_at targets 0 ≡ Some target → Enters contains false entry target start start)
+      → (rank_value entry.statement.now.rank start + 1) * length code ≤ limit → (stated : Option (Target D)) → target_at targets 0 ≡ stated → Reached 0 start
+  first_reached begins holds edge room None unstated = record {
+    segment = entry;
+    begin = start;
+    visit = at_entry refl unstated holds;
+    begins = begins;
+    bounded = unfold Left in omega (arith, room);
+  }
+  first_reached begins holds edge room (Some target) stated =
+      let enters = edge target stated in
+      record {
+        segment = target;
+        begin = start;
+        visit = at_target stated enters.holds;
+        begins = begins;
+        bounded = unfold Left in omega (arith, room, enters.rank, mul-le-mul_left (length code) enters.rank);
+      }
+
+  pub met : ((slot : ℕ) → Begins code slot → IsFine contains code hook targets entry slot) → Begins code 0 → TargetHolds contains entry start → ((target : Target D) → target_at targets 0 ≡ Some target → Enters contains false entry target start start)
+      → (rank_value entry.statement.now.rank start + 1) * length code ≤ limit → (m : ℕ) (labels : List Label) (s : Machine) → Run (setting_of code hook input) m labels s
+      → (m < limit) × ((fault : Fault) → Stuck (setting_of code hook input) s fault → ⊥)
+  unfolding Left
+  met fine begins holds edge room m labels s run =
+      let reached = reached_along fine labels 0 start s (first_reached begins holds edge room (target_at targets 0) refl) run.leads in
+      let inside = inside_code code s.slot reached.begins in
+      (omega (arith, run.steps, reached.bounded, inside), λ fault stuck. (fine s.slot reached.begins).free input reached.segment reached.begin s fault reached.visit refl stuck)
+
+-- What the verifier has found when it accepts makes the program safe.
+pub safe_program : {D : Type 0} (contains : D → ℕ → Type 0) (code : List Slot) (hook : Hook) (targets : List (Option (Target D))) (entry : Target D) (rank : ℕ) → Begins code 0 → TargetHolds contains entry start
+    → rank_value entry.statement.now.rank start ≡ rank → ((target : Target D) → target_at targets 0 ≡ Some target → Enters contains false entry target start start)
+    → ((slot : ℕ) → Begins code slot → IsFine contains code hook targets entry slot) → Safe code hook ((rank + 1) * length code)
+safe_program contains code hook targets entry rank begins holds rank_is edge fine =
+    λ input m labels s run. met contains code hook targets entry ((rank + 1) * length code) input fine begins holds edge (rw rank_is (omega arith)) m labels s run

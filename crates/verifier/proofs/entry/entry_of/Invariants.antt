@@ -1,0 +1,8 @@
+use Rattle.std.proofs.Common.{◌≡◌, ℕ, get_or}
+use Rattle.kinds.specs.declared.state.Kind.TheVariants.{Empty}
+use Rattle.verifier.proofs.Entries.{entry_kinds}
+use Rattle.verifier.proofs.entry.entry_of.Given as goal
+
+-- the kinds past those are empty
+abbrev pub invariant-loop-register : goal.invariant-loop-register
+invariant-loop-register g l = (r : ℕ) → get_or l.kinds.items r Empty ≡ get_or entry_kinds r Empty

@@ -1,0 +1,14 @@
+use Rattle.std.proofs.Common.{◌≡◌, Some, sym}
+use Rattle.std.specs.Prelude.{slice_get}
+use Rattle.isa.specs.declared.code.Slot.TheVariants.{Start}
+use Rattle.isa.specs.declared.instruction.Instruction.TheVariants.{Exit}
+use Rattle.verifier.proofs.Followed.{goes_by_jump, goes_nowhere}
+use Rattle.verifier.proofs.follow.follow.Goals as goal
+
+pub returns-in_ok-end-in-Exit : goal.returns-in_ok-end-in-Exit
+returns-in_ok-end-in-Exit g c =
+    let here : slice_get c.args.code.now c.args.slot ≡ Some (Start Exit) = rw (← c.in-Exit.is) c.requires.here in
+    record {
+      followed = rw c.in-Exit.is (goes_nowhere g.D.Domain.contains c.args.code.now c.args.hook c.args.targets.now c.args.segment.now c.args.slot c.in_ok-end-in-Exit.field-0 c.args.state here
+          (λ input start now holds at fault stuck. c.in_ok-end-in-Exit.ensures.free c.args.code.now c.args.hook input start now holds at fault stuck));
+    }

@@ -1,0 +1,17 @@
+use Rattle.std.proofs.Common.{◌≡◌, ◌⊎◌, ℕ, ◌<◌, ◌-◌, length}
+use Rattle.isa.specs.Flow.{Begins}
+use Rattle.verifier.specs.Places.{segment_of}
+use Rattle.verifier.specs.Segments.{IsFine, IsCurrentUnlessStated}
+use Rattle.verifier.proofs.pass.pass_all.Given as goal
+
+-- The instructions so far are fine, what is known is known of every visit of this slot, and the slot is the end or begins an instruction.
+abbrev pub invariant-loop-slot : goal.invariant-loop-slot
+invariant-loop-slot g l = record {
+  fine : (k : ℕ) → k < l.slot → Begins l.code k → IsFine g.D.Domain.contains l.code l.hook l.targets l.entry k;
+  current : IsCurrentUnlessStated g.D.Domain.contains l.code l.hook l.targets l.entry l.slot (segment_of l.targets l.entry l.begun) l.known;
+  place : (l.slot ≡ length l.code) ⊎ Begins l.code l.slot;
+}
+
+-- the slots that are left
+abbrev pub decreases-loop-slot : goal.decreases-loop-slot
+decreases-loop-slot g l = length l.code - l.slot

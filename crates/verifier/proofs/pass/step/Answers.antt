@@ -1,0 +1,12 @@
+use Rattle.verifier.proofs.SegmentLemmas.{arrived, current_fine, next_current}
+use Rattle.verifier.proofs.pass.step.Goals as goal
+
+pub returns-clause-fine : goal.returns-clause-fine
+returns-clause-fine g c = λ current.
+    let found = arrived g.D.Domain.contains c.args.code.now c.args.hook c.args.targets.now c.args.entry.now c.args.slot c.args.begun c.arrive-here.result.0 c.args.known c.arrive-here.result.1 current c.arrive-here.ensures in
+    current_fine g.D.Domain.contains c.args.code.now c.args.hook c.args.targets.now c.args.entry.now c.arrive-here.result.1 c.in_ok-after.after c.args.instruction.now c.requires.here found c.in_ok-after.ensures.passed
+
+pub returns-clause-current : goal.returns-clause-current
+returns-clause-current g c = λ current.
+    let found = arrived g.D.Domain.contains c.args.code.now c.args.hook c.args.targets.now c.args.entry.now c.args.slot c.args.begun c.arrive-here.result.0 c.args.known c.arrive-here.result.1 current c.arrive-here.ensures in
+    next_current g.D.Domain.contains c.args.code.now c.args.hook c.args.targets.now c.args.entry.now c.arrive-here.result.1 c.in_ok-after.after c.args.instruction.now c.one_instruction_ends_at_a_slot.ensures c.slots-is_code.ensures.code c.requires.here found c.in_ok-after.ensures.passed

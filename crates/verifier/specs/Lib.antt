@@ -1,0 +1,3 @@
+pub mod Places
+pub mod Segments
+pub mod Programs

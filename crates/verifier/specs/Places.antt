@@ -1,0 +1,34 @@
+-- Where the instruction at a slot may lead, by the code and the statements.
+use Rattle.std.specs.Prelude.{◌≡◌, ℕ, ◌+◌, Bool, true, false, List, Option, None, Some, IsSome, IfSome, slice_index_or, unwrap_or}
+use Rattle.isa.specs.declared.code.Slot.{Slot}
+use Rattle.isa.specs.declared.instruction.Instruction.{Instruction}
+use Rattle.isa.specs.declared.instruction.Instruction.TheVariants as instructions
+use Rattle.isa.specs.Flow.{Begins, size, jump_target}
+use Rattle.kinds.specs.declared.statement.Target.{Target}
+
+-- whether the instruction may go on behind itself: all do but EXIT and the unconditional jumps
+abbrev pub goes_on : Instruction → Bool
+goes_on (instructions.Jump distance) = false
+goes_on (instructions.LongJump distance) = false
+goes_on instructions.Exit = false
+goes_on other = true
+
+-- what is stated at a slot; the list has an element for each slot of the code
+abbrev pub target_at : {D : Type 0} → List (Option (Target D)) → ℕ → Option (Target D)
+target_at targets slot = slice_index_or targets slot None
+
+-- the start of a segment: the entry, or the statement at a slot
+abbrev pub segment_of : {D : Type 0} → List (Option (Target D)) → Target D → Option ℕ → Target D
+segment_of targets entry None = entry
+segment_of targets entry (Some slot) = unwrap_or (target_at targets slot) entry
+
+-- an instruction with a statement begins at the slot
+pub record IsEntry {D : Type 0} (code : List Slot) (targets : List (Option (Target D))) (slot : ℕ) : Type 0 where
+  pub begins : Begins code slot
+  pub stated : IsSome (target_at targets slot)
+
+-- The slots that may come after the instruction are as they should be: a jump's has a statement, and
+-- the one behind is in the code.
+pub record IsWellPlaced {D : Type 0} (code : List Slot) (targets : List (Option (Target D))) (slot : ℕ) (i : Instruction) : Type 0 where
+  pub jump : IfSome (jump_target slot i) (IsEntry code targets)
+  pub on : goes_on i ≡ true → Begins code (slot + size i)

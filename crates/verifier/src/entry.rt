@@ -1,0 +1,98 @@
+//! Where a run begins.
+ghost use Rattle.std.specs.Prelude.{◌≡◌, ◌+◌, true, false, IfOk, Some, length};
+ghost use Rattle.machine.specs.declared.state.State.{State as Machine};
+ghost use Rattle.machine.specs.State.{start};
+ghost use Rattle.object.specs.Sets.{no_bytes};
+ghost use Rattle.kinds.specs.declared.statement.Target.{Target as AnyTarget};
+ghost use Rattle.kinds.specs.Meaning.{TargetHolds, StateHolds};
+ghost use Rattle.ranks.specs.Lines.{rank_value};
+ghost use Rattle.verifier.specs.Places.{target_at};
+ghost use Rattle.verifier.specs.Segments.{Enters};
+
+use crate::edge::enter;
+use crate::known::Known;
+use crate::refusal::Refusal;
+use crate::target::stated_at;
+use absdom::Domain;
+use kinds::{Entry, Kind, Place, State, Target, reset};
+use object::{Kind as Stated, Rank, StackBytes, Statement};
+use std::alloc::{AllocError, Global};
+
+/// What is stated where a run begins: nothing but the rank.
+pub fn entry_statement(rank: u32) -> Statement
+    ensures stack { result.stack ≡ no_bytes }
+    ensures rank { (machine : Machine) → rank_value result.rank machine ≡ rank }
+{
+    let constant = Rank {
+        constant: rank,
+        first: None,
+        second: None,
+    };
+    match Statement::new(0, constant, [Stated::Empty; 10], StackBytes::new()) {
+        Some(statement) => statement,
+        None => unreachable!(),
+    }
+}
+
+/// The start of a run as the start of a segment: r1 points to the context.
+pub fn entry_of<'a, D: Domain>(
+    alloc: Global,
+    statement: &'a Statement,
+) -> Result<Target<'a, D>, AllocError>
+    requires { statement.now.stack ≡ no_bytes }
+    ensures statement { IfOk result (λ entry. entry.statement.now ≡ statement.now) }
+    ensures holds { IfOk result (λ entry. TargetHolds D.contains entry start) }
+{
+    let mut kinds = Vec::new(alloc);
+    kinds.push(Kind::Empty)?;
+    kinds.push(Kind::Pointer(Place::Context(0)))?;
+    for register in 2..10usize {
+        kinds.push(Kind::Empty)?;
+    }
+    Ok(Target { statement, kinds })
+}
+
+/// Room for what is known at a slot.
+pub fn unknown<D: Domain>(alloc: Global) -> Result<State<D>, AllocError> {
+    let mut kinds = Vec::new(alloc);
+    let mut facts = Vec::new(alloc);
+    for _ in 0..10usize {
+        kinds.push(Kind::Empty)?;
+        facts.push(None)?;
+    }
+    let mut entries = Vec::new(alloc);
+    for _ in 0..512usize {
+        entries.push(Entry::Unknown)?;
+    }
+    Ok(State {
+        kinds,
+        facts,
+        entries,
+    })
+}
+
+/// What is known where a run begins. Where slot 0 has a statement, that is entered.
+pub fn enter_start<'a, D: Domain>(
+    targets: &[Option<Target<'a, D>>],
+    entry: &Target<'a, D>,
+    room: State<D>,
+) -> Result<Known<D>, Refusal>
+    ensures live { IfOk result (λ known. known.is_live ≡ true) }
+    ensures own { IfOk result (λ known. (machine : Machine) → TargetHolds D.contains entry.now machine → StateHolds D.contains known.state machine machine) }
+    ensures edge { IfOk result (λ _. (target : AnyTarget D) → target_at targets.now 0 ≡ Some target → (machine : Machine) → TargetHolds D.contains entry.now machine → Enters D.contains false entry.now target machine machine) }
+{
+    let state = reset(room, entry);
+    let Some(target) = stated_at(targets, 0) else {
+        return Ok(Known {
+            state,
+            is_live: true,
+        });
+    };
+    match enter(target, false, entry, &state) {
+        Ok(()) => Ok(Known {
+            state,
+            is_live: true,
+        }),
+        Err(rule) => Err(Refusal { slot: 0, rule }),
+    }
+}

@@ -1,0 +1,180 @@
+//! The pass over the slots, in the order of their addresses.
+ghost use Rattle.std.specs.Prelude.{◌≡◌, ◌+◌, ◌<◌, ℕ, true, IfOk, MatchOption, None, Some, slice_get};
+ghost use Rattle.isa.specs.declared.code.Slot.TheVariants.{Start};
+ghost use Rattle.isa.specs.Flow.{Begins, size};
+ghost use Rattle.machine.specs.declared.state.State.{State as Machine};
+ghost use Rattle.kinds.specs.Meaning.{StateHolds, TargetHolds};
+ghost use Rattle.verifier.specs.Places.{IsWellPlaced, segment_of, target_at};
+ghost use Rattle.verifier.specs.Segments.{IsCurrentUnlessStated, IsFine, IsFollowed};
+
+use crate::follow::follow;
+use crate::known::Known;
+use crate::places::{check_places, falls_through, slots_of};
+use crate::refusal::Refusal;
+use crate::target::{is_stated, stated_at};
+use absdom::Domain;
+use isa::laws::{
+    a_wide_instruction_has_its_second_half, an_instruction_is_followed,
+    one_instruction_ends_at_a_slot,
+};
+use isa::{Code, Hook, Instruction, Slot};
+use kinds::{Target, reset};
+use transfer::rule::Rule;
+
+/// What is known at the slot, with the start of the segment that it is in: a statement starts a new one.
+fn arrive<'a, D: Domain>(
+    targets: &[Option<Target<'a, D>>],
+    slot: usize,
+    begun: Option<usize>,
+    known: Known<D>,
+) -> (Option<usize>, Known<D>)
+    ensures { MatchOption (target_at targets.now slot) ((result.0 ≡ begun) × (result.1 ≡ known)) (λ target. (result.0 ≡ Some slot) × (result.1.is_live ≡ true) × ((machine : Machine) → TargetHolds D.contains target machine → StateHolds D.contains result.1.state machine machine)) }
+{
+    match stated_at(targets, slot) {
+        Some(target) => (
+            Some(slot),
+            Known {
+                state: reset(known.state, target),
+                is_live: true,
+            },
+        ),
+        None => (begun, known),
+    }
+}
+
+/// What is known at the next slot, where this one may be reached.
+fn pass<'a, D: Domain>(
+    code: &Code,
+    hook: Hook,
+    targets: &[Option<Target<'a, D>>],
+    segment: &Target<'a, D>,
+    known: Known<D>,
+    slot: usize,
+    instruction: Instruction,
+) -> Result<Known<D>, Rule>
+    requires small { slot < 4096 }
+    requires here { slice_get code.now slot ≡ Some (Start instruction) }
+    requires placed { IsWellPlaced code.now targets.now slot instruction }
+    ensures passed { IfOk result (λ after. known.is_live ≡ true → IsFollowed D.contains code.now hook targets.now segment.now slot instruction known.state after) }
+{
+    if !known.is_live {
+        return Ok(known);
+    }
+    let after = follow(code, hook, targets, segment, known.state, slot, instruction)?;
+    Ok(after)
+}
+
+/// What is known at the next slot, in the segment that begins at the entry or at a statement.
+fn pass_in<'a, D: Domain>(
+    code: &Code,
+    hook: Hook,
+    targets: &[Option<Target<'a, D>>],
+    entry: &Target<'a, D>,
+    begun: Option<usize>,
+    known: Known<D>,
+    slot: usize,
+    instruction: &Instruction,
+) -> Result<Known<D>, Rule>
+    requires small { slot < 4096 }
+    requires here { slice_get code.now slot ≡ Some (Start instruction.now) }
+    requires placed { IsWellPlaced code.now targets.now slot instruction.now }
+    ensures passed { IfOk result (λ after. known.is_live ≡ true → IsFollowed D.contains code.now hook targets.now (segment_of targets.now entry.now begun) slot instruction.now known.state after) }
+{
+    let Some(start) = begun else {
+        let first = pass(code, hook, targets, entry, known, slot, *instruction)?;
+        return Ok(first);
+    };
+    let Some(segment) = stated_at(targets, start) else {
+        let first = pass(code, hook, targets, entry, known, slot, *instruction)?;
+        return Ok(first);
+    };
+    let after = pass(code, hook, targets, segment, known, slot, *instruction)?;
+    Ok(after)
+}
+
+/// Goes from one instruction to the slot behind it.
+fn step<'a, D: Domain>(
+    code: &Code,
+    hook: Hook,
+    targets: &[Option<Target<'a, D>>],
+    entry: &Target<'a, D>,
+    begun: Option<usize>,
+    known: Known<D>,
+    is_passed_to: bool,
+    slot: usize,
+    instruction: &Instruction,
+) -> Result<(Option<usize>, Known<D>), Rule>
+    requires small { slot < 4096 }
+    requires here { slice_get code.now slot ≡ Some (Start instruction.now) }
+    ensures fine { IfOk result (λ _. IsCurrentUnlessStated D.contains code.now hook targets.now entry.now slot (segment_of targets.now entry.now begun) known → IsFine D.contains code.now hook targets.now entry.now slot) }
+    ensures current { IfOk result (λ next. IsCurrentUnlessStated D.contains code.now hook targets.now entry.now slot (segment_of targets.now entry.now begun) known → IsCurrentUnlessStated D.contains code.now hook targets.now entry.now (slot + size instruction.now) (segment_of targets.now entry.now next.0) next.1) }
+{
+    one_instruction_ends_at_a_slot();
+    let _is_code = code.slots();
+    check_places(code, targets, is_passed_to, slot, instruction)?;
+    let (here, arrived) = arrive(targets, slot, begun, known);
+    let after = pass_in(code, hook, targets, entry, here, arrived, slot, instruction)?;
+    Ok((here, after))
+}
+
+/// Whether a statement stands at the second half of the instruction.
+fn splits<'a, D: Domain>(
+    targets: &[Option<Target<'a, D>>],
+    slot: usize,
+    instruction: &Instruction,
+) -> bool
+    requires { slot < 4096 }
+{
+    instruction.is_wide() && is_stated(targets, slot + 1)
+}
+
+/// Passes once over the instructions.
+pub fn pass_all<'a, D: Domain>(
+    code: &Code,
+    hook: Hook,
+    targets: &[Option<Target<'a, D>>],
+    entry: &Target<'a, D>,
+    start: Known<D>,
+) -> Result<(), Refusal>
+    requires live { start.is_live ≡ true }
+    requires own { (machine : Machine) → TargetHolds D.contains entry.now machine → StateHolds D.contains start.state machine machine }
+    ensures fine { IfOk result (λ _. (slot : ℕ) → Begins code.now slot → IsFine D.contains code.now hook targets.now entry.now slot) }
+{
+    a_wide_instruction_has_its_second_half();
+    an_instruction_is_followed();
+    let _is_code = code.slots();
+    let mut begun = None;
+    let mut known = start;
+    let mut is_passed_to = true;
+    let mut slot = 0;
+    while slot < code.len() {
+        let Some(Slot::Start(instruction)) = code.at(slot as u64) else {
+            unreachable!()
+        };
+        let (here, after) = match step(
+            code,
+            hook,
+            targets,
+            entry,
+            begun,
+            known,
+            is_passed_to,
+            slot,
+            &instruction,
+        ) {
+            Ok(next) => next,
+            Err(rule) => return Err(Refusal { slot, rule }),
+        };
+        begun = here;
+        known = after;
+        is_passed_to = falls_through(&instruction);
+        if splits(targets, slot, &instruction) {
+            return Err(Refusal {
+                slot: slot + 1,
+                rule: Rule::Target,
+            });
+        }
+        slot += slots_of(&instruction);
+    }
+    Ok(())
+}
