@@ -17,7 +17,7 @@ use Rattle.machine.specs.declared.state.State.{State}
 use Rattle.machine.specs.Input.{IsInput}
 use Rattle.machine.specs.Label.{Label, Silent, Add}
 use Rattle.isa.specs.Arithmetic.{widened}
-use Rattle.isa.specs.Flow.{registers_read, numbers_read, slot_after, jump_target}
+use Rattle.isa.specs.Flow.{registers_read, numbers_read, register_written, slot_after, jump_target}
 use Rattle.machine.specs.declared.state.Content.{Content}
 use Rattle.machine.specs.declared.state.Content.TheVariants.{Number}
 use Rattle.machine.specs.State.{Setting, setting_of, held}
@@ -113,6 +113,13 @@ number_content number = Number (widened number)
 abbrev pub ReadsAreOfRegisters : Type 0
 ReadsAreOfRegisters = (setting : Setting) (s : State) (i : Instruction) → ((number : ℤ) → i ≢ Call number)
     → reads setting s i ≡ map (held s) (registers_read i) ++ map number_content (numbers_read i)
+
+-- A step of another instruction than a CALL leaves each register as it was but the one that the
+-- instruction names as its target.
+abbrev pub StepsWriteTheirTarget : Type 0
+StepsWriteTheirTarget = (setting : Setting) (s next : State) (label : Label) (i : Instruction) (register : ℕ)
+    → ((number : ℤ) → i ≢ Call number) → register_written i ≢ Some register
+    → Does i setting s label next → held next register ≡ held s register
 
 -- A step leads to the slot behind its instruction, or to the target of its jump.
 abbrev pub StepsLeadByCode : Type 0

@@ -1,5 +1,5 @@
 //! Laws of the machine, each the contract of a function that does nothing.
-ghost use Rattle.machine.specs.Laws.{GoesOneWay, LeastFaultCounts, FaultIsUnique, AnswerIsUnique, LabelDeterminesNext, StatesGoOn, RunsGoOn, AddingEnds, FaultIgnoresInput, SafeRunsEnd, LabelsDetermineAnswer, EmptyExitIsUnsafe, ReadsAreOfRegisters, StepsLeadByCode};
+ghost use Rattle.machine.specs.Laws.{GoesOneWay, LeastFaultCounts, FaultIsUnique, AnswerIsUnique, LabelDeterminesNext, StatesGoOn, RunsGoOn, AddingEnds, FaultIgnoresInput, SafeRunsEnd, LabelsDetermineAnswer, EmptyExitIsUnsafe, ReadsAreOfRegisters, StepsLeadByCode, StepsWriteTheirTarget};
 
 /// No state is two of these: able to step, at EXIT with an answer, stuck.
 pub fn a_state_goes_one_way()
@@ -65,6 +65,11 @@ pub fn an_empty_exit_is_never_safe()
 /// What an instruction other than a call reads is what its registers hold, and then its number.
 pub fn an_instruction_reads_its_registers()
     ensures { ReadsAreOfRegisters }
+{}
+
+/// A step of another instruction than a call changes no register but the instruction's target.
+pub fn a_step_writes_its_target_alone()
+    ensures { StepsWriteTheirTarget }
 {}
 
 /// A step leads to the slot behind its instruction, or to the target of its jump.
