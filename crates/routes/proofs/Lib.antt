@@ -6,3 +6,6 @@ pub mod Queue
 pub mod Rounds
 pub mod Settling
 pub mod Bridge
+pub mod OneMore
+pub mod Listed
+pub mod Carried

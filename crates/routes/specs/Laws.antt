@@ -1,5 +1,6 @@
 -- There is one way, one candidate for a prefix, and one list of candidates (RFC 2328, sections 16.1 and 16.4).
-use Rattle.std.specs.Prelude.{◌≡◌, ℕ, List}
+use Rattle.std.specs.Prelude.{◌≡◌, ◌≤◌, List}
+use Rattle.words.specs.declared.key.Key.{Key}
 use Rattle.words.specs.declared.route.Route.{Route}
 use Rattle.routes.specs.Candidates.{AreCandidates, IsCandidate}
 use Rattle.routes.specs.Links.{Leads}
@@ -11,6 +12,11 @@ use Rattle.routes.specs.Said.{Said}
 -- whatever links there are, a vertex has one way
 abbrev pub WaysAreDetermined : Type 0
 WaysAreDetermined = (said : Said) (root : Root) (from to : Node) (a b : Way) → IsWay (Leads said root) from to a → IsWay (Leads said root) from to b → a ≡ b
+
+-- what LSAs of types 1 and 2 say decides all ways
+abbrev pub WaysRestOnLinks : Type 0
+WaysRestOnLinks = (old new : Said) (root : Root) → ((key : Key) → key.ls_type ≤ 2 → old key ≡ new key)
+    → (from to : Node) (way : Way) → IsWay (Leads old root) from to way → IsWay (Leads new root) from to way
 
 abbrev pub OneCandidateForEachPrefix : Type 0
 OneCandidateForEachPrefix = (said : Said) (root : Root) (r s : Route) → IsCandidate said root r → IsCandidate said root s → r.prefix ≡ s.prefix → r ≡ s

@@ -2,6 +2,7 @@ pub mod Said
 pub mod Paths
 pub mod Links
 pub mod Routes
+pub mod Best
 pub mod Offers
 pub mod Summaries
 pub mod Candidates

@@ -1,10 +1,15 @@
 //! Laws that code leans on, each carried by a function with an empty body: there is one way, and one list of candidates.
 ghost use Rattle.routes.specs.Answers.{GraphsCarryAnswers};
-ghost use Rattle.routes.specs.Laws.{CandidatesAreDetermined, OneCandidateForEachPrefix, WaysAreDetermined};
+ghost use Rattle.routes.specs.Laws.{CandidatesAreDetermined, OneCandidateForEachPrefix, WaysAreDetermined, WaysRestOnLinks};
 
 /// A node has one distance and one set of next hops (RFC 2328, section 16.1).
 pub fn ways_are_determined()
     ensures { WaysAreDetermined }
+{}
+
+/// The ways to all nodes stay as they are where the LSAs of types 1 and 2 say what they said (RFC 2328, section 16.1).
+pub fn ways_rest_on_links()
+    ensures { WaysRestOnLinks }
 {}
 
 /// A prefix has at most one candidate.

@@ -1,6 +1,7 @@
 //! The routing table's calculation: walks over the links that count, and the routes that they offer (RFC 2328, section 16).
 #![tactic(auto)]
 
+mod best;
 mod graph;
 pub mod laws;
 mod node;
@@ -8,6 +9,7 @@ mod offer;
 mod root;
 mod search;
 
+pub use best::routes_in_order;
 pub use graph::{Kind, Link, Vertex, Way, is_graph};
 pub use node::Node;
 pub use offer::Offer;

@@ -1,0 +1,43 @@
+-- How the routes of offers are made: the offers in an order in which the best one for a prefix comes first.
+use Rattle.std.specs.Prelude.{◌≡◌, bit_or}
+use Rattle.std.specs.Ordering.{nat_cmp, ordering_then}
+use Rattle.std.specs.declared.cmp.Ordering.{Ordering}
+use Rattle.words.specs.Prefixes.{Network}
+use Rattle.words.specs.declared.route.Route.{Route}
+use Rattle.routes.specs.Routes.{rank}
+use Rattle.routes.specs.declared.offer.Offer.{Offer}
+
+abbrev pub tag_cmp : Offer → Offer → Ordering
+tag_cmp a b = ordering_then (nat_cmp a.tag b.tag) (nat_cmp a.hops b.hops)
+
+abbrev pub originator_cmp : Offer → Offer → Ordering
+originator_cmp a b = ordering_then (nat_cmp a.originator b.originator) (tag_cmp a b)
+
+abbrev pub distance_cmp : Offer → Offer → Ordering
+distance_cmp a b = ordering_then (nat_cmp a.distance b.distance) (originator_cmp a b)
+
+abbrev pub cost_cmp : Offer → Offer → Ordering
+cost_cmp a b = ordering_then (nat_cmp a.cost b.cost) (distance_cmp a b)
+
+abbrev pub kind_cmp : Offer → Offer → Ordering
+kind_cmp a b = ordering_then (nat_cmp (rank a.kind) (rank b.kind)) (cost_cmp a b)
+
+abbrev pub prefix_cmp : Network → Network → Ordering
+prefix_cmp a b = ordering_then (nat_cmp a.address b.address) (nat_cmp a.length b.length)
+
+-- by prefix, then the better first, then by originator and tag
+abbrev pub offer_cmp : Offer → Offer → Ordering
+offer_cmp a b = ordering_then (prefix_cmp a.prefix b.prefix) (kind_cmp a b)
+
+abbrev pub route_of : Offer → Route
+route_of o = record { prefix = o.prefix; kind = o.kind; cost = o.cost; distance = o.distance; hops = o.hops; tag = o.tag }
+
+-- the offer is as good as the route
+pub record AsGood (r : Route) (o : Offer) : Type 0 where
+  pub kind : r.kind ≡ o.kind
+  pub cost : r.cost ≡ o.cost
+  pub distance : r.distance ≡ o.distance
+
+-- with the hops of the offer too
+abbrev pub joined : Route → Offer → Route
+joined r o = record r { hops = bit_or r.hops o.hops }
