@@ -1,0 +1,5 @@
+//! Tests of the verifier by programs, with intervals and known bits. They stand above, since a crate is proved once more for its tests.
+#![tactic(auto)]
+
+#[cfg(test)]
+mod programs;

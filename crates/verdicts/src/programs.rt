@@ -1,0 +1,167 @@
+//! Programs that are accepted with their bound, and programs that break one rule at one slot.
+use absdom::Pair;
+use asm::assemble;
+use interval::Interval;
+use isa::decode;
+use knownbits::KnownBits;
+use object::Object;
+use std::alloc::Global;
+use std::process::Abort;
+use std::test::Fail;
+use verifier::{Accepted, Refusal, verify};
+
+/// What the verifier says of the program of an object.
+#[tactic(auto, using(crate::proofs::Stated::stated_in))]
+fn verified(
+    rt: &impl Abort,
+    alloc: Global,
+    object: &Object,
+) -> Result<Result<Accepted, Refusal>, Fail> {
+    let code = decode(alloc, object.code())?;
+    let slots = object.slots();
+    let size = code.len();
+    assert!(rt; size == slots);
+    let statements = object.statements();
+    Ok(verify::<Pair<Interval, KnownBits>>(
+        alloc,
+        object.hook(),
+        code,
+        object.entry_rank(),
+        statements,
+    ))
+}
+
+/// The program of the text is accepted with this bound.
+fn accepts(rt: &impl Abort, alloc: Global, text: &str, bound: u64) -> Result<(), Fail> {
+    let object = assemble(alloc, text)?;
+    match verified(rt, alloc, &object)? {
+        Ok(accepted) => {
+            assert_eq!(rt; accepted.bound(), bound, "{text}");
+            assert!(rt; accepted.hook() == object.hook());
+        }
+        Err(refusal) => assert!(rt; false, "{text}: {refusal:?}"),
+    }
+    Ok(())
+}
+
+/// The program of the text is refused at this slot by the rule of this number.
+fn refuses(rt: &impl Abort, alloc: Global, text: &str, slot: usize, rule: u8) -> Result<(), Fail> {
+    let object = assemble(alloc, text)?;
+    match verified(rt, alloc, &object)? {
+        Ok(_) => assert!(rt; false, "{text}: accepted"),
+        Err(refusal) => {
+            let number = refusal.rule.number();
+            assert!(rt;
+                refusal.slot == slot && number == rule,
+                "{text}: {refusal:?}"
+            );
+        }
+    }
+    Ok(())
+}
+
+const NUMBER: &str = "number 0 18446744073709551615 0 0";
+
+#[test]
+fn straight_programs_are_accepted(rt: HostRuntime) -> Result<(), Fail> {
+    let alloc = rt.alloc();
+    accepts(&rt, alloc, "hook price\nrank 0\nr0 = 7\nexit\n", 2)?;
+    let stored = "hook count\nrank 0\n*u64 r10 -8 = r1\nr2 = *u64 r10 -8\nr0 = *u32 r2 0\nexit\n";
+    accepts(&rt, alloc, stored, 4)?;
+    let most = "hook veto\nrank 249999\nr0 = 1\nr0 = 2\nr0 = 3\nexit\n";
+    accepts(&rt, alloc, most, 1_000_000)?;
+    let cell = "hook price\nrank 0\nr6 = map 1 8\nr0 = *u64 r6 0\nr0 += 1\n*u64 r6 0 = r0\nexit\n";
+    accepts(&rt, alloc, cell, 6)?;
+    let cost = "hook tag\nrank 0\nr1 = wide 3221225984\nr2 = 24\ncall 4\nexit\n";
+    accepts(&rt, alloc, cost, 5)
+}
+
+/// A counter by a number of the context, with this mask and this shift.
+fn walk(alloc: Global, mask: u32, shift: u32) -> Result<String, Fail> {
+    Ok(format!(in alloc;
+        "hook price\nrank 0\nr1 = *u64 r1 8\nr1 &= {mask}\nr1 <<= {shift}\nr2 = map 0 0\nr2 += r1\nr0 = *u64 r2 0\nexit\n"
+    )?)
+}
+
+#[test]
+fn a_walk_over_the_counters_needs_its_mask_and_its_shift(rt: HostRuntime) -> Result<(), Fail> {
+    let alloc = rt.alloc();
+    let lawful = walk(alloc, 255, 3)?;
+    accepts(&rt, alloc, &lawful, 8)?;
+    let far = walk(alloc, 511, 3)?;
+    refuses(&rt, alloc, &far, 6, 7)?;
+    let between = walk(alloc, 255, 2)?;
+    refuses(&rt, alloc, &between, 6, 8)
+}
+
+/// The sum of the numbers up to n, counted down, with this rank at the entry and this least number at the loop.
+fn sum_to(alloc: Global, n: u32, rank: u32, least: u32) -> Result<String, Fail> {
+    Ok(format!(in alloc;
+        "hook price\nrank {rank}\nr1 = {n}\nr0 = 0\nL:\nr0 += r1\nr1 += -1\nif r1 != 0 goto L\nexit\nstate L rank 0 r1 * 1\nwith r0 {NUMBER}\nwith r1 number {least} {n} 0 0\n"
+    )?)
+}
+
+#[test]
+fn a_loop_needs_its_rank_and_its_range(rt: HostRuntime) -> Result<(), Fail> {
+    let alloc = rt.alloc();
+    for n in [1u32, 2, 10, 1000] {
+        let lawful = sum_to(alloc, n, n, 1)?;
+        accepts(&rt, alloc, &lawful, 6 * u64::from(n) + 6)?;
+    }
+    let low = sum_to(alloc, 10, 9, 1)?;
+    refuses(&rt, alloc, &low, 1, 12)?;
+    let wraps = sum_to(alloc, 10, 10, 0)?;
+    refuses(&rt, alloc, &wraps, 4, 11)
+}
+
+#[test]
+fn dead_slots_are_not_looked_at(rt: HostRuntime) -> Result<(), Fail> {
+    let dead = format!(in rt.alloc();
+        "hook veto\nrank 0\nr0 = 0\nif r0 == 0 goto +2\nr5 = r6\nexit\nexit\nstate 4 rank 0\nwith r0 {NUMBER}\n"
+    )?;
+    accepts(&rt, rt.alloc(), &dead, 5)
+}
+
+#[test]
+fn each_rule_is_named_at_its_slot(rt: HostRuntime) -> Result<(), Fail> {
+    let alloc = rt.alloc();
+    for (text, slot, rule) in [
+        ("hook price\nrank 0\ngoto +1\nr0 = wide 1\nexit\n", 0, 1),
+        ("hook price\nrank 0\nr0 = 0\n", 0, 2),
+        ("hook price\nrank 0\nr0 = 0\nexit\nr0 = 1\nexit\n", 2, 3),
+        (
+            "hook price\nrank 0\nr0 = 0\nif r0 == 0 goto +0\nexit\n",
+            1,
+            4,
+        ),
+        ("hook price\nrank 0\nexit\n", 0, 5),
+        (
+            "hook count\nrank 0\nr2 = *u32 r1 4\nr3 = r10\nr3 -= r2\nr0 = 0\nexit\n",
+            2,
+            6,
+        ),
+        (
+            "hook price\nrank 0\nr6 = map 0 0\n*u64 r6 0 = 1\nr0 = 0\nexit\n",
+            2,
+            6,
+        ),
+        ("hook veto\nrank 0\nr1 = 0\ncall 3\nexit\n", 1, 9),
+        (
+            "hook veto\nrank 250000\nr0 = 1\nr0 = 2\nr0 = 3\nexit\n",
+            0,
+            13,
+        ),
+        ("hook price\nrank 0\nr0 = r1\nexit\n", 1, 14),
+        ("hook price\nrank 0\nr10 = 0\nr0 = 0\nexit\n", 0, 15),
+    ] {
+        refuses(&rt, alloc, text, slot, rule)?;
+    }
+    Ok(())
+}
+
+#[test]
+fn a_cell_may_change_after_it_was_tested(rt: HostRuntime) -> Result<(), Fail> {
+    let tested =
+        "hook count\nrank 0\nr6 = map 1 0\nr1 = *u64 r6 0\nif r1 >= 64 goto L\nr1 = *u64 r6 0\nr2 = 1\ncall 1\nexit\nL:\nr0 = 0\nexit\nstate L rank 0\n";
+    refuses(&rt, rt.alloc(), tested, 6, 10)
+}
