@@ -2,3 +2,4 @@ pub mod Classes
 pub mod Clean
 pub mod Lists
 pub mod Runs
+pub mod NeverTraps

@@ -4,6 +4,7 @@
 //! these the list of its seat has grown.
 #![tactic(auto)]
 
+mod accepted;
 mod assignments;
 mod checked;
 mod contents;
@@ -16,6 +17,7 @@ mod steps;
 mod stores;
 mod trap;
 
+pub use accepted::run;
 pub use checked::run_checked;
 pub use ending::Run;
 pub use trap::Trap;
