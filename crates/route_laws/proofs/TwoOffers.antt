@@ -10,7 +10,7 @@ use Rattle.routes.specs.Routes.IsNoWorse.{ByCost, ByDistance, ByKind}
 use Rattle.routes.specs.declared.offer.Offer.{Offer}
 use Rattle.routes.proofs.Determined.{one_route}
 use Rattle.routes.proofs.Lists.{first_is, of_cons, of_empty}
-use Rattle.route_laws.specs.WorkedOffers.{WorkedOffers, between_15, offer_of, route_to, two_distances, two_kinds, two_tags}
+use Rattle.route_laws.specs.WorkedOffers.{WorkedOffers, inter_15, intra_100, offer_of, route_to, two_distances, two_kinds, two_tags, within_100}
 use Rattle.route_laws.proofs.Alone.{IsAloneAmong, alone_among, no_worse_itself}
 
 -- one of two
@@ -98,10 +98,7 @@ near_alone o offered e =
 
 -- ---- two kinds
 
-abbrev inner : Offer
-inner = offer_of Intra 0 2 0
-
-no_kinder : IsNoWorse between_15 inner → ⊥
+no_kinder : IsNoWorse inter_15 intra_100 → ⊥
 no_kinder (ByKind p) = omega (arith, p)
 no_kinder (ByCost p q) = omega (arith, p)
 no_kinder (ByDistance p q r) = omega (arith, p)
@@ -109,9 +106,9 @@ no_kinder (ByDistance p q r) = omega (arith, p)
 abbrev IsOfKind : Offer → Type 0
 IsOfKind o = Contains two_kinds o
 
-inner_alone : IsAloneAmong IsOfKind inner
+inner_alone : IsAloneAmong IsOfKind intra_100
 inner_alone o offered e =
-    either (λ x. (x ≡ inner) ⊎ (IsNoWorse inner x × (IsNoWorse x inner → ⊥))) between_15 inner (inr (ByKind (omega arith), no_kinder)) (inl refl) o offered
+    either (λ x. (x ≡ intra_100) ⊎ (IsNoWorse intra_100 x × (IsNoWorse x intra_100 → ⊥))) inter_15 intra_100 (inr (ByKind (omega arith), no_kinder)) (inl refl) o offered
 
 pub worked : WorkedOffers
 worked = record {
@@ -120,6 +117,6 @@ worked = record {
       only IsEither (route_to External2 10 2 0) (alone_among IsEither near (first_is near (farther ∷ [])) near_alone)
       (λ o t. either (λ x. x.prefix ≡ near.prefix) near farther refl refl o t);
   within_first =
-      only IsOfKind (route_to Intra 0 2 0) (alone_among IsOfKind inner (1, omega arith, refl) inner_alone)
-      (λ o t. either (λ x. x.prefix ≡ inner.prefix) between_15 inner refl refl o t);
+      only IsOfKind within_100 (alone_among IsOfKind intra_100 (1, omega arith, refl) inner_alone)
+      (λ o t. either (λ x. x.prefix ≡ intra_100.prefix) inter_15 intra_100 refl refl o t);
 }

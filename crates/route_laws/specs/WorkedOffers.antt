@@ -1,4 +1,4 @@
--- Worked offers for one prefix, with the one route that comes of them (RFC 2328, section 16.4).
+-- Worked offers for one prefix, with the one route that comes of them (RFC 2328, sections 11 and 16.4).
 use Rattle.std.specs.Prelude.{ℕ, List, [], ◌∷◌}
 use Rattle.std.specs.List.{Contains}
 use Rattle.words.specs.declared.route.Route.{Route}
@@ -31,12 +31,18 @@ two_tags = offer_of External1 0 2 5 ∷ offer_of External1 0 2 3 ∷ []
 abbrev pub two_distances : List Offer
 two_distances = offer_of External2 10 2 0 ∷ offer_of External2 20 4 0 ∷ []
 
--- a network within the area at 20, and between areas at 15
-abbrev pub between_15 : Offer
-between_15 = record (offer_of Inter 0 4 0) { cost = 15 }
+-- the network 198.51.100.0/24 within the area at 100, and between areas at 15
+abbrev pub intra_100 : Offer
+intra_100 = record (offer_of Intra 0 2 0) { prefix = network_24 198 51 100; cost = 100 }
+
+abbrev pub inter_15 : Offer
+inter_15 = record (offer_of Inter 0 4 0) { prefix = network_24 198 51 100; cost = 15 }
 
 abbrev pub two_kinds : List Offer
-two_kinds = between_15 ∷ offer_of Intra 0 2 0 ∷ []
+two_kinds = inter_15 ∷ intra_100 ∷ []
+
+abbrev pub within_100 : Route
+within_100 = record (route_to Intra 0 2 0) { prefix = network_24 198 51 100; cost = 100 }
 
 pub record WorkedOffers : Type 0 where
   -- the tag is 3
@@ -44,4 +50,4 @@ pub record WorkedOffers : Type 0 where
   -- the nearer one alone
   pub nearer : AreRoutesAmong (λ o. Contains two_distances o) (route_to External2 10 2 0 ∷ [])
   -- the one within the area, though it is dearer
-  pub within_first : AreRoutesAmong (λ o. Contains two_kinds o) (route_to Intra 0 2 0 ∷ [])
+  pub within_first : AreRoutesAmong (λ o. Contains two_kinds o) (within_100 ∷ [])

@@ -165,3 +165,13 @@ fn a_cell_may_change_after_it_was_tested(rt: HostRuntime) -> Result<(), Fail> {
         "hook count\nrank 0\nr6 = map 1 0\nr1 = *u64 r6 0\nif r1 >= 64 goto L\nr1 = *u64 r6 0\nr2 = 1\ncall 1\nexit\nL:\nr0 = 0\nexit\nstate L rank 0\n";
     refuses(&rt, rt.alloc(), tested, 6, 10)
 }
+
+#[test]
+fn a_byte_of_a_packet_needs_a_test_before_it_is_a_counter(rt: HostRuntime) -> Result<(), Fail> {
+    let alloc = rt.alloc();
+    let untested = "hook count\nrank 0\nr1 = 1\ncall 3\nr1 = r0\nr2 = 1\ncall 1\nexit\n";
+    refuses(&rt, alloc, untested, 4, 10)?;
+    let tested = "hook count\nrank 0\nr1 = 1\ncall 3\nif r0 > 255 goto END\nr1 = r0\n\
+        r2 = 1\ncall 1\nEND:\nexit\nstate END rank 0\nwith r0 number 0 256 0 0\n";
+    accepts(&rt, alloc, tested, 7)
+}
