@@ -1,5 +1,8 @@
-//! Tests of the verifier by programs, with intervals and known bits. They stand above, since a crate is proved once more for its tests.
+//! Tests of the verifier by programs, with intervals and known bits, and of a run of what it accepts.
+//! They stand above, since a crate is proved once more for its tests.
 #![tactic(auto)]
 
 #[cfg(test)]
 mod programs;
+#[cfg(test)]
+mod runs;

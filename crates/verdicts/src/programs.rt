@@ -12,7 +12,7 @@ use verifier::{Accepted, Refusal, verify};
 
 /// What the verifier says of the program of an object.
 #[tactic(auto, using(crate::proofs::Stated::stated_in))]
-fn verified(
+pub(crate) fn verified(
     rt: &impl Abort,
     alloc: Global,
     object: &Object,
