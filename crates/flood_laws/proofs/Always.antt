@@ -29,12 +29,12 @@ module _ (Q : Fact) (kept : IsKept Q) (P : Neighbor → Type 0) (of_it : (n : Ne
 
   always : IsAlwaysSo P
   always = record {
-    first = λ c. each_so (Of Q) P is (initial c).area.links (initial_kept Q kept c);
+    first = λ c. each_so (Of Q) P is (initial c).area.links (initial_kept Q kept (named_kept Q kept) c);
     event = λ old moment event outs new happens h.
         each_so (Of Q) P is new.area.links (event_kept Q kept whole (named_kept Q kept) old moment event outs new happens (each_so P (Of Q) of_it old.area.links h));
     hello_event = λ old moment event outs new happens h.
         each_so (Of Q) P is new.area.links (event_kept Q kept hellos_alone (λ moment n so. so) old moment event outs new happens (each_so P (Of Q) of_it old.area.links h));
-    run = λ c steps new run. each_so (Of Q) P is new.area.links (run_kept steps (initial c) new run (initial_kept Q kept c));
+    run = λ c steps new run. each_so (Of Q) P is new.area.links (run_kept steps (initial c) new run (initial_kept Q kept (named_kept Q kept) c));
   }
 
 pub full_request_nothing : FullNeighborsRequestNothing

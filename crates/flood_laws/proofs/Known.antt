@@ -35,7 +35,8 @@ use Rattle.events.specs.EventState.{EventState}
 use Rattle.events.specs.Routers.{Occurrence, Router, fresh_link, unannounced}
 use Rattle.events.specs.Worlds.{IsKnown, instances_stored, instances_on_link, instances_on_list}
 use Rattle.flood_laws.proofs.Packed.{outs_bear}
-use Rattle.flood_laws.proofs.Told.{IfRead, IsOwn, IsOwnKey, OfBrought, OfBytes, OfProgress, event_told, originate_or_wait_told}
+use Rattle.flood_laws.proofs.Told.{IsOwn, IsOwnKey, event_told, first_told, told}
+use Rattle.event_rooms.proofs.Walk.{IfRead, OfBrought, OfBytes, OfEvent}
 use Rattle.flood_laws.proofs.Worlds.{one_more}
 
 -- ---- lists
@@ -155,16 +156,16 @@ module _ (K : LsaInstance → Type 0) (count : ℕ) where
   }
 
   -- the readable LSAs of an Update
-  lsas_brought : (lsas : List (List ℕ)) → AllByRecursion K (instances_in_update lsas) → AllByRecursion (OfBytes named_by) lsas
+  lsas_brought : (lsas : List (List ℕ)) → AllByRecursion K (instances_in_update lsas) → AllByRecursion (OfBytes named_by.of_lsa) lsas
   lsas_brought [] h = tt
   lsas_brought (bytes ∷ rest) h = one_of (lsa_in bytes) h (λ more. lsas_brought rest more)
     where
       one_of : (o : Option Lsa) → AllByRecursion K (map instance_of_lsa (cons_option o (filter_map lsa_in rest)))
-          → (AllByRecursion K (instances_in_update rest) → AllByRecursion (OfBytes named_by) rest) → IfRead named_by o × AllByRecursion (OfBytes named_by) rest
+          → (AllByRecursion K (instances_in_update rest) → AllByRecursion (OfBytes named_by.of_lsa) rest) → IfRead named_by.of_lsa o × AllByRecursion (OfBytes named_by.of_lsa) rest
       one_of None all more = (tt, more all)
       one_of (Some lsa) all more = (all.0, more all.1)
 
-  pub body_brought : (b : Body) → AllByRecursion K (instances_received b) → OfBrought named_by b
+  pub body_brought : (b : Body) → AllByRecursion K (instances_received b) → OfBrought named_by.of_lsa b
   body_brought (body.Hello hello) h = tt
   body_brought (body.Description d) h = tt
   body_brought (body.Request keys) h = tt
@@ -271,13 +272,15 @@ module _ (rules : Rules) (two_way_told : (t : Telling) → OfTwoWay t rules.two_
   event_known old moment event outs new happens own =
       let p : EventState = end_event old moment happens.after in
       let held : AllByRecursion (IsExplained old event) (instances_stored old) = of_members (IsExplained old event) (instances_stored old) (λ name c. IsExplained.Held c) in
-      let end : OfProgress (named_by (IsExplained old event) (length old.area.links)) old.id p =
+      let end : OfEvent (told (named_by (IsExplained old event) (length old.area.links)) old.id) p =
       event_told (named_by (IsExplained old event) (length old.area.links)) old.id (λ key copy says its wants. IsExplained.New (record { key = key; copy = copy; says = says; own = its.0; is = refl })) tt
       rules (two_way_told (named_by (IsExplained old event) (length old.area.links))) (due_own (named_by (IsExplained old event) (length old.area.links)) old.id tt) old moment event happens.after
-      (λ number bytes packet is text.
-      body_brought (IsExplained old event) (length old.area.links) packet.body
-      (of_members (IsExplained old event) (instances_received packet.body) (λ name c. IsExplained.Brought number bytes packet is text c)))
-      (λ tagged tag priced price is. tt)
+      (record {
+        packet = λ number bytes packet is text.
+            body_brought (IsExplained old event) (length old.area.links) packet.body
+            (of_members (IsExplained old event) (instances_received packet.body) (λ name c. IsExplained.Brought number bytes packet is text c));
+        key = λ tagged tag priced price is. ((refl, tt), tt);
+      })
       happens.own (named_held (IsExplained old event) (length old.area.links) old refl held) refl (all_own (named_by (IsExplained old event) (length old.area.links)) (λ key. tt) old own) in
       let all : AllByRecursion (IsExplained old event) (instances_stored p.router ++ instances_in_sends p.sends) = held_named (IsExplained old event) (length old.area.links) p.router p.sends end.area in
       let originated : List LsaInstance = new_ones old event (instances_stored p.router ++ instances_in_sends p.sends) all in
@@ -285,11 +288,11 @@ module _ (rules : Rules) (two_way_told : (t : Telling) → OfTwoWay t rules.two_
       all_known old event (instances_stored p.router ++ instances_in_sends p.sends) all in
       let fresh : AllByRecursion (IsNewInstance old.id) originated = all_new old event (instances_stored p.router ++ instances_in_sends p.sends) all in (
         subst AnnouncesItsOwn (sym happens.router)
-            (announces (named_by (IsExplained old event) (length old.area.links)) p.router (subst (λ id. AllIn (IsOwn (named_by (IsExplained old event) (length old.area.links)) id) p.router.announced) (sym end.same) end.announced)),
+            (announces (named_by (IsExplained old event) (length old.area.links)) p.router (subst (λ id. AllIn (IsOwn (named_by (IsExplained old event) (length old.area.links)) id) p.router.announced) (sym end.announced.0) end.announced.1)),
         record {
           originated = originated;
           new_instances = fresh;
-          same_router = ap (λ (r : Router). r.id) happens.router ∙ end.same;
+          same_router = ap (λ (r : Router). r.id) happens.router ∙ end.announced.0;
           own = λ name c. own_if_new old.id name (of_member (IsNewInstance old.id) originated fresh name c);
           held = λ name c.
               of_member (IsKnown old event originated) (instances_stored p.router) (left_all (IsKnown old event originated) (instances_stored p.router) (instances_in_sends p.sends) known) name
@@ -316,13 +319,12 @@ anything c = named_by (λ name. Unit {0}) (length (map fresh_link c.interfaces))
 first_own : (c : Config) → AnnouncesItsOwn (initial c)
 first_own c =
     let start : EventState = record { router = unannounced c; sends = [] } in
-    let at : OfProgress (anything c) c.router start = record {
+    let at : OfEvent (told (anything c) c.router) start = record {
       area = record { copies = none_in (OfCopy (anything c)); links = none_on (anything c) c.interfaces; few = refl; sent = tt };
-      same = refl;
-      announced = none_in (IsOwn (anything c) c.router);
+      announced = (refl, none_in (IsOwn (anything c) c.router));
     } in
-    let end = originate_or_wait_told (anything c) c.router (λ key copy says its wants. tt) tt c.start (router_key c.router) start (refl, tt) at in
-    announces (anything c) (initial c) (subst (λ id. AllIn (IsOwn (anything c) id) (initial c).announced) (sym end.same) end.announced)
+    let end = first_told (anything c) c.router (λ key copy says its wants. tt) tt whole (named_told (anything c)) (due_whole (anything c) c.router tt) c.start start at in
+    announces (anything c) (initial c) (subst (λ id. AllIn (IsOwn (anything c) id) (initial c).announced) (sym end.announced.0) end.announced.1)
 
 named_anyhow : (t : Telling) → OfTwoWay t whole.two_way
 named_anyhow t = named_told t

@@ -1,8 +1,4 @@
 pub mod Lists
-pub mod Packings
-pub mod Rooms
-pub mod Fitting
-pub mod Roomy
 pub mod Taken
 pub mod Told
 pub mod Packed
@@ -12,3 +8,4 @@ pub mod Lawful
 pub mod Worlds
 pub mod Invariants
 pub mod Always
+pub mod Requesting

@@ -1,5 +1,3 @@
-pub mod PackingLaws
-pub mod RoomLaws
 pub mod Known
 pub mod Lawful
 pub mod NeighborLaws

@@ -1,18 +1,17 @@
 -- What holds of every neighbor at the start, is kept by each event, and so holds at every point of
 -- a run.
-use Rattle.std.specs.Prelude.{ℕ, List}
+use Rattle.std.specs.Prelude.{◌≡◌, ℕ, ◌==◌, true, false, List}
+use Rattle.std.specs.FinSet as set
+use Rattle.adjacency.specs.Adjacencies.{requests_nothing}
 use Rattle.adjacency.specs.Laws.{IsBareWhereFull}
 use Rattle.adjacency.specs.Lists.{HasSoundLists}
-use Rattle.adjacency.specs.Neighbors.{Neighbor}
-use Rattle.received.specs.Holds.{HoldsOfEach}
+use Rattle.adjacency.specs.Neighbors.{Neighbor, is_exchange_or_loading}
+use Rattle.adjacency.specs.declared.state.State.TheVariants.{Loading}
 use Rattle.events.specs.declared.model.Config.{Config}
 use Rattle.events.specs.declared.model.Out.{Out}
 use Rattle.events.specs.Events.{Happens, HappensBy, Run, Step, hellos_alone, initial}
 use Rattle.events.specs.Routers.{Occurrence, Router}
-
--- it holds of each neighbor of the router
-abbrev pub OfEachNeighbor : (Neighbor → Type 0) → Router → Type 0
-OfEachNeighbor P r = HoldsOfEach P r.area.links
+use Rattle.event_rooms.specs.RoomLaws.{OfEachNeighbor}
 
 pub record IsAlwaysSo (P : Neighbor → Type 0) : Type 0 where
   -- at the start
@@ -37,3 +36,18 @@ FullNeighborsRequestNothing = IsAlwaysSo IsBareWhereFull
 -- that is Full has nothing to request and nothing outstanding
 abbrev pub ListsAreSound : Type 0
 ListsAreSound = IsAlwaysSo HasSoundLists
+
+-- ---- requests
+
+-- Loading means that something is left to request (section 10.3); where something is, in Exchange or
+-- Loading, something is outstanding (section 10.9)
+pub record IsRequesting (n : Neighbor) : Type 0 where
+  pub loading : n.state ≡ Loading → requests_nothing n ≡ false
+  pub outstanding : is_exchange_or_loading n.state ≡ true → requests_nothing n ≡ false
+      → (set.len n.outstanding == 0) ≡ false
+
+-- so after every event, whatever was before it; at the start there are no neighbors
+abbrev pub WhatIsLeftIsRequested : Type 0
+WhatIsLeftIsRequested =
+    (old : Router) (moment : ℕ) (event : Occurrence) (outs : List Out) (new : Router)
+    → Happens old moment event outs new → OfEachNeighbor IsRequesting new

@@ -1,12 +1,10 @@
-//! Laws of events and of runs of the router, each carried by a function with an empty body: what holds at every point of a run, what is
-//! sent, and what is known and acknowledged.
+//! Laws of events and of runs of the router, each carried by a function with an empty body: what holds at every point of a run, and what
+//! is known and acknowledged.
 #![tactic(auto)]
 
 ghost use Rattle.flood_laws.specs.Known.{EventsHoldOnlyWhatIsKnown, UpdatesTellWhatTheyBear};
 ghost use Rattle.flood_laws.specs.Lawful.{TextsAreLawful};
-ghost use Rattle.flood_laws.specs.NeighborLaws.{FullNeighborsRequestNothing, ListsAreSound};
-ghost use Rattle.flood_laws.specs.PackingLaws.{OutsAreOrderedAndPacked};
-ghost use Rattle.flood_laws.specs.RoomLaws.{EveryPacketHasRoom};
+ghost use Rattle.flood_laws.specs.NeighborLaws.{FullNeighborsRequestNothing, ListsAreSound, WhatIsLeftIsRequested};
 ghost use Rattle.events.specs.Taken.{WhatIsTakenOffWasTold};
 ghost use Rattle.events.specs.Worlds.{AcknowledgedWasReceived};
 
@@ -22,16 +20,10 @@ pub fn lists_are_sound()
     ensures { ListsAreSound }
 {}
 
-/// What is sent stands in the order of the interfaces; LSAs and headers stand in key order, those of one key as they arose; each is in one
-/// packet, a packet has at most 8,192 bytes, and the first of the next packet had no room in it.
-pub fn outs_are_ordered_and_packed()
-    ensures { OutsAreOrderedAndPacked }
-{}
-
-/// No packet that an event sends has more than 8,192 bytes: what holds of every router at the start and after each event leaves room for
-/// all that is sent, also where the Hello protocol alone is run, and so it is in every run.
-pub fn every_packet_has_room()
-    ensures { EveryPacketHasRoom }
+/// After every event, whatever was before it: a neighbor in Loading has something left to request, and of a neighbor in Exchange or Loading
+/// that has, a Request is outstanding (RFC 2328, sections 10.3 and 10.9).
+pub fn what_is_left_is_requested()
+    ensures { WhatIsLeftIsRequested }
 {}
 
 /// What an Acknowledgment, or an LSA that is an implied acknowledgment, takes off the retransmission list of its sender is an instance that

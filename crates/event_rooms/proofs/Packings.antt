@@ -16,7 +16,7 @@ use Rattle.received.specs.Links.{Link}
 use Rattle.received.specs.Outcomes.{Send}
 use Rattle.events.specs.declared.model.Out.{Out}
 use Rattle.events.specs.Packing.{at_interface, bodies, fill_on, header_size, in_key_order, is_after, out_of, outs_at, outs_of, packed, put}
-use Rattle.flood_laws.specs.PackingLaws.{AreByInterface, AreFull, IsAscending, IsFull, IsInKeyOrder, IsPacking, sizes, total}
+use Rattle.event_rooms.specs.PackingLaws.{AreByInterface, AreFull, IsAscending, IsFull, IsInKeyOrder, IsPacking, sizes, total}
 
 -- ---- the order of keys
 

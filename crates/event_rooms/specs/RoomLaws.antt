@@ -2,12 +2,17 @@
 -- and bounds what an event sends.
 use Rattle.std.specs.Prelude.{◌≡◌, ◌≤◌, ℕ, true, List, length}
 use Rattle.std.specs.List.{AllByRecursion}
+use Rattle.adjacency.specs.Neighbors.{Neighbor}
 use Rattle.adjacency.specs.Rooms.{AllFit, HasRoomyLists}
+use Rattle.received.specs.Holds.{HoldsOfEach}
 use Rattle.events.specs.declared.model.Config.{Config}
 use Rattle.events.specs.declared.model.Out.{Out}
 use Rattle.events.specs.Events.{Happens, HappensBy, Run, Step, hellos_alone, initial}
-use Rattle.flood_laws.specs.NeighborLaws.{OfEachNeighbor}
 use Rattle.events.specs.Routers.{Occurrence, Router, in_profile}
+
+-- it holds of each neighbor of the router
+abbrev pub OfEachNeighbor : (Neighbor → Type 0) → Router → Type 0
+OfEachNeighbor P r = HoldsOfEach P r.area.links
 
 -- each copy fits into an Update; what was last described and asked for fits into a packet; of so
 -- few links the router-LSA fits too

@@ -21,8 +21,8 @@ use Rattle.received.specs.Links.{Link}
 use Rattle.received.specs.Outcomes.{Send}
 use Rattle.events.specs.declared.model.Out.{Out}
 use Rattle.events.specs.Packing.{acknowledgments, at_interface, bodies, descriptions, fill_on, first_key, header_size, hellos, in_key_order, lsa_size, out_of, outs_at, packed, packet_of, requests, sent_lsa, update_of, updates}
-use Rattle.flood_laws.specs.PackingLaws.{HasRoom, OutsAreOrderedAndPacked, sizes, total}
-use Rattle.flood_laws.proofs.Packings.{by_interface, headers_fit, ordered, packs, put_all}
+use Rattle.event_rooms.specs.PackingLaws.{HasRoom, OutsAreOrderedAndPacked, sizes, total}
+use Rattle.event_rooms.proofs.Packings.{by_interface, headers_fit, ordered, packs, put_all}
 
 -- ---- lists
 

@@ -1,0 +1,5 @@
+pub mod Packings
+pub mod Rooms
+pub mod Fitting
+pub mod Walk
+pub mod Roomy
