@@ -79,6 +79,10 @@ module _ {X : Type 0} (s : Standing) (des : Option Description) (sum req : ByKey
   unfolding neighbor_of
   start_now = refl
 
+  pub last_heard_now : s.last_heard ≡ (neighbor_of s des sum req out retr).last_heard
+  unfolding neighbor_of
+  last_heard_now = refl
+
   pub hears : (moment : ℕ) → neighbor_of (record s { last_heard = moment }) des sum req out retr ≡ record (neighbor_of s des sum req out retr) { last_heard = moment }
   unfolding neighbor_of
   hears moment = refl

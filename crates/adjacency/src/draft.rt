@@ -105,4 +105,39 @@ impl Draft {
         self.acknowledgments.push(header)?;
         Ok(())
     }
+
+    /// The Hellos to be sent.
+    pub fn hellos(&self) -> &[Hello]
+        ensures { result.now ≡ self.now.hellos }
+    {
+        &self.hellos
+    }
+
+    /// The Database Descriptions to be sent.
+    pub fn descriptions(&self) -> &[Description]
+        ensures { result.now ≡ self.now.descriptions }
+    {
+        &self.descriptions
+    }
+
+    /// The Link State Requests to be sent, each by its keys.
+    pub fn requests(&self) -> &[Sequence<Key>]
+        ensures { result.now ≡ self.now.requests }
+    {
+        &self.requests
+    }
+
+    /// What Updates take along.
+    pub fn updates(&self) -> &[Update]
+        ensures { result.now ≡ self.now.updates }
+    {
+        &self.updates
+    }
+
+    /// The instances to be acknowledged.
+    pub fn acknowledgments(&self) -> &[Header]
+        ensures { result.now ≡ self.now.acknowledgments }
+    {
+        &self.acknowledgments
+    }
 }

@@ -218,8 +218,16 @@ impl Neighbor {
         ensures router { result.router ≡ self.now.present.router }
         ensures state { result.state ≡ self.now.present.state }
         ensures dd_sequence_start { result.dd_sequence_start ≡ self.now.present.dd_sequence_start }
+        ensures last_heard { result.last_heard ≡ self.now.present.last_heard }
     {
         self.standing.same()
+    }
+
+    /// The inactivity timer starts again.
+    pub fn hear(&mut self, moment: Second)
+        ensures { self.new ≡ record self.old { present = record self.old.present { last_heard = moment } } }
+    {
+        self.standing.last_heard = moment;
     }
 
     fn floods(&self) -> bool

@@ -1,13 +1,19 @@
 //! The place of a neighbor on a link.
 ghost use Rattle.std.specs.Prelude.{◌≡◌, ℕ, IfOk, OnOk, None, Some};
 ghost use Rattle.lsdb.specs.Copies.{lsa_now};
-ghost use Rattle.adjacency.specs.Contents.{sent_on, step_on};
+ghost use Rattle.adjacency.specs.Adjacencies.{after_hello, two_way_received};
+ghost use Rattle.adjacency.specs.Contents.{no_sends, sent_on, step_on};
 ghost use Rattle.adjacency.specs.Drafts.{drafting};
 ghost use Rattle.adjacency.specs.Floods.{flooded, is_any};
-ghost use Rattle.adjacency.specs.Views.{begun, present_of};
+ghost use Rattle.adjacency.specs.Requests.{request_next};
+ghost use Rattle.adjacency.specs.Retransmissions.{after_acknowledgment};
+ghost use Rattle.adjacency.specs.Steps.{heard, named};
+ghost use Rattle.adjacency.specs.Views.{begins, begun, present_of};
 
 use crate::draft::Draft;
 use crate::neighbor::{Neighbor, initial_description, next_dd_sequence_start};
+use crate::state::State;
+use lsa::Header;
 use lsdb::DatabaseCopy;
 use std::alloc::{AllocError, Global};
 use std::marker::Model;
@@ -34,6 +40,19 @@ impl Model for Place {
     ghost use Rattle.adjacency.specs.Views.{present_of, settled_among};
 
     ghost view = { λ a. record { present = present_of a.neighbor; settled = settled_among a.before a.neighbor } };
+}
+
+// Whether a Hello that names this router or doesn't begins anew: all is forgotten but the number of the last attempt.
+fn begins(state: State, names: bool) -> bool
+    ensures { result ≡ begins state names }
+{
+    match state {
+        State::Init => true,
+        State::ExStart => !names,
+        State::Exchange => !names,
+        State::Loading => !names,
+        State::Full => !names,
+    }
 }
 
 impl Place {
@@ -67,6 +86,45 @@ impl Place {
         }
     }
 
+    /// The neighbor's Router ID and its state, unless it is Down.
+    pub fn neighbor(&self) -> Option<(RouterId, State)>
+        ensures { result ≡ named self.now.present }
+    {
+        let Some(neighbor) = &self.neighbor else {
+            return None;
+        };
+        let standing = neighbor.standing();
+        Some((standing.router, standing.state))
+    }
+
+    /// An Acknowledgment of these instances, as `Neighbor::ack` says. Refused, the place is to be rolled back.
+    pub fn ack(&mut self, moment: Second, headers: &[Header]) -> Result<(), AllocError>
+        ensures ok { OnOk result (self.new.present ≡ step_on (λ n. no_sends (after_acknowledgment moment headers.now n)) self.old.present) }
+        ensures settled { self.new.settled ≡ self.old.settled }
+    {
+        match &mut self.neighbor {
+            None => Ok(()),
+            Some(neighbor) => neighbor.ack(moment, headers),
+        }
+    }
+
+    /// The next Request, as `Neighbor::request` says. Refused, the place is to be rolled back.
+    pub fn request(
+        &mut self,
+        alloc: Global,
+        moment: Second,
+        draft: &mut Draft,
+    ) -> Result<(), AllocError>
+        ensures ok { OnOk result (self.new.present ≡ step_on (request_next moment) self.old.present) }
+        ensures draft { OnOk result ((delay : ℕ) → draft.new ≡ drafting delay (sent_on (request_next moment) self.old.present) draft.old) }
+        ensures settled { self.new.settled ≡ self.old.settled }
+    {
+        match &mut self.neighbor {
+            None => Ok(()),
+            Some(neighbor) => neighbor.request(alloc, moment, draft),
+        }
+    }
+
     // Another neighbor, or none, takes the place. The one that was there is kept until the event is settled.
     fn replace(&mut self, neighbor: Option<Neighbor>)
         ensures { self.new ≡ record self.old { present = present_of neighbor } }
@@ -85,9 +143,8 @@ impl Place {
         self.replace(None);
     }
 
-    /// A neighbor in Init hears a Hello, which names this router or doesn't (RFC 2328, section 10.5). Refused, the place is to be
-    /// rolled back.
-    pub fn begin(
+    // A neighbor in Init hears a Hello, which names this router or doesn't.
+    fn begin(
         &mut self,
         alloc: Global,
         moment: Second,
@@ -110,6 +167,52 @@ impl Place {
         }
         let neighbor = Neighbor::fresh(alloc, router, dd_sequence_start, moment);
         self.replace(Some(neighbor));
+        Ok(())
+    }
+
+    // The inactivity timer starts again.
+    fn hear(&mut self, moment: Second)
+        ensures { self.new ≡ record self.old { present = heard moment self.old.present } }
+    {
+        if let Some(neighbor) = &mut self.neighbor {
+            neighbor.hear(moment);
+        }
+    }
+
+    /// A Hello came from this router, which names this router or doesn't (RFC 2328, section 10.5): it was accepted, so the neighbor is
+    /// Down or of this Router ID. Down becomes Init and the inactivity timer starts again. Where the Hello names this router, Init goes on to
+    /// ExStart (2-WayReceived) and the first Description of an attempt is sent; where it doesn't, each later state goes back to Init
+    /// (1-WayReceived), and the lists are cleared without a walk over them.
+    ///
+    /// `AllocError` comes where memory was refused; the place is to be rolled back then.
+    pub fn hello(
+        &mut self,
+        alloc: Global,
+        moment: Second,
+        from: RouterId,
+        names: bool,
+        draft: &mut Draft,
+    ) -> Result<(), AllocError>
+        ensures ok { OnOk result (self.new.present ≡ Some (after_hello two_way_received moment from names self.old.present).neighbor) }
+        ensures draft { OnOk result ((delay : ℕ) → draft.new ≡ drafting delay (after_hello two_way_received moment from names self.old.present).sends draft.old) }
+        ensures settled { self.new.settled ≡ self.old.settled }
+    {
+        let Some(neighbor) = &self.neighbor else {
+            return self.begin(alloc, moment, from, None, names, draft);
+        };
+        let standing = neighbor.standing();
+        let begins = begins(standing.state, names);
+        if begins {
+            return self.begin(
+                alloc,
+                moment,
+                standing.router,
+                standing.dd_sequence_start,
+                names,
+                draft,
+            );
+        }
+        self.hear(moment);
         Ok(())
     }
 

@@ -1,0 +1,57 @@
+//! A neighbor by its calls: what it becomes, what is sent to it, and that a refusal is taken back.
+mod hellos;
+
+use adjacency::{Draft, Place, State};
+use std::alloc::{AllocError, Global};
+use std::test::Fail;
+use words::{RouterId, Second};
+
+// What comes from the neighbor, or is due.
+#[derive(Drop)]
+enum Happening {
+    // A Hello, which names this router or doesn't.
+    Hello(bool),
+    Silence,
+}
+
+fn peer() -> RouterId {
+    RouterId::new(0x0202_0202)
+}
+
+fn happens(
+    place: &mut Place,
+    alloc: Global,
+    moment: Second,
+    happening: &Happening,
+    draft: &mut Draft,
+) -> Result<(), AllocError> {
+    match happening {
+        Happening::Hello(names) => place.hello(alloc, moment, peer(), *names, draft),
+        Happening::Silence => {
+            place.go_down();
+            Ok(())
+        }
+    }
+}
+
+// What is sent in an event. An allocation may be refused once, as a run of the tests with a refusal makes it: then the place is as it was.
+fn played(
+    place: &mut Place,
+    alloc: Global,
+    moment: u64,
+    happening: &Happening,
+) -> Result<Draft, Fail> {
+    let before = place.neighbor();
+    let mut draft = Draft::new(alloc);
+    let answer = happens(place, alloc, Second::new(moment), happening, &mut draft);
+    if answer.is_err() {
+        place.roll_back();
+        if place.neighbor() != before {
+            return Err(Fail::new("a refusal changed the neighbor"));
+        }
+        draft = Draft::new(alloc);
+        happens(place, alloc, Second::new(moment), happening, &mut draft)?;
+    }
+    place.settle();
+    Ok(draft)
+}
