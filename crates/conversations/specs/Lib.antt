@@ -9,3 +9,4 @@ pub mod WorkedAdjacency
 pub mod WorkedExchange
 pub mod WorkedRun
 pub mod WorkedHello
+pub mod WorkedMetrics

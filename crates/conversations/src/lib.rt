@@ -8,6 +8,7 @@ ghost use Rattle.conversations.specs.WorkedAged.{AnAgedLsaComes};
 ghost use Rattle.conversations.specs.WorkedExchange.{AnExchangeAsSlave};
 ghost use Rattle.conversations.specs.WorkedFlush.{TheNumbersEnd};
 ghost use Rattle.conversations.specs.WorkedHello.{ANeighborIsHeard};
+ghost use Rattle.conversations.specs.WorkedMetrics.{MetricsAnnounceOrWithhold};
 ghost use Rattle.conversations.specs.WorkedOwn.{ALastRequestIsMet};
 ghost use Rattle.conversations.specs.WorkedRun.{AnAdjacencyIsNegotiated};
 ghost use Rattle.conversations.specs.WorkedAnswers.{AnswersChangeNoDatabase};
@@ -18,6 +19,12 @@ ghost use Rattle.conversations.specs.WorkedUpdates.{ANewLsaComesTwice};
 /// renewal, the end of the sequence numbers, and ages of what is sent.
 pub fn worked_events()
     ensures { WorkedEvents }
+{}
+
+/// Worked events of a router at rest, whatever its interfaces: a Redistribute whose metric is answered with 16,777,214 announces the
+/// destination, and its AS-external-LSA is in the database; LSInfinity, 16,777,215, withholds it (RFC 2328, appendix B).
+pub fn metrics_announce_or_withhold()
+    ensures { MetricsAnnounceOrWithhold }
 {}
 
 /// Worked events: an LSA at MaxAge, without a copy here, comes from a Full neighbor. Where nobody is in Exchange or Loading it is
