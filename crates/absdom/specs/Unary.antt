@@ -10,7 +10,8 @@ unary_result (Negate width) n = negated width n
 unary_result (Extend extension) n = extended extension n
 unary_result (Reorder order width) n = reordered order width n
 
--- Each result is below this power of two: that of the width that is written, and for END that of the bytes that are kept.
+-- Each result is below this power of two: that of the width that is written, and for END that of
+-- the bytes that are kept.
 abbrev pub unary_modulus : UnaryOperation → ℕ
 unary_modulus (Negate width) = 2 ^ bits width
 unary_modulus (Extend (Byte width)) = 2 ^ bits width

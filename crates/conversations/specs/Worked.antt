@@ -36,7 +36,9 @@ pub record WorkedEvents : Type 0 where
   -- 10.0.0.0/16 isn't announced beside 10.0.0.0/8, and withdrawing what isn't there does nothing
   pub clashes : (old : Router) (moment tag price : ℕ) → is_clock_back moment old ≡ false
       → finite.get old.announced (external_key old.id (ten 16)) ≡ Some (destination (ten 8))
-      → first_refusal old moment (Occurrence.Redistribute (destination (ten 16)) tag (destination (ten 16)) price) ≡ Some error.Clash
+      → first_refusal old moment
+      (Occurrence.Redistribute (destination (ten 16)) tag (destination (ten 16)) price) ≡
+      Some error.Clash
   pub unknown : (moment : ℕ) (prefix : Network) (p : EventState)
       → finite.get p.router.announced (external_key p.router.id prefix) ≡ None
       → after_withdraw moment prefix p ≡ p

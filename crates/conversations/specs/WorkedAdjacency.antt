@@ -58,7 +58,8 @@ pub record AnAdjacencyBegins : Type 0 where
       → NothingAges r moment → IsNamingHello r link bytes from h
       → Happens (lonely r link) moment (Occurrence.Packet 1 bytes) outs new
       → (shown_at new 1 ≡ Some (from, ExStart))
-      × (outs ≡ outs_of r.id (lonely r link).area.links (describes (initial_description (moment % 2 ^ 32))))
+      × (outs ≡ outs_of r.id (lonely r link).area.links
+      (describes (initial_description (moment % 2 ^ 32))))
   -- in Loading, with a Request outstanding, the last Description delivered again: the answer is
   -- sent again, alone
   pub repeats : (r new : Router) (link : Link) (n : Neighbor) (moment : ℕ) (bytes : List ℕ)
@@ -75,7 +76,8 @@ pub record AnAdjacencyBegins : Type 0 where
       → NothingAges r moment → IsDescription r n bytes d Verdict.Mismatch
       → Happens (beside r link (loading n)) moment (Occurrence.Packet 1 bytes) outs new
       → (neighbor_at 1 new.area.links ≡ Some (enter_exstart moment (loading n)).neighbor)
-      × (outs ≡ outs_of r.id (beside r link (loading n)).area.links (describes (initial_description (next_dd_sequence_start moment n.dd_sequence_start))))
+      × (outs ≡ outs_of r.id (beside r link (loading n)).area.links
+      (describes (initial_description (next_dd_sequence_start moment n.dd_sequence_start))))
   pub clears : (moment : ℕ) (n : Neighbor)
       → ((enter_exstart moment n).neighbor.state ≡ ExStart)
       × ((enter_exstart moment n).neighbor.summary ≡ finite.empty)

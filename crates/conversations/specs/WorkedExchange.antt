@@ -1,4 +1,5 @@
--- Worked events of a router with one interface: the exchange of Database Descriptions as the slave (RFC 2328, sections 10.6, 10.8 and 10.9).
+-- Worked events of a router with one interface: the exchange of Database Descriptions as the slave
+-- (RFC 2328, sections 10.6, 10.8 and 10.9).
 use Rattle.std.specs.Prelude.{◌≡◌, ℕ, ◌==◌, true, false, nat_lt, List, [], ◌∷◌, map, take, Some}
 use Rattle.std.specs.FinMap as finite
 use Rattle.std.specs.FinSet as set
@@ -39,7 +40,8 @@ reply moment sequence summary = record {
   more = nat_lt 408 (finite.len summary);
   master = false;
   sequence = sequence;
-  headers = map (λ (e : Key × ListEntry). aged_header moment e.1) (take 408 (finite.entries summary));
+  headers =
+      map (λ (e : Key × ListEntry). aged_header moment e.1) (take 408 (finite.entries summary));
 }
 
 -- the master's last Description, with one header
@@ -47,26 +49,34 @@ abbrev pub last_with : Header → Description → Description
 last_with h d = record d { more = false; headers = h ∷ [] }
 
 -- a Description of this neighbor, with this verdict
-pub record IsJudged (r : Router) (n : Neighbor) (bytes : List ℕ) (d : Description) (v : Verdict) : Type 0 where
+pub record IsJudged (r : Router) (n : Neighbor) (bytes : List ℕ) (d : Description) (v : Verdict) :
+    Type 0 where
   pub is_text : PacketText bytes (record { router = n.router; body = body.Description d })
   pub is_other : is_foreign r.id n.router ≡ true
   pub fits : nat_lt 8192 d.mtu ≡ false
   pub is_judged : verdict r.id n d ≡ v
 
 pub record AnExchangeAsSlave : Type 0 where
-  -- in ExStart, an opening Description from the larger Router ID: Exchange, and what is sent is one Description of its number, with the
-  -- headers of the database, as many as fit
-  pub negotiates : (r new : Router) (link : Link) (n : Neighbor) (moment sequence : ℕ) (bytes : List ℕ) (outs : List Out)
-      → NothingAges r moment → IsJudged r (opened n) bytes (initial_description sequence) Verdict.NegotiatedAsSlave → requests_nothing n ≡ true
+  -- in ExStart, an opening Description from the larger Router ID: Exchange, and what is sent is one
+  -- Description of its number, with the headers of the database, as many as fit
+  pub negotiates : (r new : Router) (link : Link) (n : Neighbor) (moment sequence : ℕ)
+      (bytes : List ℕ) (outs : List Out)
+      → NothingAges r moment
+      → IsJudged r (opened n) bytes (initial_description sequence) Verdict.NegotiatedAsSlave
+      → requests_nothing n ≡ true
       → Happens (beside r link (opened n)) moment (Occurrence.Packet 1 bytes) outs new
       → (shown_at new 1 ≡ Some (n.router, Exchange))
-      × (outs ≡ outs_of r.id (beside r link (opened n)).area.links (describes (reply moment sequence (young_copies moment r.area.database))))
-  -- in Exchange, with room for all that is left to describe, the master's last Description, with one header that is wanted: Loading, and
-  -- what is sent is the reply of its number and then a Request for that one LSA
-  pub loads : (r new : Router) (link : Link) (n : Neighbor) (moment : ℕ) (bytes : List ℕ) (d : Description) (h : Header) (outs : List Out)
+      × (outs ≡ outs_of r.id (beside r link (opened n)).area.links
+      (describes (reply moment sequence (young_copies moment r.area.database))))
+  -- in Exchange, with room for all that is left to describe, the master's last Description, with
+  -- one header that is wanted: Loading, and what is sent is the reply of its number and then a
+  -- Request for that one LSA
+  pub loads : (r new : Router) (link : Link) (n : Neighbor) (moment : ℕ) (bytes : List ℕ)
+      (d : Description) (h : Header) (outs : List Out)
       → NothingAges r moment → IsJudged r (slave n) bytes (last_with h d) Verdict.Accepted
       → is_known_type h.ls_type ≡ true → is_wanted moment r.area.database h ≡ true
-      → nat_lt 408 (finite.len n.summary) ≡ false → finite.entries n.requests ≡ [] → (set.len n.outstanding == 0) ≡ true
+      → nat_lt 408 (finite.len n.summary) ≡ false → finite.entries n.requests ≡ []
+      → (set.len n.outstanding == 0) ≡ true
       → Happens (beside r link (slave n)) moment (Occurrence.Packet 1 bytes) outs new
       → (shown_at new 1 ≡ Some (n.router, Loading))
       × (outs ≡ outs_of r.id (beside r link (slave n)).area.links

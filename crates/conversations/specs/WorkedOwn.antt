@@ -23,7 +23,8 @@ use Rattle.conversations.specs.WorkedUpdates.{IsUpdateWith, WaitsAt}
 
 -- the router with this one interface, and this neighbor at it
 abbrev pub beside : Router → Link → Neighbor → Router
-beside r link n = record r { area = record r.area { links = record link { neighbor = Some n } ∷ [] } }
+beside r link n =
+    record r { area = record r.area { links = record link { neighbor = Some n } ∷ [] } }
 
 abbrev pub loading : Neighbor → Neighbor
 loading n = record n { state = Loading }
@@ -63,7 +64,8 @@ pub record ALastRequestIsMet : Type 0 where
       → interval_is_over moment (finite.get r.originated (router_key r.id)) ≡ true
       → Happens (beside r link (loading n)) moment (Occurrence.Packet 1 bytes) outs new
       → (shown_at new 1 ≡ Some (n.router, Full)) × WaitsAt new 1 lsa
-      × (outs ≡ outs_of r.id (beside r link (loading n)).area.links (sends_update (next_router_lsa new own)))
+      × (outs ≡ outs_of r.id (beside r link (loading n)).area.links
+      (sends_update (next_router_lsa new own)))
   -- else the neighbor is Full, nothing is sent, and the router-LSA waits for a Tick
   pub later : (r new : Router) (link : Link) (n : Neighbor) (moment last : ℕ) (bytes : List ℕ)
       (lsa : Lsa) (own : DatabaseCopy) (outs : List Out)

@@ -36,7 +36,11 @@ AnAdjacencyIsNegotiated =
       router = from;
       body = body.Description (initial_description sequence);
     })
-    → (run : Run (lonely r link) (receives moment hello_bytes outs ∷ receives later bytes answers ∷ []) new) → NothingAges run.0 later
-    → (outs ≡ outs_of r.id (lonely r link).area.links (describes (initial_description (moment % 2 ^ 32))))
+    → (run : Run (lonely r link)
+    (receives moment hello_bytes outs ∷ receives later bytes answers ∷ []) new)
+    → NothingAges run.0 later
+    → (outs ≡ outs_of r.id (lonely r link).area.links
+    (describes (initial_description (moment % 2 ^ 32))))
     × (shown_at run.0 1 ≡ Some (from, ExStart)) × (shown_at new 1 ≡ Some (from, Exchange))
-    × (answers ≡ outs_of r.id run.0.area.links (describes (reply later sequence (young_copies later run.0.area.database))))
+    × (answers ≡ outs_of r.id run.0.area.links
+    (describes (reply later sequence (young_copies later run.0.area.database))))

@@ -73,4 +73,5 @@ pub record ATickOriginates : Type 0 where
       → IsNothingDue r link n moment
       → Happens (beside r link (full n)) moment Occurrence.Tick outs new
       → (again more : List Send)
-      × (outs ≡ outs_of r.id (beside r link (full n)).area.links (again ++ (waiting_acknowledgments link ++ more)))
+      × (outs ≡ outs_of r.id (beside r link (full n)).area.links
+      (again ++ (waiting_acknowledgments link ++ more)))

@@ -109,6 +109,7 @@ remove_aged moment o =
 abbrev pub end_event : Router → Moment → EventState → EventState
 end_event old moment p =
     let described : EventState = describe_router old.area.links moment (loading_done p) in
-    let refilled : EventState = describe_router_later described.router.area.links (loading_done described) in
+    let refilled : EventState =
+    describe_router_later described.router.area.links (loading_done described) in
     on_router (λ (r : Router). record r { moment = moment })
     (on_area (λ o. remove_aged moment (request_all moment o)) refilled)

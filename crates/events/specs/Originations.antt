@@ -136,7 +136,8 @@ as_originated moment key r = record r {
 abbrev pub originate : Moment → Key → Body → EventState → EventState
 originate moment key says p =
     on_router (as_originated moment key)
-    (on_area (install_and_flood moment (new_instance key (finite.get p.router.area.database key) says)) p)
+    (on_area (install_and_flood moment
+    (new_instance key (finite.get p.router.area.database key) says)) p)
 
 -- ---- flushing (section 14.1)
 
@@ -220,7 +221,11 @@ is_recent moment at = not (interval_is_over moment at)
 
 abbrev pub forget_originations : Moment → Router → Router
 forget_originations moment r =
-    record r { originated = finite.retain_keys r.originated (λ key. is_recent moment (finite.get r.originated key)) }
+    record r {
+      originated =
+          finite.retain_keys r.originated
+          (λ key. is_recent moment (finite.get r.originated key));
+    }
 
 -- ---- received ones (section 13.4)
 
@@ -237,4 +242,5 @@ originate_or_flush false moment key p = flush moment key p
 abbrev pub receive_self_originated : Moment → Lsa → EventState → EventState
 receive_self_originated moment lsa p =
     if lsa.header.advertising_router == p.router.id
-    then originate_or_flush (is_wanted (wanted_body p.router (lsa_key lsa))) moment (lsa_key lsa) p else p
+    then originate_or_flush (is_wanted (wanted_body p.router (lsa_key lsa))) moment (lsa_key lsa) p
+    else p

@@ -44,7 +44,8 @@ abbrev pub heard_on : TwoWay → (own : RouterNumber) → Moment → InterfaceNu
 heard_on two_way own moment number from h None o = o
 heard_on two_way own moment number from h (Some link) o =
     if accepts own from h link
-    then hear moment number (adjacencies.after_hello two_way moment from (names own h) link.neighbor) o else o
+    then hear moment number
+    (adjacencies.after_hello two_way moment from (names own h) link.neighbor) o else o
 
 abbrev pub after_hello : TwoWay → (own : RouterNumber) → Moment → InterfaceNumber
     → (from : RouterNumber) → Hello → Outcome → Outcome
@@ -63,7 +64,8 @@ requested_lsas moment db keys = filter_map (λ (key : Key). lsa_of moment (finit
 abbrev pub requested_from : Moment → InterfaceNumber → List Key → Outcome → Outcome
 requested_from moment number keys o =
     if list_all (is_there o.area.database) keys
-    then sending moment (numbered number (map Content.Updates (requested_lsas moment o.area.database keys))) o
+    then sending moment
+    (numbered number (map Content.Updates (requested_lsas moment o.area.database keys))) o
     else one_neighbor moment number (adjacencies.mismatched moment) o
 
 -- ---- Updates (section 13)

@@ -109,7 +109,8 @@ bodies delay contents =
     ++ map body.Request (in_key_order first_key (filter_map requests contents))
     ++ map (update_of delay)
     (packed lsa_size 28 (in_key_order lsa_key (filter_map updates contents)))
-    ++ map body.Acknowledgment (packed header_size 24 (in_key_order key_of (filter_map acknowledgments contents)))
+    ++ map body.Acknowledgment
+    (packed header_size 24 (in_key_order key_of (filter_map acknowledgments contents)))
 
 -- ---- all interfaces in order
 

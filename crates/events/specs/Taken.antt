@@ -37,7 +37,9 @@ gone key (Some l) (Some m) = None
 abbrev pub taken_by_headers : Moment → List Header → Neighbor → List LsaInstance
 taken_by_headers moment [] n = []
 taken_by_headers moment (h ∷ hs) n =
-    cons_option (gone (key_of h) (finite.get n.retransmissions (key_of h)) (finite.get (acknowledged moment n h).retransmissions (key_of h)))
+    cons_option
+    (gone (key_of h) (finite.get n.retransmissions (key_of h))
+    (finite.get (acknowledged moment n h).retransmissions (key_of h)))
     (taken_by_headers moment hs (acknowledged moment n h))
 
 abbrev pub taken_from : Moment → List Header → Option Neighbor → List LsaInstance
@@ -48,7 +50,8 @@ taken_from moment headers (Some n) = taken_by_headers moment headers n
 abbrev pub taken_in_case : Case → Moment → InterfaceNumber → Lsa → EventState → Option LsaInstance
 taken_in_case Case.ImpliedAcknowledgment moment number lsa p =
     gone (lsa_key lsa) (entry_of (lsa_key lsa) (neighbor_at number p.router.area.links))
-    (entry_of (lsa_key lsa) (neighbor_at number (after_unread moment number (Some lsa) p).router.area.links))
+    (entry_of (lsa_key lsa) (neighbor_at number
+    (after_unread moment number (Some lsa) p).router.area.links))
 taken_in_case Case.Unreadable moment number lsa p = None
 taken_in_case Case.NothingToFlush moment number lsa p = None
 taken_in_case Case.TooSoon moment number lsa p = None

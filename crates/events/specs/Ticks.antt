@@ -26,7 +26,8 @@ settled_exchange moment dead (Some n) = Some (without_old_description moment dea
 abbrev pub run_out : Moment → Link → Link
 run_out moment link = record link {
   neighbor =
-      settled_exchange moment link.interface.dead_interval (after_inactivity_timer moment link.interface.dead_interval link.neighbor);
+      settled_exchange moment link.interface.dead_interval
+      (after_inactivity_timer moment link.interface.dead_interval link.neighbor);
 }
 
 -- ---- what is sent again
@@ -71,6 +72,7 @@ send_hellos moment o =
 -- `due` are the own LSAs that a Tick originates
 abbrev pub after_tick : (ℕ → Router → List Key) → Moment → EventState → EventState
 after_tick due moment p =
-    let no_sends : EventState = on_router (forget_originations moment) (on_area (on_links (map (run_out moment))) p) in
+    let no_sends : EventState =
+    on_router (forget_originations moment) (on_area (on_links (map (run_out moment))) p) in
     let renewed : EventState = originate_due moment (due moment no_sends.router) no_sends in
     on_area (λ o. send_hellos moment (acknowledge_all moment (send_all_again moment o))) renewed

@@ -44,7 +44,9 @@ after_packet own moment p link = after_body own moment p.router p.body link
 
 -- the neighbor is Down after RouterDeadInterval without a Hello
 abbrev pub aged : ℕ → Link → Link
-aged moment link = record link { neighbor = after_inactivity_timer moment link.interface.dead_interval link.neighbor }
+aged moment link =
+    record link
+    { neighbor = after_inactivity_timer moment link.interface.dead_interval link.neighbor }
 
 abbrev pub ticked : ℕ → Link → Link
 ticked moment link = with_hello_sent moment (aged moment link)
@@ -69,7 +71,8 @@ pub record Receives (old : Router) (moment : ℕ) (number : ℕ) (bytes : List �
   pub link : Link
   pub counted : 1 ≤ number
   pub here : slice_get old.area.links (number - 1) ≡ Some link
-  pub after : new ≡ with_links_at (slice_set old.area.links (number - 1) (after_packet old.id moment packet link)) moment old
+  pub after : new ≡ with_links_at
+      (slice_set old.area.links (number - 1) (after_packet old.id moment packet link)) moment old
   pub nothing_sent : outs ≡ []
 
 -- each inactive neighbor goes Down, and each Hello that is due is sent

@@ -39,8 +39,8 @@ ListsAreSound = IsAlwaysSo HasSoundLists
 
 -- ---- requests
 
--- Loading means that something is left to request (section 10.3); where something is, in Exchange or
--- Loading, something is outstanding (section 10.9)
+-- Loading means that something is left to request (section 10.3); where something is, in Exchange
+-- or Loading, something is outstanding (section 10.9)
 pub record IsRequesting (n : Neighbor) : Type 0 where
   pub loading : n.state ≡ Loading → requests_nothing n ≡ false
   pub outstanding : is_exchange_or_loading n.state ≡ true → requests_nothing n ≡ false

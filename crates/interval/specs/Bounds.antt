@@ -20,10 +20,13 @@ bounds_of interval = record { low = interval.low; high = interval.high }
 abbrev pub every_of : Width → Bounds
 every_of w = record { low = 0; high = 2 ^ bits w - 1 }
 
--- The numbers cut to the width: where all have the same bits above it, the low bits of the bounds, else every number of
--- the width. So numbers below the width's power of two stay as they are, and one number gives its low bits.
+-- The numbers cut to the width: where all have the same bits above it, the low bits of the bounds,
+-- else every number of the width. So numbers below the width's power of two stay as they are, and
+-- one number gives its low bits.
 abbrev pub cut_bounds : Width → Bounds → Bounds
-cut_bounds w b = if b.low / 2 ^ bits w == b.high / 2 ^ bits w then record { low = b.low % 2 ^ bits w; high = b.high % 2 ^ bits w } else every_of w
+cut_bounds w b =
+    if b.low / 2 ^ bits w == b.high / 2 ^ bits w
+    then record { low = b.low % 2 ^ bits w; high = b.high % 2 ^ bits w } else every_of w
 
 pub record IsBetween (b : Bounds) (n : ℕ) : Type 0 where
   pub above : b.low ≤ n

@@ -9,7 +9,9 @@ use Rattle.interval.specs.Bounds.{IsIn, Bounds, bounds_of, IsBetween}
 
 -- Each pair that meets the test is in the answer; there is none only where no pair meets it.
 abbrev pub KeepsPairs : (ℕ → ℕ → Bool) → Interval → Interval → Option (Interval × Interval) → Type 0
-KeepsPairs meets left right answer = (a b : ℕ) → IsIn left a → IsIn right b → IsTrue (meets a b) → IsSomeAnd answer (λ both. IsIn both.0 a × IsIn both.1 b)
+KeepsPairs meets left right answer =
+    (a b : ℕ) → IsIn left a → IsIn right b → IsTrue (meets a b)
+    → IsSomeAnd answer (λ both. IsIn both.0 a × IsIn both.1 b)
 
 -- an interval that isn't wider
 pub record IsInside (inner outer : Bounds) : Type 0 where
@@ -20,8 +22,8 @@ pub record IsInside (inner outer : Bounds) : Type 0 where
 abbrev pub HasPartner : (ℕ → Bool) → Bounds → Type 0
 HasPartner meets b = (n : ℕ) × IsBetween b n × IsTrue (meets n)
 
--- Each bound that is left is in a pair that meets the test, so no narrower intervals have each such pair, and where no
--- pair meets it nothing is left.
+-- Each bound that is left is in a pair that meets the test, so no narrower intervals have each such
+-- pair, and where no pair meets it nothing is left.
 pub record IsTight (meets : ℕ → ℕ → Bool) (l r left right : Bounds) : Type 0 where
   pub left_low : HasPartner (λ b. meets left.low b) r
   pub left_high : HasPartner (λ b. meets left.high b) r
@@ -29,12 +31,19 @@ pub record IsTight (meets : ℕ → ℕ → Bool) (l r left right : Bounds) : Ty
   pub right_high : HasPartner (λ a. meets a right.high) l
 
 abbrev pub StaysInside : Interval → Interval → Option (Interval × Interval) → Type 0
-StaysInside left right answer = IfSome answer (λ both. IsInside (bounds_of both.0) (bounds_of left) × IsInside (bounds_of both.1) (bounds_of right))
+StaysInside left right answer =
+    IfSome answer
+    (λ both. IsInside (bounds_of both.0) (bounds_of left)
+    × IsInside (bounds_of both.1) (bounds_of right))
 
-abbrev pub IsTightAnswer : (ℕ → ℕ → Bool) → Interval → Interval → Option (Interval × Interval) → Type 0
-IsTightAnswer meets left right answer = IfSome answer (λ both. IsTight meets (bounds_of left) (bounds_of right) (bounds_of both.0) (bounds_of both.1))
+abbrev pub IsTightAnswer : (ℕ → ℕ → Bool) → Interval → Interval → Option (Interval × Interval)
+    → Type 0
+IsTightAnswer meets left right answer =
+    IfSome answer
+    (λ both. IsTight meets (bounds_of left) (bounds_of right) (bounds_of both.0) (bounds_of both.1))
 
--- The test trims these intervals: their numbers are of the width, and for a signed order none is negative.
+-- The test trims these intervals: their numbers are of the width, and for a signed order none is
+-- negative.
 pub record AreOfWidth (w : Width) (left right : Interval) : Type 0 where
   pub left_small : left.high < 2 ^ bits w
   pub right_small : right.high < 2 ^ bits w
@@ -60,6 +69,7 @@ Trims SignedLess w left right = AreNotNegative w left right
 Trims SignedLessOrEqual w left right = AreNotNegative w left right
 Trims other w left right = AreOfWidth w left right
 
-pub record IsTrimmed (test : Test) (w : Width) (left right : Interval) (answer : Option (Interval × Interval)) : Type 0 where
+pub record IsTrimmed (test : Test) (w : Width) (left right : Interval)
+    (answer : Option (Interval × Interval)) : Type 0 where
   pub inside : StaysInside left right answer
   pub tight : Trims test w left right → IsTightAnswer (test_holds w test) left right answer

@@ -12,11 +12,13 @@ use Rattle.interval.specs.Bounds.{IsIn, Bounds, IsBetween, IsSingle, cut_bounds}
 
 -- the result has each result of a pair
 abbrev pub HasResults : Width → Operation → Interval → Interval → Interval → Type 0
-HasResults w operation left right result = (a b : ℕ) → IsIn left a → IsIn right b → IsIn result (operate w operation a b)
+HasResults w operation left right result =
+    (a b : ℕ) → IsIn left a → IsIn right b → IsIn result (operate w operation a b)
 
 -- n is the result for some pair
 abbrev pub IsResult : Width → Operation → Bounds → Bounds → ℕ → Type 0
-IsResult w operation l r n = (a : ℕ) × (b : ℕ) × IsBetween l a × IsBetween r b × (operate w operation a b ≡ n)
+IsResult w operation l r n =
+    (a : ℕ) × (b : ℕ) × IsBetween l a × IsBetween r b × (operate w operation a b ≡ n)
 
 -- both bounds are results, so no interval that has every result is narrower
 pub record IsLeast (w : Width) (operation : Operation) (l r result : Bounds) : Type 0 where
@@ -26,14 +28,17 @@ pub record IsLeast (w : Width) (operation : Operation) (l r result : Bounds) : T
 -- How narrow the results of each operation are, on intervals of numbers of the width.
 abbrev pub IsNarrow : Width → Operation → Bounds → Bounds → Bounds → Type 0
 -- no sum wraps, or every one does
-IsNarrow w Add l r result = (l.high + r.high < 2 ^ bits w) ⊎ (2 ^ bits w ≤ l.low + r.low) → IsLeast w Add l r result
+IsNarrow w Add l r result =
+    (l.high + r.high < 2 ^ bits w) ⊎ (2 ^ bits w ≤ l.low + r.low) → IsLeast w Add l r result
 IsNarrow w Subtract l r result = (r.high ≤ l.low) ⊎ (l.high < r.low) → IsLeast w Subtract l r result
 IsNarrow w Multiply l r result = l.high * r.high < 2 ^ bits w → IsLeast w Multiply l r result
 IsNarrow w Divide l r result = (0 < r.low → IsLeast w Divide l r result) × (result.high ≤ l.high)
 IsNarrow w Modulo l r result = (0 < r.low → result.high < r.high) × (result.high ≤ l.high)
 IsNarrow w And l r result = (result.high ≤ l.high) × (result.high ≤ r.high)
-IsNarrow w ShiftLeft l r result = IsSingle r → l.high * 2 ^ (r.low % bits w) < 2 ^ bits w → IsLeast w ShiftLeft l r result
-IsNarrow w ShiftRight l r result = (IsSingle r → IsLeast w ShiftRight l r result) × (result.high ≤ l.high)
+IsNarrow w ShiftLeft l r result =
+    IsSingle r → l.high * 2 ^ (r.low % bits w) < 2 ^ bits w → IsLeast w ShiftLeft l r result
+IsNarrow w ShiftRight l r result =
+    (IsSingle r → IsLeast w ShiftRight l r result) × (result.high ≤ l.high)
 IsNarrow w Move l r result = result ≡ r
 -- every number of the width, which is said below
 IsNarrow w other l r result = Unit {0}
@@ -45,10 +50,13 @@ pub record IsNarrowResult (w : Width) (operation : Operation) (l r result : Boun
   -- no result has more bits than the width
   pub small : result.high < 2 ^ bits w
 
--- How narrow the results of an operation on one number are. The numbers from m to n, with m above 0, have the negations
--- from the modulus less n to the modulus less m.
+-- How narrow the results of an operation on one number are. The numbers from m to n, with m above
+-- 0, have the negations from the modulus less n to the modulus less m.
 abbrev pub IsNarrowUnary : UnaryOperation → Bounds → Bounds → Type 0
-IsNarrowUnary (Negate w) operand result = 0 < (cut_bounds w operand).low → (result.low ≡ 2 ^ bits w - (cut_bounds w operand).high) × (result.high ≡ 2 ^ bits w - (cut_bounds w operand).low)
+IsNarrowUnary (Negate w) operand result =
+    0 < (cut_bounds w operand).low
+    → (result.low ≡ 2 ^ bits w - (cut_bounds w operand).high)
+    × (result.high ≡ 2 ^ bits w - (cut_bounds w operand).low)
 -- every number below the modulus, which is said below
 IsNarrowUnary other operand result = Unit {0}
 

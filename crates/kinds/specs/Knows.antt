@@ -26,8 +26,8 @@ abbrev pub KnowsFact : {D : Type 0} → (D → ℕ → Type 0) → State D → (
 KnowsFact contains state read fact =
     (start now : Machine) → StateHolds contains state start now → FactHolds fact start (read now)
 
--- once the register is filled with a content of the kind, at any slot, the other state describes the
--- machine
+-- once the register is filled with a content of the kind, at any slot, the other state describes
+-- the machine
 abbrev pub KnowsFilled : {D : Type 0} → (D → ℕ → Type 0) → State D → ℕ → Kind D → Option Fact
     → State D → Type 0
 KnowsFilled contains state target kind fact after =

@@ -25,48 +25,60 @@ KnowsOne known i = Knows known i × (bit_at known.value i ≡ 1)
 -- Which bits of the results are known, from what is known of two numbers of the width.
 abbrev pub IsPrecise : Width → Operation → KnownBits → KnownBits → KnownBits → Type 0
 -- both bits are known, or one is known to be 0
-IsPrecise w And l r result = (i : ℕ) → i < 64 → (Knows l i × Knows r i) ⊎ KnowsZero l i ⊎ KnowsZero r i → Knows result i
+IsPrecise w And l r result =
+    (i : ℕ) → i < 64 → (Knows l i × Knows r i) ⊎ KnowsZero l i ⊎ KnowsZero r i → Knows result i
 -- both bits are known, or one is known to be 1
-IsPrecise w Or l r result = (i : ℕ) → i < 64 → (Knows l i × Knows r i) ⊎ KnowsOne l i ⊎ KnowsOne r i → Knows result i
+IsPrecise w Or l r result =
+    (i : ℕ) → i < 64 → (Knows l i × Knows r i) ⊎ KnowsOne l i ⊎ KnowsOne r i → Knows result i
 IsPrecise w Xor l r result = (i : ℕ) → i < 64 → Knows l i → Knows r i → Knows result i
 -- the bits below the first one that isn't known in both
-IsPrecise w Add l r result = (count : ℕ) → count ≤ bits w → KnowsBelow l count → KnowsBelow r count → KnowsBelow result count
-IsPrecise w Subtract l r result = (count : ℕ) → count ≤ bits w → KnowsBelow l count → KnowsBelow r count → KnowsBelow result count
+IsPrecise w Add l r result =
+    (count : ℕ) → count ≤ bits w → KnowsBelow l count → KnowsBelow r count → KnowsBelow result count
+IsPrecise w Subtract l r result =
+    (count : ℕ) → count ≤ bits w → KnowsBelow l count → KnowsBelow r count → KnowsBelow result count
 -- by one number the bits move, and what is filled in is known
 IsPrecise w ShiftLeft l r result = KnowsBelow r 64 → (i : ℕ) → i < bits w →
-    (i < r.value % bits w → Knows result i) × ((j : ℕ) → j + r.value % bits w ≡ i → Knows l j → Knows result i)
+    (i < r.value % bits w → Knows result i)
+    × ((j : ℕ) → j + r.value % bits w ≡ i → Knows l j → Knows result i)
 IsPrecise w ShiftRight l r result = KnowsBelow r 64 → (i : ℕ) → i < bits w →
-    (bits w ≤ i + r.value % bits w → Knows result i) × (Knows l (i + r.value % bits w) → Knows result i)
+    (bits w ≤ i + r.value % bits w → Knows result i)
+    × (Knows l (i + r.value % bits w) → Knows result i)
 IsPrecise w Move l r result = result ≡ r
 IsPrecise w other l r result = Unit {0}
 
 -- The low bits of the numbers, as many as the width has: the upper half is known to be 0.
 abbrev pub low_known : Width → KnownBits → KnownBits
-low_known Bits32 known = record { mask = bit_or known.mask 18446744069414584320; value = bit_and known.value 4294967295 }
+low_known Bits32 known =
+    record { mask = bit_or known.mask 18446744069414584320; value = bit_and known.value 4294967295 }
 low_known Bits64 known = known
 
 -- What is known of the low bits alone, as many as the width has.
 abbrev pub shared_known : Width → KnownBits → KnownBits
-shared_known Bits32 known = record { mask = bit_and known.mask 4294967295; value = bit_and known.value 4294967295 }
+shared_known Bits32 known =
+    record { mask = bit_and known.mask 4294967295; value = bit_and known.value 4294967295 }
 shared_known Bits64 known = known
 
 -- the result has each result of a pair of numbers of the width
 abbrev pub HasResults : Width → Operation → KnownBits → KnownBits → KnownBits → Type 0
-HasResults w operation l r result = (x y : ℕ) → x < 2 ^ bits w → y < 2 ^ bits w → HasBits l x → HasBits r y → HasBits result (operate w operation x y)
+HasResults w operation l r result =
+    (x y : ℕ) → x < 2 ^ bits w → y < 2 ^ bits w → HasBits l x → HasBits r y
+    → HasBits result (operate w operation x y)
 
 abbrev pub KnowsUpper : Width → KnownBits → Type 0
 KnowsUpper w known = (i : ℕ) → bits w ≤ i → i < 64 → Knows known i
 
-pub record IsPreciseResult (w : Width) (operation : Operation) (l r result : KnownBits) : Type 0 where
-  -- two known numbers give a known one
-  pub single : KnowsBelow l 64 → KnowsBelow r 64 → KnowsBelow result 64
-  pub precise : (KnowsBelow l 64 × KnowsBelow r 64 → ⊥) → IsPrecise w operation l r result
-  -- an operation of 32 bits leaves the upper half 0
-  pub upper : KnowsUpper w result
+pub record IsPreciseResult (w : Width) (operation : Operation) (l r result : KnownBits) : Type 0
+  where
+    -- two known numbers give a known one
+    pub single : KnowsBelow l 64 → KnowsBelow r 64 → KnowsBelow result 64
+    pub precise : (KnowsBelow l 64 × KnowsBelow r 64 → ⊥) → IsPrecise w operation l r result
+    -- an operation of 32 bits leaves the upper half 0
+    pub upper : KnowsUpper w result
 
 -- An operation cuts its operands to its width first.
 abbrev pub IsPreciseOf : Operation → Width → KnownBits → KnownBits → KnownBits → Type 0
-IsPreciseOf operation w left right result = IsPreciseResult w operation (low_known w left) (low_known w right) result
+IsPreciseOf operation w left right result =
+    IsPreciseResult w operation (low_known w left) (low_known w right) result
 
 -- The width of what an instruction that reads one number reads and writes.
 abbrev pub unary_width : UnaryOperation → Width
@@ -91,24 +103,32 @@ pub record KnowsBoth (left right joined : KnownBits) : Type 0 where
 abbrev pub Contradict : ℕ → KnownBits → KnownBits → Type 0
 Contradict count left right = (i : ℕ) × (i < count) × KnowsZero left i × KnowsOne right i
 
--- A test that the low bits are equal joins what both know of them; other tests tell nothing of single bits.
-abbrev pub IsPreciseTest : Test → Width → KnownBits → KnownBits → Option (KnownBits × KnownBits) → Type 0
+-- A test that the low bits are equal joins what both know of them; other tests tell nothing of
+-- single bits.
+abbrev pub IsPreciseTest : Test → Width → KnownBits → KnownBits → Option (KnownBits × KnownBits)
+    → Type 0
 IsPreciseTest Equal w left right answer =
-    IfSome answer (λ both. KnowsBoth left (shared_known w right) both.0 × KnowsBoth right (shared_known w left) both.1)
+    IfSome answer
+    (λ both. KnowsBoth left (shared_known w right) both.0
+    × KnowsBoth right (shared_known w left) both.1)
     × (Contradict (bits w) left right ⊎ Contradict (bits w) right left → answer ≡ None)
 IsPreciseTest other w left right answer = answer ≡ Some (left, right)
 
 -- No run of low bits that are known to be 0 is longer.
 abbrev pub KnowsZerosTo : KnownBits → ℕ → Type 0
-KnowsZerosTo known most = (count : ℕ) → count ≤ 64 → ((i : ℕ) → i < count → KnowsZero known i) → count ≤ most
+KnowsZerosTo known most =
+    (count : ℕ) → count ≤ 64 → ((i : ℕ) → i < count → KnowsZero known i) → count ≤ most
 
 -- The least number has 0 for each bit that isn't known, the greatest 1.
 abbrev pub IsPreciseRange : KnownBits → ℕ × ℕ → Type 0
-IsPreciseRange known answer = IsWithinMask known → (answer.0 ≡ known.value) × (answer.1 ≡ known.value + (18446744073709551615 - known.mask))
+IsPreciseRange known answer =
+    IsWithinMask known
+    → (answer.0 ≡ known.value) × (answer.1 ≡ known.value + (18446744073709551615 - known.mask))
 
 -- each bit that the other knows is known, and is the same
 abbrev pub KnowsAllOf : KnownBits → KnownBits → Type 0
-KnowsAllOf other known = (i : ℕ) → i < 64 → Knows other i → Knows known i × (bit_at known.value i ≡ bit_at other.value i)
+KnowsAllOf other known =
+    (i : ℕ) → i < 64 → Knows other i → Knows known i × (bit_at known.value i ≡ bit_at other.value i)
 
 -- What knows all of the other is within it.
 abbrev pub IsPreciseWithin : KnownBits → KnownBits → Bool → Type 0

@@ -26,9 +26,12 @@ use Rattle.machine.specs.Faults.{Stuck, commits, fault_at, fault_number, reads}
 
 -- A state is in at most one of three ways: it steps, it is at EXIT with an answer, it is stuck.
 pub record GoesOneWay : Type 0 where
-  pub step_or_stuck : (setting : Setting) (s next : State) (label : Label) (fault : Fault) → Step setting s label next → Stuck setting s fault → ⊥
-  pub exit_or_stuck : (setting : Setting) (s : State) (word : ℕ) (fault : Fault) → Exits setting s word → Stuck setting s fault → ⊥
-  pub step_or_exit : (setting : Setting) (s next : State) (label : Label) (word : ℕ) → Step setting s label next → Exits setting s word → ⊥
+  pub step_or_stuck : (setting : Setting) (s next : State) (label : Label) (fault : Fault)
+      → Step setting s label next → Stuck setting s fault → ⊥
+  pub exit_or_stuck : (setting : Setting) (s : State) (word : ℕ) (fault : Fault)
+      → Exits setting s word → Stuck setting s fault → ⊥
+  pub step_or_exit : (setting : Setting) (s next : State) (label : Label) (word : ℕ)
+      → Step setting s label next → Exits setting s word → ⊥
 
 -- the place of a fault among those of an instruction: its number, but at a call Helper comes first
 abbrev pub call_rank : Fault → ℕ
@@ -44,39 +47,55 @@ pub record IsLeast (rank : Fault → ℕ) (committed : Fault → Bool) (fault : 
   pub holds : committed fault ≡ true
   pub least : (other : Fault) → rank other < rank fault → committed other ≡ false
 
--- Where an instruction begins, the machine is stuck for a reason exactly if it is the least one whose condition holds.
+-- Where an instruction begins, the machine is stuck for a reason exactly if it is the least one
+-- whose condition holds.
 abbrev pub LeastFaultCounts : Type 0
-LeastFaultCounts = (setting : Setting) (s : State) (i : Instruction) (fault : Fault) → IsAt setting s i → Stuck setting s fault ↔ IsLeast (rank_of i) (commits setting s i) fault
+LeastFaultCounts =
+    (setting : Setting) (s : State) (i : Instruction) (fault : Fault) → IsAt setting s i
+    → Stuck setting s fault ↔ IsLeast (rank_of i) (commits setting s i) fault
 
 -- a state is stuck for one reason only
 abbrev pub FaultIsUnique : Type 0
-FaultIsUnique = (setting : Setting) (s : State) (a b : Fault) → Stuck setting s a → Stuck setting s b → a ≡ b
+FaultIsUnique =
+    (setting : Setting) (s : State) (a b : Fault) → Stuck setting s a → Stuck setting s b → a ≡ b
 
 -- an answer is unique too
 abbrev pub AnswerIsUnique : Type 0
-AnswerIsUnique = (setting : Setting) (s : State) (a b : ℕ) → Exits setting s a → Exits setting s b → a ≡ b
+AnswerIsUnique =
+    (setting : Setting) (s : State) (a b : ℕ) → Exits setting s a → Exits setting s b → a ≡ b
 
 -- the label determines the next state
 abbrev pub LabelDeterminesNext : Type 0
-LabelDeterminesNext = (setting : Setting) (s : State) (label : Label) (a b : State) → Step setting s label a → Step setting s label b → a ≡ b
+LabelDeterminesNext =
+    (setting : Setting) (s : State) (label : Label) (a b : State) → Step setting s label a
+    → Step setting s label b → a ≡ b
 
 -- a state at which the machine is stuck, or steps, or is at EXIT with an answer
 abbrev pub IsStuckOrGoesOn : Setting → State → Type 0
 IsStuckOrGoesOn setting s =
-    ((fault : Fault) × Stuck setting s fault) ⊎ (((label : Label) × (next : State) × Step setting s label next) ⊎ ((word : ℕ) × Exits setting s word))
+    ((fault : Fault) × Stuck setting s fault) ⊎
+    (((label : Label) × (next : State) × Step setting s label next)
+    ⊎ ((word : ℕ) × Exits setting s word))
 
 -- Each state with a whole stack is one.
 abbrev pub StatesGoOn : Type 0
-StatesGoOn = (setting : Setting) (s : State) → IsInput setting.input → length s.stack ≡ 512 → IsStuckOrGoesOn setting s
+StatesGoOn =
+    (setting : Setting) (s : State) → IsInput setting.input → length s.stack ≡ 512
+    → IsStuckOrGoesOn setting s
 
 -- Each state that a run reaches is one.
 abbrev pub RunsGoOn : Type 0
-RunsGoOn = (setting : Setting) (n : ℕ) (labels : List Label) (s : State) → IsInput setting.input → Run setting n labels s → IsStuckOrGoesOn setting s
+RunsGoOn =
+    (setting : Setting) (n : ℕ) (labels : List Label) (s : State) → IsInput setting.input
+    → Run setting n labels s → IsStuckOrGoesOn setting s
 
 -- r1 = 5; r2 = 3; call 1; exit: four instructions, which add 3 to counter 5 and answer 0
 abbrev pub adding : Given → Setting
 adding input = record {
-  code = Start (Arithmetic Bits64 Move 1 (Immediate (pos 5))) ∷ Start (Arithmetic Bits64 Move 2 (Immediate (pos 3))) ∷ Start (Call (pos 1)) ∷ Start Exit ∷ [];
+  code =
+      Start (Arithmetic Bits64 Move 1 (Immediate (pos 5)))
+      ∷ Start (Arithmetic Bits64 Move 2 (Immediate (pos 3))) ∷ Start (Call (pos 1)) ∷ Start Exit
+      ∷ [];
   hook = Count;
   input = input;
 }
@@ -111,13 +130,15 @@ number_content number = Number (widened number)
 -- What an instruction reads is what its registers hold, and then its number, if it has one. A CALL
 -- reads the arguments of its helper.
 abbrev pub ReadsAreOfRegisters : Type 0
-ReadsAreOfRegisters = (setting : Setting) (s : State) (i : Instruction) → ((number : ℤ) → i ≢ Call number)
+ReadsAreOfRegisters =
+    (setting : Setting) (s : State) (i : Instruction) → ((number : ℤ) → i ≢ Call number)
     → reads setting s i ≡ map (held s) (registers_read i) ++ map number_content (numbers_read i)
 
 -- A step of another instruction than a CALL leaves each register as it was but the one that the
 -- instruction names as its target.
 abbrev pub StepsWriteTheirTarget : Type 0
-StepsWriteTheirTarget = (setting : Setting) (s next : State) (label : Label) (i : Instruction) (register : ℕ)
+StepsWriteTheirTarget =
+    (setting : Setting) (s next : State) (label : Label) (i : Instruction) (register : ℕ)
     → ((number : ℤ) → i ≢ Call number) → register_written i ≢ Some register
     → Does i setting s label next → held next register ≡ held s register
 

@@ -1,5 +1,5 @@
--- The table of received LSAs, row by row, on instances of one LSA: what comes in has sequence number 5
--- and age 10 at moment 100.
+-- The table of received LSAs, row by row, on instances of one LSA: what comes in has sequence
+-- number 5 and age 10 at moment 100.
 use Rattle.std.specs.Prelude.{◌≡◌, ℤ, pos, Bool, true, false, Option, Some}
 use Rattle.words.specs.Constants.{max_age, max_sequence_number}
 use Rattle.words.specs.Numbers.{Moment, Seconds}
@@ -25,10 +25,16 @@ external_lsa says sequence age = record {
   body = says;
 }
 
--- a copy of it that flooding installed and that was sent at these moments, with its age at moment 90
+-- a copy of it that flooding installed and that was sent at these moments, with its age at moment
+-- 90
 abbrev pub copy_of_it : Body → ℤ → Seconds → Moment → Moment → Option DatabaseCopy
 copy_of_it says sequence age installed sent =
-    Some (record { lsa = external_lsa says sequence age; stored = 90; installed = Some installed; sent = Some sent })
+    Some (record {
+      lsa = external_lsa says sequence age;
+      stored = 90;
+      installed = Some installed;
+      sent = Some sent;
+    })
 
 -- what comes in
 abbrev pub arrival : Body → Lsa
@@ -39,7 +45,8 @@ pub record IsSender (says : Body) (from : Option Neighbor) (asked listed : Bool)
   pub is_asked : was_requested from (arrival says) ≡ asked
   pub is_listed : is_on_senders_list 100 from (arrival says) ≡ listed
 
--- the case of what comes in at moment 100 from a sender, while nobody is in Exchange or Loading or somebody is
+-- the case of what comes in at moment 100 from a sender, while nobody is in Exchange or Loading or
+-- somebody is
 abbrev pub comes_in : Body → Option DatabaseCopy → Option Neighbor → Bool → Case
 comes_in says copy from synchronizing = case_of_readable 100 copy from synchronizing (arrival says)
 
@@ -50,7 +57,8 @@ pub record WorkedTable : Type 0 where
   pub newer : (b : Body) (from : Option Neighbor) (s : Bool)
       → comes_in b (copy_of_it b (pos 4) 0 90 90) from s ≡ Case.Newer
   -- not newer, and yet asked for
-  pub bad_request : (b : Body) (from : Option Neighbor) (s listed : Bool) → IsSender b from true listed
+  pub bad_request : (b : Body) (from : Option Neighbor) (s listed : Bool)
+      → IsSender b from true listed
       → comes_in b (copy_of_it b (pos 5) 0 90 90) from s ≡ Case.BadRequest
   -- the same instance, which the sender has to acknowledge or hasn't
   pub implied : (b : Body) (from : Option Neighbor) (s : Bool) → IsSender b from false true
@@ -60,7 +68,8 @@ pub record WorkedTable : Type 0 where
   -- the copy is newer: about to be flushed after its last number; sent in this second; neither
   pub wraps : (b : Body) (from : Option Neighbor) (s listed : Bool) → IsSender b from false listed
       → comes_in b (copy_of_it b max_sequence_number max_age 90 100) from s ≡ Case.SequenceWraps
-  pub just_sent : (b : Body) (from : Option Neighbor) (s listed : Bool) → IsSender b from false listed
+  pub just_sent : (b : Body) (from : Option Neighbor) (s listed : Bool)
+      → IsSender b from false listed
       → comes_in b (copy_of_it b (pos 6) 0 90 100) from s ≡ Case.SentJustNow
   pub older : (b : Body) (from : Option Neighbor) (s listed : Bool) → IsSender b from false listed
       → comes_in b (copy_of_it b (pos 6) 0 90 90) from s ≡ Case.Older

@@ -1,4 +1,5 @@
--- Worked databases with their candidates. The rules of routes read only what the LSAs say and their ages, so the headers carry no checksum or length.
+-- Worked databases with their candidates. The rules of routes read only what the LSAs say and their
+-- ages, so the headers carry no checksum or length.
 use Rattle.std.specs.Prelude.{ℕ, ◌+◌, ◌*◌, negsuc, List, [], ◌∷◌, None, Some}
 use Rattle.std.specs.FinMap as finite
 use Rattle.words.specs.Prefixes.{Network}
@@ -32,12 +33,25 @@ abbrev pub database : Entries → Database
 database es = finite.from_entries {R = key_cmp} es
 
 abbrev pub key : ℕ → ℕ → ℕ → Key
-key ls_type id router = record { ls_type = ls_type; link_state_id = id; advertising_router = router }
+key ls_type id router =
+    record { ls_type = ls_type; link_state_id = id; advertising_router = router }
 
 -- an LSA of age 0 that came at moment 0
 abbrev pub copy_of : Key → Body → DatabaseCopy
 copy_of k says = record {
-  lsa = record { header = record { age = 0; options = 2; ls_type = k.ls_type; link_state_id = k.link_state_id; advertising_router = k.advertising_router; sequence = negsuc 2147483646; checksum = 0; length = 0 }; body = says };
+  lsa = record {
+    header = record {
+      age = 0;
+      options = 2;
+      ls_type = k.ls_type;
+      link_state_id = k.link_state_id;
+      advertising_router = k.advertising_router;
+      sequence = negsuc 2147483646;
+      checksum = 0;
+      length = 0;
+    };
+    body = says;
+  };
   stored = 0;
   installed = Some 0;
   sent = None;
@@ -48,16 +62,19 @@ router_lsa links = record { flags = 2; links = links }
 
 -- the router-LSA of a router with these links, an AS boundary router
 abbrev pub of_router : ℕ → List Link → Key × DatabaseCopy
-of_router router links = (key 1 router router, copy_of (key 1 router router) (body.Router (router_lsa links)))
+of_router router links =
+    (key 1 router router, copy_of (key 1 router router) (body.Router (router_lsa links)))
 
 abbrev pub of_external : ℕ → ℕ → ExternalLsa → Key × DatabaseCopy
 of_external id router lsa = (key 5 id router, copy_of (key 5 id router) (body.External lsa))
 
 abbrev pub point_to_point : ℕ → ℕ → ℕ → Link
-point_to_point neighbor address cost = record { link_id = neighbor; link_data = address; kind = PointToPoint; metric = cost; tos = [] }
+point_to_point neighbor address cost =
+    record { link_id = neighbor; link_data = address; kind = PointToPoint; metric = cost; tos = [] }
 
 abbrev pub stub : ℕ → ℕ → ℕ → Link
-stub network mask cost = record { link_id = network; link_data = mask; kind = Stub; metric = cost; tos = [] }
+stub network mask cost =
+    record { link_id = network; link_data = mask; kind = Stub; metric = cost; tos = [] }
 
 abbrev pub mask_24 : ℕ
 mask_24 = dotted 255 255 255 0
@@ -71,23 +88,34 @@ abbrev pub square_root : Root
 square_root = record { router = dotted 1 1 1 1; addresses = dotted 10 0 1 1 ∷ dotted 10 0 2 1 ∷ [] }
 
 abbrev pub square_corner : List Link
-square_corner = point_to_point (dotted 2 2 2 2) (dotted 10 0 1 1) 5 ∷ point_to_point (dotted 3 3 3 3) (dotted 10 0 2 1) 5 ∷ []
+square_corner =
+    point_to_point (dotted 2 2 2 2) (dotted 10 0 1 1) 5
+    ∷ point_to_point (dotted 3 3 3 3) (dotted 10 0 2 1) 5 ∷ []
 
 abbrev pub square_left : List Link
-square_left = point_to_point (dotted 1 1 1 1) (dotted 10 0 1 2) 5 ∷ point_to_point (dotted 4 4 4 4) (dotted 10 0 3 1) 5 ∷ []
+square_left =
+    point_to_point (dotted 1 1 1 1) (dotted 10 0 1 2) 5
+    ∷ point_to_point (dotted 4 4 4 4) (dotted 10 0 3 1) 5 ∷ []
 
 abbrev pub square_right : List Link
-square_right = point_to_point (dotted 1 1 1 1) (dotted 10 0 2 2) 5 ∷ point_to_point (dotted 4 4 4 4) (dotted 10 0 4 1) 5 ∷ []
+square_right =
+    point_to_point (dotted 1 1 1 1) (dotted 10 0 2 2) 5
+    ∷ point_to_point (dotted 4 4 4 4) (dotted 10 0 4 1) 5 ∷ []
 
 abbrev pub square_far : List Link
-square_far = point_to_point (dotted 2 2 2 2) (dotted 10 0 3 2) 5 ∷ point_to_point (dotted 3 3 3 3) (dotted 10 0 4 2) 5 ∷ stub (dotted 192 0 2 0) mask_24 10 ∷ []
+square_far =
+    point_to_point (dotted 2 2 2 2) (dotted 10 0 3 2) 5
+    ∷ point_to_point (dotted 3 3 3 3) (dotted 10 0 4 2) 5 ∷ stub (dotted 192 0 2 0) mask_24 10 ∷ []
 
 abbrev pub square : Entries
-square = of_router (dotted 1 1 1 1) square_corner ∷ of_router (dotted 2 2 2 2) square_left ∷ of_router (dotted 3 3 3 3) square_right ∷ of_router (dotted 4 4 4 4) square_far ∷ []
+square =
+    of_router (dotted 1 1 1 1) square_corner ∷ of_router (dotted 2 2 2 2) square_left
+    ∷ of_router (dotted 3 3 3 3) square_right ∷ of_router (dotted 4 4 4 4) square_far ∷ []
 
 -- 192.0.2.0/24 at cost 20 by interfaces 1 and 2
 abbrev pub across : Route
-across = record { prefix = network_24 192 0 2; kind = Intra; cost = 20; distance = 0; hops = 6; tag = 0 }
+across =
+    record { prefix = network_24 192 0 2; kind = Intra; cost = 20; distance = 0; hops = 6; tag = 0 }
 
 pub record WorkedSquare : Type 0 where
   pub candidates : AreCandidates (said_at 0 (database square)) square_root (across ∷ [])
@@ -100,34 +128,58 @@ abbrev pub near_router : Root
 near_router = record { router = dotted 1 1 1 1; addresses = dotted 10 0 1 1 ∷ [] }
 
 abbrev pub near_links : List Link
-near_links = point_to_point (dotted 2 2 2 2) (dotted 10 0 1 1) 10 ∷ stub (dotted 10 0 1 0) mask_24 10 ∷ []
+near_links =
+    point_to_point (dotted 2 2 2 2) (dotted 10 0 1 1) 10 ∷ stub (dotted 10 0 1 0) mask_24 10 ∷ []
 
 abbrev pub far_links : List Link
-far_links = point_to_point (dotted 1 1 1 1) (dotted 10 0 1 2) 10 ∷ stub (dotted 10 0 1 0) mask_24 10 ∷ stub (dotted 10 0 2 0) mask_24 5 ∷ []
+far_links =
+    point_to_point (dotted 1 1 1 1) (dotted 10 0 1 2) 10 ∷ stub (dotted 10 0 1 0) mask_24 10
+    ∷ stub (dotted 10 0 2 0) mask_24 5 ∷ []
 
 abbrev pub two_routers : Entries → Entries
-two_routers others = of_router (dotted 1 1 1 1) near_links ∷ of_router (dotted 2 2 2 2) far_links ∷ others
+two_routers others =
+    of_router (dotted 1 1 1 1) near_links ∷ of_router (dotted 2 2 2 2) far_links ∷ others
 
 abbrev pub abroad_lsa : ExternalType → ExternalLsa
-abroad_lsa kind = record { mask = mask_24; kind = kind; metric = 20; forwarding = 0; tag = 0; tos = [] }
+abroad_lsa kind =
+    record { mask = mask_24; kind = kind; metric = 20; forwarding = 0; tag = 0; tos = [] }
 
 -- 203.0.113.0/24 of metric 20, announced by the other router
 abbrev pub abroad : ExternalType → Entries
 abroad kind = of_external (dotted 203 0 113 0) (dotted 2 2 2 2) (abroad_lsa kind) ∷ []
 
 abbrev pub own_network : Route
-own_network = record { prefix = network_24 10 0 1; kind = Intra; cost = 10; distance = 0; hops = 1; tag = 0 }
+own_network =
+    record { prefix = network_24 10 0 1; kind = Intra; cost = 10; distance = 0; hops = 1; tag = 0 }
 
 abbrev pub next_network : Route
-next_network = record { prefix = network_24 10 0 2; kind = Intra; cost = 15; distance = 0; hops = 2; tag = 0 }
+next_network =
+    record { prefix = network_24 10 0 2; kind = Intra; cost = 15; distance = 0; hops = 2; tag = 0 }
 
 abbrev pub abroad_1 : Route
-abroad_1 = record { prefix = network_24 203 0 113; kind = External1; cost = 30; distance = 0; hops = 2; tag = 0 }
+abroad_1 = record {
+  prefix = network_24 203 0 113;
+  kind = External1;
+  cost = 30;
+  distance = 0;
+  hops = 2;
+  tag = 0;
+}
 
 abbrev pub abroad_2 : Route
-abroad_2 = record { prefix = network_24 203 0 113; kind = External2; cost = 20; distance = 10; hops = 2; tag = 0 }
+abroad_2 = record {
+  prefix = network_24 203 0 113;
+  kind = External2;
+  cost = 20;
+  distance = 10;
+  hops = 2;
+  tag = 0;
+}
 
 pub record WorkedTwoRouters : Type 0 where
-  pub within : AreCandidates (said_at 0 (database (two_routers []))) near_router (own_network ∷ next_network ∷ [])
-  pub type_1 : AreCandidates (said_at 0 (database (two_routers (abroad Type1)))) near_router (own_network ∷ next_network ∷ abroad_1 ∷ [])
-  pub type_2 : AreCandidates (said_at 0 (database (two_routers (abroad Type2)))) near_router (own_network ∷ next_network ∷ abroad_2 ∷ [])
+  pub within : AreCandidates (said_at 0 (database (two_routers []))) near_router
+      (own_network ∷ next_network ∷ [])
+  pub type_1 : AreCandidates (said_at 0 (database (two_routers (abroad Type1)))) near_router
+      (own_network ∷ next_network ∷ abroad_1 ∷ [])
+  pub type_2 : AreCandidates (said_at 0 (database (two_routers (abroad Type2)))) near_router
+      (own_network ∷ next_network ∷ abroad_2 ∷ [])

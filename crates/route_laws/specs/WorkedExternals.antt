@@ -1,5 +1,5 @@
--- A worked database with external destinations (RFC 2328, section 16.4): by their originator or by a forwarding address, of both types, and
--- some that offer nothing.
+-- A worked database with external destinations (RFC 2328, section 16.4): by their originator or by
+-- a forwarding address, of both types, and some that offer nothing.
 use Rattle.std.specs.Prelude.{ℕ, [], ◌∷◌, ◌++◌}
 use Rattle.words.specs.declared.key.Key.{Key}
 use Rattle.words.specs.declared.route.ExternalType.{ExternalType}
@@ -14,7 +14,14 @@ use Rattle.route_laws.specs.Worked.{Entries, database, dotted, mask_24, near_rou
 use Rattle.routes.specs.Said.{said_at}
 
 abbrev pub external : ExternalType → ℕ → ℕ → ℕ → ExternalLsa
-external kind metric forwarding tag = record { mask = mask_24; kind = kind; metric = metric; forwarding = forwarding; tag = tag; tos = [] }
+external kind metric forwarding tag = record {
+  mask = mask_24;
+  kind = kind;
+  metric = metric;
+  forwarding = forwarding;
+  tag = tag;
+  tos = [];
+}
 
 -- announced by the other of the two routers
 abbrev pub by_other : ℕ → ExternalLsa → Key × DatabaseCopy
@@ -24,8 +31,9 @@ by_other id lsa = of_external id (dotted 2 2 2 2) lsa
 abbrev pub at_max_age : Key × DatabaseCopy → Key × DatabaseCopy
 at_max_age e = (e.0, record e.1 { lsa = lsa_aged 3600 e.1.lsa })
 
--- one network of both types, told apart by the host bits of their Link State IDs; a forwarding address in 10.0.2.0/24, which the other
--- router offers at 15; one in 10.0.1.0/24, which both offer, the nearer router itself at 10
+-- one network of both types, told apart by the host bits of their Link State IDs; a forwarding
+-- address in 10.0.2.0/24, which the other router offers at 15; one in 10.0.1.0/24, which both
+-- offer, the nearer router itself at 10
 abbrev pub announced : Entries
 announced =
     by_other (dotted 203 0 113 0) (external Type2 1 0 3)
@@ -34,8 +42,8 @@ announced =
     ∷ by_other (dotted 192 0 2 0) (external Type2 20 (dotted 10 0 1 9) 6)
     ∷ []
 
--- nobody offers the forwarding address; the metric is LSInfinity; it is this router's own; its originator has no router-LSA; the copy is
--- at MaxAge; the ones of the mask aren't in front
+-- nobody offers the forwarding address; the metric is LSInfinity; it is this router's own; its
+-- originator has no router-LSA; the copy is at MaxAge; the ones of the mask aren't in front
 abbrev pub passed_over : Entries
 passed_over =
     by_other (dotted 198 18 0 0) (external Type1 20 (dotted 172 16 0 1) 0)
@@ -49,17 +57,41 @@ passed_over =
 abbrev pub destinations : Entries
 destinations = two_routers (announced ++ passed_over)
 
--- of type 2: the metric is the cost, and the distance that to the forwarding address, by the router's own interface
+-- of type 2: the metric is the cost, and the distance that to the forwarding address, by the
+-- router's own interface
 abbrev pub by_own_network : Route
-by_own_network = record { prefix = network_24 192 0 2; kind = External2; cost = 20; distance = 10; hops = 1; tag = 6 }
+by_own_network = record {
+  prefix = network_24 192 0 2;
+  kind = External2;
+  cost = 20;
+  distance = 10;
+  hops = 1;
+  tag = 6;
+}
 
 -- of type 1: the distance to the forwarding address and the metric
 abbrev pub by_next_network : Route
-by_next_network = record { prefix = network_24 198 51 100; kind = External1; cost = 35; distance = 0; hops = 2; tag = 5 }
+by_next_network = record {
+  prefix = network_24 198 51 100;
+  kind = External1;
+  cost = 35;
+  distance = 0;
+  hops = 2;
+  tag = 5;
+}
 
 -- of type 1 at 30, though type 2 has metric 1
 abbrev pub of_first_type : Route
-of_first_type = record { prefix = network_24 203 0 113; kind = External1; cost = 30; distance = 0; hops = 2; tag = 4 }
+of_first_type = record {
+  prefix = network_24 203 0 113;
+  kind = External1;
+  cost = 30;
+  distance = 0;
+  hops = 2;
+  tag = 4;
+}
 
 abbrev pub WorkedExternals : Type 0
-WorkedExternals = AreCandidates (said_at 0 (database destinations)) near_router (own_network ∷ next_network ∷ by_own_network ∷ by_next_network ∷ of_first_type ∷ [])
+WorkedExternals =
+    AreCandidates (said_at 0 (database destinations)) near_router
+    (own_network ∷ next_network ∷ by_own_network ∷ by_next_network ∷ of_first_type ∷ [])

@@ -1,4 +1,5 @@
--- Worked offers for one prefix, with the one route that comes of them (RFC 2328, sections 11 and 16.4).
+-- Worked offers for one prefix, with the one route that comes of them (RFC 2328, sections 11 and
+-- 16.4).
 use Rattle.std.specs.Prelude.{ℕ, List, [], ◌∷◌}
 use Rattle.std.specs.List.{Contains}
 use Rattle.words.specs.declared.route.Route.{Route}
@@ -21,7 +22,14 @@ offer_of kind distance hops tag = record {
 }
 
 abbrev pub route_to : RouteKind → ℕ → ℕ → ℕ → Route
-route_to kind distance hops tag = record { prefix = network_24 203 0 113; kind = kind; cost = 20; distance = distance; hops = hops; tag = tag }
+route_to kind distance hops tag = record {
+  prefix = network_24 203 0 113;
+  kind = kind;
+  cost = 20;
+  distance = distance;
+  hops = hops;
+  tag = tag;
+}
 
 -- tags 5 and 3 of one originator at one cost
 abbrev pub two_tags : List Offer

@@ -1,5 +1,5 @@
--- A worked database with destinations in other areas (RFC 2328, sections 16.2 and 16.4): a network, and AS boundary routers, as an area
--- border router tells of them.
+-- A worked database with destinations in other areas (RFC 2328, sections 16.2 and 16.4): a network,
+-- and AS boundary routers, as an area border router tells of them.
 use Rattle.std.specs.Prelude.{ℕ, List, [], ◌∷◌}
 use Rattle.words.specs.declared.key.Key.{Key}
 use Rattle.words.specs.declared.route.ExternalType.TheVariants.{Type1, Type2}
@@ -20,21 +20,33 @@ summary metric = record { mask = mask_24; metric = metric; tos = [] }
 
 -- told by the neighbor 2.2.2.2
 abbrev pub of_network_summary : ℕ → ℕ → Key × DatabaseCopy
-of_network_summary id metric = (key 3 id (dotted 2 2 2 2), copy_of (key 3 id (dotted 2 2 2 2)) (body.NetworkSummary (summary metric)))
+of_network_summary id metric = (
+  key 3 id (dotted 2 2 2 2),
+  copy_of (key 3 id (dotted 2 2 2 2)) (body.NetworkSummary (summary metric)),
+)
 
 abbrev pub of_router_summary : ℕ → ℕ → Key × DatabaseCopy
-of_router_summary id metric = (key 4 id (dotted 2 2 2 2), copy_of (key 4 id (dotted 2 2 2 2)) (body.RouterSummary (summary metric)))
+of_router_summary id metric = (
+  key 4 id (dotted 2 2 2 2),
+  copy_of (key 4 id (dotted 2 2 2 2)) (body.RouterSummary (summary metric)),
+)
 
 abbrev pub of_flagged : ℕ → ℕ → List Link → Key × DatabaseCopy
-of_flagged flags router links = (key 1 router router, copy_of (key 1 router router) (body.Router (record { flags = flags; links = links })))
+of_flagged flags router links = (
+  key 1 router router,
+  copy_of (key 1 router router) (body.Router (record { flags = flags; links = links })),
+)
 
 -- ---- one router, and two neighbors
 
 abbrev pub summaries_root : Root
-summaries_root = record { router = dotted 1 1 1 1; addresses = dotted 10 0 1 1 ∷ dotted 10 0 2 1 ∷ [] }
+summaries_root =
+    record { router = dotted 1 1 1 1; addresses = dotted 10 0 1 1 ∷ dotted 10 0 2 1 ∷ [] }
 
 abbrev pub summaries_links : List Link
-summaries_links = point_to_point (dotted 2 2 2 2) (dotted 10 0 1 1) 10 ∷ point_to_point (dotted 3 3 3 3) (dotted 10 0 2 1) 100 ∷ []
+summaries_links =
+    point_to_point (dotted 2 2 2 2) (dotted 10 0 1 1) 10
+    ∷ point_to_point (dotted 3 3 3 3) (dotted 10 0 2 1) 100 ∷ []
 
 abbrev pub border_links : List Link
 border_links = point_to_point (dotted 1 1 1 1) (dotted 10 0 1 2) 10 ∷ []
@@ -42,8 +54,9 @@ border_links = point_to_point (dotted 1 1 1 1) (dotted 10 0 1 2) 10 ∷ []
 abbrev pub distant_links : List Link
 distant_links = point_to_point (dotted 1 1 1 1) (dotted 10 0 2 2) 100 ∷ []
 
--- 2.2.2.2 has these flags, the others flag E. The first tells of a network at 5, of one that can't be reached, of the AS boundary router
--- 9.9.9.9 at 7, and of 3.3.3.3 at 7, which is dearer within the area.
+-- 2.2.2.2 has these flags, the others flag E. The first tells of a network at 5, of one that can't
+-- be reached, of the AS boundary router 9.9.9.9 at 7, and of 3.3.3.3 at 7, which is dearer within
+-- the area.
 abbrev pub told : ℕ → Entries
 told flags =
     of_router (dotted 1 1 1 1) summaries_links
@@ -61,21 +74,50 @@ told flags =
 -- ---- the candidates
 
 abbrev pub between_route : Route
-between_route = record { prefix = network_24 198 51 100; kind = Inter; cost = 15; distance = 0; hops = 2; tag = 0 }
+between_route = record {
+  prefix = network_24 198 51 100;
+  kind = Inter;
+  cost = 15;
+  distance = 0;
+  hops = 2;
+  tag = 0;
+}
 
 -- the way to the boundary router costs 17
 abbrev pub beyond_1 : Route
-beyond_1 = record { prefix = network_24 203 0 113; kind = External1; cost = 37; distance = 0; hops = 2; tag = 0 }
+beyond_1 = record {
+  prefix = network_24 203 0 113;
+  kind = External1;
+  cost = 37;
+  distance = 0;
+  hops = 2;
+  tag = 0;
+}
 
 abbrev pub beyond_2 : Route
-beyond_2 = record { prefix = network_24 203 0 114; kind = External2; cost = 20; distance = 17; hops = 2; tag = 0 }
+beyond_2 = record {
+  prefix = network_24 203 0 114;
+  kind = External2;
+  cost = 20;
+  distance = 17;
+  hops = 2;
+  tag = 0;
+}
 
 -- by the way within the area, at 100
 abbrev pub distant_route : Route
-distant_route = record { prefix = network_24 203 0 115; kind = External1; cost = 120; distance = 0; hops = 4; tag = 0 }
+distant_route = record {
+  prefix = network_24 203 0 115;
+  kind = External1;
+  cost = 120;
+  distance = 0;
+  hops = 4;
+  tag = 0;
+}
 
 pub record WorkedSummaries : Type 0 where
   -- the neighbor is an area border router
-  pub with_b : AreCandidates (said_at 0 (database (told 1))) summaries_root (between_route ∷ beyond_1 ∷ beyond_2 ∷ distant_route ∷ [])
+  pub with_b : AreCandidates (said_at 0 (database (told 1))) summaries_root
+      (between_route ∷ beyond_1 ∷ beyond_2 ∷ distant_route ∷ [])
   -- it is none
   pub without_b : AreCandidates (said_at 0 (database (told 0))) summaries_root (distant_route ∷ [])

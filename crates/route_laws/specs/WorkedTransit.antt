@@ -1,5 +1,5 @@
--- A worked database with a transit network, external destinations of two originators, and routers that don't count (RFC 2328, sections 16.1
--- and 16.4).
+-- A worked database with a transit network, external destinations of two originators, and routers
+-- that don't count (RFC 2328, sections 16.1 and 16.4).
 use Rattle.std.specs.Prelude.{ℕ, List, [], ◌∷◌}
 use Rattle.words.specs.Prefixes.{Network}
 use Rattle.words.specs.declared.key.Key.{Key}
@@ -18,28 +18,38 @@ use Rattle.route_laws.specs.WorkedExternals.{external}
 use Rattle.routes.specs.declared.root.Root.{Root}
 use Rattle.routes.specs.Said.{said_at}
 
--- a router's link to a transit network: the address of its Designated Router, and the router's own there
+-- a router's link to a transit network: the address of its Designated Router, and the router's own
+-- there
 abbrev pub transit : ℕ → ℕ → ℕ → Link
-transit designated address cost = record { link_id = designated; link_data = address; kind = Transit; metric = cost; tos = [] }
+transit designated address cost =
+    record { link_id = designated; link_data = address; kind = Transit; metric = cost; tos = [] }
 
 abbrev pub of_network : ℕ → ℕ → NetworkLsa → Key × DatabaseCopy
 of_network id router lsa = (key 2 id router, copy_of (key 2 id router) (body.Network lsa))
 
--- ---- the routers: this one, two neighbors on a network with each other, and two more that the network lists
+-- ---- the routers: this one, two neighbors on one network, and two more that the network lists
 
 abbrev pub transit_root : Root
-transit_root = record { router = dotted 1 1 1 1; addresses = dotted 10 0 1 1 ∷ dotted 10 0 2 1 ∷ [] }
+transit_root =
+    record { router = dotted 1 1 1 1; addresses = dotted 10 0 1 1 ∷ dotted 10 0 2 1 ∷ [] }
 
 abbrev pub root_links : List Link
-root_links = point_to_point (dotted 2 2 2 2) (dotted 10 0 1 1) 10 ∷ point_to_point (dotted 3 3 3 3) (dotted 10 0 2 1) 15 ∷ []
+root_links =
+    point_to_point (dotted 2 2 2 2) (dotted 10 0 1 1) 10
+    ∷ point_to_point (dotted 3 3 3 3) (dotted 10 0 2 1) 15 ∷ []
 
 -- the Designated Router; its stub network contains the transit network, and is nearer
 abbrev pub designated_links : List Link
-designated_links = point_to_point (dotted 1 1 1 1) (dotted 10 0 1 2) 10 ∷ transit (dotted 10 1 0 2) (dotted 10 1 0 2) 5 ∷ stub (dotted 10 0 0 0) (dotted 255 0 0 0) 1 ∷ []
+designated_links =
+    point_to_point (dotted 1 1 1 1) (dotted 10 0 1 2) 10
+    ∷ transit (dotted 10 1 0 2) (dotted 10 1 0 2) 5 ∷ stub (dotted 10 0 0 0) (dotted 255 0 0 0) 1
+    ∷ []
 
 -- as near over the network as by its own link
 abbrev pub other_links : List Link
-other_links = point_to_point (dotted 1 1 1 1) (dotted 10 0 2 2) 15 ∷ transit (dotted 10 1 0 2) (dotted 10 1 0 3) 1 ∷ stub (dotted 192 0 2 0) mask_24 10 ∷ []
+other_links =
+    point_to_point (dotted 1 1 1 1) (dotted 10 0 2 2) 15
+    ∷ transit (dotted 10 1 0 2) (dotted 10 1 0 3) 1 ∷ stub (dotted 192 0 2 0) mask_24 10 ∷ []
 
 -- listed by the network, but without a link to it
 abbrev pub unlinked_links : List Link
@@ -50,17 +60,25 @@ abbrev pub inner_lsa : RouterLsa
 inner_lsa = record { flags = 0; links = transit (dotted 10 1 0 2) (dotted 10 1 0 5) 1 ∷ [] }
 
 abbrev pub network_lsa : NetworkLsa
-network_lsa = record { mask = mask_24; attached = dotted 2 2 2 2 ∷ dotted 3 3 3 3 ∷ dotted 4 4 4 4 ∷ dotted 5 5 5 5 ∷ [] }
+network_lsa = record {
+  mask = mask_24;
+  attached = dotted 2 2 2 2 ∷ dotted 3 3 3 3 ∷ dotted 4 4 4 4 ∷ dotted 5 5 5 5 ∷ [];
+}
 
--- 203.0.113.0/24 is announced by two routers, to which it costs the same in all; 203.0.114.0/24 with a forwarding address on the transit
--- network; the last two by the router that is no boundary router and by the one that isn't reached
+-- 203.0.113.0/24 is announced by two routers, to which it costs the same in all; 203.0.114.0/24
+-- with a forwarding address on the transit network; the last two by the router that is no boundary
+-- router and by the one that isn't reached
 abbrev pub transit_entries : Entries
 transit_entries =
     of_router (dotted 1 1 1 1) root_links
     ∷ of_router (dotted 2 2 2 2) designated_links
     ∷ of_router (dotted 3 3 3 3) other_links
     ∷ of_router (dotted 4 4 4 4) unlinked_links
-    ∷ (key 1 (dotted 5 5 5 5) (dotted 5 5 5 5), copy_of (key 1 (dotted 5 5 5 5) (dotted 5 5 5 5)) (body.Router inner_lsa))
+    ∷ (
+      key 1 (dotted 5 5 5 5) (dotted 5 5 5 5),
+      copy_of (key 1 (dotted 5 5 5 5) (dotted 5 5 5 5))
+          (body.Router inner_lsa),
+    )
     ∷ of_network (dotted 10 1 0 2) (dotted 2 2 2 2) network_lsa
     ∷ of_external (dotted 203 0 113 0) (dotted 2 2 2 2) (external Type1 25 0 9)
     ∷ of_external (dotted 203 0 113 0) (dotted 3 3 3 3) (external Type1 20 0 1)
@@ -75,23 +93,43 @@ abbrev pub network_8 : ℕ → Network
 network_8 a = record { address = dotted a 0 0 0; length = 8 }
 
 abbrev pub wide_route : Route
-wide_route = record { prefix = network_8 10; kind = Intra; cost = 11; distance = 0; hops = 2; tag = 0 }
+wide_route =
+    record { prefix = network_8 10; kind = Intra; cost = 11; distance = 0; hops = 2; tag = 0 }
 
 -- the transit network, by interface 1
 abbrev pub transit_route : Route
-transit_route = record { prefix = network_24 10 1 0; kind = Intra; cost = 15; distance = 0; hops = 2; tag = 0 }
+transit_route =
+    record { prefix = network_24 10 1 0; kind = Intra; cost = 15; distance = 0; hops = 2; tag = 0 }
 
 -- behind the other router, by interfaces 1 and 2
 abbrev pub behind_route : Route
-behind_route = record { prefix = network_24 192 0 2; kind = Intra; cost = 25; distance = 0; hops = 6; tag = 0 }
+behind_route =
+    record { prefix = network_24 192 0 2; kind = Intra; cost = 25; distance = 0; hops = 6; tag = 0 }
 
 -- by both originators, with the tag of the lesser one
 abbrev pub shared_route : Route
-shared_route = record { prefix = network_24 203 0 113; kind = External1; cost = 35; distance = 0; hops = 6; tag = 9 }
+shared_route = record {
+  prefix = network_24 203 0 113;
+  kind = External1;
+  cost = 35;
+  distance = 0;
+  hops = 6;
+  tag = 9;
+}
 
--- the forwarding address lies in the transit network and in the nearer one that contains it; the longer prefix counts
+-- the forwarding address lies in the transit network and in the nearer one that contains it; the
+-- longer prefix counts
 abbrev pub longest_route : Route
-longest_route = record { prefix = network_24 203 0 114; kind = External1; cost = 35; distance = 0; hops = 2; tag = 0 }
+longest_route = record {
+  prefix = network_24 203 0 114;
+  kind = External1;
+  cost = 35;
+  distance = 0;
+  hops = 2;
+  tag = 0;
+}
 
 abbrev pub WorkedTransit : Type 0
-WorkedTransit = AreCandidates (said_at 0 (database transit_entries)) transit_root (wide_route ∷ transit_route ∷ behind_route ∷ shared_route ∷ longest_route ∷ [])
+WorkedTransit =
+    AreCandidates (said_at 0 (database transit_entries)) transit_root
+    (wide_route ∷ transit_route ∷ behind_route ∷ shared_route ∷ longest_route ∷ [])

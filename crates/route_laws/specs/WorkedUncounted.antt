@@ -1,4 +1,5 @@
--- A worked database with links that don't count (RFC 2328, section 16.1): each leads to a router with a stub network, which has no candidate.
+-- A worked database with links that don't count (RFC 2328, section 16.1): each leads to a router
+-- with a stub network, which has no candidate.
 use Rattle.std.specs.Prelude.{ℕ, List, [], ◌∷◌}
 use Rattle.words.specs.declared.route.Route.{Route}
 use Rattle.words.specs.declared.route.RouteKind.TheVariants.{Intra}
@@ -9,11 +10,14 @@ use Rattle.route_laws.specs.Worked.{Entries, database, dotted, mask_24, near_rou
 use Rattle.routes.specs.Said.{said_at}
 
 abbrev pub virtual : ℕ → ℕ → ℕ → Link
-virtual neighbor address cost = record { link_id = neighbor; link_data = address; kind = Virtual; metric = cost; tos = [] }
+virtual neighbor address cost =
+    record { link_id = neighbor; link_data = address; kind = Virtual; metric = cost; tos = [] }
 
 -- to the neighbor; and to 3.3.3.3 by an address that no interface of this router has
 abbrev pub counting_links : List Link
-counting_links = point_to_point (dotted 2 2 2 2) (dotted 10 0 1 1) 10 ∷ point_to_point (dotted 3 3 3 3) (dotted 10 0 9 1) 1 ∷ []
+counting_links =
+    point_to_point (dotted 2 2 2 2) (dotted 10 0 1 1) 10
+    ∷ point_to_point (dotted 3 3 3 3) (dotted 10 0 9 1) 1 ∷ []
 
 -- to 4.4.4.4 at metric 0, to 5.5.5.5 by a virtual link, and to 6.6.6.6, which has no link back
 abbrev pub neighbor_links : List Link
@@ -29,14 +33,20 @@ abbrev pub uncounted : Entries
 uncounted =
     of_router (dotted 1 1 1 1) counting_links
     ∷ of_router (dotted 2 2 2 2) neighbor_links
-    ∷ of_router (dotted 3 3 3 3) (point_to_point (dotted 1 1 1 1) (dotted 10 0 9 2) 1 ∷ stub (dotted 198 51 100 0) mask_24 1 ∷ [])
-    ∷ of_router (dotted 4 4 4 4) (point_to_point (dotted 2 2 2 2) (dotted 10 0 4 2) 5 ∷ stub (dotted 203 0 113 0) mask_24 1 ∷ [])
-    ∷ of_router (dotted 5 5 5 5) (virtual (dotted 2 2 2 2) (dotted 10 0 5 2) 1 ∷ stub (dotted 203 0 114 0) mask_24 1 ∷ [])
+    ∷ of_router (dotted 3 3 3 3)
+    (point_to_point (dotted 1 1 1 1) (dotted 10 0 9 2) 1 ∷ stub (dotted 198 51 100 0) mask_24 1
+    ∷ [])
+    ∷ of_router (dotted 4 4 4 4)
+    (point_to_point (dotted 2 2 2 2) (dotted 10 0 4 2) 5 ∷ stub (dotted 203 0 113 0) mask_24 1
+    ∷ [])
+    ∷ of_router (dotted 5 5 5 5)
+    (virtual (dotted 2 2 2 2) (dotted 10 0 5 2) 1 ∷ stub (dotted 203 0 114 0) mask_24 1 ∷ [])
     ∷ of_router (dotted 6 6 6 6) (stub (dotted 203 0 115 0) mask_24 1 ∷ [])
     ∷ []
 
 abbrev pub neighbor_route : Route
-neighbor_route = record { prefix = network_24 192 0 2; kind = Intra; cost = 11; distance = 0; hops = 2; tag = 0 }
+neighbor_route =
+    record { prefix = network_24 192 0 2; kind = Intra; cost = 11; distance = 0; hops = 2; tag = 0 }
 
 abbrev pub WorkedUncounted : Type 0
 WorkedUncounted = AreCandidates (said_at 0 (database uncounted)) near_router (neighbor_route ∷ [])
