@@ -16,8 +16,8 @@ use Rattle.object.specs.Numbers.{Term, Numbers, IsNumbers}
 use Rattle.object.specs.Statements.{StatementParts, IsStatement, IsKind, IsRank, IsTermOrNone, IsNumberAt, IsTermOver}
 use Rattle.object.specs.Objects.{AreStatements}
 use Rattle.object.specs.Sets.{with_range}
-use Rattle.asm_lines.specs.declared.numeral.Numeral.{Numeral}
-use Rattle.asm_lines.specs.declared.numeral.Numeral.TheVariants as numerals
+use Rattle.asm_words.specs.declared.numeral.Numeral.{Numeral}
+use Rattle.asm_words.specs.declared.numeral.Numeral.TheVariants as numerals
 use Rattle.asm_lines.specs.declared.line.Line.{Line}
 use Rattle.asm_lines.specs.declared.line.Line.TheVariants as lines
 use Rattle.asm_lines.specs.declared.line.Target.{Target}

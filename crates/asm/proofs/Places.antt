@@ -6,7 +6,7 @@ use Rattle.std.proofs.lemmas.Bool.{false≢true}
 use Rattle.std.proofs.lemmas.List.{get_or_default, take_rest}
 use denote.Ref.{Bor}
 use Rattle.asm_lines.specs.declared.line.Line.{Line}
-use Rattle.asm_lines.specs.Forms.{Word}
+use Rattle.asm_words.specs.Words.{Word}
 use Rattle.asm_lines.specs.Views.{views}
 use Rattle.asm.specs.declared.error.AsmFault.TheVariants as faults
 use Rattle.asm.specs.declared.labels.Place.{Place}

@@ -13,7 +13,7 @@ use Rattle.object.specs.Statements.{StatementParts}
 use Rattle.object.specs.Objects.{ObjectParts, IsObject, AreStatements}
 use Rattle.asm_lines.specs.declared.line.Line.{Line}
 use Rattle.asm_lines.specs.declared.line.Line.TheVariants as lines
-use Rattle.asm_lines.specs.Forms.{Word}
+use Rattle.asm_words.specs.Words.{Word}
 use Rattle.asm_lines.specs.Text.{words_in, Reads, Readings}
 use Rattle.asm_lines.specs.Views.{views, items}
 use Rattle.asm_lines.specs.Written.{some_reading}

@@ -9,7 +9,8 @@ use Rattle.isa.specs.Spelling as spelling
 use Rattle.object.specs.Statements.{StatementParts}
 use Rattle.object.specs.Objects.{ObjectParts}
 use Rattle.asm_lines.specs.declared.line.Line.{Line}
-use Rattle.asm_lines.specs.Forms.{Word, Spells}
+use Rattle.asm_lines.specs.Forms.{Spells}
+use Rattle.asm_words.specs.Words.{Word}
 use Rattle.asm_lines.specs.Text.{lines_in, words_in, Reads, Readings}
 use Rattle.asm_lines.specs.Views.{views, items}
 use Rattle.asm.specs.declared.error.AsmFault.{AsmFault}

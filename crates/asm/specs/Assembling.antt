@@ -10,13 +10,13 @@ use Rattle.object.specs.declared.rank.Rank.{Rank}
 use Rattle.object.specs.Statements.{StatementParts}
 use Rattle.object.specs.Objects.{ObjectParts, IsObject, AreStatements}
 use Rattle.object.specs.Sets.{no_bytes, with_range}
-use Rattle.asm_lines.specs.declared.numeral.Numeral.{Numeral}
+use Rattle.asm_words.specs.declared.numeral.Numeral.{Numeral}
 use Rattle.asm_lines.specs.declared.line.Line.{Line}
 use Rattle.asm_lines.specs.declared.line.Line.TheVariants as lines
 use Rattle.asm_lines.specs.declared.line.Target.{Target}
 use Rattle.asm_lines.specs.declared.line.Terms.{Terms}
 use Rattle.asm_lines.specs.declared.line.Content.{Content}
-use Rattle.asm_lines.specs.Forms.{Word}
+use Rattle.asm_words.specs.Words.{Word}
 use Rattle.asm_lines.specs.Text.{lines_in, Readings}
 use Rattle.asm_lines.specs.Views.{views, items}
 use denote.Ref.{Bor}

@@ -6,8 +6,8 @@ use Rattle.isa.specs.declared.instruction.Instruction.{Instruction}
 use Rattle.isa.specs.declared.instruction.Instruction.TheVariants as instructions
 use Rattle.isa.specs.declared.instruction.Source.{Source}
 use Rattle.isa.specs.declared.instruction.Source.TheVariants as sources
-use Rattle.asm_lines.specs.declared.numeral.Numeral.{Numeral}
-use Rattle.asm_lines.specs.declared.numeral.Numeral.TheVariants as numerals
+use Rattle.asm_words.specs.declared.numeral.Numeral.{Numeral}
+use Rattle.asm_words.specs.declared.numeral.Numeral.TheVariants as numerals
 use Rattle.asm_lines.specs.declared.line.Line.{Line}
 use Rattle.asm_lines.specs.declared.line.Line.TheVariants as lines
 use Rattle.asm_lines.specs.declared.line.Operand.{Operand}

@@ -12,7 +12,7 @@ use Rattle.object.specs.Sets.{no_bytes}
 use Rattle.asm_lines.specs.declared.line.Line.{Line}
 use Rattle.asm_lines.specs.declared.line.Content.{Content}
 use Rattle.asm_lines.specs.declared.line.Content.TheVariants as contents
-use Rattle.asm_lines.specs.Forms.{Word}
+use Rattle.asm_words.specs.Words.{Word}
 use Rattle.asm_lines.specs.Written.{AreLines}
 use Rattle.asm.specs.declared.labels.Place.{Place}
 use Rattle.asm.specs.Assembling.{Sketch, nothing, taken, all_of, bare, order_fault}

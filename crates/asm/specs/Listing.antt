@@ -16,7 +16,7 @@ use Rattle.object.specs.Numbers.{Numbers}
 use Rattle.object.specs.Numbers as object_numbers
 use Rattle.object.specs.Statements.{StatementParts}
 use Rattle.object.specs.Objects.{ObjectParts}
-use Rattle.asm_lines.specs.declared.numeral.Numeral.TheVariants.{Natural}
+use Rattle.asm_words.specs.declared.numeral.Numeral.TheVariants.{Natural}
 use Rattle.asm_lines.specs.declared.line.Line.{Line}
 use Rattle.asm_lines.specs.declared.line.Line.TheVariants as lines
 use Rattle.asm_lines.specs.declared.line.Operand.{Operand}
@@ -28,7 +28,7 @@ use Rattle.asm_lines.specs.declared.line.Terms.TheVariants as terms
 use Rattle.asm_lines.specs.declared.line.Range.{Range}
 use Rattle.asm_lines.specs.declared.line.Content.{Content}
 use Rattle.asm_lines.specs.declared.line.Content.TheVariants as contents
-use Rattle.asm_lines.specs.Numbers.{numeral_of}
+use Rattle.asm_words.specs.Numbers.{numeral_of}
 use Rattle.asm_lines.specs.Written.{line_text}
 
 -- ---- an instruction: a distance in place of a label

@@ -1,6 +1,6 @@
 //! From a text to the object that it spells.
 ghost use Rattle.std.specs.Prelude.{◌≡◌, ◌⊎◌, ℕ, Option, Some, None, Ok, Err, List, [], IfSome, MatchResult, length, map, option_map};
-ghost use Rattle.asm_lines.specs.Forms.{Word};
+ghost use Rattle.asm_words.specs.Words.{Word};
 ghost use Rattle.asm.specs.Assembling.{hook_step, rank_step, instruction_step, state_step, with_line_step, bytes_line_step, body_step, line_step, has_slot, order_fault, slot_at, shifted, nothing, Takes, IsMade, Declines, TextSpells, Refuses};
 ghost use Rattle.asm.specs.Faults.{error_at, IsWantOfMemory};
 ghost use Rattle.asm.specs.Lawful.{AreAscending, IsLawful};
@@ -12,7 +12,8 @@ use crate::instructions::push_instruction;
 use crate::labels::{Place, place_of, places_of};
 use crate::numbers::natural_32;
 use crate::statements::{OpenStatement, push_open, rank_of, slot_of, statements_of};
-use asm_lines::{Content, Line, Numeral, Target, Terms, read_lines};
+use asm_lines::{Content, Line, Target, Terms, read_lines};
+use asm_words::Numeral;
 use isa::laws::code_has_one_spelling;
 use isa::{CodeBuilder, Hook, Register, encode};
 use object::Object;

@@ -9,7 +9,8 @@ ghost use Rattle.asm.specs.Listing.{the_operand, instruction_line};
 
 use crate::error::AsmFault;
 use crate::numbers::{natural_64, signed_16, signed_32};
-use asm_lines::{Line, Numeral, Operand, Target};
+use asm_lines::{Line, Operand, Target};
+use asm_words::Numeral;
 use isa::{BuildError, CodeBuilder, Instruction, Source};
 
 /// A number in its field, or `Range`.

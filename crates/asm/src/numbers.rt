@@ -2,7 +2,7 @@
 ghost use Rattle.std.specs.Prelude.{◌≡◌, ◌^◌, negsuc};
 ghost use Rattle.asm.specs.Numbers.{signed_in, natural_in};
 
-use asm_lines::Numeral;
+use asm_words::Numeral;
 
 /// A signed number of 64 bits that is -1 less this.
 fn below_zero(less: u32) -> i64

@@ -7,7 +7,8 @@ ghost use Rattle.asm.specs.Rules.{is_stated_number, term_of, rank_of, slot_of, n
 
 use crate::error::AsmFault;
 use crate::numbers::{natural_32, natural_64};
-use asm_lines::{Content, Line, Numeral, Range, Target, Term, Terms};
+use asm_lines::{Content, Line, Range, Target, Term, Terms};
+use asm_words::Numeral;
 use isa::{Map, Register};
 use object::{
     ContextOffset, Kind, Rank, RankTerm, StackBytes, StackOffset, StatedNumber, Statement,

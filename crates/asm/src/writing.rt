@@ -6,7 +6,7 @@ ghost use Rattle.isa.specs.Spelling.{Spells};
 ghost use Rattle.object.specs.declared.kind.Kind.{Kind};
 ghost use Rattle.object.specs.Sets.{has_byte};
 ghost use Rattle.asm_lines.specs.declared.line.Line.{Line};
-ghost use Rattle.asm_lines.specs.declared.numeral.Numeral.{Numeral};
+ghost use Rattle.asm_words.specs.declared.numeral.Numeral.{Numeral};
 ghost use Rattle.asm_lines.specs.Forms.{names_label};
 ghost use Rattle.asm_lines.specs.Written.{line_text};
 ghost use Rattle.asm.specs.Rules.{term_of, rank_of, numbers_of, kind_of};
@@ -18,7 +18,8 @@ ghost use Rattle.asm.specs.declared.error.ListError.{ListError};
 
 use crate::error::ListError;
 use crate::instructions::line_of;
-use asm_lines::{Content, Line, Numeral, Range, Target, Term, Terms, write_line};
+use asm_lines::{Content, Line, Range, Target, Term, Terms, write_line};
+use asm_words::Numeral;
 use isa::{Code, DecodeFault, Hook, Register, Slot, decode};
 use object::{Kind, Object, Rank, RankTerm, StackBytes, StatedNumber, Statement};
 use std::alloc::{AllocError, Global};

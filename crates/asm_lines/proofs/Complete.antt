@@ -16,7 +16,7 @@ use Rattle.isa.specs.declared.instruction.SwapWidth.{SwapWidth}
 use Rattle.isa.specs.declared.instruction.SwapWidth.TheVariants as swaps
 use Rattle.isa.specs.declared.instruction.LoadSize.{LoadSize}
 use Rattle.isa.specs.declared.instruction.StoreSize.{StoreSize}
-use Rattle.asm_lines.specs.declared.numeral.Numeral.{Numeral}
+use Rattle.asm_words.specs.declared.numeral.Numeral.{Numeral}
 use Rattle.asm_lines.specs.declared.line.Line.{Line}
 use Rattle.asm_lines.specs.declared.line.Line.TheVariants as lines
 use Rattle.asm_lines.specs.declared.line.Operand.{Operand}
@@ -28,14 +28,15 @@ use Rattle.asm_lines.specs.declared.line.Terms.{Terms}
 use Rattle.asm_lines.specs.declared.line.Terms.TheVariants as terms
 use Rattle.asm_lines.specs.declared.line.Range.{Range}
 use Rattle.asm_lines.specs.declared.line.Content.TheVariants as contents
-use Rattle.asm_lines.specs.Numbers.{number_of, distance_of}
-use Rattle.asm_lines.specs.Words.{hook_word, operation_word, test_word, load_word, store_word, reorder_word, register_word, register_table, register_of, test_of, extension_word, extension_width}
-use Rattle.asm_lines.specs.Forms.{Word, Exactly, Number, Definition, Matches, Spells, the_register, the_operand, the_target, the_slot, is_label, is_letter, is_name, IsOperand}
+use Rattle.asm_words.specs.Numbers.{number_of, distance_of}
+use Rattle.asm_words.specs.Words.{hook_word, operation_word, test_word, load_word, store_word, reorder_word, register_word, register_table, register_of, test_of, extension_word, extension_width, Word}
+use Rattle.asm_lines.specs.Forms.{Exactly, Number, Definition, Matches, Spells, the_register, the_operand, the_target, the_slot, is_label, IsOperand}
+use Rattle.asm_words.specs.Names.{is_letter, is_name}
 use Rattle.asm_lines.specs.Reading.{line_of, plain, of_width, register_at, operand_at, target_at, slot_at, state_of, before_colon, label_at, one, two, three, four, five, six, seven, eight, ten, range_of, term_of}
 use Rattle.std.specs.Char.{is_ascii_digit}
 use Rattle.isa.specs.declared.instruction.Extension.TheVariants as extensions
 use Rattle.isa.specs.declared.instruction.LoadSize.TheVariants as loads
-use Rattle.asm_lines.proofs.Numbers.{both}
+use Rattle.asm_words.proofs.Numbers.{both}
 use Rattle.asm_lines.proofs.Tokens.{hook_again, operation_again, test_again, load_again, store_again, register_again, not_equal, not_in_table}
 use Rattle.asm_lines.proofs.Fitting.{no_words, One, one_words, Two, two_words, Three, three_words, Four, four_words, Five, five_words, Six, six_words, Seven, seven_words, Eight, eight_words, Ten, ten_words}
 

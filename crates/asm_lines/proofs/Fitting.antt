@@ -1,6 +1,7 @@
 -- The words of a form, one for each of its parts.
 use Rattle.std.proofs.Common.{◌≡◌, List, [], ◌∷◌, refl}
-use Rattle.asm_lines.specs.Forms.{Word, Part, Matches, Fits}
+use Rattle.asm_lines.specs.Forms.{Part, Matches, Fits}
+use Rattle.asm_words.specs.Words.{Word}
 
 pub no_words : (words : List Word) → Fits words [] → words ≡ []
 no_words [] h = refl

@@ -3,7 +3,7 @@ use Rattle.std.proofs.Common.{◌≡◌, ℕ, List, [], ◌∷◌, ◌++◌, len
 use Rattle.std.specs.Prelude.{map, filter, Bool, true, false}
 use denote.Ref.{Bor}
 use Rattle.asm_lines.specs.declared.line.Line.{Line}
-use Rattle.asm_lines.specs.Forms.{Word}
+use Rattle.asm_words.specs.Words.{Word}
 use Rattle.asm_lines.specs.Views.{views, item, items}
 use Rattle.asm_lines.specs.Text.{words_in, Reads, Readings, AddsReading}
 use Rattle.asm_lines.specs.Reading.{line_of}

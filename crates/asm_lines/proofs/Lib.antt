@@ -1,4 +1,3 @@
-pub mod Numbers
 pub mod Tokens
 pub mod Fitting
 pub mod Complete

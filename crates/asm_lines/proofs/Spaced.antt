@@ -12,11 +12,13 @@ use Rattle.std.proofs.lemmas.Bool.Decides.{nat_tests}
 use Rattle.std.proofs.lemmas.Bool.{ne_eqb, lt-ltb}
 use Rattle.std.proofs.lemmas.List.{append-nil}
 use Rattle.std.proofs.lemmas.List.Folds.{list_all-append}
-use Rattle.asm_lines.specs.declared.numeral.Numeral.TheVariants as numerals
-use Rattle.asm_lines.specs.Numbers.{number_of, natural_of, negative_of, is_numeral, held}
-use Rattle.asm_lines.specs.Forms.{Word, Part, Number, Distance, Name, Definition, is_letter, is_name_character, are_name_characters, is_name}
-use Rattle.asm_lines.specs.Written.{part_word, followed, is_inner, is_word, IsWritten, AreWritten, Adds, Starts}
-use Rattle.asm_lines.proofs.Numbers.{both}
+use Rattle.asm_words.specs.declared.numeral.Numeral.TheVariants as numerals
+use Rattle.asm_words.specs.Numbers.{number_of, natural_of, negative_of, is_numeral, held}
+use Rattle.asm_lines.specs.Forms.{Part, Number, Distance, Name, Definition}
+use Rattle.asm_words.specs.Names.{is_letter, is_name_character, are_name_characters, is_name}
+use Rattle.asm_words.specs.Words.{Word, is_inner, is_word}
+use Rattle.asm_lines.specs.Written.{part_word, followed, IsWritten, AreWritten, Adds, Starts}
+use Rattle.asm_words.proofs.Numbers.{both}
 
 -- ---- one after the other
 

@@ -21,9 +21,8 @@ use Rattle.isa.specs.declared.instruction.LoadSize.{LoadSize}
 use Rattle.isa.specs.declared.instruction.LoadSize.TheVariants as loads
 use Rattle.isa.specs.declared.instruction.StoreSize.{StoreSize}
 use Rattle.isa.specs.declared.instruction.StoreSize.TheVariants as stores
-use Rattle.asm_lines.specs.Forms.{Word}
-use Rattle.asm_lines.specs.Words.{first_match, hook_word, hook_of, operation_word, operation_of, test_word, test_of, load_word, load_of, store_word, store_of, reorder_word, reorder_of, register_word, register_of, extension_word, extension_of, extension_width}
-use Rattle.asm_lines.proofs.Numbers.{both}
+use Rattle.asm_words.specs.Words.{Word, first_match, hook_word, hook_of, operation_word, operation_of, test_word, test_of, load_word, load_of, store_word, store_of, reorder_word, reorder_of, register_word, register_of, extension_word, extension_of, extension_width}
+use Rattle.asm_words.proofs.Numbers.{both}
 
 pub operation_again : (x : Operation) → operation_of (operation_word x) ≡ Some x
 operation_again operations.Add = refl

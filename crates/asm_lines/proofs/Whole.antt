@@ -8,10 +8,11 @@ use Rattle.std.proofs.lemmas.Bool.{ne_eqb}
 use Rattle.std.proofs.lemmas.List.Folds.{list_all-append}
 use Rattle.std.proofs.lemmas.List.{append-nil, length-append}
 use Rattle.asm_lines.specs.declared.line.Line.{Line}
-use Rattle.asm_lines.specs.Forms.{Word, Part, Fits, form_of, Spells, IsLine}
+use Rattle.asm_lines.specs.Forms.{Part, Fits, form_of, Spells, IsLine}
+use Rattle.asm_words.specs.Words.{Word, is_inner, is_word}
 use Rattle.asm_lines.specs.Text.{words_in, has_bytes, lines_in, Readings}
-use Rattle.asm_lines.specs.Written.{part_word, followed, spaced, line_text, is_inner, is_word, AreWritten, AreLines, some_reading, IsNamed}
-use Rattle.asm_lines.proofs.Numbers.{both}
+use Rattle.asm_lines.specs.Written.{part_word, followed, spaced, line_text, AreWritten, AreLines, some_reading, IsNamed}
+use Rattle.asm_words.proofs.Numbers.{both}
 use Rattle.asm_lines.proofs.Items.{readings_more, map_more}
 
 abbrev is_space : ℕ → Bool

@@ -1,8 +1,8 @@
 -- The grammar of lines: one table of forms. A form is a list of parts, each of which is one word of the line.
-use Rattle.std.specs.Prelude.{◌≡◌, ℕ, Bool, true, false, ◌&&◌, ◌||◌, nat_le, ◌≤◌, ◌==◌, List, [], ◌∷◌, ◌++◌, Some, codes}
+use Rattle.std.specs.Prelude.{◌≡◌, ℕ, Bool, true, false, ◌≤◌, List, [], ◌∷◌, ◌++◌, Some, codes}
 use Rattle.isa.specs.declared.instruction.Width.{Width}
 use Rattle.isa.specs.declared.instruction.Width.TheVariants.{Bits64}
-use Rattle.asm_lines.specs.declared.numeral.Numeral.{Numeral}
+use Rattle.asm_words.specs.declared.numeral.Numeral.{Numeral}
 use Rattle.asm_lines.specs.declared.line.Line.{Line}
 use Rattle.asm_lines.specs.declared.line.Line.TheVariants as lines
 use Rattle.asm_lines.specs.declared.line.Operand.{Operand}
@@ -15,30 +15,9 @@ use Rattle.asm_lines.specs.declared.line.Terms.TheVariants as terms
 use Rattle.asm_lines.specs.declared.line.Range.{Range}
 use Rattle.asm_lines.specs.declared.line.Content.{Content}
 use Rattle.asm_lines.specs.declared.line.Content.TheVariants as contents
-use Rattle.asm_lines.specs.Numbers.{number_of, distance_of}
-use Rattle.asm_lines.specs.Words.{hook_word, operation_word, test_word, load_word, store_word, reorder_word, register_word, extension_word, extension_width}
-
-abbrev pub Word : Type 0
-Word = List ℕ
-
--- ---- the name of a label: letters, digits and `_` (95), first a letter
-
-abbrev pub is_within : ℕ → ℕ → ℕ → Bool
-is_within low high c = nat_le low c && nat_le c high
-
-abbrev pub is_letter : ℕ → Bool
-is_letter c = is_within 97 122 c || is_within 65 90 c
-
-abbrev pub is_name_character : ℕ → Bool
-is_name_character c = is_letter c || (is_within 48 57 c || c == 95)
-
-abbrev pub are_name_characters : List ℕ → Bool
-are_name_characters [] = true
-are_name_characters (c ∷ cs) = is_name_character c && are_name_characters cs
-
-abbrev pub is_name : Word → Bool
-is_name [] = false
-is_name (c ∷ cs) = is_letter c && are_name_characters cs
+use Rattle.asm_words.specs.Numbers.{number_of, distance_of}
+use Rattle.asm_words.specs.Names.{is_name}
+use Rattle.asm_words.specs.Words.{Word, hook_word, operation_word, test_word, load_word, store_word, reorder_word, register_word, extension_word, extension_width}
 
 -- ---- a part of a form
 

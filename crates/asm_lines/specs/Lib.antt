@@ -1,5 +1,3 @@
-pub mod Numbers
-pub mod Words
 pub mod Forms
 pub mod Reading
 pub mod Views

@@ -16,9 +16,9 @@ use Rattle.asm_lines.specs.declared.line.Terms.{Terms}
 use Rattle.asm_lines.specs.declared.line.Terms.TheVariants as terms
 use Rattle.asm_lines.specs.declared.line.Range.{Range}
 use Rattle.asm_lines.specs.declared.line.Content.TheVariants as contents
-use Rattle.asm_lines.specs.Numbers.{number_of, distance_of}
-use Rattle.asm_lines.specs.Words.{hook_of, operation_of, test_of, load_of, store_of, reorder_of, register_of, extension_of, if_wide}
-use Rattle.asm_lines.specs.Forms.{Word, is_name}
+use Rattle.asm_words.specs.Numbers.{number_of, distance_of}
+use Rattle.asm_words.specs.Words.{hook_of, operation_of, test_of, load_of, store_of, reorder_of, register_of, extension_of, if_wide, Word}
+use Rattle.asm_words.specs.Names.{is_name}
 
 infixl 10 ◌>>=◌
 abbrev pub ◌>>=◌ : {A B : Type 0} → Option A → (A → Option B) → Option B

@@ -1,7 +1,8 @@
 -- A text is lines, and a line is words.
 use Rattle.std.specs.Prelude.{◌≡◌, ℕ, Bool, List, [], ◌∷◌, ◌++◌, Option, Some, None, filter, length, not, ◌==◌}
 use Rattle.std.specs.List.{slice_split}
-use Rattle.asm_lines.specs.Forms.{Word, Spells}
+use Rattle.asm_lines.specs.Forms.{Spells}
+use Rattle.asm_words.specs.Words.{Word}
 use Rattle.asm_lines.specs.declared.line.Line.{Line}
 
 -- between line feeds (10)

@@ -1,6 +1,7 @@
 -- What contracts see of values that point into the text.
 use Rattle.std.specs.Prelude.{List, [], ◌∷◌, map, Option, None, Some}
-use Rattle.asm_lines.specs.Forms.{Word, Spells}
+use Rattle.asm_lines.specs.Forms.{Spells}
+use Rattle.asm_words.specs.Words.{Word}
 use Rattle.asm_lines.specs.declared.line.Line.{Line}
 use Rattle.asm_lines.specs.declared.line.Item.{Item}
 use Rattle.asm_lines.specs.declared.line.Target.{Target}

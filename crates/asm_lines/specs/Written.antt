@@ -1,11 +1,12 @@
 -- What a line is written as: a word for each part of its form, between single spaces.
-use Rattle.std.specs.Prelude.{◌≡◌, ℕ, ◌+◌, List, [], ◌∷◌, ◌++◌, map, Option, Some, Bool, true, false, not, ◌==◌, ◌&&◌, codes}
-use Rattle.std.specs.List.{list_all}
+use Rattle.std.specs.Prelude.{◌≡◌, ℕ, ◌+◌, List, [], ◌∷◌, ◌++◌, map, Option, Some, Bool, true, false, codes}
 use Rattle.std.specs.Fmt.{decimal}
-use Rattle.asm_lines.specs.declared.numeral.Numeral.{Numeral}
-use Rattle.asm_lines.specs.declared.numeral.Numeral.TheVariants as numerals
+use Rattle.asm_words.specs.declared.numeral.Numeral.{Numeral}
+use Rattle.asm_words.specs.declared.numeral.Numeral.TheVariants as numerals
 use Rattle.asm_lines.specs.declared.line.Line.{Line}
-use Rattle.asm_lines.specs.Forms.{Word, Part, Exactly, Number, Distance, Name, Definition, Matches, form_of, names_label, is_name}
+use Rattle.asm_lines.specs.Forms.{Part, Exactly, Number, Distance, Name, Definition, Matches, form_of, names_label}
+use Rattle.asm_words.specs.Names.{is_name}
+use Rattle.asm_words.specs.Words.{Word, is_word}
 use Rattle.asm_lines.specs.Text.{lines_in, Readings}
 
 -- A number that no field holds is written as 2 ^ 64.
@@ -43,15 +44,6 @@ line_text line name = spaced (form_of line name) ++ 10 ∷ []
 -- Where the line gives or uses a label, this is a label's name; else it is empty.
 abbrev pub IsNamed : Line → Word → Type 0
 IsNamed line name = (names_label line ≡ true → is_name name ≡ true) × (names_label line ≡ false → name ≡ [])
-
--- ---- one word: neither empty nor cut by a space or a line feed
-
-abbrev pub is_inner : ℕ → Bool
-is_inner c = not (c == 32) && not (c == 10)
-
-abbrev pub is_word : Word → Bool
-is_word [] = false
-is_word (c ∷ cs) = is_inner c && list_all is_inner cs
 
 -- The part is written as one word, which matches it.
 pub record IsWritten (part : Part) : Type 0 where

@@ -2,12 +2,9 @@
 #![tactic(auto)]
 
 mod line;
-mod numeral;
 mod reading;
-mod word;
 mod writing;
 
 pub use line::{Content, Line, Operand, Range, Target, Term, Terms};
-pub use numeral::Numeral;
 pub use reading::{one_reading, read_lines};
 pub use writing::write_line;

@@ -1,4 +1,4 @@
-use crate::numeral::Numeral;
+use asm_words::Numeral;
 use isa::{
     ByteOrder, Extension, Hook, LoadSize, Operation, Register, StoreSize, SwapWidth, Test, Width,
 };

@@ -1,48 +1,19 @@
 //! What the words of a line spell.
 ghost use Rattle.std.specs.Prelude.{◌≡◌, ◌≤◌, false, List, [], ◌∷◌, codes, ◌++◌, length, option_map, None, IfSome, IfOk, OnOk};
-ghost use Rattle.asm_lines.specs.Forms.{Word, Spells, Matches, Fits, Name, the_operand, IsOperand, the_target, the_slot, is_label, the_terms, AreTerms, the_range, the_term, is_name, are_name_characters, is_name_character};
-ghost use Rattle.asm_lines.specs.Words.{register_word};
+ghost use Rattle.asm_lines.specs.Forms.{Spells, Matches, Fits, Name, the_operand, IsOperand, the_target, the_slot, is_label, the_terms, AreTerms, the_range, the_term};
+ghost use Rattle.asm_words.specs.Words.{Word, register_word};
 ghost use Rattle.asm_lines.specs.Views.{item_view, target_view, views, items, SpellsItem, SpellsPlain};
 ghost use Rattle.asm_lines.specs.Reading.{register_at, operand_at, name_at, target_at, slot_at, label_at, one, two, computed, moved, assignment, stack_range, three, widened, state_of, offset_of, four, loaded, stored, five, six, range_of, term_of, numbers_of, seven, map_value_of, eight, terms_of, ten, line_of};
 ghost use Rattle.asm_lines.specs.Text.{words_in, lines_in, AddsReading, Readings};
 ghost use Rattle.asm_lines.specs.declared.line.Line.{Line};
 
 use crate::line::{Content, Item, Line, Operand, Range, Target, Term, Terms};
-use crate::numeral::{read_distance, read_number};
-use crate::word::{
-    extension_of, hook_of, load_of, operation_of, register_of, reorder_of, store_of, test_of,
+use asm_words::{
+    extension_of, hook_of, is_name, load_of, operation_of, read_distance, read_number, register_of,
+    reorder_of, store_of, test_of,
 };
 use isa::{Operation, Register, Width};
 use std::alloc::{AllocError, Global};
-
-/// Whether the byte may stand in a label's name.
-fn is_name_character(byte: u8) -> bool
-    ensures { result ≡ is_name_character byte }
-{
-    byte.is_ascii_alphanumeric() || byte == b'_'
-}
-
-/// Whether each byte may stand in a label's name.
-fn are_name_characters(bytes: &[u8]) -> bool
-    ensures { result ≡ are_name_characters bytes.now }
-{
-    for byte in bytes {
-        if !is_name_character(*byte) {
-            return false;
-        }
-    }
-    true
-}
-
-/// Whether the word can be a label's name: letters, digits and `_`, first a letter.
-fn is_name(word: &str) -> bool
-    ensures { result ≡ is_name word.now }
-{
-    match word.as_bytes() {
-        [first, rest @ ..] => first.is_ascii_alphabetic() && are_name_characters(rest),
-        [] => false,
-    }
-}
 
 /// The register of this width that the word names.
 fn register_at(width: Width, word: &str) -> Option<Register>

@@ -1,16 +1,16 @@
 //! The text of a line: its words between single spaces, and a line feed at its end.
 ghost use Rattle.std.specs.Prelude.{◌≡◌, ◌≤◌, true, false, List, [], ◌∷◌, ◌++◌, codes, OnOk, string_bytes};
-ghost use Rattle.asm_lines.specs.Forms.{Word, Exactly, Number, Distance, Name, Definition, the_register, the_operand, the_target, the_slot, the_term, the_terms, the_range, the_content, form_of, is_name, is_label, is_data};
-ghost use Rattle.asm_lines.specs.Words.{extension_width, test_word};
-ghost use Rattle.asm_lines.specs.Written.{Adds, Starts, AreLines, IsNamed, is_word, line_text};
+ghost use Rattle.asm_lines.specs.Forms.{Exactly, Number, Distance, Name, Definition, the_register, the_operand, the_target, the_slot, the_term, the_terms, the_range, the_content, form_of, is_label, is_data};
+ghost use Rattle.asm_words.specs.Names.{is_name};
+ghost use Rattle.asm_words.specs.Words.{Word, extension_width, test_word, is_word};
+ghost use Rattle.asm_lines.specs.Written.{Adds, Starts, AreLines, IsNamed, line_text};
 ghost use Rattle.asm_lines.specs.declared.line.Line.{Line};
-ghost use Rattle.asm_lines.specs.declared.numeral.Numeral.{Numeral};
+ghost use Rattle.asm_words.specs.declared.numeral.Numeral.{Numeral};
 
 use crate::line::{Content, Line, Operand, Range, Target, Term, Terms};
-use crate::numeral::Numeral;
-use crate::word::{
-    extension_word, hook_word, load_word, operation_word, register_word, reorder_word, store_word,
-    test_word,
+use asm_words::{
+    Numeral, extension_word, hook_word, load_word, operation_word, register_word, reorder_word,
+    store_word, test_word,
 };
 use isa::{
     ByteOrder, Extension, Hook, LoadSize, Operation, Register, StoreSize, SwapWidth, Test, Width,

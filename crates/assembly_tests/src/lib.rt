@@ -1,7 +1,9 @@
-//! Tests of `asm_lines` and `asm` by their public calls. They stand above, since a crate is proved once more for its tests.
+//! Tests of `asm_words`, `asm_lines` and `asm` by their public calls. They stand above, since a crate is proved once more for its tests.
 #![tactic(auto)]
 
 #[cfg(test)]
 mod lines;
 #[cfg(test)]
 mod texts;
+#[cfg(test)]
+mod words;

@@ -2,9 +2,8 @@
 ghost use Rattle.std.specs.Prelude.{◌≡◌, true, false};
 ghost use Rattle.asm_lines.specs.Written.{IsNamed};
 
-use asm_lines::{
-    Content, Line, Numeral, Operand, Range, Target, Term, Terms, read_lines, write_line,
-};
+use asm_lines::{Content, Line, Operand, Range, Target, Term, Terms, read_lines, write_line};
+use asm_words::Numeral;
 use isa::{
     ByteOrder, Extension, Hook, LoadSize, Operation, Register, StoreSize, SwapWidth, Test, Width,
 };

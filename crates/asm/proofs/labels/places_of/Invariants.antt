@@ -1,5 +1,5 @@
 use Rattle.std.proofs.Common.{◌≡◌, ◌≤◌, ◌*◌, drop}
-use Rattle.asm_lines.specs.Forms.{Word}
+use Rattle.asm_words.specs.Words.{Word}
 use Rattle.asm_lines.specs.Views.{views}
 use Rattle.asm.specs.Assembling.{place_from}
 use Rattle.asm.specs.Labels.{place_in, ◌or_else◌}

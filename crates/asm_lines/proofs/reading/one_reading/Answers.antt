@@ -1,5 +1,5 @@
 use Rattle.std.proofs.Common.{◌∙◌, ap, sym}
-use Rattle.asm_lines.specs.Forms.{Word}
+use Rattle.asm_words.specs.Words.{Word}
 use Rattle.asm_lines.specs.declared.line.Line.{Line}
 use Rattle.asm_lines.proofs.Complete.{complete}
 use Rattle.asm_lines.proofs.Tokens.{some_same}

@@ -1,5 +1,6 @@
 use Rattle.std.proofs.Common.{◌≡◌, ◌∙◌, ap, subst, List}
-use Rattle.asm_lines.specs.Forms.{Word, Spells}
+use Rattle.asm_lines.specs.Forms.{Spells}
+use Rattle.asm_words.specs.Words.{Word}
 use Rattle.asm_lines.specs.Views.{views}
 use Rattle.asm_lines.specs.Reading.{line_of}
 use Rattle.asm_lines.specs.Text.{words_in}

@@ -1,7 +1,7 @@
 use Rattle.std.proofs.Common.{subst, List, ℕ, lit<, sym}
 use Rattle.std.proofs.lemmas.Iterator.Consumers.{YieldsList-end}
 use Rattle.std.proofs.lemmas.Iterator.Splits.{YieldsList-from_str_split}
-use Rattle.asm_lines.specs.Forms.{Word}
+use Rattle.asm_words.specs.Words.{Word}
 use Rattle.asm_lines.specs.Views.{items, views}
 use Rattle.asm_lines.specs.Text.{Readings}
 use Rattle.asm_lines.proofs.Items.{adds_readings, views_more}

@@ -1,6 +1,6 @@
 use Rattle.std.proofs.Common.{string_bytes, arith}
 use Rattle.asm_lines.specs.Forms.{Number}
-use Rattle.asm_lines.specs.declared.numeral.Numeral.TheVariants.{Natural}
+use Rattle.asm_words.specs.declared.numeral.Numeral.TheVariants.{Natural}
 use Rattle.asm_lines.proofs.Spaced.{added, natural_number}
 use Rattle.asm_lines.proofs.writing.next_natural.Goals as goal
 

@@ -1,6 +1,6 @@
 use Rattle.std.proofs.Common.{string_bytes, arith}
 use Rattle.asm_lines.specs.Forms.{Number, Distance}
-use Rattle.asm_lines.specs.declared.numeral.Numeral.TheVariants.{Negative}
+use Rattle.asm_words.specs.declared.numeral.Numeral.TheVariants.{Negative}
 use Rattle.asm_lines.proofs.Spaced.{added, negative_number, negative_distance}
 use Rattle.asm_lines.proofs.writing.next_negative.Goals as goal
 

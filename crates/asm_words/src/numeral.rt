@@ -1,6 +1,6 @@
 //! The numbers of a text: decimal, with an optional sign.
 ghost use Rattle.std.specs.Prelude.{◌≡◌};
-ghost use Rattle.asm_lines.specs.Numbers.{is_numeral, natural_of, negative_of, number_of, distance_of};
+ghost use Rattle.asm_words.specs.Numbers.{is_numeral, natural_of, negative_of, number_of, distance_of};
 
 /// A number as a text writes it.
 #[derive(Clone, Copy, PartialEq, Eq, Debug)]
@@ -54,7 +54,7 @@ fn read_negative(word: &str) -> Option<Numeral>
 }
 
 /// The number that the word spells: decimal digits, a `-` before them where it is below 0.
-pub(crate) fn read_number(word: &str) -> Option<Numeral>
+pub fn read_number(word: &str) -> Option<Numeral>
     ensures { result ≡ number_of word.now }
 {
     match word.strip_prefix('-') {
@@ -64,7 +64,7 @@ pub(crate) fn read_number(word: &str) -> Option<Numeral>
 }
 
 /// The distance that the word spells: a sign, and decimal digits.
-pub(crate) fn read_distance(word: &str) -> Option<Numeral>
+pub fn read_distance(word: &str) -> Option<Numeral>
     ensures { result ≡ distance_of word.now }
 {
     if let Some(digits) = word.strip_prefix('+') {
@@ -77,7 +77,7 @@ pub(crate) fn read_distance(word: &str) -> Option<Numeral>
 }
 
 impl Numeral {
-    ghost use Rattle.asm_lines.specs.Numbers.{numeral_of};
+    ghost use Rattle.asm_words.specs.Numbers.{numeral_of};
 
     /// The number as a text writes it.
     pub fn from_signed(number: i32) -> Numeral

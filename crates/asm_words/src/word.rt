@@ -1,14 +1,13 @@
 //! The words that name one thing of several, both ways.
 ghost use Rattle.std.specs.Prelude.{◌≡◌, ◌≤◌, true, IfSome};
-ghost use Rattle.asm_lines.specs.Written.{is_word};
-ghost use Rattle.asm_lines.specs.Words.{operation_word, operation_of, test_word, test_of, hook_word, hook_of, load_word, load_of, store_word, store_of, reorder_word, reorder_of, register_word, register_of, extension_word, extension_width, extension_of};
+ghost use Rattle.asm_words.specs.Words.{is_word, operation_word, operation_of, test_word, test_of, hook_word, hook_of, load_word, load_of, store_word, store_of, reorder_word, reorder_of, register_word, register_of, extension_word, extension_width, extension_of};
 
 use isa::{
     ByteOrder, Extension, Hook, LoadSize, Operation, Register, StoreSize, SwapWidth, Test, Width,
 };
 
 /// The operator of an assignment: `=` moves.
-pub(crate) fn operation_word(operation: Operation) -> &'static str
+pub fn operation_word(operation: Operation) -> &'static str
     ensures value { result.now ≡ operation_word operation }
     ensures word { is_word result.now ≡ true }
 {
@@ -31,7 +30,7 @@ pub(crate) fn operation_word(operation: Operation) -> &'static str
 }
 
 /// The operation of an assignment's operator.
-pub(crate) fn operation_of(word: &str) -> Option<Operation>
+pub fn operation_of(word: &str) -> Option<Operation>
     ensures value { result ≡ operation_of word.now }
     ensures found { IfSome result (λ found. word.now ≡ operation_word found) }
 {
@@ -55,7 +54,7 @@ pub(crate) fn operation_of(word: &str) -> Option<Operation>
 }
 
 /// The operator of a conditional jump.
-pub(crate) fn test_word(test: Test) -> &'static str
+pub fn test_word(test: Test) -> &'static str
     ensures value { result.now ≡ test_word test }
     ensures word { is_word result.now ≡ true }
 {
@@ -75,7 +74,7 @@ pub(crate) fn test_word(test: Test) -> &'static str
 }
 
 /// The test of a conditional jump's operator.
-pub(crate) fn test_of(word: &str) -> Option<Test>
+pub fn test_of(word: &str) -> Option<Test>
     ensures value { result ≡ test_of word.now }
     ensures found { IfSome result (λ found. word.now ≡ test_word found) }
 {
@@ -96,7 +95,7 @@ pub(crate) fn test_of(word: &str) -> Option<Test>
 }
 
 /// A hook's name.
-pub(crate) fn hook_word(hook: Hook) -> &'static str
+pub fn hook_word(hook: Hook) -> &'static str
     ensures value { result.now ≡ hook_word hook }
     ensures word { is_word result.now ≡ true }
 {
@@ -104,7 +103,7 @@ pub(crate) fn hook_word(hook: Hook) -> &'static str
 }
 
 /// The hook of this name.
-pub(crate) fn hook_of(word: &str) -> Option<Hook>
+pub fn hook_of(word: &str) -> Option<Hook>
     ensures value { result ≡ hook_of word.now }
     ensures found { IfSome result (λ found. word.now ≡ hook_word found) }
 {
@@ -118,7 +117,7 @@ pub(crate) fn hook_of(word: &str) -> Option<Hook>
 }
 
 /// What stands before the address of a load.
-pub(crate) fn load_word(size: LoadSize) -> &'static str
+pub fn load_word(size: LoadSize) -> &'static str
     ensures value { result.now ≡ load_word size }
     ensures word { is_word result.now ≡ true }
 {
@@ -134,7 +133,7 @@ pub(crate) fn load_word(size: LoadSize) -> &'static str
 }
 
 /// What a load reads.
-pub(crate) fn load_of(word: &str) -> Option<LoadSize>
+pub fn load_of(word: &str) -> Option<LoadSize>
     ensures value { result ≡ load_of word.now }
     ensures found { IfSome result (λ found. word.now ≡ load_word found) }
 {
@@ -151,7 +150,7 @@ pub(crate) fn load_of(word: &str) -> Option<LoadSize>
 }
 
 /// What stands before the address of a store.
-pub(crate) fn store_word(size: StoreSize) -> &'static str
+pub fn store_word(size: StoreSize) -> &'static str
     ensures value { result.now ≡ store_word size }
     ensures word { is_word result.now ≡ true }
 {
@@ -164,7 +163,7 @@ pub(crate) fn store_word(size: StoreSize) -> &'static str
 }
 
 /// What a store writes.
-pub(crate) fn store_of(word: &str) -> Option<StoreSize>
+pub fn store_of(word: &str) -> Option<StoreSize>
     ensures value { result ≡ store_of word.now }
     ensures found { IfSome result (λ found. word.now ≡ store_word found) }
 {
@@ -178,7 +177,7 @@ pub(crate) fn store_of(word: &str) -> Option<StoreSize>
 }
 
 /// What reorders the bytes of a register.
-pub(crate) fn reorder_word(order: ByteOrder, width: SwapWidth) -> &'static str
+pub fn reorder_word(order: ByteOrder, width: SwapWidth) -> &'static str
     ensures value { result.now ≡ reorder_word (order, width) }
     ensures word { is_word result.now ≡ true }
 {
@@ -196,7 +195,7 @@ pub(crate) fn reorder_word(order: ByteOrder, width: SwapWidth) -> &'static str
 }
 
 /// The order and the width that the word names.
-pub(crate) fn reorder_of(word: &str) -> Option<(ByteOrder, SwapWidth)>
+pub fn reorder_of(word: &str) -> Option<(ByteOrder, SwapWidth)>
     ensures value { result ≡ reorder_of word.now }
     ensures found { IfSome result (λ found. word.now ≡ reorder_word found) }
 {
@@ -215,7 +214,7 @@ pub(crate) fn reorder_of(word: &str) -> Option<(ByteOrder, SwapWidth)>
 }
 
 /// A register's name: `r` for all of its bits, `w` for the low 32.
-pub(crate) fn register_word(width: Width, register: Register) -> &'static str
+pub fn register_word(width: Width, register: Register) -> &'static str
     ensures value { result.now ≡ register_word (width, register) }
     ensures word { is_word result.now ≡ true }
 {
@@ -278,7 +277,7 @@ fn register_number(word: &str) -> Option<(Width, u8)>
 }
 
 /// The register that the word names, and its width.
-pub(crate) fn register_of(word: &str) -> Option<(Width, Register)>
+pub fn register_of(word: &str) -> Option<(Width, Register)>
     ensures value { result ≡ register_of word.now }
     ensures found { IfSome result (λ found. (word.now ≡ register_word found) × (found.1 ≤ 10)) }
 {
@@ -290,7 +289,7 @@ pub(crate) fn register_of(word: &str) -> Option<(Width, Register)>
 }
 
 /// The word of a move that widens a signed number.
-pub(crate) fn extension_word(extension: Extension) -> &'static str
+pub fn extension_word(extension: Extension) -> &'static str
     ensures value { result.now ≡ extension_word extension }
     ensures word { is_word result.now ≡ true }
 {
@@ -302,7 +301,7 @@ pub(crate) fn extension_word(extension: Extension) -> &'static str
 }
 
 /// The move that the word names, between registers of this width.
-pub(crate) fn extension_of(width: Width, word: &str) -> Option<Extension>
+pub fn extension_of(width: Width, word: &str) -> Option<Extension>
     ensures value { result ≡ extension_of width word.now }
     ensures found { IfSome result (λ found. (word.now ≡ extension_word found) × (width ≡ extension_width found)) }
 {

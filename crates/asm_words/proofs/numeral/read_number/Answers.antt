@@ -1,7 +1,7 @@
 use Rattle.std.proofs.Common.{◌∙◌, lit<}
 use Rattle.std.proofs.lemmas.Str.Pattern.{strip_prefix_char}
-use Rattle.asm_lines.proofs.Numbers.{number_unsigned}
-use Rattle.asm_lines.proofs.numeral.read_number.Goals as goal
+use Rattle.asm_words.proofs.Numbers.{number_unsigned}
+use Rattle.asm_words.proofs.numeral.read_number.Goals as goal
 
 pub returns-in-None : goal.returns-in-None
 returns-in-None c =

@@ -1,6 +1,6 @@
 use Rattle.std.proofs.Common.{◌≡◌, drop}
 use Rattle.std.specs.Str.{all_ascii_digits}
-use Rattle.asm_lines.proofs.numeral.is_numeral.Given as goal
+use Rattle.asm_words.proofs.numeral.is_numeral.Given as goal
 
 -- what stands before the byte are digits
 abbrev pub invariant-loop-byte : goal.invariant-loop-byte

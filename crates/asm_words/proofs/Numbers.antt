@@ -2,8 +2,8 @@
 use Rattle.std.proofs.Common.{◌≡◌, ℕ, ◌<◌, ◌≤◌, ◌^◌, List, [], ◌∷◌, length, Bool, true, false, ◌&&◌, refl, ap, arith, None}
 use Rattle.std.specs.Str.{all_ascii_digits}
 use Rattle.std.proofs.lemmas.Bool.{le-ltb, ne_eqb}
-use Rattle.asm_lines.specs.Numbers.{is_numeral, natural_of, number_of, distance_of, held}
-use Rattle.asm_lines.specs.declared.numeral.Numeral.TheVariants.{Huge}
+use Rattle.asm_words.specs.Numbers.{is_numeral, natural_of, number_of, distance_of, held}
+use Rattle.asm_words.specs.declared.numeral.Numeral.TheVariants.{Huge}
 
 pub held_huge : (v : ℕ) → 2 ^ 64 ≤ v → held v ≡ Huge
 held_huge v h = rw (le-ltb v (2 ^ 64) h) refl

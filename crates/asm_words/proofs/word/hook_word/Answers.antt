@@ -2,8 +2,8 @@ use Rattle.std.proofs.Common.{◌≡◌, true, refl}
 use Rattle.isa.specs.declared.hook.Hook.{Hook}
 use Rattle.isa.specs.declared.hook.Hook.TheVariants as hooks
 use Rattle.isa.specs.Hooks.{hook_name}
-use Rattle.asm_lines.specs.Written.{is_word}
-use Rattle.asm_lines.proofs.word.hook_word.Goals as goal
+use Rattle.asm_words.specs.Words.{is_word}
+use Rattle.asm_words.proofs.word.hook_word.Goals as goal
 
 names_are_words : (hook : Hook) → is_word (hook_name hook) ≡ true
 names_are_words hooks.Count = refl

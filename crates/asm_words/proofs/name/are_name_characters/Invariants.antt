@@ -1,6 +1,6 @@
 use Rattle.std.proofs.Common.{◌≡◌, drop}
-use Rattle.asm_lines.specs.Forms.{are_name_characters}
-use Rattle.asm_lines.proofs.reading.are_name_characters.Given as goal
+use Rattle.asm_words.specs.Names.{are_name_characters}
+use Rattle.asm_words.proofs.name.are_name_characters.Given as goal
 
 -- what stands before the byte may stand in a name
 abbrev pub invariant-loop-byte : goal.invariant-loop-byte

@@ -1,9 +1,9 @@
 use Rattle.std.proofs.Common.{◌≡◌, length, true, refl, sym, rules}
 use Rattle.std.specs.Str.Parse.{digits_value}
 use Rattle.std.proofs.lemmas.Str.Parse.{parse_digits, numerals_by_value, tells_all_ascii_digits}
-use Rattle.asm_lines.specs.Numbers.{is_numeral}
-use Rattle.asm_lines.proofs.Numbers.{held_huge, is_digits, is_some, large}
-use Rattle.asm_lines.proofs.numeral.read_natural.Goals as goal
+use Rattle.asm_words.specs.Numbers.{is_numeral}
+use Rattle.asm_words.proofs.Numbers.{held_huge, is_digits, is_some, large}
+use Rattle.asm_words.proofs.numeral.read_natural.Goals as goal
 
 pub returns-in-Err : goal.returns-in-Err
 returns-in-Err c =

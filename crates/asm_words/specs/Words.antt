@@ -1,5 +1,6 @@
--- The words that name one thing of several.
-use Rattle.std.specs.Prelude.{ℕ, List, [], ◌∷◌, Option, Some, None, if◌then◌else◌, codes, ◌==◌, ◌+◌}
+-- Words, and those that name one thing of several.
+use Rattle.std.specs.Prelude.{ℕ, Bool, false, not, ◌&&◌, List, [], ◌∷◌, Option, Some, None, if◌then◌else◌, codes, ◌==◌, ◌+◌}
+use Rattle.std.specs.List.{list_all}
 use Rattle.std.specs.Str.{bytes_eq}
 use Rattle.isa.specs.Hooks.{hook_name}
 use Rattle.isa.specs.declared.hook.Hook.{Hook}
@@ -20,6 +21,18 @@ use Rattle.isa.specs.declared.instruction.LoadSize.{LoadSize}
 use Rattle.isa.specs.declared.instruction.LoadSize.TheVariants as loads
 use Rattle.isa.specs.declared.instruction.StoreSize.{StoreSize}
 use Rattle.isa.specs.declared.instruction.StoreSize.TheVariants as stores
+
+abbrev pub Word : Type 0
+Word = List ℕ
+
+-- ---- one word: neither empty nor cut by a space (32) or a line feed (10)
+
+abbrev pub is_inner : ℕ → Bool
+is_inner c = not (c == 32) && not (c == 10)
+
+abbrev pub is_word : Word → Bool
+is_word [] = false
+is_word (c ∷ cs) = is_inner c && list_all is_inner cs
 
 -- The word is the first of these.
 abbrev pub first_match : {A : Type 0} → List (List ℕ × A) → List ℕ → Option A

@@ -2,8 +2,8 @@
 use Rattle.std.specs.Prelude.{ℤ, pos, negsuc, ℕ, ◌^◌, ◌-◌, Bool, List, [], ◌∷◌, length, Option, Some, None, if◌then◌else◌, nat_lt, ◌==◌, ◌&&◌, not}
 use Rattle.std.specs.Str.{all_ascii_digits}
 use Rattle.std.specs.Str.Parse.{digits_value}
-use Rattle.asm_lines.specs.declared.numeral.Numeral.{Numeral}
-use Rattle.asm_lines.specs.declared.numeral.Numeral.TheVariants.{Natural, Negative, Huge}
+use Rattle.asm_words.specs.declared.numeral.Numeral.{Numeral}
+use Rattle.asm_words.specs.declared.numeral.Numeral.TheVariants.{Natural, Negative, Huge}
 
 -- decimal digits, at least one
 abbrev pub is_numeral : List ℕ → Bool
