@@ -1,13 +1,13 @@
 -- The router's own LSAs: what is wanted, new instances, what waits for a Tick, and flushing (RFC
 -- 2328, sections 12.1.6, 12.4, 13.4, 14 and 14.1).
-use Rattle.std.specs.Prelude.{ℕ, ℤ, pos, ◌+ℤ◌, ◌==◌, Bool, true, false, not, ◌&&◌, ◌||◌, nat_le, nat_lt, if◌then◌else◌, List, [], ◌∷◌, ◌++◌, length, Option, None, Some}
+use Rattle.std.specs.Prelude.{ℕ, ℤ, pos, ◌+ℤ◌, ◌==◌, Bool, true, false, not, ◌&&◌, ◌||◌, nat_le, if◌then◌else◌, List, [], ◌∷◌, ◌++◌, Option, None, Some}
 use Rattle.std.specs.List.{filter, flat_map, fold}
 use Rattle.std.specs.FinMap as finite
 use Rattle.std.specs.FinSet as set
 use Rattle.std.specs.Ordering.{int_cmp, is_eq}
 pub use Rattle.words.specs.Constants.{max_sequence_number}
 pub use Rattle.words.specs.Constants.{initial_sequence_number}
-use Rattle.words.specs.Constants.{ls_refresh_time, max_age, min_ls_interval, most_lsas, most_own_externals}
+use Rattle.words.specs.Constants.{ls_refresh_time, max_age, min_ls_interval}
 use Rattle.words.specs.Numbers.{Moment, RouterNumber}
 use Rattle.words.specs.Prefixes.{Network, mask_of, network_address}
 use Rattle.words.specs.declared.key.Key.{Key}
@@ -17,9 +17,11 @@ use Rattle.lsa.specs.declared.body.Body.TheVariants as body
 use Rattle.lsa.specs.declared.body.Link.{Link as RouterLink}
 use Rattle.lsa.specs.declared.body.LinkKind.TheVariants.{PointToPoint, Stub}
 use Rattle.lsa.specs.Origination.{sealed_lsa}
-use Rattle.lsdb.specs.Copies.{Database, DatabaseCopy, age_now, age_out, install_originated, is_aged_out}
+use Rattle.lsdb.specs.Copies.{DatabaseCopy, age_now, age_out, install_originated, is_aged_out}
 use Rattle.lsdb.specs.Headers.{Lsa, lsa_aged, lsa_key}
 use Rattle.lsdb.specs.Keys.{same_key}
+pub use Rattle.lsdb.specs.Limits.{is_own_external, own_externals}
+use Rattle.lsdb.specs.Limits.{has_room as has_room_for}
 use Rattle.adjacency.specs.Adjacencies.{has_passed}
 use Rattle.adjacency.specs.Neighbors.{Neighbor, is_full}
 use Rattle.adjacency.specs.declared.interface.Interface.{Interface}
@@ -161,21 +163,9 @@ interval_is_over moment (Some last) = has_passed last min_ls_interval moment
 abbrev pub may_originate : Moment → Key → Router → Bool
 may_originate moment key r = interval_is_over moment (finite.get r.originated key)
 
-abbrev pub is_own_external : RouterNumber → Key → Bool
-is_own_external id key = key.ls_type == 5 && key.advertising_router == id
-
-abbrev pub own_externals : RouterNumber → Database → ℕ
-own_externals id db = length (filter (is_own_external id) (finite.keys db))
-
--- an LSA of this key passes no limit: it takes the place of its copy, or there are fewer than
--- 16,384 LSAs, and, if it is an external one, fewer than 4,096 own externals; copies still to be
--- removed count
+-- an LSA of this key passes no limit of the database
 abbrev pub has_room : Key → Router → Bool
-has_room key r =
-    finite.contains_key r.area.database key
-    || (nat_lt (finite.len r.area.database) most_lsas
-    && (not (is_own_external r.id key)
-    || nat_lt (own_externals r.id r.area.database) most_own_externals))
+has_room key r = has_room_for r.id key r.area.database
 
 abbrev pub wait : Key → Router → Router
 wait key r = record r { waiting = set.insert r.waiting key }

@@ -1,7 +1,7 @@
 -- When an event is refused, and why, in the order in which the reasons are tried.
 use Rattle.std.specs.Prelude.{◌≡◌, ℕ, Bool, true, false, not, ◌&&◌, ◌||◌, nat_le, nat_lt, if◌then◌else◌, List, length, Option, None, Some, Result, Ok, Err}
 use Rattle.std.specs.FinMap as finite
-use Rattle.words.specs.Constants.{clock_end, most_lsas, most_own_externals}
+use Rattle.words.specs.Constants.{clock_end}
 use Rattle.words.specs.Numbers.{InterfaceNumber, Moment}
 use Rattle.packet.specs.declared.refusal.Fault.{Fault}
 use Rattle.packet.specs.Reading.{fault_of}
@@ -12,7 +12,8 @@ use Rattle.events.specs.declared.model.CoreError.TheVariants as error
 use Rattle.events.specs.declared.model.Out.{Out}
 use Rattle.events.specs.Commands.{is_for, same_external}
 use Rattle.events.specs.Events.{Happens}
-use Rattle.events.specs.Originations.{external_key, own_externals}
+use Rattle.lsdb.specs.Limits.{exceeds as database_exceeds}
+use Rattle.events.specs.Originations.{external_key}
 use Rattle.events.specs.Routers.{Occurrence, Router}
 
 -- the clock goes back, or is out of range
@@ -60,9 +61,7 @@ first_refusal old moment event =
 
 -- more than 16,384 LSAs, or more than 4,096 own externals among them
 abbrev pub exceeds : Router → Bool
-exceeds r =
-    nat_lt most_lsas (finite.len r.area.database)
-    || nat_lt most_own_externals (own_externals r.id r.area.database)
+exceeds r = database_exceeds r.id r.area.database
 
 -- nothing else is wrong with the event, and what it leaves would pass a limit
 pub record WouldExceed (old : Router) (moment : ℕ) (event : Occurrence) : Type 0 where

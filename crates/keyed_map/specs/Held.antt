@@ -9,4 +9,6 @@ pub record Held (X : Type 0) : Type 0 where
   pub settled : ByKey X
 
 abbrev pub coded_held : {X : Type 0} → Coded X → Coded (Held X)
-coded_held {X} x = code_by (ByKey X × ByKey X) (coded× (map.code coded_key x) (map.code coded_key x)) (λ h. (h.present, h.settled)) (λ p. record { present = p.0; settled = p.1 }) (λ _. refl)
+coded_held {X} x =
+    code_by (ByKey X × ByKey X) (coded× (map.code coded_key x) (map.code coded_key x))
+    (λ h. (h.present, h.settled)) (λ p. record { present = p.0; settled = p.1 }) (λ _. refl)

@@ -1,5 +1,6 @@
 -- A map of slots, of which some are gone, and edits of it with what takes them back.
-use Rattle.std.specs.Prelude.{◌≡◌, ℕ, ◌+◌, ◌-◌, Bool, true, false, if◌then◌else◌, List, [], ◌∷◌, Option, Some, None, IsSome}
+use Rattle.std.specs.Prelude.{◌≡◌, ℕ, ◌+◌, ◌-◌, Bool, true, false, if◌then◌else◌}
+use Rattle.std.specs.Prelude.{List, [], ◌∷◌, Option, Some, None, IsSome}
 use Rattle.std.specs.Prelude.{map as each}
 use Rattle.std.specs.List.{filter}
 use Rattle.std.specs.Ordering.{is_le}
@@ -16,6 +17,9 @@ module _ {X : Type 0} where
   kept [] = []
   kept ((k, Gone) ∷ es) = kept es
   kept ((k, Holds x) ∷ es) = (k, x) ∷ kept es
+
+  abbrev pub kept_keys : List (Key × Slot X) → List Key
+  kept_keys es = each (λ e. e.0) (kept es)
 
   unfoldable pub slots_of : List (Key × Slot X) → ByKey (Slot X)
   slots_of es = map.from_entries es
@@ -59,7 +63,8 @@ module _ {X : Type 0} where
 
   -- the edits can be taken back, and the two numbers are those of the keys now and before the edits
   abbrev pub IsKept : List (Edit X) → ByKey (Slot X) → ℕ → ℕ → Type 0
-  IsKept es m len settled = AllFit es m × (len ≡ map.len (live m)) × (settled ≡ map.len (live (undone es m)))
+  IsKept es m len settled =
+      AllFit es m × (len ≡ map.len (live m)) × (settled ≡ map.len (live (undone es m)))
 
 -- so many keys, once one that was held or not was set or taken out
 abbrev pub counted : Bool → Bool → ℕ → ℕ

@@ -1,8 +1,11 @@
-//! Maps by LSA key whose edits since they were last settled can be taken back, without memory and at the cost of the edits.
+//! Maps by LSA key whose edits since they were last settled can be taken back, without memory and
+//! at the cost of the edits.
 #![tactic(auto)]
 
+mod keys_in_order;
 mod map;
 mod slot;
 
+pub use keys_in_order::KeysInOrder;
 pub use map::{Copied, KeyTest, KeyedMap};
 pub use slot::{Edit, Slot};

@@ -1,8 +1,10 @@
 ghost use Rattle.std.specs.Prelude.{◌≡◌, ◌==◌, IfOk, OnOk, OnErr, take, option_copied};
 ghost use Rattle.std.specs.FinMap as map;
 ghost use Rattle.keyed_map.specs.Keys.{key_cmp};
-ghost use Rattle.keyed_map.specs.Slots.{Fits, counted, holds, keys_from, keys_where, live, put_live, slots_of, undo};
+ghost use Rattle.keyed_map.specs.Slots.{Fits, counted, holds, keys_from, keys_where, live};
+ghost use Rattle.keyed_map.specs.Slots.{put_live, slots_of, undo};
 
+use crate::keys_in_order::KeysInOrder;
 use crate::slot::{Edit, Slot};
 use std::alloc::{AllocError, Global};
 use std::collections::BTreeMap;
@@ -36,7 +38,8 @@ impl<X> Model for KeyedMap<X> {
     ghost invariant = { λ a. IsKept a.edits.items (slots_of a.slots.entries) a.len a.settled_len };
 }
 
-// The key once more: a `Copy` struct with a field that has a model counts as moved where it is used.
+// The key once more: a `Copy` struct with a field that has a model counts as moved where it is
+// used.
 fn same(key: &Key) -> Key
     ensures { result ≡ key.now }
 {
@@ -169,6 +172,15 @@ impl<X: Drop> KeyedMap<X> {
         match self.get(key) {
             Some(_) => true,
             None => false,
+        }
+    }
+
+    /// The keys, in their order.
+    pub fn keys(&self) -> KeysInOrder<'_, X>
+        ensures { result ≡ map.keys self.now.present }
+    {
+        KeysInOrder {
+            slots: self.slots.iter(),
         }
     }
 

@@ -26,7 +26,7 @@ equal Less p = absurd (subst T (sym p) tt)
 equal Equal p = refl
 equal Greater p = absurd (subst T (sym p) tt)
 
-tied : (q k : Key) → eq_by_cmp key_cmp q k ≡ true → q ≡ k
+pub tied : (q k : Key) → eq_by_cmp key_cmp q k ≡ true → q ≡ k
 tied q k is = keys_exact q k (equal _ is)
 
 pub both-none : (l : Option Lsa) → both l None ≡ None
@@ -56,7 +56,7 @@ get-joined lsas times q =
     finite.get-from_entries keys_total (with_times times (finite.entries lsas)) q ∙ find-joined q times (finite.entries lsas)
     ∙ ap (λ o. both o (finite.get times q)) (sym (finite.get-entries lsas q))
 
-same : {Y : Type 0} (m n : ByKey Y) → ((q : Key) → finite.get m q ≡ finite.get n q) → m ≡ n
+pub same : {Y : Type 0} (m n : ByKey Y) → ((q : Key) → finite.get m q ≡ finite.get n q) → m ≡ n
 same = finite.same_map keys_total keys_exact
 
 pub joined-empty : joined finite.empty finite.empty ≡ finite.empty

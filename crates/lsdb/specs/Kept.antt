@@ -13,5 +13,8 @@ pub record RouterDatabase : Type 0 where
   pub settled : Database
 
 abbrev pub coded_database : Coded DatabaseCopy → Coded RouterDatabase
-coded_database x = code_by (ℕ × (Database × Database)) (coded× coded_ℕ (coded× (finite.code coded_key x) (finite.code coded_key x)))
-    (λ d. (d.router, (d.present, d.settled))) (λ p. record { router = p.0; present = p.1.0; settled = p.1.1 }) (λ _. refl)
+coded_database x =
+    code_by (ℕ × (Database × Database))
+    (coded× coded_ℕ (coded× (finite.code coded_key x) (finite.code coded_key x)))
+    (λ d. (d.router, (d.present, d.settled)))
+    (λ p. record { router = p.0; present = p.1.0; settled = p.1.1 }) (λ _. refl)

@@ -1,25 +1,39 @@
 //! The database itself.
 ghost use Rattle.std.specs.Prelude.{◌≡◌, take, IfOk, OnOk};
 ghost use Rattle.std.specs.FinMap as finite;
-ghost use Rattle.lsdb.specs.Copies.{age_out, aged_keys, install_flooded, install_originated, mark_sent};
+ghost use Rattle.lsdb.specs.Copies.{
+  age_out,
+  aged_keys,
+  install_flooded,
+  install_originated,
+  mark_sent,
+  put_copy,
+};
+ghost use Rattle.lsdb.specs.Limits.{exceeds, has_room, own_externals};
 
 use crate::database_copy::DatabaseCopy;
+use crate::limits::{MOST_LSAS, MOST_OWN_EXTERNALS, is_own_external, recount};
 use crate::order::{MAX_AGE, age_at};
+use crate::stored::StoredLsa;
 use crate::times::Times;
-use keyed_map::{KeyTest, KeyedMap};
+use keyed_map::{KeyTest, KeyedMap, KeysInOrder};
 use lsa::Lsa;
 use std::alloc::{AllocError, Global};
 use std::marker::Model;
 use words::{Key, RouterId, Second};
 
-/// The link state database of a router: at most one copy for each key, and the copies when it was last settled.
+/// The link state database of a router: at most one copy for each key, and the copies when it was
+/// last settled.
 ///
 /// The LSAs and their times stand apart: an edit of a copy's times copies no LSA.
 #[derive(Drop)]
 pub struct Lsdb {
     router: RouterId,
-    lsas: KeyedMap<Lsa>,
+    lsas: KeyedMap<StoredLsa>,
     times: KeyedMap<Times>,
+    // how many own AS-external-LSAs there are, and how many there were when it was last settled
+    externals: usize,
+    settled_externals: usize,
 }
 
 impl Model for Lsdb {
@@ -30,7 +44,7 @@ impl Model for Lsdb {
 
     ghost coded = { coded_database (Prim.hlevel codes) };
 
-    ghost use Rattle.lsdb.specs.Joined.{HaveTimes, joined};
+    ghost use Rattle.lsdb.specs.Joined.{AreKept, joined};
 
     ghost view = { λ a. record {
       router = a.router;
@@ -38,7 +52,7 @@ impl Model for Lsdb {
       settled = joined a.lsas.settled a.times.settled;
     } };
 
-    ghost invariant = { λ a. HaveTimes a.lsas.present a.times.present × HaveTimes a.lsas.settled a.times.settled };
+    ghost invariant = { λ a. AreKept a.router a.lsas a.times a.externals a.settled_externals };
 }
 
 // Which LSAs have come to MaxAge.
@@ -48,12 +62,12 @@ struct AgedOut<'a> {
     moment: Second,
 }
 
-impl<'a> KeyTest<Lsa> for AgedOut<'a> {
+impl<'a> KeyTest<StoredLsa> for AgedOut<'a> {
     ghost use Rattle.lsdb.specs.Joined.{aged_at};
 
     ghost accepts = { λ a key lsa. aged_at a.moment (finite.get a.times.now.present key) };
 
-    fn accepts(&self, key: &Key, _lsa: &Lsa) -> bool {
+    fn accepts(&self, key: &Key, _lsa: &StoredLsa) -> bool {
         match self.times.get(key) {
             None => false,
             Some(times) => age_at(times.age, times.stored, self.moment) == MAX_AGE,
@@ -70,7 +84,24 @@ impl Lsdb {
             router,
             lsas: KeyedMap::new(alloc),
             times: KeyedMap::new(alloc),
+            externals: 0,
+            settled_externals: 0,
         }
+    }
+
+    /// The same database, with nothing to be taken back.
+    pub fn copy(&self, alloc: Global) -> Result<Self, AllocError>
+        ensures { IfOk result (λ made. made ≡ record self.now { settled = self.now.present }) }
+    {
+        let lsas = self.lsas.copy(alloc)?;
+        let times = self.times.copy(alloc)?;
+        Ok(Lsdb {
+            router: self.router,
+            lsas,
+            times,
+            externals: self.externals,
+            settled_externals: self.externals,
+        })
     }
 
     /// How many copies there are.
@@ -86,14 +117,48 @@ impl Lsdb {
     {
         match self.lsas.get(key) {
             None => None,
-            Some(lsa) => match self.times.get(key) {
+            Some(stored) => match self.times.get(key) {
                 None => None,
                 Some(times) => {
                     let times: Times = *times;
+                    let lsa = stored.lsa();
                     Some(DatabaseCopy { lsa, times })
                 }
             },
         }
+    }
+
+    /// The keys, in their order.
+    pub fn keys(&self) -> KeysInOrder<'_, StoredLsa>
+        ensures { result ≡ finite.keys self.now.present }
+    {
+        self.lsas.keys()
+    }
+
+    /// How many AS-external-LSAs of the router itself there are.
+    pub fn own_externals(&self) -> usize
+        ensures { result ≡ own_externals self.now.router self.now.present }
+    {
+        self.externals
+    }
+
+    /// Tells whether an LSA of this key passes no limit: it takes the place of its copy, or there
+    /// are fewer than 16,384 LSAs and, if the router itself originates it as an AS-external-LSA,
+    /// fewer than 4,096 of these.
+    pub fn has_room(&self, key: &Key) -> bool
+        ensures { result ≡ has_room self.now.router key.now self.now.present }
+    {
+        self.lsas.contains(key)
+            || self.lsas.len() < MOST_LSAS
+                && (!is_own_external(self.router, key) || self.externals < MOST_OWN_EXTERNALS)
+    }
+
+    /// Tells whether there are more than 16,384 LSAs, or more than 4,096 AS-external-LSAs of the
+    /// router itself among them.
+    pub fn exceeds(&self) -> bool
+        ensures { result ≡ exceeds self.now.router self.now.present }
+    {
+        self.lsas.len() > MOST_LSAS || self.externals > MOST_OWN_EXTERNALS
     }
 
     /// The first so many keys, in their order.
@@ -114,9 +179,9 @@ impl Lsdb {
         self.lsas.keys_where(alloc, &aged_out)
     }
 
-    /// Flooding brought the LSA at this moment (RFC 2328, section 13.2).
-    pub fn install_flooded(&mut self, moment: Second, lsa: Lsa) -> Result<(), AllocError>
-        ensures ok { OnOk result (self.new.present ≡ install_flooded moment lsa self.old.present) }
+    // The LSA takes the place of its copy; `installed` tells whether flooding brought it.
+    fn put(&mut self, moment: Second, lsa: Lsa, installed: Option<Second>) -> Result<(), AllocError>
+        ensures ok { OnOk result (self.new.present ≡ put_copy moment lsa installed self.old.present) }
         ensures settled { self.new.settled ≡ self.old.settled }
         ensures router { self.new.router ≡ self.old.router }
     {
@@ -124,13 +189,25 @@ impl Lsdb {
         let times = Times {
             age: header.age,
             stored: moment,
-            installed: Some(moment),
+            installed,
             sent: None,
         };
         let name = header.key();
         let key = &name;
+        let held = self.lsas.contains(key);
         self.times.insert(*key, times)?;
-        self.lsas.insert(*key, lsa)
+        self.lsas.insert(*key, StoredLsa::new(lsa))?;
+        self.externals = recount(self.router, &self.lsas, key, held, true, self.externals);
+        Ok(())
+    }
+
+    /// Flooding brought the LSA at this moment (RFC 2328, section 13.2).
+    pub fn install_flooded(&mut self, moment: Second, lsa: Lsa) -> Result<(), AllocError>
+        ensures ok { OnOk result (self.new.present ≡ install_flooded moment lsa self.old.present) }
+        ensures settled { self.new.settled ≡ self.old.settled }
+        ensures router { self.new.router ≡ self.old.router }
+    {
+        self.put(moment, lsa, Some(moment))
     }
 
     /// This router originated the LSA at this moment (RFC 2328, section 12.4).
@@ -139,17 +216,7 @@ impl Lsdb {
         ensures settled { self.new.settled ≡ self.old.settled }
         ensures router { self.new.router ≡ self.old.router }
     {
-        let header = lsa.header();
-        let times = Times {
-            age: header.age,
-            stored: moment,
-            installed: None,
-            sent: None,
-        };
-        let name = header.key();
-        let key = &name;
-        self.times.insert(*key, times)?;
-        self.lsas.insert(*key, lsa)
+        self.put(moment, lsa, None)
     }
 
     /// An Update took the copy of this key along at this moment. Without a copy nothing happens.
@@ -168,8 +235,8 @@ impl Lsdb {
         self.times.insert(*key, marked)
     }
 
-    /// Premature aging (RFC 2328, section 14.1): the copy of this key has MaxAge from this moment on. Without a copy nothing
-    /// happens.
+    /// Premature aging (RFC 2328, section 14.1): the copy of this key has MaxAge from this moment
+    /// on. Without a copy nothing happens.
     pub fn age_out(&mut self, moment: Second, key: &Key) -> Result<(), AllocError>
         ensures ok { OnOk result (self.new.present ≡ age_out moment key.now self.old.present) }
         ensures settled { self.new.settled ≡ self.old.settled }
@@ -192,7 +259,9 @@ impl Lsdb {
         ensures settled { self.new.settled ≡ self.old.settled }
         ensures router { self.new.router ≡ self.old.router }
     {
+        let held = self.lsas.contains(key);
         self.lsas.remove(key)?;
+        self.externals = recount(self.router, &self.lsas, key, held, false, self.externals);
         self.times.remove(key)
     }
 
@@ -202,6 +271,7 @@ impl Lsdb {
     {
         self.lsas.settle();
         self.times.settle();
+        self.settled_externals = self.externals;
     }
 
     /// Takes all edits back that were made since it was last settled.
@@ -210,5 +280,6 @@ impl Lsdb {
     {
         self.lsas.roll_back();
         self.times.roll_back();
+        self.externals = self.settled_externals;
     }
 }

@@ -1,5 +1,6 @@
 //! A copy of the database, as it is lent.
 ghost use Rattle.std.specs.Prelude.{◌≡◌, ◌≤◌, IfOk};
+ghost use Rattle.words.specs.Constants.{max_age};
 ghost use Rattle.lsa.specs.Text.{text};
 ghost use Rattle.lsdb.specs.Copies.{age_now, copy_header, copy_now, is_aged_out};
 ghost use Rattle.lsdb.specs.Headers.{lsa_aged};
@@ -32,7 +33,7 @@ impl<'a> DatabaseCopy<'a> {
     /// Its age at the moment, in seconds, at most 3600.
     pub fn age(&self, moment: Second) -> u16
         ensures age { result ≡ age_now moment self.now }
-        ensures most { result ≤ 3600 }
+        ensures most { result ≤ max_age }
     {
         age_at(self.times.age, self.times.stored, moment)
     }
@@ -69,7 +70,7 @@ impl<'a> DatabaseCopy<'a> {
 
     /// Its text at this age, in seconds.
     pub fn text(&self, alloc: Global, age: u16) -> Result<Sequence<u8>, AllocError>
-        requires { age ≤ 3600 }
+        requires { age ≤ max_age }
         ensures { IfOk result (λ bytes. bytes ≡ text (lsa_aged age self.now.lsa)) }
     {
         let bytes = write_at_age(alloc, self.lsa, age)?;

@@ -1,4 +1,6 @@
 //! The moments of a copy.
+use keyed_map::Copied;
+use std::alloc::{AllocError, Global};
 use words::Second;
 
 /// What changes of a copy while its LSA stays.
@@ -11,4 +13,10 @@ pub struct Times {
     pub installed: Option<Second>,
     /// When it was last sent in an Update, if it was.
     pub sent: Option<Second>,
+}
+
+impl Copied for Times {
+    fn copy(&self, _alloc: Global) -> Result<Self, AllocError> {
+        Ok(*self)
+    }
 }

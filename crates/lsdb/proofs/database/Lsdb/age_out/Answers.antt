@@ -1,4 +1,4 @@
-use Rattle.std.proofs.Common.{Some, ap, sym, subst, ◌∙◌}
+use Rattle.std.proofs.Common.{ap, sym, subst, ◌∙◌}
 use Rattle.std.specs.FinMap as finite
 use Rattle.lsdb.specs.Copies.{age_out}
 use Rattle.keyed_map.proofs.Helds.{after, on_ok}
@@ -24,8 +24,10 @@ pub invariant_of-self : goal.invariant_of-self
 invariant_of-self c =
     let lsas = c.self.inside.lsas.present in
     let times = c.self.inside.times.present in
-    let t : Times = record c.in-Some.times.now { age = 3600; stored = c.args.moment } in (
-      after c.insert.result (HaveTimes lsas) c.insert.new.self.present times (finite.insert times c.args.key.now t) c.insert.ensures.ok c.insert.ensures.err
-          (have_more lsas times c.args.key.now c.self.invariant.0 t) c.self.invariant.0,
-      subst (HaveTimes c.self.inside.lsas.settled) (sym c.insert.ensures.settled) c.self.invariant.1,
-    )
+    let t : Times = record c.in-Some.times.now { age = 3600; stored = c.args.moment } in record {
+      present = after c.insert.result (HaveTimes lsas) c.insert.new.self.present times (finite.insert times c.args.key.now t) c.insert.ensures.ok c.insert.ensures.err
+          (have_more lsas times c.args.key.now c.self.invariant.present t) c.self.invariant.present;
+      settled = subst (HaveTimes c.self.inside.lsas.settled) (sym c.insert.ensures.settled) c.self.invariant.settled;
+      counted = c.self.invariant.counted;
+      settled_counted = c.self.invariant.settled_counted;
+    }

@@ -1,4 +1,4 @@
-use Rattle.std.proofs.Common.{IfOk, ap, sym, ◌∙◌}
+use Rattle.std.proofs.Common.{ap, ◌∙◌}
 use Rattle.std.proofs.lemmas.Result.{IfOk-weaker}
 use Rattle.lsdb.specs.Copies.{aged_keys}
 use Rattle.lsdb.proofs.Joins.{aged_joined}

@@ -1,6 +1,6 @@
 use Rattle.std.proofs.Common.{Some, ap, sym, ◌∙◌}
 use Rattle.std.specs.FinMap as finite
-use Rattle.lsdb.specs.Joined.{both}
+use Rattle.lsdb.specs.Joined.{both, copy_of}
 use Rattle.lsdb.proofs.Joins.{both-none, get-joined}
 use Rattle.lsdb.proofs.database.Lsdb.get.Goals as goal
 
@@ -21,5 +21,6 @@ pub returns-in-Some-get : goal.returns-in-Some-get
 returns-in-Some-get c =
     let lsas = c.self.inside.lsas.present in
     let times = c.self.inside.times.present in
-    ap (λ o. both o (Some c.in-Some-get.times.now)) c.in-Some.ensures ∙ ap (both (finite.get lsas c.args.key.now)) c.in-Some-get.ensures
+    ap (λ l. Some (copy_of l c.in-Some-get.times.now)) c.lsa-lsa.ensures
+    ∙ ap (λ o. both o (Some c.in-Some-get.times.now)) c.in-Some.ensures ∙ ap (both (finite.get lsas c.args.key.now)) c.in-Some-get.ensures
     ∙ sym (get-joined lsas times c.args.key.now) ∙ ap (λ h. finite.get h.present c.args.key.now) c.self.view_is

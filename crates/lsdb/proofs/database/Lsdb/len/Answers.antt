@@ -5,4 +5,4 @@ use Rattle.lsdb.proofs.database.Lsdb.len.Goals as goal
 
 pub returns : goal.returns
 returns c =
-    c.len.ensures ∙ sym (len_joined c.self.inside.lsas.present c.self.inside.times.present c.self.invariant.0) ∙ ap (λ h. finite.len h.present) c.self.view_is
+    c.len.ensures ∙ sym (len_joined c.self.inside.lsas.present c.self.inside.times.present c.self.invariant.present) ∙ ap (λ h. finite.len h.present) c.self.view_is

@@ -1,0 +1,51 @@
+//! How many LSAs the database may hold.
+ghost use Rattle.std.specs.Prelude.{◌≡◌, if◌then◌else◌};
+ghost use Rattle.keyed_map.specs.Slots.{counted};
+ghost use Rattle.lsdb.specs.Joined.{owned};
+ghost use Rattle.lsdb.specs.Limits.{is_own_external};
+
+use crate::stored::StoredLsa;
+use keyed_map::KeyedMap;
+use words::{Key, RouterId};
+
+/// So many LSAs the database has at most, whosoever they are (a limit of this project's own).
+pub const MOST_LSAS: usize = 16_384;
+
+/// So many AS-external-LSAs of the router itself are at most among them (a limit of this project's
+/// own).
+pub const MOST_OWN_EXTERNALS: usize = 4_096;
+
+/// Tells whether this is the key of an AS-external-LSA of the router (RFC 2328, section 12.4.4).
+pub fn is_own_external(router: RouterId, key: &Key) -> bool
+    ensures { result ≡ is_own_external router key.now }
+{
+    key.ls_type == 5 && key.advertising_router == router
+}
+
+/// How many own externals there are, once the LSA of a key was set or taken out: `held` tells
+/// whether the key was there, `holds` whether it is there now.
+pub fn recount(
+    router: RouterId,
+    lsas: &KeyedMap<StoredLsa>,
+    key: &Key,
+    held: bool,
+    holds: bool,
+    externals: usize,
+) -> usize
+    requires { owned router lsas.now.present
+        ≡ (if is_own_external router key.now then counted held holds externals else externals) }
+    ensures { result ≡ owned router lsas.now.present }
+{
+    let _lsas = lsas.len();
+    if !is_own_external(router, key) {
+        return externals;
+    }
+    if holds {
+        return if held { externals } else { externals + 1 };
+    }
+    if held {
+        externals.saturating_sub(1)
+    } else {
+        externals
+    }
+}
