@@ -16,7 +16,7 @@ use std::rt::Clock;
 use std::sync::Wait;
 use std::thread::Threads;
 
-const USAGE: &str = "usage: bench run | decode | encode | asm | objects | maps | texts";
+const USAGE: &str = "usage: bench run | decode | encode | asm | objects | maps | texts | database";
 
 /// Prints the figures of this name. False where no figures have it.
 fn measure<R: Clock + Print + AllocGlobal + Threads + Wait + Copy + Send + 'static>(
@@ -31,6 +31,7 @@ fn measure<R: Clock + Print + AllocGlobal + Threads + Wait + Copy + Send + 'stat
         "objects" => object_speed::print(rt)?,
         "maps" => maps_speed::print(*rt)?,
         "texts" => texts_speed::print(rt)?,
+        "database" => bench_database::print(rt)?,
         _ => return Ok(false),
     }
     Ok(true)
