@@ -39,6 +39,18 @@ run≢list e = let bad : ◌≡◌ {A = ℕ} 108 114 = ap (λ (t : List ℕ). sl
 pub asm≢list : codes "list" ≡ codes "asm" → ⊥
 asm≢list e = let bad : ◌≡◌ {A = ℕ} 108 97 = ap (λ (t : List ℕ). slice_index t 0) e in absurd (omega arith)
 
+pub raw≢verify : codes "verify" ≡ codes "raw" → ⊥
+raw≢verify e = let bad : ◌≡◌ {A = ℕ} 118 114 = ap (λ (t : List ℕ). slice_index t 0) e in absurd (omega arith)
+
+pub run≢verify : codes "verify" ≡ codes "run" → ⊥
+run≢verify e = let bad : ◌≡◌ {A = ℕ} 118 114 = ap (λ (t : List ℕ). slice_index t 0) e in absurd (omega arith)
+
+pub asm≢verify : codes "verify" ≡ codes "asm" → ⊥
+asm≢verify e = let bad : ◌≡◌ {A = ℕ} 118 97 = ap (λ (t : List ℕ). slice_index t 0) e in absurd (omega arith)
+
+pub list≢verify : codes "verify" ≡ codes "list" → ⊥
+list≢verify e = let bad : ◌≡◌ {A = ℕ} 118 108 = ap (λ (t : List ℕ). slice_index t 0) e in absurd (omega arith)
+
 pub no_raw : (rows : List Row)
     → ((hook : Hook) (file : Text) (seats : ℕ) → HasWord rows (codes "HOOK") (hook_name hook) → HasWord rows (codes "FILE") file → HasSeats rows seats → ⊥)
     → MadeBy (codes "raw") rows None
@@ -46,6 +58,7 @@ no_raw rows none (requests.Raw hook file seats) named has = none hook file.now s
 no_raw rows none (requests.Run object context packet) named has = absurd (raw≢run named)
 no_raw rows none (requests.Asm source object) named has = absurd (raw≢asm named)
 no_raw rows none (requests.List object) named has = absurd (raw≢list named)
+no_raw rows none (requests.Verify object) named has = absurd (raw≢verify named)
 
 pub no_run : (rows : List Row)
     → ((object context packet : Text) (zeros bytes : List ℕ) → HasWord rows (codes "OBJECT") object → HasWord rows (codes "CONTEXT") context
@@ -56,6 +69,7 @@ no_run rows none (requests.Run object context packet) named has =
     none object.now has.1.0 has.2.0 context packet.items has.0 has.1.1 has.2.1 has.1.2 has.2.2
 no_run rows none (requests.Asm source object) named has = absurd (run≢asm named)
 no_run rows none (requests.List object) named has = absurd (run≢list named)
+no_run rows none (requests.Verify object) named has = absurd (run≢verify named)
 
 pub no_asm : (rows : List Row)
     → ((source object : Text) → HasWord rows (codes "SOURCE") source → HasWord rows (codes "OBJECT") object → ⊥)
@@ -64,19 +78,30 @@ no_asm rows none (requests.Raw hook file seats) named has = absurd (raw≢asm (s
 no_asm rows none (requests.Run object context packet) named has = absurd (run≢asm (sym named))
 no_asm rows none (requests.Asm source object) named has = none source.now object.now has.0 has.1
 no_asm rows none (requests.List object) named has = absurd (asm≢list named)
+no_asm rows none (requests.Verify object) named has = absurd (asm≢verify named)
 
 pub no_list : (rows : List Row) → ((object : Text) → HasWord rows (codes "OBJECT") object → ⊥) → MadeBy (codes "list") rows None
 no_list rows none (requests.Raw hook file seats) named has = absurd (raw≢list (sym named))
 no_list rows none (requests.Run object context packet) named has = absurd (run≢list (sym named))
 no_list rows none (requests.Asm source object) named has = absurd (asm≢list (sym named))
 no_list rows none (requests.List object) named has = none object.now has
+no_list rows none (requests.Verify object) named has = absurd (list≢verify named)
+
+pub no_verify : (rows : List Row) → ((object : Text) → HasWord rows (codes "OBJECT") object → ⊥) → MadeBy (codes "verify") rows None
+no_verify rows none (requests.Raw hook file seats) named has = absurd (raw≢verify (sym named))
+no_verify rows none (requests.Run object context packet) named has = absurd (run≢verify (sym named))
+no_verify rows none (requests.Asm source object) named has = absurd (asm≢verify (sym named))
+no_verify rows none (requests.List object) named has = absurd (list≢verify (sym named))
+no_verify rows none (requests.Verify object) named has = none object.now has
 
 -- a command of another name makes nothing
-pub no_other : (rows : List Row) (name : Text) → name ≢ codes "raw" → name ≢ codes "run" → name ≢ codes "asm" → name ≢ codes "list" → MadeBy name rows None
-no_other rows name raw run asm list (requests.Raw hook file seats) named has = raw (sym named)
-no_other rows name raw run asm list (requests.Run object context packet) named has = run (sym named)
-no_other rows name raw run asm list (requests.Asm source object) named has = asm (sym named)
-no_other rows name raw run asm list (requests.List object) named has = list (sym named)
+pub no_other : (rows : List Row) (name : Text) → name ≢ codes "raw" → name ≢ codes "run" → name ≢ codes "asm" → name ≢ codes "list" → name ≢ codes "verify"
+    → MadeBy name rows None
+no_other rows name raw run asm list verify (requests.Raw hook file seats) named has = raw (sym named)
+no_other rows name raw run asm list verify (requests.Run object context packet) named has = run (sym named)
+no_other rows name raw run asm list verify (requests.Asm source object) named has = asm (sym named)
+no_other rows name raw run asm list verify (requests.List object) named has = list (sym named)
+no_other rows name raw run asm list verify (requests.Verify object) named has = verify (sym named)
 
 -- what the command makes that was named
 pub named_makes : (name : Text) (rows : List Row) (request : Request) → MadeBy name rows (Some request) → Makes (Some (name, rows)) request

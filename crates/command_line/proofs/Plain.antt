@@ -9,7 +9,7 @@ use Rattle.clap.specs.Lexer.{long_of, short_of}
 use Rattle.clap.specs.Simple.{App, subcommand_of}
 use Rattle.clap.specs.Walk.{Row, Text}
 use Rattle.command_line.specs.CommandLine.{IsCommandLine, line_with}
-use Rattle.command_line.specs.Laws.{IsPlain, ListIsTaken, AsmIsTaken, RunIsTaken}
+use Rattle.command_line.specs.Laws.{IsPlain, ListIsTaken, AsmIsTaken, RunIsTaken, VerifyIsTaken}
 use Rattle.command_line.specs.Requests.{Asks, HasWord}
 use Rattle.command_line.specs.declared.requests.Request.{Request}
 use Rattle.command_line.specs.declared.requests.Request.TheVariants as requests
@@ -67,6 +67,29 @@ list line program object own plain = at_line (list_words program object.now) (re
     let object_plain = no_flag object.now plain in
     let taken = list_taken hooks program object.now object_plain in
     (taken.no_fault, (rows_of_words hooks (list_words program object.now), taken.named, list_object hooks program object.now object_plain))) line own
+
+abbrev verify_words : Text → Text → List Text
+verify_words program object = program ∷ codes "verify" ∷ object ∷ []
+
+verify_taken : (hooks : Bor (List (Bor Text))) (program object : Text) → NoFlag object
+    → Taken hooks (codes "verify") (verify_words program object)
+unfolding clap_on_literals
+verify_taken hooks program object plain = record {
+  no_fault = rw (plain.not_end, plain.not_long, plain.not_short) refl;
+  named = rw (plain.not_end, plain.not_long, plain.not_short) refl;
+}
+
+verify_object : (hooks : Bor (List (Bor Text))) (program object : Text) → NoFlag object
+    → HasWord (rows_of_words hooks (verify_words program object)) (codes "OBJECT") object
+unfolding clap_on_literals
+verify_object hooks program object plain = rw (plain.not_end, plain.not_long, plain.not_short) refl
+
+pub verify : VerifyIsTaken
+verify line program object own plain = at_line (verify_words program object.now) (requests.Verify object) (λ hooks.
+    let object_plain = no_flag object.now plain in
+    let taken = verify_taken hooks program object.now object_plain in
+    let word = verify_object hooks program object.now object_plain in
+    (taken.no_fault, (rows_of_words hooks (verify_words program object.now), taken.named, word))) line own
 
 abbrev asm_words : Text → Text → Text → List Text
 asm_words program source object = program ∷ codes "asm" ∷ source ∷ object ∷ []

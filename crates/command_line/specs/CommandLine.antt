@@ -39,11 +39,15 @@ asm = command (codes "asm") (required (codes "SOURCE") ∷ required (codes "OBJE
 abbrev pub list : Shape
 list = command (codes "list") (required (codes "OBJECT") ∷ [])
 
+-- verify OBJECT
+abbrev pub verify : Shape
+verify = command (codes "verify") (required (codes "OBJECT") ∷ [])
+
 -- One of these commands has to be named, and without any word the answer is help.
 abbrev pub line_with : Bor (List (Bor Text)) → App
 line_with hooks = record {
   top = record (new_shape (codes "routerd")) { is_leaf = false; subcommand_required = true; arg_required_else_help = true };
-  subs = raw hooks ∷ run ∷ asm ∷ list ∷ [];
+  subs = raw hooks ∷ run ∷ asm ∷ list ∷ verify ∷ [];
 }
 
 -- the command line, wherever the names of the hooks lie

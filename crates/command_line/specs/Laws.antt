@@ -21,6 +21,7 @@ SameRequest (requests.Run object context packet) (requests.Run object_2 context_
     (object.now ≡ object_2.now) × (context ≡ context_2) × (packet.items ≡ packet_2.items)
 SameRequest (requests.Asm source object) (requests.Asm source_2 object_2) = (source.now ≡ source_2.now) × (object.now ≡ object_2.now)
 SameRequest (requests.List object) (requests.List object_2) = object.now ≡ object_2.now
+SameRequest (requests.Verify object) (requests.Verify object_2) = object.now ≡ object_2.now
 SameRequest _ _ = ⊥
 
 abbrev pub WordsMakeOneRequest : Type 0
@@ -55,8 +56,12 @@ abbrev pub ListIsTaken : Type 0
 ListIsTaken = (line : App) (program : Text) (object : Bor Text) → IsCommandLine line → IsPlain object.now
     → Asks line (program ∷ codes "list" ∷ object.now ∷ []) (requests.List object)
 
+abbrev pub VerifyIsTaken : Type 0
+VerifyIsTaken = (line : App) (program : Text) (object : Bor Text) → IsCommandLine line → IsPlain object.now
+    → Asks line (program ∷ codes "verify" ∷ object.now ∷ []) (requests.Verify object)
+
 abbrev pub PlainWordsAreTaken : Type 0
-PlainWordsAreTaken = RawIsTaken × RunIsTaken × AsmIsTaken × ListIsTaken
+PlainWordsAreTaken = RawIsTaken × RunIsTaken × AsmIsTaken × ListIsTaken × VerifyIsTaken
 
 -- What a line makes of its words, and what it finds wrong with them, is the same wherever the names of the hooks lie.
 abbrev pub WhereTheNamesLieChangesNothing : Type 0

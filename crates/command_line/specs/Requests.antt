@@ -18,6 +18,7 @@ command_of (requests.Raw hook file seats) = codes "raw"
 command_of (requests.Run object context packet) = codes "run"
 command_of (requests.Asm source object) = codes "asm"
 command_of (requests.List object) = codes "list"
+command_of (requests.Verify object) = codes "verify"
 
 -- the word under this name
 abbrev pub HasWord : List Row → Text → Text → Type 0
@@ -38,6 +39,7 @@ HasWordsOf rows (requests.Run object context packet) = HasWord rows (codes "OBJE
     × ((word : Text) × HasWord rows (codes "PACKET") word × IsPacket word packet.items)
 HasWordsOf rows (requests.Asm source object) = HasWord rows (codes "SOURCE") source.now × HasWord rows (codes "OBJECT") object.now
 HasWordsOf rows (requests.List object) = HasWord rows (codes "OBJECT") object.now
+HasWordsOf rows (requests.Verify object) = HasWord rows (codes "OBJECT") object.now
 
 -- what the command of this name makes of its words, if it makes a request of them
 abbrev pub MadeBy : Text → List Row → Option Request → Type 0

@@ -15,7 +15,7 @@ use clap::error::ErrorKind;
 use clap::{Arg, Command, Error, value_parser};
 use std::alloc::{AllocError, Global};
 
-const ABOUT: &str = "Assembles, lists and runs the programs of a router.";
+const ABOUT: &str = "Assembles, lists, verifies and runs the programs of a router.";
 
 const RAW: &str =
     "Runs bare code (slots of 8 bytes) once on each of SEATS threads, all on the same counters, and prints each answer and each counter above 0";
@@ -39,9 +39,16 @@ const LIST: &str = "Prints a text that assembles to the object file";
 
 const LIST_EXAMPLE: &str = "Example: routerd list sum.o";
 
+const VERIFY: &str =
+    "Verifies the program of an object file: whether each run of it is safe, and within how many instructions it ends";
+
+// What is written behind the help of `verify`: what it prints, and the rules.
+const VERIFY_RULES: &str =
+    "Example: routerd verify sum.o\n\nPrints accepted bound N, with status 0: on no input is a run of the program stuck, and each ends within N instructions.\nOr prints refused slot S rule R, with status 1: the first slot that breaks a rule, and the number of the rule:\n\n   1 Target     a jump or a statement at a slot where no instruction begins\n   2 FallsOff   the last instruction is neither exit nor an unconditional jump\n   3 Unreached  no statement behind exit or an unconditional jump\n   4 Unstated   a jump to a slot without a statement\n   5 Empty      an empty register or stack byte may be read\n   6 Kind       a pointer may be used as a number, or a number as a pointer\n   7 Bounds     a load or store may lie outside of its region\n   8 Align      a load or store in a map may not be of eight bytes at a multiple of eight\n   9 Helper     this hook has no helper of this number\n  10 Argument   a helper's argument may be too large\n  11 NotWithin  what is known may lie outside of the statement that comes next\n  12 Rank       the rank may rise at a statement, or may not fall on a jump back\n  13 Budget     the entry rank plus 1, times the slots, is above 1,000,000\n  14 ExitKind   a pointer may be answered\n  15 Frame      r10 is written\n\nFor each rule docs/VERIFIER.md has the smallest program that breaks it, and how to mend it. docs/FORMATS.md has the format of object files and of statements.";
+
 // What is written behind the top help: a line for each command and what it prints, and the statuses.
 const WORKED: &str =
-    "Examples:\n  routerd raw count adds.bin 2  prints seat 1 answer 0 used 4, seat 2 answer 0 used 4, counter 5 6\n  routerd asm sum.s sum.o       prints ok 6\n  routerd list sum.o            prints hook price, rank 10, r1 = 10 and the other lines of the text\n  routerd run sum.o - -         prints answer 55 used 33\n\nStatuses: 0 done, 1 refused or stuck, 2 usage, 3 file or stream, 4 memory.";
+    "Examples:\n  routerd raw count adds.bin 2  prints seat 1 answer 0 used 4, seat 2 answer 0 used 4, counter 5 6\n  routerd asm sum.s sum.o       prints ok 6\n  routerd list sum.o            prints hook price, rank 10, r1 = 10 and the other lines of the text\n  routerd verify sum.o          prints accepted bound 66\n  routerd run sum.o - -         prints answer 55 used 33\n\nStatuses: 0 done, 1 refused or stuck, 2 usage, 3 file or stream, 4 memory.";
 
 static HOOKS: [&str; 4] = ["count", "tag", "price", "veto"];
 
@@ -119,6 +126,17 @@ fn list<'a>(alloc: Global) -> Result<Command<'a>, AllocError>
         .arg(object)
 }
 
+fn verify<'a>(alloc: Global) -> Result<Command<'a>, AllocError>
+    ensures app { IfOk result (λ c. shape_of c ≡ line.verify) }
+    ensures local { IfOk result (λ c. (fields_of c).has_globals ≡ false) }
+{
+    let object = required(alloc, "OBJECT", "The object file");
+    Command::new(alloc, "verify")
+        .about(VERIFY)
+        .after_help(VERIFY_RULES)
+        .arg(object)
+}
+
 /// The whole command line.
 pub(crate) fn whole<'a>(alloc: Global) -> Result<Command<'a>, AllocError>
     ensures { IfOk result (λ c. IsCommandLine (app_of c)) }
@@ -131,7 +149,8 @@ pub(crate) fn whole<'a>(alloc: Global) -> Result<Command<'a>, AllocError>
         .subcommand(raw(alloc)?)?
         .subcommand(run(alloc)?)?
         .subcommand(asm(alloc)?)?
-        .subcommand(list(alloc)?)
+        .subcommand(list(alloc)?)?
+        .subcommand(verify(alloc)?)
 }
 
 /// An error about the words of a command line.

@@ -42,6 +42,10 @@ pub enum Request<'a> {
     List {
         object: &'a str,
     },
+    /// Verify the program of an object file.
+    Verify {
+        object: &'a str,
+    },
 }
 
 /// The context that a word stands for: zeros for `-`, else 64 bytes in hex. None where it is neither.
@@ -132,6 +136,13 @@ fn list_request<'a>(matches: &ArgMatches<'a>) -> Option<Request<'a>>
     Some(Request::List { object })
 }
 
+fn verify_request<'a>(matches: &ArgMatches<'a>) -> Option<Request<'a>>
+    ensures { MadeBy (codes "verify") (rows_of (found_of matches.now)) result }
+{
+    let object = word_of(matches, "OBJECT")?;
+    Some(Request::Verify { object })
+}
+
 // What a command makes of its words. None where it makes nothing of them, or there is no such command.
 fn made_by<'a>(
     alloc: Global,
@@ -146,6 +157,7 @@ fn made_by<'a>(
         "run" => run_request(alloc, matches),
         "asm" => Ok(asm_request(matches)),
         "list" => Ok(list_request(matches)),
+        "verify" => Ok(verify_request(matches)),
         _ => Ok(None),
     }
 }

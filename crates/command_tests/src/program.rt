@@ -2,6 +2,7 @@
 
 mod objects;
 mod streams;
+mod verdicts;
 
 use commands::program::program;
 use std::process::Abort;
@@ -377,7 +378,7 @@ fn sixty_four_seats_print_in_seat_order(rt: HostRuntime) -> Result<(), Fail> {
 
 #[test]
 fn wrong_words_are_a_matter_of_usage(rt: HostRuntime) -> Result<(), Fail> {
-    let wrong: [&[&str]; 17] = [
+    let wrong: [&[&str]; 19] = [
         &["routerd"],
         &["routerd", "fly"],
         &["routerd", "raw"],
@@ -392,6 +393,8 @@ fn wrong_words_are_a_matter_of_usage(rt: HostRuntime) -> Result<(), Fail> {
         &["routerd", "asm", "a", "b", "c"],
         &["routerd", "list"],
         &["routerd", "list", "a", "b"],
+        &["routerd", "verify"],
+        &["routerd", "verify", "a", "b"],
         &["routerd", "run"],
         &["routerd", "run", "o", "-"],
         &["routerd", "run", "o", "-", "-", "-"],
@@ -412,14 +415,16 @@ fn help_names_each_command(rt: HostRuntime) -> Result<(), Fail> {
     assert!(rt; outcome.lines.as_str() == "");
     let help = outcome.usage.as_str();
     for part in [
-        "Assembles, lists and runs the programs of a router.",
-        "\n  raw   Runs bare code",
-        "\n  run   Runs the program of an object file",
-        "\n  asm   Assembles a text into an object file",
-        "\n  list  Prints a text that assembles to the object file",
+        "Assembles, lists, verifies and runs the programs of a router.",
+        "\n  raw     Runs bare code",
+        "\n  run     Runs the program of an object file",
+        "\n  asm     Assembles a text into an object file",
+        "\n  list    Prints a text that assembles to the object file",
+        "\n  verify  Verifies the program of an object file",
         "\n  routerd raw count adds.bin 2  prints seat 1 answer 0 used 4, seat 2 answer 0 used 4, counter 5 6\n",
         "\n  routerd asm sum.s sum.o       prints ok 6\n",
         "\n  routerd list sum.o            prints hook price, rank 10, r1 = 10",
+        "\n  routerd verify sum.o          prints accepted bound 66\n",
         "\n  routerd run sum.o - -         prints answer 55 used 33\n",
         "\nStatuses: 0 done, 1 refused or stuck, 2 usage, 3 file or stream, 4 memory.",
     ] {

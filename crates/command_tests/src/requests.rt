@@ -107,6 +107,18 @@ fn list_takes_an_object(rt: HostRuntime) -> Result<(), Fail> {
 }
 
 #[test]
+fn verify_takes_an_object(rt: HostRuntime) -> Result<(), Fail> {
+    let words = ["routerd", "verify", "sum.o"];
+    match parse(rt.alloc(), &words)? {
+        Request::Verify { object } => {
+            assert!(rt; object == "sum.o");
+        }
+        _ => assert!(rt; false),
+    }
+    Ok(())
+}
+
+#[test]
 fn seats_are_1_to_64(rt: HostRuntime) {
     for seats in ["0", "65", "256", "two", "2.5"] {
         assert!(rt;
@@ -141,6 +153,7 @@ fn each_word_has_to_be_there(rt: HostRuntime) {
     assert!(rt; kind(&rt, &["routerd", "run", "a.o", "-"]) == missing);
     assert!(rt; kind(&rt, &["routerd", "asm", "a.s"]) == missing);
     assert!(rt; kind(&rt, &["routerd", "list"]) == missing);
+    assert!(rt; kind(&rt, &["routerd", "verify"]) == missing);
 }
 
 #[test]
@@ -151,6 +164,7 @@ fn no_more_words_are_taken(rt: HostRuntime) {
     assert!(rt; kind(&rt, &["routerd", "asm", "a.s", "a.o", "b.o"]) == unknown);
     assert!(rt; kind(&rt, &["routerd", "list", "a.o", "b.o"]) == unknown);
     assert!(rt; kind(&rt, &["routerd", "list", "-a"]) == unknown);
+    assert!(rt; kind(&rt, &["routerd", "verify", "a.o", "b.o"]) == unknown);
 }
 
 #[test]

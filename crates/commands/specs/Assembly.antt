@@ -19,7 +19,7 @@ pub record IsAssembled (text : List ℕ) (report : Report) : Type 0 where
   pub object : ObjectParts
   pub spells : TextSpells text object
   pub told : string_bytes report.text ≡ codes "ok " ++ decimal (slots_of object) ++ 10 ∷ []
-  pub done : report.is_stuck ≡ false
+  pub done : report.is_refused ≡ false
 
 -- the refusal of a text
 pub record IsTextRefused (text : List ℕ) (fault : Fault) : Type 0 where
@@ -35,7 +35,7 @@ pub record IsListing (bytes : List ℕ) (report : Report) : Type 0 where
   pub object : ObjectParts
   pub spells : Spells bytes object
   pub listed : TextSpells (string_bytes report.text) object
-  pub done : report.is_stuck ≡ false
+  pub done : report.is_refused ≡ false
 
 -- the refusal of bytes that are no object file
 pub record IsObjectRefused (bytes : List ℕ) (fault : Fault) : Type 0 where
@@ -51,5 +51,6 @@ pub record IsCodeRefused (bytes : List ℕ) (fault : Fault) : Type 0 where
   pub refuses : code.Refuses object.code error.slot error.kind
   pub told : fault ≡ fault_of_refusal error
 
-abbrev pub IsListFault : List ℕ → Fault → Type 0
-IsListFault bytes fault = (fault ≡ faults.Memory) ⊎ IsObjectRefused bytes fault ⊎ IsCodeRefused bytes fault
+-- Memory was refused, or the bytes hold no program.
+abbrev pub IsObjectFault : List ℕ → Fault → Type 0
+IsObjectFault bytes fault = (fault ≡ faults.Memory) ⊎ IsObjectRefused bytes fault ⊎ IsCodeRefused bytes fault

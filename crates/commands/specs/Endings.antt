@@ -11,8 +11,9 @@ use Rattle.command_line.specs.declared.requests.Request.{Request}
 use Rattle.command_line.specs.declared.requests.Request.TheVariants as requests
 use Rattle.commands.specs.Statuses.{status_of}
 use Rattle.commands.specs.RawRuns.{IsBareRefused, IsRawReport}
-use Rattle.commands.specs.Runs.{IsRun, IsRunFault}
-use Rattle.commands.specs.Assembly.{IsAssembled, IsListFault, IsListing, IsTextFault}
+use Rattle.commands.specs.Runs.{IsRun}
+use Rattle.commands.specs.Assembly.{IsAssembled, IsListing, IsObjectFault, IsTextFault}
+use Rattle.commands.specs.Verdicts.{IsVerdict}
 
 -- The request was carried out, and this is told: of some file, since no contract says what a file gives.
 abbrev pub IsMadeOf : Request → Report → Type 0
@@ -20,13 +21,15 @@ IsMadeOf (requests.Raw hook file seats) report = IsRawReport hook seats report
 IsMadeOf (requests.Run object context packet) report = (bytes : List ℕ) × IsRun bytes context packet.items report
 IsMadeOf (requests.Asm source object) report = (text : List ℕ) × IsAssembled text report
 IsMadeOf (requests.List object) report = (bytes : List ℕ) × IsListing bytes report
+IsMadeOf (requests.Verify object) report = (bytes : List ℕ) × IsVerdict bytes report
 
 -- The request can't be carried out, for this fault.
 abbrev pub IsFaultOf : Request → Fault → Type 0
 IsFaultOf (requests.Raw hook file seats) fault = (fault ≡ faults.Read file) ⊎ (fault ≡ faults.Memory) ⊎ ((bytes : List ℕ) × IsBareRefused bytes fault)
-IsFaultOf (requests.Run object context packet) fault = (fault ≡ faults.Read object) ⊎ ((bytes : List ℕ) × IsRunFault bytes fault)
+IsFaultOf (requests.Run object context packet) fault = (fault ≡ faults.Read object) ⊎ ((bytes : List ℕ) × IsObjectFault bytes fault)
 IsFaultOf (requests.Asm source object) fault = (fault ≡ faults.Read source) ⊎ (fault ≡ faults.Write object) ⊎ ((text : List ℕ) × IsTextFault text fault)
-IsFaultOf (requests.List object) fault = (fault ≡ faults.Read object) ⊎ ((bytes : List ℕ) × IsListFault bytes fault)
+IsFaultOf (requests.List object) fault = (fault ≡ faults.Read object) ⊎ ((bytes : List ℕ) × IsObjectFault bytes fault)
+IsFaultOf (requests.Verify object) fault = (fault ≡ faults.Read object) ⊎ ((bytes : List ℕ) × IsObjectFault bytes fault)
 
 -- What the words ask for was carried out. Else memory was refused, or the words ask for nothing, or what they ask for can't be carried out.
 abbrev pub IsOutcome : App → List (List ℕ) → Result Report Fault → Type 0
@@ -34,14 +37,14 @@ IsOutcome line words (Ok report) = (request : Request) × Asks line words reques
 IsOutcome line words (Err fault) = (fault ≡ faults.Memory) ⊎ ((error : Error) × IsMistake line words error × (fault ≡ faults.Usage error))
     ⊎ ((request : Request) × Asks line words request × IsFaultOf request fault)
 
--- a stuck run has status 1
-abbrev pub status_of_stuck : Bool → ℕ
-status_of_stuck true = 1
-status_of_stuck false = 0
+-- a program that is refused and a run that is stuck have status 1
+abbrev pub status_of_refused : Bool → ℕ
+status_of_refused true = 1
+status_of_refused false = 0
 
 -- The report was printed, and the status is its own. Else the output failed.
 abbrev pub Prints : Report → Option (List ℕ) → Option (List ℕ) → ℕ → Type 0
-Prints report old new status = (status ≡ 3) ⊎ ((status ≡ status_of_stuck report.is_stuck) × Appends old new (string_bytes report.text))
+Prints report old new status = (status ≡ 3) ⊎ ((status ≡ status_of_refused report.is_refused) × Appends old new (string_bytes report.text))
 
 -- what a writer has, where that is known
 abbrev pub Contents : Type 0

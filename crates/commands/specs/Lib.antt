@@ -3,3 +3,4 @@ pub mod Endings
 pub mod RawRuns
 pub mod Runs
 pub mod Statuses
+pub mod Verdicts

@@ -59,7 +59,7 @@ pub record IsToldOfRuns (slots : List Slot) (hook : Hook) (seats : ℕ) (report 
   pub counters : length sums ≡ 256
   pub exact : (k : ℕ) → k < 256 → slice_index sums k ≡ sum_by (λ s. adds_to k s.accesses) (map (λ one. one.seat) finished)
   pub told : string_bytes report.text ≡ seat_lines 1 finished ++ counter_lines 0 sums
-  pub stuck : report.is_stuck ≡ list_any (λ one. is_err one.outcome) finished
+  pub stuck : report.is_refused ≡ list_any (λ one. is_err one.outcome) finished
 
 -- The bytes spell code, and what is told is of its runs.
 pub record IsRawReport (hook : Hook) (seats : ℕ) (report : Report) : Type 0 where

@@ -1,5 +1,5 @@
 -- What is told of one run of an object's program.
-use Rattle.std.specs.Prelude.{◌≡◌, ℕ, ◌⊎◌, List, [], ◌∷◌, ◌++◌, codes, decimal, string_bytes, Result, Ok, Err, is_err}
+use Rattle.std.specs.Prelude.{◌≡◌, ℕ, List, [], ◌∷◌, ◌++◌, codes, decimal, string_bytes, Result, Ok, Err, is_err}
 use Rattle.machine.specs.Given.{Given}
 use Rattle.maps.specs.Words.{SeatView, fresh}
 use Rattle.interp.specs.declared.ending.Run.{Run}
@@ -7,10 +7,7 @@ use Rattle.interp.specs.declared.trap.Trap.{Trap}
 use Rattle.interp.specs.Outcome.{trap_number}
 use Rattle.object_runs.specs.ObjectRuns.{RunsObject}
 use Rattle.object_runs.specs.declared.limit.Limit.TheVariants.{Own}
-use Rattle.commands.specs.declared.fault.Fault.{Fault}
-use Rattle.commands.specs.declared.fault.Fault.TheVariants as faults
 use Rattle.commands.specs.declared.report.Report.{Report}
-use Rattle.commands.specs.Assembly.{IsObjectRefused, IsCodeRefused}
 
 -- the line that is printed
 abbrev pub outcome_line : Result Run Trap → List ℕ
@@ -34,7 +31,4 @@ pub record IsRun (bytes context packet : List ℕ) (report : Report) : Type 0 wh
   pub outcome : Result Run Trap
   pub ran : Ran bytes (input_of context packet) outcome
   pub told : string_bytes report.text ≡ outcome_line outcome
-  pub stuck : report.is_stuck ≡ is_err outcome
-
-abbrev pub IsRunFault : List ℕ → Fault → Type 0
-IsRunFault bytes fault = (fault ≡ faults.Memory) ⊎ IsObjectRefused bytes fault ⊎ IsCodeRefused bytes fault
+  pub stuck : report.is_refused ≡ is_err outcome

@@ -4,7 +4,7 @@ ghost use Rattle.std.specs.Prelude.{◌≡◌, ◌++◌, ◌⊎◌, [], ◌∷�
 ghost use Rattle.asm.specs.Assembling.{TextSpells};
 ghost use Rattle.object.specs.Objects.{slots_of};
 ghost use Rattle.object.specs.Spelling.{Spells};
-ghost use Rattle.commands.specs.Assembly.{IsAssembled, IsListFault, IsListing, IsTextFault};
+ghost use Rattle.commands.specs.Assembly.{IsAssembled, IsObjectFault, IsListing, IsTextFault};
 
 use crate::fault::Fault;
 use crate::files;
@@ -48,12 +48,12 @@ fn write_object<'a, R: Files + AllocGlobal>(
 /// What is told of an object file that was written: how many slots its code has.
 fn written(alloc: Global, file: &ObjectFile) -> Result<Report, AllocError>
     ensures text { IfOk result (λ report. string_bytes report.text ≡ codes "ok " ++ decimal (slots_of file.now.object) ++ 10 ∷ []) }
-    ensures done { IfOk result (λ report. report.is_stuck ≡ false) }
+    ensures done { IfOk result (λ report. report.is_refused ≡ false) }
 {
     let slots = file.object.slots();
     Ok(Report {
         text: format!(in alloc; "ok {slots}\n")?,
-        is_stuck: false,
+        is_refused: false,
     })
 }
 
@@ -82,13 +82,13 @@ pub fn assemble_file<'a, R: Files + AllocGlobal>(
 /// The listing of the object file that these bytes are.
 fn listed<'a>(alloc: Global, bytes: &[u8]) -> Result<Report, Fault<'a>>
     ensures listed { IfOk result (IsListing bytes.now) }
-    ensures fault { IfErr result (IsListFault bytes.now) }
+    ensures fault { IfErr result (IsObjectFault bytes.now) }
 {
     let object = object::read(alloc, bytes)?;
     match listing(alloc, &object) {
         Ok(text) => Ok(Report {
             text,
-            is_stuck: false,
+            is_refused: false,
         }),
         Err(ListError::Memory) => Err(Fault::Memory),
         Err(ListError::Code) => match decode(alloc, object.code()) {
@@ -103,7 +103,7 @@ fn listed<'a>(alloc: Global, bytes: &[u8]) -> Result<Report, Fault<'a>>
 /// A fault where the file can't be read, is no object file, holds no code, or memory is refused.
 pub fn list<'a, R: Files + AllocGlobal>(rt: &R, path: &'a str) -> Result<Report, Fault<'a>>
     ensures listed { IfOk result (λ report. (bytes : List ℕ) × IsListing bytes report) }
-    ensures fault { IfErr result (λ fault. (fault ≡ Fault.Read path.entry) ⊎ ((bytes : List ℕ) × IsListFault bytes fault)) }
+    ensures fault { IfErr result (λ fault. (fault ≡ Fault.Read path.entry) ⊎ ((bytes : List ℕ) × IsObjectFault bytes fault)) }
 {
     let bytes = files::read(rt, path)?;
     listed(rt.alloc(), bytes.as_slice())

@@ -8,6 +8,7 @@ pub mod program;
 mod raw;
 mod report;
 mod run;
+mod verify;
 
 pub use fault::Fault;
 pub use report::Report;

@@ -10,7 +10,7 @@ ghost use Rattle.commands.specs.Endings.{Ends, IsFaultOf, IsMadeOf, IsOutcome, P
 
 use crate::fault::{DONE, Fault, REFUSED};
 use crate::report::Report;
-use crate::{assembly, raw, run};
+use crate::{assembly, raw, run, verify};
 use command_line::Request;
 use std::alloc::Global;
 use std::io::{self, BufRead, ErrorKind, Write};
@@ -34,6 +34,7 @@ fn carry_out<'a, R: Files + AllocGlobal + Threads + Sync>(
         } => run::run(rt, object, context, packet),
         Request::Asm { source, object } => assembly::assemble_file(rt, source, object),
         Request::List { object } => assembly::list(rt, object),
+        Request::Verify { object } => verify::verify(rt, object),
     }
 }
 
@@ -55,7 +56,7 @@ fn print<O: Write>(report: &Report, output: &mut O) -> u8
     ensures { Prints report.now (O.contents output.old) (O.contents output.new) result }
 {
     match output.write_all(report.text.as_bytes()) {
-        Ok(()) if report.is_stuck => REFUSED,
+        Ok(()) if report.is_refused => REFUSED,
         Ok(()) => DONE,
         Err(_) => Fault::Output.status(),
     }

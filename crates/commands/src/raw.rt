@@ -151,11 +151,11 @@ fn report_of<'a, R: AllocGlobal + Threads + Sync>(
     let finished = run_each(rt, code, hook, &input, &shared, seats)?;
     let mut text = String::new(alloc);
     push_outcomes(&mut text, &finished)?;
-    let is_stuck = is_any_stuck(&finished);
+    let is_refused = is_any_stuck(&finished);
     let seats = seats_of(alloc, &shared, finished)?;
     let totals = shared.close(seats);
     push_counters(&mut text, &totals.sums)?;
-    Ok(Report { text, is_stuck })
+    Ok(Report { text, is_refused })
 }
 
 /// Runs the bare code of the file at `path` once on each of `seats` threads, all on the same counters.

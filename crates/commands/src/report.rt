@@ -1,8 +1,8 @@
 //! What a command prints.
 
-/// The text that a command prints, and whether a run was stuck.
+/// The text that a command prints, and whether that is a refusal: of a program that is refused, or of a run that is stuck.
 #[derive(Drop)]
 pub struct Report {
     pub text: String,
-    pub is_stuck: bool,
+    pub is_refused: bool,
 }

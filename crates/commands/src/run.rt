@@ -2,7 +2,8 @@
 
 ghost use Rattle.std.specs.Prelude.{◌≡◌, ◌⊎◌, List, ℕ, IfOk, IfErr, string_bytes};
 ghost use Rattle.machine.specs.Given.{given_by};
-ghost use Rattle.commands.specs.Runs.{IsRun, IsRunFault, Ran, outcome_line};
+ghost use Rattle.commands.specs.Assembly.{IsObjectFault};
+ghost use Rattle.commands.specs.Runs.{IsRun, Ran, outcome_line};
 
 use crate::fault::Fault;
 use crate::files;
@@ -37,7 +38,7 @@ fn outcome_of<'a>(
     input: &Input,
 ) -> Result<Result<Run, Trap>, Fault<'a>>
     ensures run { IfOk result (Ran bytes.now (given_by input.now)) }
-    ensures fault { IfErr result (IsRunFault bytes.now) }
+    ensures fault { IfErr result (IsObjectFault bytes.now) }
 {
     let (shared, mut seats) = Shared::new(alloc, 1)?;
     let mut seat = seats.remove(0);
@@ -56,7 +57,7 @@ fn run_of<'a>(
     packet: Vec<u8>,
 ) -> Result<Report, Fault<'a>>
     ensures run { IfOk result (IsRun bytes.now context packet.items) }
-    ensures fault { IfErr result (IsRunFault bytes.now) }
+    ensures fault { IfErr result (IsObjectFault bytes.now) }
 {
     let input = Input {
         context,
@@ -66,7 +67,7 @@ fn run_of<'a>(
     let outcome = outcome_of(alloc, bytes, &input)?;
     Ok(Report {
         text: text_of(alloc, outcome)?,
-        is_stuck: outcome.is_err(),
+        is_refused: outcome.is_err(),
     })
 }
 
@@ -81,7 +82,7 @@ pub fn run<'a, R: Files + AllocGlobal>(
     packet: Vec<u8>,
 ) -> Result<Report, Fault<'a>>
     ensures run { IfOk result (λ report. (bytes : List ℕ) × IsRun bytes context packet.items report) }
-    ensures fault { IfErr result (λ fault. (fault ≡ Fault.Read path.entry) ⊎ ((bytes : List ℕ) × IsRunFault bytes fault)) }
+    ensures fault { IfErr result (λ fault. (fault ≡ Fault.Read path.entry) ⊎ ((bytes : List ℕ) × IsObjectFault bytes fault)) }
 {
     let bytes = files::read(rt, path)?;
     run_of(rt.alloc(), bytes.as_slice(), context, packet)

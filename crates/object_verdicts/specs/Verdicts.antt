@@ -1,0 +1,48 @@
+-- From the bytes of an object file to the verifier's word.
+use Rattle.std.specs.Prelude.{◌≡◌, ℕ, ◌+◌, ◌*◌, ◌≤◌, List, length}
+use Rattle.isa.specs.declared.code.Slot.{Slot}
+use Rattle.isa.specs.declared.decoding.DecodeFault.{DecodeFault}
+use Rattle.isa.specs.Spelling as code
+use Rattle.isa.specs.Refusals as code_refusals
+use Rattle.object.specs.Objects.{ObjectParts}
+use Rattle.object.specs.Spelling as objects
+use Rattle.object.specs.Refusals as object_refusals
+use Rattle.machine.specs.Runs.{Safe}
+use Rattle.verifier.specs.Programs.{Program}
+use Rattle.object_verdicts.specs.declared.error.VerifyError.{VerifyError}
+use Rattle.object_verdicts.specs.declared.error.VerifyError.TheVariants as errors
+
+-- The bytes spell this object, whose code spells these slots.
+pub record HoldsProgram (bytes : List ℕ) (object : ObjectParts) (slots : List Slot) : Type 0 where
+  pub spells : objects.Spells bytes object
+  pub decoded : code.Spells object.code slots
+
+-- how many instructions a run of the object may take: all slots once, and once more for each rank below the entry's
+abbrev pub bound_of : ObjectParts → List Slot → ℕ
+bound_of object slots = (object.entry_rank + 1) * length slots
+
+-- The program that the bytes hold is accepted, as it is and at its hook: each of its runs is never stuck and ends within its bound.
+pub record Accepts (bytes : List ℕ) (accepted : Program) : Type 0 where
+  pub object : ObjectParts
+  pub holds : HoldsProgram bytes object accepted.code
+  pub hook : accepted.hook ≡ object.hook
+  pub bound : accepted.bound ≡ bound_of object accepted.code
+  pub most : accepted.bound ≤ 1000000
+  pub safe : Safe accepted.code accepted.hook accepted.bound
+
+-- The bytes hold a program. Which rule it breaks no clause says yet.
+pub record RefusesProgram (bytes : List ℕ) : Type 0 where
+  pub object : ObjectParts
+  pub slots : List Slot
+  pub holds : HoldsProgram bytes object slots
+
+-- the refusal of an object's code
+pub record RefusesCode (bytes : List ℕ) (slot : ℕ) (fault : DecodeFault) : Type 0 where
+  pub object : ObjectParts
+  pub spells : objects.Spells bytes object
+  pub refuses : code_refusals.Refuses object.code slot fault
+
+abbrev pub Refuses : List ℕ → VerifyError → Type 0
+Refuses bytes (errors.Object error) = object_refusals.Refuses bytes error
+Refuses bytes (errors.Code error) = RefusesCode bytes error.slot error.kind
+Refuses bytes (errors.Refused refusal) = RefusesProgram bytes

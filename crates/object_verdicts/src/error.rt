@@ -1,0 +1,51 @@
+//! Why the program of an object file isn't accepted.
+ghost use Rattle.std.specs.Prelude.{◌≡◌};
+
+use isa::DecodeError;
+use object::ReadError;
+use thiserror::Error;
+use verifier::Refusal;
+
+/// Why bytes hold no program that is accepted. Each part may be want of memory.
+#[derive(Clone, Copy, PartialEq, Eq, Debug, Error)]
+pub enum VerifyError {
+    /// They are no object file.
+    #[error("no object file: {0}")]
+    Object(ReadError),
+    /// They are an object file, whose code doesn't decode.
+    #[error("no code: {0}")]
+    Code(DecodeError),
+    /// They are an object file with code, which the verifier refuses.
+    #[error("refused: {0:?}")]
+    Refused(Refusal),
+}
+
+impl From<ReadError> for VerifyError {
+    ghost use Rattle.object_verdicts.specs.declared.error.VerifyError.TheVariants.{Object};
+
+    ghost from_gives = { λ error verdict. verdict ≡ Object error };
+
+    fn from(error: ReadError) -> VerifyError {
+        VerifyError::Object(error)
+    }
+}
+
+impl From<DecodeError> for VerifyError {
+    ghost use Rattle.object_verdicts.specs.declared.error.VerifyError.TheVariants.{Code};
+
+    ghost from_gives = { λ error verdict. verdict ≡ Code error };
+
+    fn from(error: DecodeError) -> VerifyError {
+        VerifyError::Code(error)
+    }
+}
+
+impl From<Refusal> for VerifyError {
+    ghost use Rattle.object_verdicts.specs.declared.error.VerifyError.TheVariants.{Refused};
+
+    ghost from_gives = { λ refusal verdict. verdict ≡ Refused refusal };
+
+    fn from(refusal: Refusal) -> VerifyError {
+        VerifyError::Refused(refusal)
+    }
+}

@@ -1,0 +1,34 @@
+//! What the verifier says of an object file.
+ghost use Rattle.std.specs.Prelude.{IfOk, IfErr};
+ghost use Rattle.object_verdicts.specs.Verdicts.{Accepts, Refuses};
+
+use crate::error::VerifyError;
+use absdom::Pair;
+use interval::Interval;
+use isa::decode;
+use knownbits::KnownBits;
+use std::alloc::Global;
+use verifier::{Accepted, verify};
+
+/// Verifies the program of the object file that these bytes are, with intervals and known bits side by side: at the object's hook, from
+/// its entry rank, with its statements.
+///
+/// # Errors
+///
+/// Where the bytes are no object file, its code doesn't decode, or the verifier refuses it, with the slot and the rule; and where memory
+/// is refused, which each part tells.
+pub fn verify_object(alloc: Global, bytes: &[u8]) -> Result<Accepted, VerifyError>
+    ensures accepts { IfOk result (λ accepted. Accepts bytes.now accepted) }
+    ensures refuses { IfErr result (Refuses bytes.now) }
+{
+    let object = object::read(alloc, bytes)?;
+    let code = decode(alloc, object.code())?;
+    let accepted = verify::<Pair<Interval, KnownBits>>(
+        alloc,
+        object.hook(),
+        code,
+        object.entry_rank(),
+        object.statements(),
+    )?;
+    Ok(accepted)
+}
