@@ -1,0 +1,17 @@
+-- What an answer was made of.
+use Rattle.std.specs.Prelude.{ℕ, List}
+use mathlib.Core.List.{IsPrefix}
+use Rattle.machine.specs.Given.{Given}
+use Rattle.machine.specs.Label.{Label}
+use Rattle.maps.specs.Words.{SeatView}
+use Rattle.helpers.specs.Seats.{Makes}
+use Rattle.hooks.specs.declared.operation.Operation.{Operation}
+use Rattle.hooks.specs.Operations.{Answers}
+
+-- The list that the asker knows now answers the input with the word. It begins with all that it knew before, and the
+-- seat made just the steps of the run.
+pub record IsAnswered (before now : List Operation) (old new : SeatView) (input : Given) (word : ℕ) : Type 0 where
+  pub labels : List Label
+  pub begins : IsPrefix before now
+  pub made : Makes old labels new
+  pub answers : Answers now input labels word

@@ -1,0 +1,34 @@
+-- What the loader has done, what an asker or a notice knows of it.
+use Rattle.std.specs.Prelude.{◌≡◌, List, []}
+use Rattle.logbook.specs.Pages.{Book}
+use Rattle.hooks.specs.declared.operation.Operation.{Operation}
+use Rattle.hooks.specs.declared.loader.Loader.{Loader}
+use Rattle.hooks.specs.declared.loader.Notice.{Notice}
+use Rattle.hooks.specs.declared.asker.Asker.{Asker}
+use Rattle.hooks.specs.Shown.{listed, history}
+
+-- its operations, in order
+abbrev pub operations_of : {R : Type 0} → Loader R → List Operation
+operations_of l = listed l.writer.desk.shown.value
+
+-- which history they are
+abbrev pub history_of : {R : Type 0} → Loader R → Book
+history_of l = history l.writer.desk.shown.value
+
+-- the operations that the loader told, and of which history
+abbrev pub told_by : Notice → List Operation
+told_by n = n.front.seen.log
+
+abbrev pub tells_of : Notice → Book
+tells_of n = n.front.seen.book
+
+-- all operations that the asker saw or learnt, and of which history
+abbrev pub known_to : Asker → List Operation
+known_to a = a.front.seen.log
+
+abbrev pub asks_of : Asker → Book
+asks_of a = a.front.seen.book
+
+-- it has seen nothing, and was told nothing
+abbrev pub IsNew : Book → Asker → Type 0
+IsNew book a = (asks_of a ≡ book) × (known_to a ≡ [])

@@ -1,0 +1,74 @@
+-- What a list of operations leaves at a hook, and what answers an input there.
+use Rattle.std.specs.Prelude.{◌≡◌, ℕ, ◌≤◌, ◌==◌, if◌then◌else◌, List, [], fold, Option, Some, None, MatchOption, slice_range}
+use Rattle.isa.specs.declared.code.Slot.{Slot}
+use Rattle.isa.specs.declared.hook.Hook.{Hook}
+use Rattle.isa.specs.declared.hook.Hook.TheVariants.{Count, Tag, Price, Veto}
+use Rattle.isa.specs.Hooks.{hook_number}
+use Rattle.machine.specs.Given.{Given}
+use Rattle.machine.specs.Input.{IsOfHook}
+use Rattle.machine.specs.Label.{Label}
+use Rattle.machine.specs.Memory.{number_of}
+use Rattle.machine.specs.State.{setting_of}
+use Rattle.machine.specs.Runs.{Ends}
+use Rattle.verifier.specs.Programs as verifier
+use Rattle.hooks.specs.declared.operation.Operation.{Operation}
+use Rattle.hooks.specs.declared.operation.Operation.TheVariants.{Attach, Detach}
+
+-- the code, the hook that it is for, and a number of instructions within which every run ends
+pub record Program : Type 0 where
+  pub code : List Slot
+  pub hook : Hook
+  pub bound : ℕ
+
+-- the program, whatever room it has
+abbrev pub program_of : verifier.Program → Program
+program_of p = record { code = p.code; hook = p.hook; bound = p.bound }
+
+-- the verifier accepts it
+abbrev pub IsAccepted : Program → Type 0
+IsAccepted p = verifier.IsAccepted (record { code = p.code; hook = p.hook; bound = p.bound; room = 0 })
+
+abbrev pub hook_of : Operation → Hook
+hook_of (Attach accepted) = accepted.hook
+hook_of (Detach hook) = hook
+
+-- what an operation leaves at its own hook
+abbrev pub outcome_of : Operation → Option Program
+outcome_of (Attach accepted) = Some (program_of accepted)
+outcome_of (Detach hook) = None
+
+-- what stands at the hook after one more operation
+abbrev pub after : Hook → Option Program → Operation → Option Program
+after hook before operation =
+    if hook_number (hook_of operation) == hook_number hook then outcome_of operation else before
+
+-- the program that these operations, from the first one on, leave at the hook
+abbrev pub leaves : Hook → List Operation → Option Program
+leaves hook operations = fold (after hook) None operations
+
+-- the answer where no program stands at the hook: the configured tag or metric of the context, or 0
+abbrev pub default_of : Hook → Given → ℕ
+default_of Count input = 0
+default_of Tag input = number_of (slice_range input.context 16 20)
+default_of Price input = number_of (slice_range input.context 12 16)
+default_of Veto input = 0
+
+-- the word of a run, with these labels, of an accepted program at its hook
+pub record RunsTo (program : Program) (input : Given) (labels : List Label) (word : ℕ) : Type 0 where
+  pub accepted : IsAccepted program
+  pub used : ℕ
+  pub within : used ≤ program.bound
+  pub ends : Ends (setting_of program.code program.hook input) used labels word
+
+-- The word of a run, with these labels, of the program that the operations leave at the input's hook;
+-- or, only where they leave none there, the default.
+abbrev pub Answers : List Operation → Given → List Label → ℕ → Type 0
+Answers operations input labels word =
+    (hook : Hook) × IsOfHook hook input
+    × MatchOption (leaves hook operations)
+    ((labels ≡ []) × (word ≡ default_of hook input))
+    (λ program. RunsTo program input labels word)
+
+-- the input is of some hook: its first four bytes are a hook's number
+abbrev pub IsAsked : Given → Type 0
+IsAsked input = (1 ≤ number_of (slice_range input.context 0 4)) × (number_of (slice_range input.context 0 4) ≤ 4)

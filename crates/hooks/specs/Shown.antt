@@ -1,0 +1,33 @@
+-- What the published value shows.
+use Rattle.std.specs.Prelude.{◌≡◌, List, fold, None}
+use Rattle.isa.specs.declared.hook.Hook.TheVariants.{Count, Tag, Price, Veto}
+use Rattle.logbook.specs.Pages.{Book}
+use Rattle.hooks.specs.declared.operation.Operation.{Operation}
+use Rattle.hooks.specs.declared.history.Front.{Front}
+use Rattle.hooks.specs.declared.value.Programs.{Programs}
+use Rattle.hooks.specs.declared.value.Entry.{Entry}
+use Rattle.hooks.specs.Operations.{after, leaves}
+
+-- the operations that were published
+abbrev pub listed : Programs → List Operation
+listed p = p.front.seen.log
+
+-- which history they are of
+abbrev pub history : Programs → Book
+history p = p.front.seen.book
+
+-- no program stands at any hook
+abbrev pub vacant : Front → Programs
+vacant front = record { count = None; tag = None; price = None; veto = None; front = front }
+
+-- each slot shows what the operations leave at its hook
+abbrev pub Stands : Programs → Type 0
+Stands p = (p.count ≡ leaves Count (listed p)) × (p.tag ≡ leaves Tag (listed p)) × (p.price ≡ leaves Price (listed p)) × (p.veto ≡ leaves Veto (listed p))
+
+-- the value after one more operation
+abbrev pub changed : Programs → Entry → Programs
+changed p e = record { count = after Count p.count e.operation; tag = after Tag p.tag e.operation; price = after Price p.price e.operation; veto = after Veto p.veto e.operation; front = e.front }
+
+-- the value with these entries stays one that stands, of the same history
+abbrev pub Fits : Programs → List Entry → Type 0
+Fits p entries = Stands p → Stands (fold changed p entries) × (history (fold changed p entries) ≡ history p)

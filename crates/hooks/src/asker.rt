@@ -1,0 +1,111 @@
+//! Who runs the published programs.
+ghost use Rattle.std.specs.Prelude.{◌≡◌, ◌⊎◌, IfSome, IfNone, IsSome};
+ghost use Rattle.std.specs.Option.{ForSome};
+ghost use mathlib.Core.List.{IsPrefix};
+ghost use Rattle.left_right.specs.Sides.{view};
+ghost use Rattle.machine.specs.Given.{given_by};
+ghost use Rattle.maps.specs.Words.{IsOf};
+ghost use Rattle.hooks.specs.Answered.{IsAnswered};
+ghost use Rattle.hooks.specs.Operations.{IsAsked};
+ghost use Rattle.hooks.specs.Rule.{HasSeen};
+
+use crate::history::Front;
+use crate::loader::Notice;
+use crate::rule::{ProgramReader, Sees};
+use machine::Input;
+use maps::{Seat, Shared};
+
+/// It runs the programs on its own thread.
+#[derive(Drop)]
+pub struct Asker {
+    pub(crate) reader: Option<ProgramReader>,
+    pub(crate) front: Front,
+    ghost idle: { IsSome reader },
+    ghost same: { ForSome reader (λ r. HasSeen front.seen.book (view r.place)) },
+}
+
+/// The word of a run, or the default.
+#[derive(Clone, Copy, PartialEq, Eq, Debug)]
+pub struct Answer {
+    pub(crate) word: u64,
+}
+
+impl Answer {
+    pub fn word(&self) -> u64
+        ensures { result ≡ self.now.word }
+    {
+        self.word
+    }
+}
+
+fn take(
+    reader: ProgramReader,
+    front: &mut Front,
+    input: &Input,
+    shared: &Shared,
+    seat: &mut Seat,
+) -> (ProgramReader, Option<Answer>)
+    requires asked { IsAsked (given_by input.now) }
+    requires table { IsOf shared.now seat.old }
+    requires same { HasSeen front.old.seen.book (view reader.place) }
+    ensures same { (front.new.seen.book ≡ front.old.seen.book) × HasSeen front.new.seen.book (view result.0.place) }
+    ensures unread { IfNone result.1 ((front.new ≡ front.old) × (seat.new ≡ seat.old)) }
+    ensures answered { IfSome result.1 (λ a. IsAnswered front.old.seen.log front.new.seen.log seat.old seat.new (given_by input.now) a.word) }
+    ensures table { IsOf shared.now seat.new }
+{
+    let reading = match reader.enter_as::<Sees>() {
+        Err(reader) => return (reader, None),
+        Ok(reading) => reading,
+    };
+    let programs = reading.get();
+    if !programs.front.reaches(front) {
+        return (reading.leave(), None);
+    }
+    let word = programs.answer(input, shared, seat);
+    *front = programs.front.again();
+    (reading.leave(), Some(Answer { word }))
+}
+
+impl Asker {
+    ghost use Rattle.hooks.specs.Known.{known_to, asks_of, told_by, tells_of};
+
+    pub(crate) fn new(reader: ProgramReader, front: Front) -> Asker
+        requires { HasSeen front.seen.book (view reader.place) }
+        ensures { result.front ≡ front }
+    {
+        Asker {
+            reader: Some(reader),
+            front,
+        }
+    }
+
+    /// Runs the program that stands at the input's hook. It takes no memory, and waits for nobody.
+    /// `None` where the published programs give no reading.
+    pub fn ask(&mut self, input: &Input, shared: &Shared, seat: &mut Seat) -> Option<Answer>
+        requires asked { IsAsked (given_by input.now) }
+        requires table { IsOf shared.now seat.old }
+        ensures history { asks_of self.new ≡ asks_of self.old }
+        ensures unread { IfNone result ((known_to self.new ≡ known_to self.old) × (seat.new ≡ seat.old)) }
+        ensures answered { IfSome result (λ a. IsAnswered (known_to self.old) (known_to self.new) seat.old seat.new (given_by input.now) a.word) }
+        ensures table { IsOf shared.now seat.new }
+    {
+        let Some(reader) = self.reader.take() else {
+            unreachable!()
+        };
+        let (reader, answer) = take(reader, &mut self.front, input, shared, seat);
+        self.reader = Some(reader);
+        answer
+    }
+
+    /// From now on it sees no less than the loader had done.
+    pub fn learn(&mut self, notice: Notice)
+        requires { asks_of self.old ≡ tells_of notice }
+        ensures history { asks_of self.new ≡ asks_of self.old }
+        ensures known { IsPrefix (known_to self.old) (known_to self.new) × IsPrefix (told_by notice) (known_to self.new) }
+        ensures one { (known_to self.new ≡ known_to self.old) ⊎ (known_to self.new ≡ told_by notice) }
+    {
+        if notice.front.reaches(&self.front) {
+            self.front = notice.front;
+        }
+    }
+}

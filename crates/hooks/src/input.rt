@@ -1,0 +1,47 @@
+//! What an input says of itself.
+ghost use Rattle.std.specs.Prelude.{◌≡◌, ◌+◌, ◌≤◌, length, slice_range};
+ghost use Rattle.isa.specs.Hooks.{hook_number};
+ghost use Rattle.machine.specs.Given.{given_by};
+ghost use Rattle.machine.specs.Memory.{number_of};
+ghost use Rattle.hooks.specs.Operations.{IsAsked, default_of};
+
+use machine::{Hook, Input};
+
+/// The number that four bytes spell, the lowest first.
+fn number_of(bytes: &[u8]) -> u64
+    requires { length bytes.now ≡ 4 }
+    ensures { result ≡ number_of bytes.now }
+{
+    match bytes {
+        [a, b, c, d] => {
+            let high = *c as u64 + 256 * *d as u64;
+            *a as u64 + 256 * (*b as u64 + 256 * high)
+        }
+        _ => unreachable!(),
+    }
+}
+
+/// The hook whose number stands in the first four bytes of the context.
+pub fn hook_of(input: &Input) -> Hook
+    requires { IsAsked (given_by input.now) }
+    ensures { number_of (slice_range input.now.context 0 4) ≡ hook_number result }
+{
+    match number_of(&input.context[0..4]) {
+        1 => Hook::Count,
+        2 => Hook::Tag,
+        3 => Hook::Price,
+        4 => Hook::Veto,
+        _ => unreachable!(),
+    }
+}
+
+/// The answer where no program stands at the hook.
+pub fn default_word(hook: Hook, input: &Input) -> u64
+    ensures { result ≡ default_of hook (given_by input.now) }
+{
+    match hook {
+        Hook::Count | Hook::Veto => 0,
+        Hook::Tag => number_of(&input.context[16..20]),
+        Hook::Price => number_of(&input.context[12..16]),
+    }
+}

@@ -1,0 +1,164 @@
+//! Who attaches and detaches programs.
+ghost use Rattle.std.specs.Prelude.{◌≡◌, ◌≢◌, ◌<◌, ◌≤◌, [], ◌∷◌, ◌++◌, drop, fold, Some, All, vec_len, IfOk, IfErr, MatchResult};
+ghost use Rattle.left_right.specs.Sides.{view};
+ghost use Rattle.hooks.specs.History.{head_of};
+ghost use Rattle.hooks.specs.Shown.{Fits, changed, history, vacant};
+ghost use Rattle.hooks.specs.declared.operation.Operation.TheVariants.{Attach, Detach};
+ghost use Rattle.isa.specs.declared.hook.Hook.TheVariants.{Count as HookCount};
+
+use crate::asker::Asker;
+use crate::error::HookError;
+use crate::history::{Front, Head};
+use crate::operation::Operation;
+use crate::rule::{ProgramWriter, Sees, Takes, Tells};
+use crate::value::{Entry, Programs};
+use core::mem::replace_with;
+use machine::Hook;
+use std::alloc::{AllocError, Global};
+use std::sync::Wait;
+use verifier::Accepted;
+
+/// It keeps the handle `R`, since its drop waits for the askers that are reading.
+pub struct Loader<R: Wait + Drop> {
+    writer: ProgramWriter,
+    head: Head,
+    rt: R,
+    ghost idle: { drop writer.behind writer.log.items ≡ [] },
+    ghost knows: { view writer.desk.place ≡ Some writer.desk.shown.value.front },
+    ghost head_is: { head ≡ head_of (history writer.desk.shown.value) },
+}
+
+/// What the loader tells an asker: its operations.
+#[derive(Drop)]
+pub struct Notice {
+    pub(crate) front: Front,
+}
+
+/// Shows askers each pending entry.
+fn show<R: Wait>(writer: ProgramWriter, rt: &R) -> (ProgramWriter, ())
+    requires { Fits writer.desk.shown.value (drop writer.behind writer.log.items) }
+    ensures shown { result.0.desk.shown.value ≡ fold changed writer.desk.shown.value (drop writer.behind writer.log.items) }
+    ensures idle { drop result.0.behind result.0.log.items ≡ [] }
+    ensures knows { view result.0.desk.place ≡ Some result.0.desk.shown.value.front }
+{
+    let (writer, _published) = writer.publish_as::<Sees, R>(rt);
+    (writer, ())
+}
+
+/// Detaches nothing.
+fn pad(front: &Front) -> Entry
+    ensures { (result.operation ≡ Detach HookCount) × (result.front ≡ front.now) }
+{
+    Entry {
+        operation: Operation::Detach(Hook::Count),
+        front: front.again(),
+    }
+}
+
+/// Makes room for two entries, so that no later one takes memory: readers see one, and the next one comes.
+fn make_room<R: Wait>(
+    mut writer: ProgramWriter,
+    rt: &R,
+    front: &Front,
+) -> Result<ProgramWriter, AllocError>
+    requires new { front.now.seen.log ≡ [] }
+    requires shown { writer.desk.shown.value ≡ vacant front.now }
+    requires idle { drop writer.behind writer.log.items ≡ [] }
+    ensures shown { IfOk result (λ w. w.desk.shown.value ≡ vacant front.now) }
+    ensures idle { IfOk result (λ w. drop w.behind w.log.items ≡ []) }
+    ensures knows { IfOk result (λ w. view w.desk.place ≡ Some w.desk.shown.value.front) }
+{
+    if writer.append(pad(front)).is_err() || writer.append(pad(front)).is_err() {
+        drop(writer.take(rt));
+        return Err(AllocError);
+    }
+    let (writer, ()) = show(writer, rt);
+    let (writer, ()) = show(writer, rt);
+    Ok(writer)
+}
+
+impl<R: Wait + Drop> Loader<R> {
+    ghost use Rattle.hooks.specs.Known.{operations_of, history_of, told_by, tells_of, IsNew};
+    ghost use Rattle.hooks.specs.declared.error.HookError.TheVariants.{Count};
+
+    pub(crate) fn new(alloc: Global, rt: R, askers: usize) -> Result<Loader<R>, AllocError>
+        requires { (0 < askers) × (askers ≤ 64) }
+        ensures { IfOk result (λ l. operations_of l ≡ []) }
+    {
+        let (head, front) = Front::open();
+        let first = Programs::empty(alloc, front.again())?;
+        let second = Programs::empty(alloc, front.again())?;
+        let writer = ProgramWriter::new(alloc, first, second, askers)?;
+        let writer = make_room(writer, &rt, &front)?;
+        Ok(Loader { writer, head, rt })
+    }
+
+    pub(crate) fn askers(&mut self, alloc: Global, askers: usize) -> Result<Vec<Asker>, HookError>
+        requires { operations_of self.old ≡ [] }
+        ensures same { (operations_of self.new ≡ operations_of self.old) × (history_of self.new ≡ history_of self.old) }
+        ensures made { IfOk result (λ v. (vec_len v ≡ askers) × All (IsNew (history_of self.old)) v.items) }
+        ensures count { IfErr result (λ e. e ≢ Count) }
+    {
+        let Ok(mut list) = Vec::with_capacity(alloc, askers) else {
+            return Err(HookError::Memory);
+        };
+        for _ in 0..askers {
+            let Ok(mut reader) = self.writer.factory().reader() else {
+                return Err(HookError::Places);
+            };
+            reader.learn::<Takes>(self.writer.tell::<Tells>());
+            list.push_reserved(Asker::new(reader, self.writer.published().front.again()));
+        }
+        Ok(list)
+    }
+
+    /// Publishes the program at its hook, or answers want of memory and changes nothing.
+    pub fn attach(&mut self, accepted: Accepted) -> Result<(), AllocError>
+        ensures operations { MatchResult result (λ _. operations_of self.new ≡ operations_of self.old ++ Attach accepted ∷ []) (λ _. operations_of self.new ≡ operations_of self.old) }
+        ensures history { history_of self.new ≡ history_of self.old }
+    {
+        self.publish(Operation::Attach(accepted))
+    }
+
+    /// Publishes that no program stands at the hook, or answers want of memory and changes nothing.
+    pub fn detach(&mut self, hook: Hook) -> Result<(), AllocError>
+        ensures operations { MatchResult result (λ _. operations_of self.new ≡ operations_of self.old ++ Detach hook ∷ []) (λ _. operations_of self.new ≡ operations_of self.old) }
+        ensures history { history_of self.new ≡ history_of self.old }
+    {
+        self.publish(Operation::Detach(hook))
+    }
+
+    fn publish(&mut self, operation: Operation) -> Result<(), AllocError>
+        ensures operations { MatchResult result (λ _. operations_of self.new ≡ operations_of self.old ++ operation ∷ []) (λ _. operations_of self.new ≡ operations_of self.old) }
+        ensures history { history_of self.new ≡ history_of self.old }
+    {
+        let Some(front) = self.writer.published().front.and(&self.head, &operation) else {
+            return Err(AllocError);
+        };
+        if self.writer.append(Entry { operation, front }).is_err() {
+            return Err(AllocError);
+        }
+        replace_with(&mut self.writer, &self.rt, show);
+        Ok(())
+    }
+
+    /// Tells all operations so far.
+    pub fn notice(&self) -> Notice
+        ensures { (told_by result ≡ operations_of self.now) × (tells_of result ≡ history_of self.now) }
+    {
+        Notice {
+            front: self.writer.published().front.again(),
+        }
+    }
+}
+
+impl<R: Wait + Drop> Drop for Loader<R> {
+    fn drop(self) {
+        let Self {
+            writer,
+            head: _head,
+            rt,
+        } = self;
+        drop(writer.take(&rt));
+    }
+}

@@ -1,0 +1,63 @@
+//! The place of one program.
+ghost use Rattle.std.specs.Prelude.{◌≡◌, IfOk, None, Some, MatchOption};
+ghost use Rattle.hooks.specs.Operations.{outcome_of, program_of};
+
+use crate::operation::Operation;
+use std::alloc::{AllocError, Global};
+use std::marker::Model;
+use verifier::Accepted;
+
+/// Its program counts while it is `attached`. There is room for each program. A clause sees the program that it shows.
+#[derive(Drop)]
+pub struct Slot {
+    accepted: Accepted,
+    attached: bool,
+}
+
+impl Model for Slot {
+    ghost use Rattle.std.specs.Prelude.{cond, Option, Some, None};
+    ghost use Rattle.verifier.specs.Programs.{HasRoom};
+    ghost use Rattle.hooks.specs.Operations.{Program, program_of};
+
+    ghost Value = { Option Program };
+
+    ghost view = { λ s. cond s.attached (Some (program_of s.accepted)) None };
+
+    ghost invariant = { λ s. HasRoom s.accepted };
+}
+
+impl Slot {
+    /// A place without a program, with room for each.
+    pub fn empty(alloc: Global) -> Result<Slot, AllocError>
+        ensures { IfOk result (λ s. s ≡ None) }
+    {
+        Ok(Slot {
+            accepted: Accepted::room(alloc)?,
+            attached: false,
+        })
+    }
+
+    /// Shows what the operation leaves. It takes no memory.
+    pub fn change(&mut self, operation: &Operation)
+        ensures { self.new ≡ outcome_of operation.now }
+    {
+        match operation {
+            Operation::Attach(accepted) => {
+                accepted.copy_into(&mut self.accepted);
+                self.attached = true;
+            }
+            Operation::Detach(_) => self.attached = false,
+        }
+    }
+
+    /// The program that stands here.
+    pub fn program(&self) -> Option<&Accepted>
+        ensures { MatchOption result (self.now ≡ None) (λ a. self.now ≡ Some (program_of a.now)) }
+    {
+        if self.attached {
+            Some(&self.accepted)
+        } else {
+            None
+        }
+    }
+}

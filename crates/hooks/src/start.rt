@@ -1,0 +1,34 @@
+//! The published programs, and who asks them.
+ghost use Rattle.std.specs.Prelude.{◌≡◌, ◌<◌, ◌⊎◌, ◌↔◌, [], All, IfOk, Err, vec_len};
+ghost use Rattle.hooks.specs.declared.error.HookError.TheVariants.{Count};
+ghost use Rattle.hooks.specs.Known.{operations_of, history_of, IsNew};
+
+use crate::ASKERS;
+use crate::asker::Asker;
+use crate::error::HookError;
+use crate::loader::Loader;
+use std::alloc::Global;
+use std::sync::Wait;
+
+/// Makes a loader with no program at any hook, and so many askers, which have seen nothing. All memory that attaching
+/// and detaching ever need is taken here: four places for programs of 4,096 slots in each of two copies.
+///
+/// # Errors
+///
+/// `Count` where `askers` is 0 or above 64, which is tried first; `Memory` where an allocation is refused; `Places`
+/// where there was no place for an asker.
+pub fn programs<R: Wait + Drop>(
+    alloc: Global,
+    rt: R,
+    askers: usize,
+) -> Result<(Loader<R>, Vec<Asker>), HookError>
+    ensures made { IfOk result (λ t. (operations_of t.0 ≡ []) × (vec_len t.1 ≡ askers) × All (IsNew (history_of t.0)) t.1.items) }
+    ensures count { (result ≡ Err Count) ↔ ((askers ≡ 0) ⊎ (64 < askers)) }
+{
+    if askers == 0 || askers > ASKERS {
+        return Err(HookError::Count);
+    }
+    let mut loader = Loader::new(alloc, rt, askers)?;
+    let list = loader.askers(alloc, askers)?;
+    Ok((loader, list))
+}

@@ -1,0 +1,85 @@
+//! What is done with the published value.
+ghost use Rattle.std.specs.Prelude.{◌≡◌, List, IfOk};
+ghost use Rattle.machine.specs.Given.{given_by};
+ghost use Rattle.machine.specs.Label.{Label};
+ghost use Rattle.maps.specs.Words.{IsOf};
+ghost use Rattle.helpers.specs.Seats.{Makes};
+ghost use Rattle.hooks.specs.Operations.{leaves, Answers, IsAsked};
+ghost use Rattle.hooks.specs.Shown.{listed, Stands, changed, vacant};
+
+use super::{Entry, Programs};
+use crate::history::Front;
+use crate::input::{default_word, hook_of};
+use crate::slot::Slot;
+use interp::run;
+use left_right::Absorb;
+use machine::{Hook, Input};
+use maps::{Seat, Shared};
+use std::alloc::{AllocError, Global};
+
+impl Programs {
+    pub fn empty(alloc: Global, front: Front) -> Result<Programs, AllocError>
+        ensures { IfOk result (λ p. p ≡ vacant front) }
+    {
+        Ok(Programs {
+            count: Slot::empty(alloc)?,
+            tag: Slot::empty(alloc)?,
+            price: Slot::empty(alloc)?,
+            veto: Slot::empty(alloc)?,
+            front,
+        })
+    }
+
+    fn slot(&self, hook: Hook) -> &Slot
+        requires { Stands self.now }
+        ensures { result.now ≡ leaves hook (listed self.now) }
+    {
+        match hook {
+            Hook::Count => &self.count,
+            Hook::Tag => &self.tag,
+            Hook::Price => &self.price,
+            Hook::Veto => &self.veto,
+        }
+    }
+
+    /// Runs the program at the input's hook. Takes no memory, and waits for nobody.
+    pub fn answer(&self, input: &Input, shared: &Shared, seat: &mut Seat) -> u64
+        requires asked { IsAsked (given_by input.now) }
+        requires stands { Stands self.now }
+        requires table { IsOf shared.now seat.old }
+        ensures answered { (labels : List Label) × Makes seat.old labels seat.new × Answers (listed self.now) (given_by input.now) labels result }
+        ensures table { IsOf shared.now seat.new }
+    {
+        let hook = hook_of(input);
+        match self.slot(hook).program() {
+            Some(program) => {
+                let _bound = program.bound();
+                let _code = program.slots();
+                run(program, input, shared, seat).answer
+            }
+            None => default_word(hook, input),
+        }
+    }
+}
+
+impl Absorb<Entry> for Programs {
+    type State = Programs;
+
+    ghost state = { λ p. p };
+
+    ghost applied = { changed };
+
+    ghost never_fails = { Unit {0} };
+
+    /// Takes no memory.
+    fn absorb_first(&mut self, entry: &Entry, _other: &Programs) -> Result<(), AllocError> {
+        match entry.operation.hook() {
+            Hook::Count => self.count.change(&entry.operation),
+            Hook::Tag => self.tag.change(&entry.operation),
+            Hook::Price => self.price.change(&entry.operation),
+            Hook::Veto => self.veto.change(&entry.operation),
+        }
+        self.front = entry.front.again();
+        Ok(())
+    }
+}
