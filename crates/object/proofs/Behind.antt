@@ -29,66 +29,49 @@ so_far_none bytes slots ss e =
 take_more : (n m : ℕ) (bytes : List ℕ) → take (n + m) bytes ≡ take n bytes ++ take m (drop n bytes)
 take_more n m bytes = sym (take-append-drop n (take (n + m) bytes)) ∙ ap (λ t. t ++ drop n (take (n + m) bytes)) (take-take n (n + m) bytes (omega arith)) ∙ ap (λ t. take n bytes ++ t) (drop-take n m bytes)
 
--- the part of the bytes that a statement has
-pub record IsPart (bytes part : List ℕ) (index : ℕ) : Type 0 where
-  pub is : part ≡ take 484 (drop (484 * index) bytes)
-
-pub so_far_more : (bytes part : List ℕ) (slots : ℕ) (ss ss' : List StatementParts) (least index slot : ℕ) (s : StatementParts) → SoFar bytes slots ss least index → IsPart bytes part index
-    → statement_text s ≡ part → IsStatement s → slot ≡ from_le_bytes w32 (take 4 part) → least ≤ slot → slot < slots → ss' ≡ ss ++ s ∷ [] → SoFar bytes slots ss' (slot + 1) (index + 1)
-so_far_more bytes part slots ss ss' least index slot s h p e is slot_is le lt grown =
-    let here : slot ≡ s.slot = slot_is ∙ slot_in_front s part is e in
+pub so_far_more : (bytes : List ℕ) (slots : ℕ) (ss ss' : List StatementParts) (least index : ℕ) (s : StatementParts) → SoFar bytes slots ss least index
+    → (statement_text s ≡ take 484 (drop (484 * index) bytes)) × IsStatement s → (least ≤ s.slot) × (s.slot < slots) → ss' ≡ ss ++ s ∷ [] → SoFar bytes slots ss' (s.slot + 1) (index + 1)
+so_far_more bytes slots ss ss' least index s h spelled ordered grown =
     let next = h.next in
     let count = h.count in
     let place : 484 * (index + 1) ≡ 484 * index + 484 = omega arith in
-    let more : SoFar bytes slots (ss ++ s ∷ []) (slot + 1) (index + 1) = record {
-      are = ordered_more 0 slots ss s h.are is (omega arith) (omega arith);
-      text = flat_map-append statement_text ss (s ∷ []) ∙ ap (λ t. flat_map statement_text ss ++ t) (append-nil (statement_text s) ∙ e ∙ p.is) ∙ ap (λ t. t ++ take 484 (drop (484 * index) bytes)) h.text
+    let more : SoFar bytes slots (ss ++ s ∷ []) (s.slot + 1) (index + 1) = record {
+      are = ordered_more 0 slots ss s h.are spelled.1 (omega (arith, ordered.0)) ordered.1;
+      text = flat_map-append statement_text ss (s ∷ []) ∙ ap (λ t. flat_map statement_text ss ++ t) (append-nil (statement_text s) ∙ spelled.0) ∙ ap (λ t. t ++ take 484 (drop (484 * index) bytes)) h.text
           ∙ sym (take_more (484 * index) 484 bytes) ∙ ap (λ n. take n bytes) (sym place);
-      next = ap (λ n. n + 1) here ∙ sym (next_slot-more 0 ss s);
+      next = sym (next_slot-more 0 ss s);
       count = length_push ss s ∙ ap (λ n. n + 1) h.count;
     } in
-    let P : List StatementParts → Type 0 = λ t. SoFar bytes slots t (slot + 1) (index + 1) in subst P (sym grown) more
+    let P : List StatementParts → Type 0 = λ t. SoFar bytes slots t (s.slot + 1) (index + 1) in subst P (sym grown) more
 
 pub so_far_all : (bytes : List ℕ) (slots : ℕ) (ss : List StatementParts) (least index count : ℕ) → SoFar bytes slots ss least index → count ≤ index → index ≤ count → length bytes ≡ 484 * count → AreSpelled bytes slots count ss
 so_far_all bytes slots ss least index count h le ge l =
     let n = h.count in record { are = h.are; text = h.text ∙ take_all (484 * index) bytes (omega arith); count_is = omega arith }
 
-front_of_rest : (bytes part : List ℕ) (index : ℕ) → IsPart bytes part index → take 4 part ≡ take 4 (drop (484 * index) bytes)
-front_of_rest bytes part index p = ap (λ t. take 4 t) p.is ∙ take-take 4 484 (drop (484 * index) bytes) (omega arith)
-
-pub order_fails : (bytes part : List ℕ) (slots count : ℕ) (ss : List StatementParts) (least index slot : ℕ) → SoFar bytes slots ss least index → IsPart bytes part index → index < count
-    → slot ≡ from_le_bytes w32 (take 4 part) → (slot < least) ⊎ ((least ≤ slot) × (slots ≤ slot)) → FailsBehind bytes slots count errors.Order
-order_fails bytes part slots count ss least index slot h p lt slot_is wrong =
+fails_behind : (bytes : List ℕ) (slots count : ℕ) (ss : List StatementParts) (least index : ℕ) (error : ReadError) → SoFar bytes slots ss least index → index < count
+    → Fails least slots (drop (484 * index) bytes) error → FailsBehind bytes slots count error
+fails_behind bytes slots count ss least index error h lt fails =
     let n = h.count in
-    let next = h.next in
-    let here : slot ≡ from_le_bytes w32 (take 4 (drop (484 * index) bytes)) = slot_is ∙ ap (λ t. from_le_bytes w32 t) (front_of_rest bytes part index p) in
-    let P : ℕ → Type 0 = λ m. (m < next_slot 0 ss) ⊎ (slots ≤ m) in
-    let bad : (slot < next_slot 0 ss) ⊎ (slots ≤ slot) = elim wrong [ inl w ↦ inl (omega arith) | inr w ↦ inr w.1 ] in
+    let P : ℕ → Type 0 = λ m. Fails m slots (drop (484 * index) bytes) error in
     record {
       statements = ss;
       rest = drop (484 * index) bytes;
       parts = sym (take-append-drop (484 * index) bytes) ∙ ap (λ t. t ++ drop (484 * index) bytes) (sym h.text);
       are = h.are;
       few = omega arith;
-      fails = subst P here bad;
+      fails = subst P h.next fails;
     }
 
-pub field_fails : (bytes part : List ℕ) (slots count : ℕ) (ss : List StatementParts) (least index slot : ℕ) → SoFar bytes slots ss least index → IsPart bytes part index → index < count
-    → slot ≡ from_le_bytes w32 (take 4 part) → least ≤ slot → slot < slots → ((s : StatementParts) → IsStatement s → statement_text s ≡ part → ⊥) → FailsBehind bytes slots count errors.Field
-field_fails bytes part slots count ss least index slot h p lt slot_is le within none =
-    let n = h.count in
-    let next = h.next in
-    let here : slot ≡ from_le_bytes w32 (take 4 (drop (484 * index) bytes)) = slot_is ∙ ap (λ t. from_le_bytes w32 t) (front_of_rest bytes part index p) in
-    let P : ℕ → Type 0 = λ m. ((m < next_slot 0 ss) ⊎ (slots ≤ m)) → ⊥ in
-    let good : ((slot < next_slot 0 ss) ⊎ (slots ≤ slot)) → ⊥ = λ bad. elim bad [ inl w ↦ omega (arith, w) | inr w ↦ omega (arith, w) ] in
-    record {
-      statements = ss;
-      rest = drop (484 * index) bytes;
-      parts = sym (take-append-drop (484 * index) bytes) ∙ ap (λ t. t ++ drop (484 * index) bytes) (sym h.text);
-      are = h.are;
-      few = omega arith;
-      fails = (subst P here good, λ s is e. none s is (e ∙ sym p.is));
-    }
+pub one_fails : (bytes : List ℕ) (slots count : ℕ) (ss : List StatementParts) (least index : ℕ) (error : ReadError) → SoFar bytes slots ss least index → index < count
+    → Fails least slots (drop (484 * index) bytes) error → StatementsFail bytes slots count error
+one_fails bytes slots count ss least index errors.Order h lt f = fails_behind bytes slots count ss least index errors.Order h lt f
+one_fails bytes slots count ss least index errors.Field h lt f = fails_behind bytes slots count ss least index errors.Field h lt f
+one_fails bytes slots count ss least index errors.Short h lt f = absurd f
+one_fails bytes slots count ss least index errors.Magic h lt f = absurd f
+one_fails bytes slots count ss least index errors.Version h lt f = absurd f
+one_fails bytes slots count ss least index errors.Hook h lt f = absurd f
+one_fails bytes slots count ss least index errors.Trailing h lt f = absurd f
+one_fails bytes slots count ss least index errors.Memory h lt f = absurd f
 
 -- ---- statements are told by their bytes
 

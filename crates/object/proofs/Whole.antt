@@ -148,30 +148,6 @@ refused bytes o errors.Trailing h r =
 pub has_size : (bytes : List ℕ) (f : HeaderFields) → AreFieldsOf bytes f → length bytes ≡ 16 + 8 * f.slots + 484 * f.statements → HasSize bytes
 has_size bytes f h size = let slots = h.slots_are in let count = h.count_is in record { begins = h.begins; size = omega arith }
 
-pub statements_fail : (bytes rest : List ℕ) (f : HeaderFields) (error : ReadError) → AreFieldsOf bytes f → length bytes ≡ 16 + 8 * f.slots + 484 * f.statements → rest ≡ drop (16 + 8 * f.slots) bytes
-    → StatementsFail rest f.slots f.statements error → Refuses bytes error
-statements_fail bytes rest f error h size rest_is fails = at error fails
-  where
-    sized : HasSize bytes
-    sized = has_size bytes f h size
-
-    moved : (error : ReadError) → FailsBehind rest f.slots f.statements error → FailsBehind (drop (16 + 8 * slots_in bytes) bytes) (slots_in bytes) (count_in bytes) error
-    moved error b =
-        let P : List ℕ → Type 0 = λ t. FailsBehind t f.slots f.statements error in
-        let Q : ℕ → Type 0 = λ n. FailsBehind (drop (16 + 8 * n) bytes) n f.statements error in
-        let R : ℕ → Type 0 = λ n. FailsBehind (drop (16 + 8 * slots_in bytes) bytes) (slots_in bytes) n error in
-        subst R h.count_is (subst Q h.slots_are (subst P rest_is b))
-
-    at : (error : ReadError) → StatementsFail rest f.slots f.statements error → Refuses bytes error
-    at errors.Memory b = sized
-    at errors.Order b = record { begins = sized; behind = moved errors.Order b }
-    at errors.Field b = inr (record { begins = sized; behind = moved errors.Field b })
-    at errors.Short b = absurd b.fails
-    at errors.Magic b = absurd b.fails
-    at errors.Version b = absurd b.fails
-    at errors.Hook b = absurd b.fails
-    at errors.Trailing b = absurd b.fails
-
 -- the parts of what is read
 pub record IsReadOf (bytes : List ℕ) (f : HeaderFields) (o : ObjectParts) : Type 0 where
   pub fields : AreFieldsOf bytes f
@@ -224,6 +200,36 @@ read_spells bytes f o h =
       spelled = sym (take-append-drop 4 bytes) ∙ ap (λ t. t ++ drop 4 bytes) h.fields.begins.begins.begins.begins.magic_is ∙ ap (λ t. magic ++ t) front;
     }
 
+pub statements_fail : (bytes rest : List ℕ) (f : HeaderFields) (hook : Hook) (error : ReadError) → AreFieldsOf bytes f → hook_number hook ≡ f.hook → length bytes ≡ 16 + 8 * f.slots + 484 * f.statements → rest ≡ drop (16 + 8 * f.slots) bytes
+    → StatementsFail rest f.slots f.statements error → Refuses bytes error
+statements_fail bytes rest f hook error h hook_is size rest_is fails = at error fails
+  where
+    sized : HasSize bytes
+    sized = has_size bytes f h size
+
+    moved : (error : ReadError) → FailsBehind rest f.slots f.statements error → FailsBehind (drop (16 + 8 * slots_in bytes) bytes) (slots_in bytes) (count_in bytes) error
+    moved error b =
+        let P : List ℕ → Type 0 = λ t. FailsBehind t f.slots f.statements error in
+        let Q : ℕ → Type 0 = λ n. FailsBehind (drop (16 + 8 * n) bytes) n f.statements error in
+        let R : ℕ → Type 0 = λ n. FailsBehind (drop (16 + 8 * slots_in bytes) bytes) (slots_in bytes) n error in
+        subst R h.count_is (subst Q h.slots_are (subst P rest_is b))
+
+    spelled : (ss : List StatementParts) × AreSpelled rest f.slots f.statements ss → (o : ObjectParts) × Spells bytes o
+    spelled b =
+        let P : List ℕ → Type 0 = λ t. AreSpelled t f.slots f.statements b.0 in
+        let o : ObjectParts = record { hook = hook; entry_rank = f.entry_rank; code = take (8 * f.slots) (drop 16 bytes); statements = b.0 } in
+        (o, read_spells bytes f o (record { fields = h; size = size; hook = hook_is; entry_rank = refl; code = refl; statements = subst P rest_is b.1 }))
+
+    at : (error : ReadError) → StatementsFail rest f.slots f.statements error → Refuses bytes error
+    at errors.Memory b = spelled b
+    at errors.Order b = record { begins = sized; behind = moved errors.Order b }
+    at errors.Field b = inr (record { begins = sized; behind = moved errors.Field b })
+    at errors.Short b = absurd b.fails
+    at errors.Magic b = absurd b.fails
+    at errors.Version b = absurd b.fails
+    at errors.Hook b = absurd b.fails
+    at errors.Trailing b = absurd b.fails
+
 pub only_one : (bytes : List ℕ) (r : Result ObjectParts ReadError) → IfOk r (λ o. Spells bytes o) → IfErr r (λ e. Refuses bytes e) → (o : ObjectParts) → Spells bytes o
     → MatchResult r (λ found. found ≡ o) (λ e. e ≡ errors.Memory)
 only_one bytes (Ok found) h g o s = same_object bytes found o h s
@@ -254,8 +260,8 @@ read_of bytes f o count h count_is ge le entry code spelled =
       statements = subst Q count_is (subst P (take_rest bytes (16 + 8 * f.slots)) spelled);
     }
 
-pub cut_fails : (bytes : List ℕ) (f : HeaderFields) (count : ℕ) (error : ReadError) → AreFieldsOf bytes f → count ≡ f.statements → 16 + 8 * f.slots + 484 * count ≤ length bytes
+pub cut_fails : (bytes : List ℕ) (f : HeaderFields) (hook : Hook) (count : ℕ) (error : ReadError) → AreFieldsOf bytes f × (hook_number hook ≡ f.hook) → count ≡ f.statements → 16 + 8 * f.slots + 484 * count ≤ length bytes
     → length bytes ≤ 16 + 8 * f.slots + 484 * count → StatementsFail (take (length bytes - (16 + 8 * f.slots)) (drop (16 + 8 * f.slots) bytes)) f.slots count error → Refuses bytes error
-cut_fails bytes f count error h count_is ge le fails =
+cut_fails bytes f hook count error h count_is ge le fails =
     let Q : ℕ → Type 0 = λ n. StatementsFail (take (length bytes - (16 + 8 * f.slots)) (drop (16 + 8 * f.slots) bytes)) f.slots n error in
-    statements_fail bytes (take (length bytes - (16 + 8 * f.slots)) (drop (16 + 8 * f.slots) bytes)) f error h (omega arith) (take_rest bytes (16 + 8 * f.slots)) (subst Q count_is fails)
+    statements_fail bytes (take (length bytes - (16 + 8 * f.slots)) (drop (16 + 8 * f.slots) bytes)) f hook error h.0 h.1 (omega arith) (take_rest bytes (16 + 8 * f.slots)) (subst Q count_is fails)

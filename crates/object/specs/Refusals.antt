@@ -7,10 +7,10 @@ use Rattle.isa.specs.Hooks.{hook_number}
 use Rattle.object.specs.declared.error.ReadError.{ReadError}
 use Rattle.object.specs.declared.error.ReadError.TheVariants as errors
 use Rattle.object.specs.Statements.{StatementParts, IsStatement}
-use Rattle.object.specs.Objects.{AreStatements, next_slot}
+use Rattle.object.specs.Objects.{ObjectParts, AreStatements, next_slot}
 use Rattle.object.specs.declared.fields.HeaderFields.{HeaderFields}
 use Rattle.object.specs.Fields.{AreHeader}
-use Rattle.object.specs.Spelling.{magic, header_bytes, statement_text}
+use Rattle.object.specs.Spelling.{Spells, magic, header_bytes, statement_text}
 
 -- the numbers that users see
 abbrev pub error_number : ReadError → ℕ
@@ -92,22 +92,22 @@ pub record FailsBehind (bytes : List ℕ) (slots count : ℕ) (error : ReadError
   pub few : length statements < count
   pub fails : Fails (next_slot 0 statements) slots rest error
 
--- why statements aren't read of so many bytes: want of memory says nothing of them
-abbrev pub StatementsFail : List ℕ → ℕ → ℕ → ReadError → Type 0
-StatementsFail bytes slots count errors.Memory = Unit {0}
-StatementsFail bytes slots count error = FailsBehind bytes slots count error
-
 -- The bytes spell so many statements.
 pub record AreSpelled (bytes : List ℕ) (slots count : ℕ) (statements : List StatementParts) : Type 0 where
   pub are : AreStatements 0 slots statements
   pub text : flat_map statement_text statements ≡ bytes
   pub count_is : length statements ≡ count
 
+-- Why statements aren't read of so many bytes: one fails, or memory ran out where all of them are spelled.
+abbrev pub StatementsFail : List ℕ → ℕ → ℕ → ReadError → Type 0
+StatementsFail bytes slots count errors.Memory = (statements : List StatementParts) × AreSpelled bytes slots count statements
+StatementsFail bytes slots count error = FailsBehind bytes slots count error
+
 pub record FailsAt (bytes : List ℕ) (error : ReadError) : Type 0 where
   pub begins : HasSize bytes
   pub behind : FailsBehind (drop (16 + 8 * slots_in bytes) bytes) (slots_in bytes) (count_in bytes) error
 
--- Why bytes are no object file. Memory is asked for only where the bytes are as many as the header announces.
+-- Why no object is read of the bytes. Want of memory is told only of bytes that spell an object.
 abbrev pub Refuses : List ℕ → ReadError → Type 0
 Refuses bytes errors.Short = (length bytes < 16) ⊎ (HasSlots bytes × (length bytes < announced bytes))
 Refuses bytes errors.Magic = (16 ≤ length bytes) × (take 4 bytes ≢ magic)
@@ -116,4 +116,4 @@ Refuses bytes errors.Hook = HasVersion bytes × ((hook : Hook) → hook_number h
 Refuses bytes errors.Order = FailsAt bytes errors.Order
 Refuses bytes errors.Field = (HasHook bytes × ((slots_in bytes ≡ 0) ⊎ (4096 < slots_in bytes))) ⊎ FailsAt bytes errors.Field
 Refuses bytes errors.Trailing = HasSlots bytes × (announced bytes < length bytes)
-Refuses bytes errors.Memory = HasSize bytes
+Refuses bytes errors.Memory = (object : ObjectParts) × Spells bytes object

@@ -1,5 +1,5 @@
 //! From bytes to objects.
-ghost use Rattle.std.specs.Prelude.{◌≡◌, ◌*◌, ◌≤◌, ◌<◌, ◌^◌, ◌↔◌, List, length, take, MatchResult, IfErr, IfOk, IfSome, IsTrue, Some};
+ghost use Rattle.std.specs.Prelude.{◌≡◌, ◌+◌, ◌*◌, ◌≤◌, ◌<◌, ◌^◌, ◌↔◌, List, length, take, drop, MatchResult, IfErr, IfOk, IfSome, IsTrue, Some};
 ghost use Rattle.std.specs.Int.{w32, from_le_bytes};
 ghost use Rattle.std.specs.List.{All, flat_map};
 ghost use Rattle.isa.specs.Hooks.{hook_number};
@@ -8,7 +8,7 @@ ghost use Rattle.object.specs.declared.kind.Kind.{Kind};
 ghost use Rattle.object.specs.Statements.{IsKind, IsStatement, StatementParts};
 ghost use Rattle.object.specs.Objects.{ObjectParts};
 ghost use Rattle.object.specs.Spelling.{Spells, kind_text, magic, statement_text};
-ghost use Rattle.object.specs.Refusals.{AreFieldsOf, AreSpelled, Refuses, StatementsFail};
+ghost use Rattle.object.specs.Refusals.{AreFieldsOf, AreSpelled, Fails, Refuses, StatementsFail};
 
 use crate::error::ReadError;
 use crate::fields::{HeaderFields, RankFields, RegisterFields, u32_at};
@@ -76,6 +76,45 @@ fn slot_of(bytes: &[u8]) -> u32
     u32_at(bytes, 0)
 }
 
+/// The statement with this index, if it is one and its slot is in its place: not below `least`, and in code of so many slots.
+fn statement_at(
+    bytes: &[u8],
+    index: usize,
+    least: usize,
+    slots: usize,
+) -> Result<Statement, ReadError>
+    requires { 484 * index + 484 ≤ length bytes.now }
+    ensures spelled { IfOk result (λ s. (statement_text s ≡ take 484 (drop (484 * index) bytes.now)) × IsStatement s) }
+    ensures ordered { IfOk result (λ s. (least ≤ s.slot) × (s.slot < slots)) }
+    ensures why { IfErr result (λ e. Fails least slots (drop (484 * index) bytes.now) e) }
+{
+    let part = &bytes[484 * index..484 * index + 484];
+    let slot = slot_of(part) as usize;
+    if slot < least || slots <= slot {
+        return Err(ReadError::Order);
+    }
+    match statement(part) {
+        Some(statement) => Ok(statement),
+        None => Err(ReadError::Field),
+    }
+}
+
+/// What is told of so many statements where memory ran out: the first one that fails, and want of memory only where none does.
+fn want_of_memory(bytes: &[u8], count: usize, slots: usize) -> ReadError
+    requires size { length bytes.now ≡ 484 * count }
+    requires most { slots < 2 ^ 32 }
+    ensures { StatementsFail bytes.now slots count result }
+{
+    let mut least = 0;
+    for index in 0..count {
+        match statement_at(bytes, index, least, slots) {
+            Ok(one) => least = one.slot() as usize + 1,
+            Err(e) => return e,
+        }
+    }
+    ReadError::Memory
+}
+
 /// So many statements, each of 484 bytes, for code of so many slots.
 fn statements(
     alloc: Global,
@@ -89,22 +128,18 @@ fn statements(
     ensures why { IfErr result (λ e. StatementsFail bytes.now slots count e) }
 {
     let Ok(mut statements) = Vec::with_capacity(alloc, count) else {
-        return Err(ReadError::Memory);
+        return Err(want_of_memory(bytes, count, slots));
     };
     let mut least = 0;
     for index in 0..count {
-        let part = &bytes[484 * index..484 * index + 484];
-        let slot = slot_of(part) as usize;
-        if slot < least || slots <= slot {
-            return Err(ReadError::Order);
-        }
-        let Some(one) = statement(part) else {
-            return Err(ReadError::Field);
+        let one = match statement_at(bytes, index, least, slots) {
+            Ok(one) => one,
+            Err(e) => return Err(e),
         };
+        least = one.slot() as usize + 1;
         let Ok(()) = statements.push(one) else {
-            return Err(ReadError::Memory);
+            return Err(want_of_memory(bytes, count, slots));
         };
-        least = slot + 1;
     }
     Ok(statements)
 }
@@ -161,7 +196,7 @@ fn outcome(alloc: Global, bytes: &[u8]) -> Result<Object, ReadError>
         return Err(ReadError::Trailing);
     }
     let Ok(code) = Vec::from_slice(alloc, &bytes[16..start]) else {
-        return Err(ReadError::Memory);
+        return Err(want_of_memory(&bytes[start..], count, slots));
     };
     match statements(alloc, &bytes[start..], count, slots) {
         Ok(statements) => Ok(Object::from_parts(hook, fields.entry_rank, code, statements)),
@@ -175,7 +210,7 @@ pub fn read(alloc: Global, bytes: &[u8]) -> Result<Object, ReadError>
     ensures found { IfOk result (λ object. Spells bytes.now object) }
     // What is spelled so is read, unless memory runs out.
     ensures only { (object : ObjectParts) → Spells bytes.now object → MatchResult result (λ found. found ≡ object) (λ e. e ≡ Memory) }
-    // Which refusal it is; memory is asked for only where the bytes are as many as the header announces.
+    // Which refusal it is; memory ran out only where the bytes spell an object.
     ensures why { IfErr result (λ e. Refuses bytes.now e) }
 {
     outcome(alloc, bytes)

@@ -19,4 +19,8 @@ returns-in-Ok-statements-clause-found c =
 
 pub returns-in-Err-statements-clause-why : goal.returns-in-Err-statements-clause-why
 returns-in-Err-statements-clause-why c =
-    cut_fails c.args.bytes.now c.in-Ok.found.1 c.from-count.result c.in-Err-statements.e c.in-Ok.ensures.found.0 c.from-count.ensures c.if-bytes-start.false c.if-bytes-start-2.false c.in-Err-statements.ensures.why
+    cut_fails c.args.bytes.now c.in-Ok.found.1 c.in-Ok.found.0 c.from-count.result c.in-Err-statements.e c.in-Ok.ensures.found c.from-count.ensures c.if-bytes-start.false c.if-bytes-start-2.false c.in-Err-statements.ensures.why
+
+pub returns-in_default-clause-why : goal.returns-in_default-clause-why
+returns-in_default-clause-why c =
+    cut_fails c.args.bytes.now c.in-Ok.found.1 c.in-Ok.found.0 c.from-count.result c.want_of_memory.result c.in-Ok.ensures.found c.from-count.ensures c.if-bytes-start.false c.if-bytes-start-2.false c.want_of_memory.ensures
