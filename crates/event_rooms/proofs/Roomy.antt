@@ -254,7 +254,7 @@ module _ (rules : Rules) (two_way_roomy : IsRoomyTwoWay rules.two_way) where
         sending_roomy moment (sends_of (hello_sent_on moment) o.area.links) (on_links (map (with_hello_sent moment)) o)
         (sends_roomy (hello_sent_on moment) (hello_room moment) 1 o.area.links)
         (each_link_roomy (with_hello_sent moment) (λ link at. at) o h);
-    announces = λ r key e own h. tt;
+    announces = λ r e own h. tt;
     unannounces = λ r key h. tt;
     link_down = λ number o h. changed_roomy number taken_down (λ link at. tt) o h;
     loaded = λ o h. each_link_roomy link_loading_done (λ link at. filled_on_roomy link.neighbor at) o h;

@@ -111,7 +111,8 @@ pub record IsKeptByParts (i : Invariant) (rules : Rules) : Type 0 where
   pub acknowledges : (moment : ℕ) → Keeps i (acknowledge_all moment)
   pub hellos : (moment : ℕ) → Keeps i (send_hellos moment)
   -- the commands
-  pub announces : (r : Router) (key : Key) (e : External) → i.of_key key → i.of_announced r.id r.announced → i.of_announced r.id (finite.insert r.announced key e)
+  pub announces : (r : Router) (e : External) → i.of_key (external_key r.id e.prefix) → i.of_announced r.id r.announced
+      → i.of_announced r.id (finite.insert r.announced (external_key r.id e.prefix) e)
   pub unannounces : (r : Router) (key : Key) → i.of_announced r.id r.announced → i.of_announced r.id (finite.remove r.announced key)
   pub link_down : (number : ℕ) → Keeps i (on_links (change_link number taken_down))
   -- the end
@@ -259,10 +260,12 @@ module _ (i : Invariant) (rules : Rules) (kept : IsKeptByParts i rules) where
   want_ended moment key p h =
       flush_kept moment key (on_router (unannounce key) p) (record { area = h.area; announced = kept.unannounces p.router key h.announced })
 
-  announced_kept : (moment : ℕ) (key : Key) (e : External) (p : EventState) → i.of_key key → i.without_room → InProgress p → InProgress (announce_as moment key e p)
-  announced_kept moment key e p own anyway h =
+  announced_kept : (moment : ℕ) (e : External) (p : EventState) → i.of_key (external_key p.router.id e.prefix) → i.without_room → InProgress p
+      → InProgress (announce_as moment (external_key p.router.id e.prefix) e p)
+  announced_kept moment e p own anyway h =
+      let key : Key = external_key p.router.id e.prefix in
       let q : EventState = on_router (announce key e) p in
-      let so : InProgress q = record { area = h.area; announced = kept.announces p.router key e own h.announced } in
+      let so : InProgress q = record { area = h.area; announced = kept.announces p.router e own h.announced } in
       chosen InProgress (is_announced_as e (finite.get p.router.announced key)) p (originate_anyway moment key q) (λ is. h)
       (λ is. body_kept true moment key (wanted_body q.router key) q own refl (λ may. MayGrow.Anyway anyway) so)
 
@@ -271,7 +274,7 @@ module _ (i : Invariant) (rules : Rules) (kept : IsKeptByParts i rules) where
   redistributed moment e tag price p own anyway h =
       let key : Key = external_key p.router.id e.prefix in
       chosen InProgress (nat_le ls_infinity price) (end_want moment key p) (announce_as moment key (answered e tag price) p)
-      (λ is. want_ended moment key p h) (λ is. announced_kept moment key (answered e tag price) p own anyway h)
+      (λ is. want_ended moment key p h) (λ is. announced_kept moment (answered e tag price) p own anyway h)
 
   withdrawn : (moment : ℕ) (prefix : Network) (p : EventState) → InProgress p → InProgress (after_withdraw moment prefix p)
   withdrawn moment prefix p h =

@@ -114,7 +114,7 @@ module _ (Q : Fact) (kept : IsKept Q) where
           each_keeps (Of Q) moment (again moment o) (λ number link n at. again_kept Q kept moment link.interface.retransmit_interval o.area.database n at) o h;
       acknowledges = λ moment o h. each_link_keeps (Of Q) without_acknowledgments (λ link at. at) o.area.links h;
       hellos = λ moment o h. each_link_keeps (Of Q) (with_hello_sent moment) (λ link at. at) o.area.links h;
-      announces = λ r key e own h. tt;
+      announces = λ r e own h. tt;
       unannounces = λ r key h. tt;
       link_down = λ number o h. changed_keeps (Of Q) number taken_down (λ link at. tt) o.area.links h;
       loaded = λ o h. each_link_keeps (Of Q) link_loading_done (λ link at. filled_on_kept link.neighbor at) o.area.links h;

@@ -9,3 +9,4 @@ pub mod Worlds
 pub mod Invariants
 pub mod Always
 pub mod Requesting
+pub mod Limits

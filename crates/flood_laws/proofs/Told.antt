@@ -26,7 +26,7 @@ use Rattle.events.specs.Commands.{taken_down}
 use Rattle.events.specs.Endings.{start_event, link_loading_done, loading_done_on, end_event, stays, with_age}
 use Rattle.events.specs.Events.{OwnPart, Rules}
 use Rattle.events.specs.Hellos.{accepts, hello_is_due, hello_on, names}
-use Rattle.events.specs.Originations.{has_max_sequence, install_and_flood, new_instance, originate_or_wait, router_key, wanted_body}
+use Rattle.events.specs.Originations.{external_key, has_max_sequence, install_and_flood, new_instance, originate_or_wait, router_key, wanted_body}
 use Rattle.events.specs.Packets.{hear, heard_on, requested_lsas, with_neighbor}
 use Rattle.events.specs.EventState.{EventState, flood_from_nobody}
 use Rattle.events.specs.Routers.{Occurrence, Router}
@@ -170,7 +170,7 @@ module _ (t : Telling) (id : ℕ) (news : (key : Key) (copy : Option DatabaseCop
           sending_told t moment (sends_of (hello_sent_on moment) o.area.links) (on_links (map (with_hello_sent moment)) o)
           (sends_told (hello_sent_on moment) (λ link at. hello_told_on moment link) 1 o.area.links h.links)
           (each_link (with_hello_sent moment) (λ link at. record { neighbor = at.neighbor; acknowledgments = at.acknowledgments }) o h);
-      announces = λ r key e own h. (h.0, inserted_in (IsOwn t id) r.announced key e h.1 own);
+      announces = λ r e own h. (h.0, inserted_in (IsOwn t id) r.announced (external_key r.id e.prefix) e h.1 own);
       unannounces = λ r key h. (h.0, removed_in (IsOwn t id) r.announced key h.1);
       link_down = λ number o h. change_told t number taken_down (λ link at. record { neighbor = tt; acknowledgments = at.acknowledgments }) o h;
       loaded = λ o h.

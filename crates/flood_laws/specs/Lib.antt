@@ -1,3 +1,4 @@
 pub mod Known
 pub mod Lawful
 pub mod NeighborLaws
+pub mod LimitLaws

@@ -4,6 +4,7 @@
 
 ghost use Rattle.flood_laws.specs.Known.{EventsHoldOnlyWhatIsKnown, UpdatesTellWhatTheyBear};
 ghost use Rattle.flood_laws.specs.Lawful.{TextsAreLawful};
+ghost use Rattle.flood_laws.specs.LimitLaws.{OthersStayWithinLimits};
 ghost use Rattle.flood_laws.specs.NeighborLaws.{FullNeighborsRequestNothing, ListsAreSound, WhatIsLeftIsRequested};
 ghost use Rattle.events.specs.Taken.{WhatIsTakenOffWasTold};
 ghost use Rattle.events.specs.Worlds.{AcknowledgedWasReceived};
@@ -24,6 +25,12 @@ pub fn lists_are_sound()
 /// that has, a Request is outstanding (RFC 2328, sections 10.3 and 10.9).
 pub fn what_is_left_is_requested()
     ensures { WhatIsLeftIsRequested }
+{}
+
+/// A Tick, a Withdraw, an Install and a LinkDown leave a router within its limits, 16,384 LSAs and 4,096 own externals, that was within
+/// them, and are never refused for want of room: what they originate looks for room first. Only a Packet and a Redistribute may be.
+pub fn others_stay_within_limits()
+    ensures { OthersStayWithinLimits }
 {}
 
 /// What an Acknowledgment, or an LSA that is an implied acknowledgment, takes off the retransmission list of its sender is an instance that

@@ -1,0 +1,40 @@
+-- Which events may take a router past its limits, and so be refused for want of room.
+use Rattle.std.specs.Prelude.{◌≡◌, ℕ, Bool, true, false, List, Some}
+use Rattle.std.specs.FinMap as finite
+use Rattle.words.specs.declared.key.Key.{Key}
+use Rattle.words.specs.declared.route.External.{External}
+use Rattle.events.specs.declared.model.Config.{Config}
+use Rattle.events.specs.declared.model.Out.{Out}
+use Rattle.events.specs.Events.{Happens, Run, Step, initial}
+use Rattle.events.specs.Refusals.{WouldExceed, exceeds}
+use Rattle.events.specs.Routers.{Occurrence, Router}
+
+-- a Packet may bring LSAs, and a Redistribute asks whether there is room only afterwards
+abbrev pub may_exceed : Occurrence → Bool
+may_exceed (Occurrence.Packet number bytes) = true
+may_exceed Occurrence.Tick = false
+may_exceed (Occurrence.Redistribute tagged tag priced price) = true
+may_exceed (Occurrence.Withdraw prefix) = false
+may_exceed (Occurrence.Install answers) = false
+may_exceed (Occurrence.LinkDown number) = false
+
+-- the destinations that are announced stand under keys of AS-external-LSAs
+abbrev pub AnnouncesExternals : Router → Type 0
+AnnouncesExternals r =
+    (key : Key) (e : External) → finite.get r.announced key ≡ Some e → key.ls_type ≡ 5
+
+-- every other event leaves a router within its limits that was within them, and is never refused
+-- for want of room
+pub record OthersStayWithinLimits : Type 0 where
+  -- at the start, after each event, and so in every run
+  pub first : (c : Config) → AnnouncesExternals (initial c)
+  pub event : (old : Router) (moment : ℕ) (event : Occurrence) (outs : List Out) (new : Router)
+      → Happens old moment event outs new → AnnouncesExternals old → AnnouncesExternals new
+  pub run : (c : Config) (steps : List Step) (new : Router) → Run (initial c) steps new
+      → AnnouncesExternals new
+  -- of such a router
+  pub kept : (old : Router) (moment : ℕ) (event : Occurrence) (outs : List Out) (new : Router)
+      → AnnouncesExternals old → may_exceed event ≡ false → Happens old moment event outs new
+      → exceeds old ≡ false → exceeds new ≡ false
+  pub not_refused : (old : Router) (moment : ℕ) (event : Occurrence) → AnnouncesExternals old
+      → may_exceed event ≡ false → exceeds old ≡ false → WouldExceed old moment event → ⊥
