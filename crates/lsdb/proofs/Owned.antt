@@ -35,7 +35,7 @@ module _ {X : Type 0} (p : Key → Bool) where
   get-kept m q = finite.get-retain_keys m p q (alike p q)
 
   -- the entries that are left, as a list
-  entries_kept : (m : ByKey X) → finite.entries (finite.retain_keys m p) ≡ where_key key_cmp p (finite.entries m)
+  pub entries_kept : (m : ByKey X) → finite.entries (finite.retain_keys m p) ≡ where_key key_cmp p (finite.entries m)
   entries_kept m =
       let es = where_key key_cmp p (finite.entries m) in
       let sorted = is_sorted-where_key key_cmp p (finite.entries m) (finite.entries_sorted m) in
@@ -90,7 +90,7 @@ module _ {X : Type 0} (p : Key → Bool) where
   some_kept false None = refl
   some_kept false (Some x) = refl
 
-  contains_kept : (m : ByKey X) (k : Key)
+  pub contains_kept : (m : ByKey X) (k : Key)
       → finite.contains_key (finite.retain_keys m p) k ≡ (finite.contains_key m k && p k)
   contains_kept m k = ap is_some (get-kept m k) ∙ some_kept (p k) (finite.get m k)
 

@@ -5,7 +5,6 @@ use Rattle.words.specs.Numbers.{Moment, RouterNumber}
 use Rattle.words.specs.declared.key.Key.{Key}
 use Rattle.lsdb.specs.Copies.{Database, DatabaseCopy}
 use Rattle.lsdb.specs.Headers.{Lsa, lsa_aged}
-use Rattle.keyed_map.specs.Held.{Held}
 use Rattle.lsdb.specs.Keys.{ByKey}
 use Rattle.lsdb.specs.Limits.{is_own_external}
 use Rattle.lsdb.specs.Order.{age_at, is_max_age}
@@ -51,12 +50,3 @@ aged_at moment (Some t) = is_max_age (age_at t.age t.stored moment)
 -- how many of the keys are those of own externals
 abbrev pub owned : {X : Type 0} → RouterNumber → ByKey X → ℕ
 owned router m = finite.len (finite.retain_keys m (is_own_external router))
-
--- what the database keeps of its LSAs, beside the maps: no LSA is without its times, and the two
--- numbers are those of the own externals now and when it was last settled
-pub record AreKept (router : RouterNumber) (lsas : Held Lsa) (times : Held Times)
-    (externals settled_externals : ℕ) : Type 0 where
-  pub present : HaveTimes lsas.present times.present
-  pub settled : HaveTimes lsas.settled times.settled
-  pub counted : externals ≡ owned router lsas.present
-  pub settled_counted : settled_externals ≡ owned router lsas.settled

@@ -11,6 +11,7 @@ ghost use Rattle.lsdb.specs.Copies.{
 };
 ghost use Rattle.lsdb.specs.Limits.{exceeds, has_room, own_externals};
 
+use crate::ages::{Ages, foresee};
 use crate::database_copy::DatabaseCopy;
 use crate::limits::{MOST_LSAS, MOST_OWN_EXTERNALS, is_own_external, recount};
 use crate::order::{MAX_AGE, age_at};
@@ -34,6 +35,7 @@ pub struct Lsdb {
     // how many own AS-external-LSAs there are, and how many there were when it was last settled
     externals: usize,
     settled_externals: usize,
+    ages: Ages,
 }
 
 impl Model for Lsdb {
@@ -44,7 +46,8 @@ impl Model for Lsdb {
 
     ghost coded = { coded_database (Prim.hlevel codes) };
 
-    ghost use Rattle.lsdb.specs.Joined.{AreKept, joined};
+    ghost use Rattle.lsdb.specs.Joined.{joined};
+    ghost use Rattle.lsdb.specs.Soundness.{AreKept};
 
     ghost view = { λ a. record {
       router = a.router;
@@ -52,7 +55,8 @@ impl Model for Lsdb {
       settled = joined a.lsas.settled a.times.settled;
     } };
 
-    ghost invariant = { λ a. AreKept a.router a.lsas a.times a.externals a.settled_externals };
+    ghost invariant = { λ a.
+        AreKept a.router a.lsas a.times a.externals a.settled_externals a.ages };
 }
 
 // Which LSAs have come to MaxAge.
@@ -75,6 +79,32 @@ impl<'a> KeyTest<StoredLsa> for AgedOut<'a> {
     }
 }
 
+// Which keys have an LSA that has come to MaxAge.
+#[derive(Drop)]
+struct AgedAndThere<'a> {
+    lsas: &'a KeyedMap<StoredLsa>,
+    times: &'a KeyedMap<Times>,
+    moment: Second,
+}
+
+impl<'a> KeyTest<()> for AgedAndThere<'a> {
+    ghost use Rattle.std.specs.Prelude.{◌&&◌};
+    ghost use Rattle.lsdb.specs.Joined.{aged_at};
+
+    ghost accepts = { λ a key u.
+        aged_at a.moment (finite.get a.times.now.present key)
+        && finite.contains_key a.lsas.now.present key };
+
+    fn accepts(&self, key: &Key, _nothing: &()) -> bool {
+        match self.times.get(key) {
+            None => false,
+            Some(times) => {
+                age_at(times.age, times.stored, self.moment) == MAX_AGE && self.lsas.contains(key)
+            }
+        }
+    }
+}
+
 impl Lsdb {
     /// The empty database of a router. It wants no memory.
     pub fn new(alloc: Global, router: RouterId) -> Self
@@ -86,6 +116,7 @@ impl Lsdb {
             times: KeyedMap::new(alloc),
             externals: 0,
             settled_externals: 0,
+            ages: Ages::new(alloc, Second::new(u64::MAX)),
         }
     }
 
@@ -101,6 +132,7 @@ impl Lsdb {
             times,
             externals: self.externals,
             settled_externals: self.externals,
+            ages: Ages::new(alloc, Second::new(0)),
         })
     }
 
@@ -169,9 +201,20 @@ impl Lsdb {
     }
 
     /// The keys of the copies that have MaxAge at the moment, in their order.
+    ///
+    /// It looks at each copy only from the moment on at which one may have come of age since
+    /// `settle_at` last looked; before that, at those alone that were found or became so since then.
     pub fn aged_keys(&self, alloc: Global, moment: Second) -> Result<Vec<Key>, AllocError>
         ensures { IfOk result (λ keys. keys.items ≡ aged_keys moment self.now.present) }
     {
+        if moment < self.ages.due {
+            let there = AgedAndThere {
+                lsas: &self.lsas,
+                times: &self.times,
+                moment,
+            };
+            return self.ages.aged.keys_where(alloc, &there);
+        }
         let aged_out = AgedOut {
             times: &self.times,
             moment,
@@ -195,6 +238,7 @@ impl Lsdb {
         let name = header.key();
         let key = &name;
         let held = self.lsas.contains(key);
+        self.ages.note(moment, key, &times)?;
         self.times.insert(*key, times)?;
         self.lsas.insert(*key, StoredLsa::new(lsa))?;
         self.externals = recount(self.router, &self.lsas, key, held, true, self.externals);
@@ -250,6 +294,7 @@ impl Lsdb {
             stored: moment,
             ..*times
         };
+        self.ages.note(moment, key, &aged)?;
         self.times.insert(*key, aged)
     }
 
@@ -272,6 +317,23 @@ impl Lsdb {
         self.lsas.settle();
         self.times.settle();
         self.settled_externals = self.externals;
+    }
+
+    /// Makes the edits so far final, and looks at each copy if one may have come of age by this
+    /// moment, so that `aged_keys` needn't before another one can. Without memory for what it finds
+    /// it looks again the next time.
+    pub fn settle_at(&mut self, alloc: Global, moment: Second)
+        ensures { self.new ≡ record self.old { settled = self.old.present } }
+    {
+        self.lsas.settle();
+        self.times.settle();
+        self.settled_externals = self.externals;
+        if moment < self.ages.due {
+            return;
+        }
+        if let Ok(ages) = foresee(alloc, &self.times, moment) {
+            self.ages = ages;
+        }
     }
 
     /// Takes all edits back that were made since it was last settled.

@@ -128,3 +128,32 @@ fn a_copy_has_nothing_to_take_back(rt: HostRuntime) -> Result<(), AllocError> {
     assert_eq!(rt; copy.len(), 3);
     Ok(())
 }
+
+#[test]
+fn what_has_come_of_age_is_found(rt: HostRuntime) -> Result<(), AllocError> {
+    let alloc = rt.alloc();
+    let mut database = filled(alloc, OTHER, 3)?;
+    database.settle_at(alloc, Second::new(1));
+    let aged = database.aged_keys(alloc, Second::new(3_600))?;
+    assert_eq!(rt; aged.len(), 0);
+    database.age_out(Second::new(10), &key(OTHER, 1))?;
+    let aged = database.aged_keys(alloc, Second::new(10))?;
+    assert_eq!(rt; aged.as_slice(), [key(OTHER, 1)].as_slice());
+    database.roll_back();
+    let aged = database.aged_keys(alloc, Second::new(10))?;
+    assert_eq!(rt; aged.len(), 0);
+    database.age_out(Second::new(10), &key(OTHER, 2))?;
+    database.settle_at(alloc, Second::new(10));
+    database.install_flooded(Second::new(20), external(alloc, OTHER, 0)?)?;
+    database.settle_at(alloc, Second::new(20));
+    let aged = database.aged_keys(alloc, Second::new(3_601))?;
+    assert_eq!(rt; aged.as_slice(), [key(OTHER, 1), key(OTHER, 2)].as_slice());
+    database.settle_at(alloc, Second::new(3_601));
+    let aged = database.aged_keys(alloc, Second::new(3_619))?;
+    assert_eq!(rt; aged.as_slice(), [key(OTHER, 1), key(OTHER, 2)].as_slice());
+    database.remove(&key(OTHER, 2))?;
+    database.settle_at(alloc, Second::new(3_620));
+    let aged = database.aged_keys(alloc, Second::new(3_620))?;
+    assert_eq!(rt; aged.as_slice(), [key(OTHER, 0), key(OTHER, 1)].as_slice());
+    Ok(())
+}

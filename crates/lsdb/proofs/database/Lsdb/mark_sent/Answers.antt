@@ -2,6 +2,8 @@ use Rattle.std.proofs.Common.{Some, ap, sym, subst, ◌∙◌}
 use Rattle.std.specs.FinMap as finite
 use Rattle.lsdb.specs.Copies.{mark_sent}
 use Rattle.keyed_map.proofs.Helds.{after, on_ok}
+use Rattle.lsdb.specs.Foresight.{Foresees, ForeseesAll}
+use Rattle.lsdb.proofs.Foresight.{foresees_put}
 use Rattle.lsdb.specs.Joined.{HaveTimes, joined}
 use Rattle.lsdb.specs.declared.times.Times.{Times}
 use Rattle.lsdb.proofs.Joins.{have_more, marks, marks-none}
@@ -24,10 +26,16 @@ pub invariant_of-self : goal.invariant_of-self
 invariant_of-self c =
     let lsas = c.self.inside.lsas.present in
     let times = c.self.inside.times.present in
+    let ages = c.self.inside.ages in
     let t : Times = record c.in-Some.times.now { sent = Some c.args.moment } in record {
       present = after c.insert.result (HaveTimes lsas) c.insert.new.self.present times (finite.insert times c.args.key.now t) c.insert.ensures.ok c.insert.ensures.err
           (have_more lsas times c.args.key.now c.self.invariant.present t) c.self.invariant.present;
       settled = subst (HaveTimes c.self.inside.lsas.settled) (sym c.insert.ensures.settled) c.self.invariant.settled;
       counted = c.self.invariant.counted;
       settled_counted = c.self.invariant.settled_counted;
+      foreseen = after c.insert.result (ForeseesAll ages) c.insert.new.self.present times (finite.insert times c.args.key.now t) c.insert.ensures.ok c.insert.ensures.err
+          (foresees_put ages times c.args.key.now c.self.invariant.foreseen t
+          (subst (Foresees ages c.args.key.now) (sym c.in-Some.ensures) (c.self.invariant.foreseen c.args.key.now)))
+          c.self.invariant.foreseen;
+      settled_foreseen = subst (ForeseesAll ages) (sym c.insert.ensures.settled) c.self.invariant.settled_foreseen;
     }

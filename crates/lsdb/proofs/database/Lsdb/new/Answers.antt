@@ -1,6 +1,8 @@
 use Rattle.std.proofs.Common.{ap, sym, subst, ◌∙◌}
 use Rattle.std.specs.FinMap as finite
 use Rattle.lsdb.specs.Headers.{Lsa}
+use Rattle.lsdb.specs.Foresight.{ForeseesAll}
+use Rattle.lsdb.proofs.Foresight.{foresees_nothing}
 use Rattle.lsdb.specs.Joined.{HaveTimes, joined, owned}
 use Rattle.lsdb.specs.Limits.{is_own_external}
 use Rattle.lsdb.proofs.Joins.{database_is, joined-empty, none_lacks}
@@ -13,6 +15,8 @@ invariant_of-result c = record {
   settled = subst (λ h. HaveTimes h.settled c.new-2.result.settled) (sym c.new.ensures) (subst (λ h. HaveTimes finite.empty h.settled) (sym c.new-2.ensures) none_lacks);
   counted = sym (ap (λ h. owned c.args.router h.present) c.new.ensures ∙ count_empty Lsa (is_own_external c.args.router));
   settled_counted = sym (ap (λ h. owned c.args.router h.settled) c.new.ensures ∙ count_empty Lsa (is_own_external c.args.router));
+  foreseen = subst (λ h. ForeseesAll c.new-4.result h.present) (sym c.new-2.ensures) (foresees_nothing c.new-4.result);
+  settled_foreseen = subst (λ h. ForeseesAll c.new-4.result h.settled) (sym c.new-2.ensures) (foresees_nothing c.new-4.result);
 }
 
 pub returns : goal.returns

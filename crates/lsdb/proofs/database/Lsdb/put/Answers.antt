@@ -2,6 +2,8 @@ use Rattle.std.proofs.Common.{None, true, cond, ap, sym, subst, ◌∙◌}
 use Rattle.std.specs.FinMap as finite
 use Rattle.keyed_map.specs.Slots.{counted}
 use Rattle.lsdb.specs.Headers.{key_of}
+use Rattle.lsdb.specs.Foresight.{ForeseesAll}
+use Rattle.lsdb.proofs.Foresight.{foresees_put}
 use Rattle.lsdb.specs.Joined.{HaveTimes, copy_of, joined, owned}
 use Rattle.lsdb.specs.Limits.{is_own_external}
 use Rattle.lsdb.specs.declared.times.Times.{Times}
@@ -25,6 +27,7 @@ invariant_of-self-in_err-insert-2 c =
     let lsas = c.self.inside.lsas.present in
     let times = c.self.inside.times.present in
     let key = c.key-name.result in
+    let ages = c.note.new.self in
     let t : Times = record { age = c.header-header.result.age; stored = c.args.moment; installed = c.args.installed; sent = None } in record {
       present = subst (λ l. HaveTimes l c.insert.new.self.present) (sym c.in_err-insert-2.ensures.err)
           (subst (HaveTimes lsas) (sym c.in_ok-insert.ensures.ok) (have_more lsas times key c.self.invariant.present t));
@@ -32,6 +35,10 @@ invariant_of-self-in_err-insert-2 c =
           (subst (HaveTimes c.self.inside.lsas.settled) (sym c.insert.ensures.settled) c.self.invariant.settled);
       counted = c.self.invariant.counted ∙ sym (ap (owned router) c.in_err-insert-2.ensures.err);
       settled_counted = c.self.invariant.settled_counted ∙ sym (ap (owned router) c.insert-2.ensures.settled);
+      foreseen = subst (ForeseesAll ages) (sym c.in_ok-insert.ensures.ok)
+          (foresees_put ages times key (λ q. c.note.ensures.more q (finite.get times q) (c.self.invariant.foreseen q)) t c.in_ok-note.ensures.there);
+      settled_foreseen = subst (ForeseesAll ages) (sym c.insert.ensures.settled)
+          (λ q. c.note.ensures.more q (finite.get c.self.inside.times.settled q) (c.self.invariant.settled_foreseen q));
     }
 
 pub invariant_of-self-2 : goal.invariant_of-self-2
@@ -41,6 +48,7 @@ invariant_of-self-2 c =
     let times = c.self.inside.times.present in
     let key = c.key-name.result in
     let lsa = c.new.result in
+    let ages = c.note.new.self in
     let t : Times = record { age = c.header-header.result.age; stored = c.args.moment; installed = c.args.installed; sent = None } in record {
       present = subst (λ l. HaveTimes l c.insert.new.self.present) (sym c.in_ok-insert-2.ensures.ok)
           (subst (HaveTimes (finite.insert lsas key lsa)) (sym c.in_ok-insert.ensures.ok) (have_both lsas times key c.self.invariant.present lsa t));
@@ -48,6 +56,10 @@ invariant_of-self-2 c =
           (subst (HaveTimes c.self.inside.lsas.settled) (sym c.insert.ensures.settled) c.self.invariant.settled);
       counted = c.recount-self-inside.ensures;
       settled_counted = c.self.invariant.settled_counted ∙ sym (ap (owned router) c.insert-2.ensures.settled);
+      foreseen = subst (ForeseesAll ages) (sym c.in_ok-insert.ensures.ok)
+          (foresees_put ages times key (λ q. c.note.ensures.more q (finite.get times q) (c.self.invariant.foreseen q)) t c.in_ok-note.ensures.there);
+      settled_foreseen = subst (ForeseesAll ages) (sym c.insert.ensures.settled)
+          (λ q. c.note.ensures.more q (finite.get c.self.inside.times.settled q) (c.self.invariant.settled_foreseen q));
     }
 
 pub returns-clause-ok : goal.returns-clause-ok
@@ -56,6 +68,7 @@ returns-clause-ok c =
     let times = c.self.inside.times.present in
     let lsa = c.new.result in
     let key = c.key-name.result in
+    let ages = c.note.new.self in
     let t : Times = record { age = c.header-header.result.age; stored = c.args.moment; installed = c.args.installed; sent = None } in
     ap (λ m. joined m c.insert.new.self.present) c.in_ok-insert-2.ensures.ok
     ∙ ap (joined (finite.insert lsas key lsa)) c.in_ok-insert.ensures.ok

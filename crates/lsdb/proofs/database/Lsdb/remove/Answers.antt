@@ -2,6 +2,8 @@ use Rattle.std.proofs.Common.{false, cond, ap, sym, subst, ◌∙◌}
 use Rattle.std.specs.FinMap as finite
 use Rattle.keyed_map.specs.Slots.{counted}
 use Rattle.keyed_map.proofs.Helds.{after, on_ok}
+use Rattle.lsdb.specs.Foresight.{ForeseesAll}
+use Rattle.lsdb.proofs.Foresight.{foresees_taken}
 use Rattle.lsdb.specs.Joined.{HaveTimes, joined, owned}
 use Rattle.lsdb.specs.Limits.{is_own_external}
 use Rattle.lsdb.proofs.Joins.{have_neither, have_without, joined_remove}
@@ -31,6 +33,7 @@ pub invariant_of-self-2 : goal.invariant_of-self-2
 invariant_of-self-2 c =
     let lsas = c.self.inside.lsas.present in
     let times = c.self.inside.times.present in
+    let ages = c.self.inside.ages in
     let key = c.args.key.now in record {
       present = after c.remove-2.result (HaveTimes c.remove.new.self.present) c.remove-2.new.self.present times (finite.remove times key) c.remove-2.ensures.ok c.remove-2.ensures.err
           (subst (λ l. HaveTimes l (finite.remove times key)) (sym c.in_ok-remove.ensures.ok) (have_neither lsas times key c.self.invariant.present))
@@ -39,4 +42,7 @@ invariant_of-self-2 c =
           (subst (λ l. HaveTimes l c.self.inside.times.settled) (sym c.remove.ensures.settled) c.self.invariant.settled);
       counted = c.recount-self-inside.ensures;
       settled_counted = c.self.invariant.settled_counted ∙ sym (ap (owned c.self.inside.router) c.remove.ensures.settled);
+      foreseen = after c.remove-2.result (ForeseesAll ages) c.remove-2.new.self.present times (finite.remove times key) c.remove-2.ensures.ok c.remove-2.ensures.err
+          (foresees_taken ages times key c.self.invariant.foreseen) c.self.invariant.foreseen;
+      settled_foreseen = subst (ForeseesAll ages) (sym c.remove-2.ensures.settled) c.self.invariant.settled_foreseen;
     }
