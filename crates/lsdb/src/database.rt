@@ -203,7 +203,7 @@ impl Lsdb {
     /// The keys of the copies that have MaxAge at the moment, in their order.
     ///
     /// It looks at each copy only from the moment on at which one may have come of age since
-    /// `settle_at` last looked; before that, at those alone that were found or became so since then.
+    /// `settle_at` last looked; before that, at those alone that had MaxAge then or got it since.
     pub fn aged_keys(&self, alloc: Global, moment: Second) -> Result<Vec<Key>, AllocError>
         ensures { IfOk result (λ keys. keys.items ≡ aged_keys moment self.now.present) }
     {
