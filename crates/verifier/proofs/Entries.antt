@@ -13,15 +13,8 @@ use Rattle.kinds.specs.declared.state.Kind.TheVariants.{Empty, Pointer}
 use Rattle.kinds.specs.declared.state.Place.TheVariants.{Context}
 use Rattle.kinds.specs.declared.statement.Target.{Target}
 use Rattle.kinds.specs.Meaning.{KindHolds, TargetHolds, StatedHolds}
-use Rattle.verifier.specs.Places.{target_at}
-use Rattle.verifier.specs.Segments.{Enters}
-
--- what is past the end stands there already
-pub pushed_default : {A : Type 0} (xs : List A) (d : A) (r : ℕ) → get_or (xs ++ d ∷ []) r d ≡ get_or xs r d
-pushed_default [] d zero = refl
-pushed_default [] d (suc r) = refl
-pushed_default (x ∷ xs) d zero = refl
-pushed_default (x ∷ xs) d (suc r) = pushed_default xs d r
+use Rattle.segments.specs.Places.{target_at}
+use Rattle.segments.specs.Segments.{Enters}
 
 -- r1 points to the context, and nothing else is known
 abbrev pub entry_kinds : {D : Type 0} → List (Kind D)

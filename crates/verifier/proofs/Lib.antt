@@ -1,5 +1,5 @@
-pub mod Followed
 pub mod SegmentLemmas
 pub mod Soundness
 pub mod Entries
+pub mod Refused
 pub mod Idle

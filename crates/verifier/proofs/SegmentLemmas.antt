@@ -17,9 +17,9 @@ use Rattle.kinds.specs.declared.state.State.{State}
 use Rattle.kinds.specs.declared.statement.Target.{Target}
 use Rattle.kinds.specs.Meaning.{StateHolds, TargetHolds}
 use Rattle.transfer.specs.Given.{Given, setting_of}
-use Rattle.verifier.specs.declared.known.Known.{Known}
-use Rattle.verifier.specs.Places.{segment_of, target_at}
-use Rattle.verifier.specs.Segments.{Visits, at_entry, at_target, falls, Enters, EntersNext, LeadsOn, IsFine, IsKnown, Knows, FallsThrough, GoesOn, IsFollowed, IsCurrent, IsCurrentUnlessStated}
+use Rattle.segments.specs.declared.known.Known.{Known}
+use Rattle.segments.specs.Places.{segment_of, target_at}
+use Rattle.segments.specs.Segments.{Visits, at_entry, at_target, falls, Enters, EntersNext, LeadsOn, IsFine, IsKnown, Knows, FallsThrough, GoesOn, IsFollowed, IsCurrent, IsCurrentUnlessStated}
 
 -- no statement, and yet one
 none_is_some : {A : Type 0} {x : A} (o : Option A) → o ≡ None → o ≡ Some x → ⊥
@@ -32,7 +32,7 @@ same_instruction : (slot : Option Slot) (i j : Instruction) → slot ≡ Some (S
 same_instruction slot i j a b = cc
 
 -- an instruction takes one slot or two
-sizes : (wide : Bool) (i : Instruction) → is_wide i ≡ wide → ((size i ≡ 1) × (wide ≡ false)) ⊎ ((size i ≡ 2) × (wide ≡ true))
+pub sizes : (wide : Bool) (i : Instruction) → is_wide i ≡ wide → ((size i ≡ 1) × (wide ≡ false)) ⊎ ((size i ≡ 2) × (wide ≡ true))
 sizes true i is = inr (rw is refl, refl)
 sizes false i is = inl (rw is refl, refl)
 

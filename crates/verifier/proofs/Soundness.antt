@@ -4,7 +4,6 @@ use Rattle.std.specs.Prelude.{slice_get, IsSomeAnd, IfSome, nat_le, if◌then◌
 use Rattle.std.proofs.Math.Nat.{mul-le-mul_left}
 use Rattle.std.proofs.lemmas.Bool.{cases_lt}
 use Rattle.std.proofs.lemmas.Bool.Decides.{nat_tests}
-use Rattle.std.proofs.lemmas.Option.{slice_get_past}
 use Rattle.isa.specs.declared.code.Slot.{Slot}
 use Rattle.isa.specs.declared.code.Slot.TheVariants.{Start}
 use Rattle.isa.specs.declared.hook.Hook.{Hook}
@@ -21,8 +20,9 @@ use Rattle.kinds.specs.declared.statement.Target.{Target}
 use Rattle.kinds.specs.Meaning.{TargetHolds}
 use Rattle.ranks.specs.Lines.{rank_value}
 use Rattle.transfer.specs.Given.{Given, setting_of}
-use Rattle.verifier.specs.Places.{target_at}
-use Rattle.verifier.specs.Segments.{Visits, at_entry, at_target, falls, Enters, EntersNext, IsFine}
+use Rattle.segments.specs.Places.{target_at}
+use Rattle.segments.specs.Segments.{Visits, at_entry, at_target, falls, Enters, EntersNext, IsFine}
+use Rattle.segments.proofs.Made.{inside_code}
 use Rattle.verifier.proofs.SegmentLemmas.{size_some}
 
 -- The steps that are left: the rank counts the turns that the code may still be gone through, and the slot what is left of this one.
@@ -56,17 +56,6 @@ left_jump slots rank rank' slot to inside inside' below =
 some_and : {A : Type 0} {P : A → Type 0} (o : Option A) → IsSomeAnd o P → (x : A) × (o ≡ Some x) × P x
 some_and None p = absurd p
 some_and (Some x) p = (x, refl, p)
-
-none_is_some : {A : Type 0} {x : A} (o : Option A) → o ≡ None → o ≡ Some x → ⊥
-none_is_some o none some = cc
-
--- where an instruction begins the code has a slot
-pub inside_code : (code : List Slot) (slot : ℕ) → Begins code slot → slot < length code
-inside_code code slot begins =
-    ⊎_elim
-    (λ (inside : slot < length code). inside)
-    (λ (past : length code ≤ slot). absurd (none_is_some (slice_get code slot) (slice_get_past code slot past) begins.1))
-    (cases_lt slot (length code))
 
 module _ {D : Type 0} (contains : D → ℕ → Type 0) (code : List Slot) (hook : Hook) (targets : List (Option (Target D))) (entry : Target D) (limit : ℕ) (input : Given) where
   -- the machine is in a segment, at an instruction, and has steps left

@@ -1,34 +1,49 @@
 //! The verifier's main call.
-ghost use Rattle.std.specs.Prelude.{◌≡◌, ◌↔◌, ◌+◌, ◌*◌, ◌≤◌, IfOk, IfSome, IsSome, length};
+ghost use Rattle.std.specs.Prelude.{◌≡◌, ◌+◌, ◌*◌, ◌<◌, ◌≤◌, IfErr, IfOk, length};
 ghost use Rattle.object.specs.Objects.{AreStatements};
 ghost use Rattle.machine.specs.Runs.{Safe};
+ghost use Rattle.segments.specs.Refusals.{IsFirst, MayRefuse, budget};
 
 use crate::accepted::Accepted;
 use crate::entry::{enter_start, entry_of, entry_statement, unknown};
 use crate::pass::pass_all;
 use crate::refusal::Refusal;
-use crate::target::targets_of;
 use absdom::Domain;
 use isa::{Code, Hook};
 use object::Statement;
+use segments::target::targets_of;
 use std::alloc::Global;
 use transfer::rule::Rule;
 
 /// The greatest number of instructions that a run may execute.
 pub const BUDGET: u64 = 1_000_000;
 
-/// How many instructions a run may execute, unless that is too many: the code's slots for each turn that the rank allows, and once more.
-fn bound_of_runs(rank: u32, size: usize) -> Option<u64>
+/// How many instructions a run may execute: the code's slots for each turn that the rank allows, and
+/// once more. That may be too many.
+fn bound_of_runs(rank: u32, size: usize) -> Result<u64, Refusal>
     requires { size ≤ 4096 }
-    ensures value { IfSome result (λ bound. bound ≡ (rank + 1) * size) }
-    ensures most { IfSome result (λ bound. bound ≤ 1000000) }
-    ensures small { IsSome result ↔ ((rank + 1) * size ≤ 1000000) }
+    ensures value { IfOk result (λ bound. bound ≡ (rank + 1) * size) }
+    ensures most { IfOk result (λ bound. bound ≤ budget) }
+    ensures over { IfErr result (λ refusal. budget < (rank + 1) * size) }
+    ensures named { IfErr result (λ refusal. refusal ≡ record { slot = 0; rule = Rule.Budget }) }
 {
     let bound = (rank as u64 + 1) * size as u64;
-    if bound > BUDGET { None } else { Some(bound) }
+    if bound > BUDGET {
+        return Err(Refusal {
+            slot: 0,
+            rule: Rule::Budget,
+        });
+    }
+    Ok(bound)
 }
 
-/// Accepts the code only where it is safe within (rank + 1) times its slots.
+/// Accepts the code only where it is safe within (rank + 1) times its slots, at most 1,000,000.
+///
+/// A refusal names the first slot that breaks a rule, and of the rules broken there the one that is
+/// tried first: those on jumps, statements and the code's end are named only where they are broken and
+/// none of them is broken before, those on helpers, on the bound and on r10 only where they are broken,
+/// and want of memory at slot 0 only where memory ran out. The statements are in the order of their slots,
+/// each slot once, as an object holds them.
 pub fn verify<D: Domain>(
     alloc: Global,
     hook: Hook,
@@ -38,15 +53,16 @@ pub fn verify<D: Domain>(
 ) -> Result<Accepted, Refusal>
     requires { AreStatements 0 (length code) statements.now }
     ensures same { IfOk result (λ accepted. (accepted.code ≡ code) × (accepted.hook ≡ hook)) }
-    ensures bound { IfOk result (λ accepted. (accepted.bound ≡ (entry_rank + 1) * length code) × (accepted.bound ≤ 1000000)) }
+    ensures bound { IfOk result (λ accepted. (accepted.bound ≡ (entry_rank + 1) * length code)
+        × (accepted.bound ≤ budget)) }
     ensures safe { IfOk result (λ _. Safe code hook ((entry_rank + 1) * length code)) }
+    ensures named { IfErr result (λ refusal.
+        MayRefuse hook code entry_rank statements.now refusal.slot refusal.rule) }
+    ensures first { IfErr result (λ refusal.
+        IsFirst code statements.now refusal.slot refusal.rule) }
 {
-    let Some(bound) = bound_of_runs(entry_rank, code.len()) else {
-        return Err(Refusal {
-            slot: 0,
-            rule: Rule::Budget,
-        });
-    };
+    let _is_code = code.slots();
+    let bound = bound_of_runs(entry_rank, code.len())?;
     let statement = entry_statement(entry_rank);
     let entry = entry_of::<D>(alloc, &statement)?;
     let targets = targets_of::<D>(alloc, code.len(), statements)?;

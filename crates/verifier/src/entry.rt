@@ -1,21 +1,22 @@
 //! Where a run begins.
-ghost use Rattle.std.specs.Prelude.{◌≡◌, ◌+◌, true, false, IfOk, Some, length};
+ghost use Rattle.std.specs.Prelude.{◌≡◌, true, false, IfErr, IfOk, Some};
 ghost use Rattle.machine.specs.declared.state.State.{State as Machine};
 ghost use Rattle.machine.specs.State.{start};
 ghost use Rattle.object.specs.Sets.{no_bytes};
 ghost use Rattle.kinds.specs.declared.statement.Target.{Target as AnyTarget};
 ghost use Rattle.kinds.specs.Meaning.{TargetHolds, StateHolds};
 ghost use Rattle.ranks.specs.Lines.{rank_value};
-ghost use Rattle.verifier.specs.Places.{target_at};
-ghost use Rattle.verifier.specs.Segments.{Enters};
+ghost use Rattle.segments.specs.Places.{target_at};
+ghost use Rattle.segments.specs.Refusals.{IsOfEdge};
+ghost use Rattle.segments.specs.Segments.{Enters};
 
-use crate::edge::enter;
-use crate::known::Known;
 use crate::refusal::Refusal;
-use crate::target::stated_at;
 use absdom::Domain;
 use kinds::{Entry, Kind, Place, State, Target, reset};
 use object::{Kind as Stated, Rank, StackBytes, Statement};
+use segments::edge::enter;
+use segments::known::Known;
+use segments::target::stated_at;
 use std::alloc::{AllocError, Global};
 
 /// What is stated where a run begins: nothing but the rank.
@@ -78,8 +79,13 @@ pub fn enter_start<'a, D: Domain>(
     room: State<D>,
 ) -> Result<Known<D>, Refusal>
     ensures live { IfOk result (λ known. known.is_live ≡ true) }
-    ensures own { IfOk result (λ known. (machine : Machine) → TargetHolds D.contains entry.now machine → StateHolds D.contains known.state machine machine) }
-    ensures edge { IfOk result (λ _. (target : AnyTarget D) → target_at targets.now 0 ≡ Some target → (machine : Machine) → TargetHolds D.contains entry.now machine → Enters D.contains false entry.now target machine machine) }
+    ensures own { IfOk result (λ known. (machine : Machine)
+        → TargetHolds D.contains entry.now machine
+        → StateHolds D.contains known.state machine machine) }
+    ensures edge { IfOk result (λ _. (target : AnyTarget D) → target_at targets.now 0 ≡ Some target
+        → (machine : Machine) → TargetHolds D.contains entry.now machine
+        → Enters D.contains false entry.now target machine machine) }
+    ensures named { IfErr result (λ refusal. (refusal.slot ≡ 0) × IsOfEdge refusal.rule) }
 {
     let state = reset(room, entry);
     let Some(target) = stated_at(targets, 0) else {

@@ -3,14 +3,9 @@
 
 mod accepted;
 mod checking;
-mod edge;
 mod entry;
-mod follow;
-mod known;
 mod pass;
-mod places;
 mod refusal;
-mod target;
 
 pub use accepted::Accepted;
 pub use checking::{BUDGET, verify};

@@ -1,17 +1,17 @@
 //! The pass over the slots, in the order of their addresses.
-ghost use Rattle.std.specs.Prelude.{◌≡◌, ◌+◌, ◌<◌, ℕ, true, IfOk, MatchOption, None, Some, slice_get};
+ghost use Rattle.std.specs.Prelude.{◌≡◌, ◌+◌, ◌<◌, ℕ, List, false, true, IfErr, IfOk, IsSome, MatchOption, None, Some, slice_get};
+ghost use Rattle.isa.specs.Code.{is_wide};
 ghost use Rattle.isa.specs.declared.code.Slot.TheVariants.{Start};
 ghost use Rattle.isa.specs.Flow.{Begins, size};
 ghost use Rattle.machine.specs.declared.state.State.{State as Machine};
 ghost use Rattle.kinds.specs.Meaning.{StateHolds, TargetHolds};
-ghost use Rattle.verifier.specs.Places.{IsWellPlaced, segment_of, target_at};
-ghost use Rattle.verifier.specs.Segments.{IsCurrentUnlessStated, IsFine, IsFollowed};
+ghost use Rattle.object.specs.Statements.{StatementParts};
+ghost use Rattle.segments.specs.Places.{IsWellPlaced, segment_of, target_at};
+ghost use Rattle.segments.specs.Refusals.{IsFirst, IsFirstHere, IsPassedTo, IsWellMade, MayFollow, MayRefuse};
+ghost use Rattle.segments.specs.Segments.{IsCurrentUnlessStated, IsFine, IsFollowed};
+ghost use Rattle.segments.specs.Stated.{AreTargets};
 
-use crate::follow::follow;
-use crate::known::Known;
-use crate::places::{check_places, falls_through, slots_of};
 use crate::refusal::Refusal;
-use crate::target::{is_stated, stated_at};
 use absdom::Domain;
 use isa::laws::{
     a_wide_instruction_has_its_second_half, an_instruction_is_followed,
@@ -19,6 +19,10 @@ use isa::laws::{
 };
 use isa::{Code, Hook, Instruction, Slot};
 use kinds::{Target, reset};
+use segments::follow::follow;
+use segments::known::Known;
+use segments::places::{check_places, falls_through, slots_of};
+use segments::target::{is_stated, stated_at};
 use transfer::rule::Rule;
 
 /// What is known at the slot, with the start of the segment that it is in: a statement starts a new one.
@@ -28,7 +32,11 @@ fn arrive<'a, D: Domain>(
     begun: Option<usize>,
     known: Known<D>,
 ) -> (Option<usize>, Known<D>)
-    ensures { MatchOption (target_at targets.now slot) ((result.0 ≡ begun) × (result.1 ≡ known)) (λ target. (result.0 ≡ Some slot) × (result.1.is_live ≡ true) × ((machine : Machine) → TargetHolds D.contains target machine → StateHolds D.contains result.1.state machine machine)) }
+    ensures { MatchOption (target_at targets.now slot)
+        ((result.0 ≡ begun) × (result.1 ≡ known))
+        (λ target. (result.0 ≡ Some slot) × (result.1.is_live ≡ true)
+        × ((machine : Machine) → TargetHolds D.contains target machine
+        → StateHolds D.contains result.1.state machine machine)) }
 {
     match stated_at(targets, slot) {
         Some(target) => (
@@ -55,7 +63,10 @@ fn pass<'a, D: Domain>(
     requires small { slot < 4096 }
     requires here { slice_get code.now slot ≡ Some (Start instruction) }
     requires placed { IsWellPlaced code.now targets.now slot instruction }
-    ensures passed { IfOk result (λ after. known.is_live ≡ true → IsFollowed D.contains code.now hook targets.now segment.now slot instruction known.state after) }
+    ensures passed { IfOk result (λ after. known.is_live ≡ true
+        → IsFollowed D.contains code.now hook targets.now segment.now slot instruction
+        known.state after) }
+    ensures named { IfErr result (MayFollow hook instruction) }
 {
     if !known.is_live {
         return Ok(known);
@@ -78,7 +89,10 @@ fn pass_in<'a, D: Domain>(
     requires small { slot < 4096 }
     requires here { slice_get code.now slot ≡ Some (Start instruction.now) }
     requires placed { IsWellPlaced code.now targets.now slot instruction.now }
-    ensures passed { IfOk result (λ after. known.is_live ≡ true → IsFollowed D.contains code.now hook targets.now (segment_of targets.now entry.now begun) slot instruction.now known.state after) }
+    ensures passed { IfOk result (λ after. known.is_live ≡ true
+        → IsFollowed D.contains code.now hook targets.now (segment_of targets.now entry.now begun)
+        slot instruction.now known.state after) }
+    ensures named { IfErr result (MayFollow hook instruction.now) }
 {
     let Some(start) = begun else {
         let first = pass(code, hook, targets, entry, known, slot, *instruction)?;
@@ -106,8 +120,21 @@ fn step<'a, D: Domain>(
 ) -> Result<(Option<usize>, Known<D>), Rule>
     requires small { slot < 4096 }
     requires here { slice_get code.now slot ≡ Some (Start instruction.now) }
-    ensures fine { IfOk result (λ _. IsCurrentUnlessStated D.contains code.now hook targets.now entry.now slot (segment_of targets.now entry.now begun) known → IsFine D.contains code.now hook targets.now entry.now slot) }
-    ensures current { IfOk result (λ next. IsCurrentUnlessStated D.contains code.now hook targets.now entry.now slot (segment_of targets.now entry.now begun) known → IsCurrentUnlessStated D.contains code.now hook targets.now entry.now (slot + size instruction.now) (segment_of targets.now entry.now next.0) next.1) }
+    ensures fine { IfOk result (λ _. IsCurrentUnlessStated D.contains code.now hook targets.now
+        entry.now slot (segment_of targets.now entry.now begun) known
+        → IsFine D.contains code.now hook targets.now entry.now slot) }
+    ensures current { IfOk result (λ next. IsCurrentUnlessStated D.contains code.now hook
+        targets.now entry.now slot (segment_of targets.now entry.now begun) known
+        → IsCurrentUnlessStated D.contains code.now hook targets.now entry.now
+        (slot + size instruction.now) (segment_of targets.now entry.now next.0) next.1) }
+    ensures made { (statements : List StatementParts) → AreTargets D.contains statements targets.now
+        → IsPassedTo is_passed_to code.now slot
+        → IfOk result (λ _. IsWellMade code.now statements slot) }
+    ensures named { (statements : List StatementParts) (entry_rank : ℕ)
+        → AreTargets D.contains statements targets.now
+        → IsPassedTo is_passed_to code.now slot
+        → IfErr result (λ rule. MayRefuse hook code.now entry_rank statements slot rule
+        × IsFirstHere code.now statements slot rule) }
 {
     one_instruction_ends_at_a_slot();
     let _is_code = code.slots();
@@ -124,6 +151,10 @@ fn splits<'a, D: Domain>(
     instruction: &Instruction,
 ) -> bool
     requires { slot < 4096 }
+    ensures split { result ≡ true → (is_wide instruction.now ≡ true)
+        × IsSome (target_at targets.now (slot + 1)) }
+    ensures whole { result ≡ false → is_wide instruction.now ≡ true
+        → target_at targets.now (slot + 1) ≡ None }
 {
     instruction.is_wide() && is_stated(targets, slot + 1)
 }
@@ -137,11 +168,20 @@ pub fn pass_all<'a, D: Domain>(
     start: Known<D>,
 ) -> Result<(), Refusal>
     requires live { start.is_live ≡ true }
-    requires own { (machine : Machine) → TargetHolds D.contains entry.now machine → StateHolds D.contains start.state machine machine }
-    ensures fine { IfOk result (λ _. (slot : ℕ) → Begins code.now slot → IsFine D.contains code.now hook targets.now entry.now slot) }
+    requires own { (machine : Machine) → TargetHolds D.contains entry.now machine
+        → StateHolds D.contains start.state machine machine }
+    ensures fine { IfOk result (λ _. (slot : ℕ) → Begins code.now slot
+        → IsFine D.contains code.now hook targets.now entry.now slot) }
+    ensures named { (statements : List StatementParts) (entry_rank : ℕ)
+        → AreTargets D.contains statements targets.now
+        → IfErr result (λ refusal.
+        MayRefuse hook code.now entry_rank statements refusal.slot refusal.rule) }
+    ensures first { (statements : List StatementParts) → AreTargets D.contains statements targets.now
+        → IfErr result (λ refusal. IsFirst code.now statements refusal.slot refusal.rule) }
 {
     a_wide_instruction_has_its_second_half();
     an_instruction_is_followed();
+    one_instruction_ends_at_a_slot();
     let _is_code = code.slots();
     let mut begun = None;
     let mut known = start;

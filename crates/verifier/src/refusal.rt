@@ -10,6 +10,11 @@ pub struct Refusal {
 }
 
 impl From<AllocError> for Refusal {
+    ghost use Rattle.std.specs.Prelude.{◌≡◌};
+    ghost use Rattle.transfer.specs.declared.rule.Rule.TheVariants.{Memory};
+
+    ghost from_gives = { λ _ refusal. refusal ≡ record { slot = 0; rule = Memory } };
+
     fn from(_: AllocError) -> Self {
         Refusal {
             slot: 0,

@@ -4,6 +4,9 @@ use Rattle.machine.specs.State.{start}
 use Rattle.ranks.specs.Lines.{rank_value}
 use Rattle.verifier.proofs.SegmentLemmas.{code_begins}
 use Rattle.verifier.proofs.Soundness.{safe_program}
+use Rattle.isa.specs.Flow.{Begins}
+use Rattle.segments.specs.Refusals.{IsFirst, MayRefuse}
+use Rattle.verifier.proofs.Refused.{entry_refused, handed_on}
 use Rattle.verifier.proofs.checking.verify.Goals as goal
 
 pub returns-clause-safe : goal.returns-clause-safe
@@ -16,12 +19,28 @@ returns-clause-safe g c =
 pub invariant_of-result : goal.invariant_of-result
 invariant_of-result g c =
     let rank_is : rank_value c.in_ok-entry.entry.statement.now.rank start ≡ c.args.entry_rank = rw c.in_ok-entry.ensures.statement (c.entry_statement-statement.ensures.rank start) in
-    let same : (c.args.entry_rank + 1) * length c.args.code ≡ c.in-Some.bound = sym (c.in-Some.ensures.value ∙ ap (λ n. (c.args.entry_rank + 1) * n) c.len.ensures.value) in
+    let same : (c.args.entry_rank + 1) * length c.args.code ≡ c.in_ok-bound.bound = sym (c.in_ok-bound.ensures.value ∙ ap (λ n. (c.args.entry_rank + 1) * n) c.len.ensures.value) in
     let safe = safe_program g.D.Domain.contains c.args.code c.args.hook c.in_ok-targets.targets.items c.in_ok-entry.entry c.args.entry_rank (code_begins c.args.code c.into_slots.ensures.code) c.in_ok-entry.ensures.holds rank_is
     (λ target stated. c.in_ok-known.ensures.edge target (rw c.deref.ensures.value stated) start c.in_ok-entry.ensures.holds)
     (rw (← c.deref-2.ensures.value) c.in_ok-pass_all.ensures.fine) in
     record {
       is_code = rw c.into_slots.ensures.value c.into_slots.ensures.code;
       safe = rw c.into_slots.ensures.value (subst (λ bound. Safe c.args.code c.args.hook bound) same safe);
-      small = c.in-Some.ensures.most;
+      small = c.in_ok-bound.ensures.most;
     }
+
+pub returns-in_err-known-clause-named : goal.returns-in_err-known-clause-named
+returns-in_err-known-clause-named g c =
+    let begins : Begins c.args.code c.in_err-known.field-0.0.slot = rw c.in_err-known.ensures.named.0 (code_begins c.args.code c.slots-is_code.ensures.code) in
+    handed_on c.from_residual-in_err-known.result c.in_err-known.field-0.0 (λ r. MayRefuse c.args.hook c.args.code c.args.entry_rank c.args.statements.now r.slot r.rule) c.from_residual-in_err-known.ensures.1
+    (entry_refused c.args.hook c.args.code c.args.entry_rank c.args.statements.now c.in_err-known.field-0.0.slot c.in_err-known.field-0.0.rule begins c.in_err-known.ensures.named.1).0
+
+pub returns-in_err-pass_all-clause-named : goal.returns-in_err-pass_all-clause-named
+returns-in_err-pass_all-clause-named g c =
+    handed_on c.from_residual-in_err-pass_all.result c.in_err-pass_all.field-0.0 (λ r. MayRefuse c.args.hook c.args.code c.args.entry_rank c.args.statements.now r.slot r.rule) c.from_residual-in_err-pass_all.ensures.1
+    (c.in_err-pass_all.ensures.named c.args.statements.now c.args.entry_rank (rw c.deref-2.ensures.value c.in_ok-targets.ensures))
+
+pub returns-in_err-pass_all-clause-first : goal.returns-in_err-pass_all-clause-first
+returns-in_err-pass_all-clause-first g c =
+    handed_on c.from_residual-in_err-pass_all.result c.in_err-pass_all.field-0.0 (λ r. IsFirst c.args.code c.args.statements.now r.slot r.rule) c.from_residual-in_err-pass_all.ensures.1
+    (c.in_err-pass_all.ensures.first c.args.statements.now (rw c.deref-2.ensures.value c.in_ok-targets.ensures))

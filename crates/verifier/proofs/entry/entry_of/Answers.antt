@@ -1,4 +1,5 @@
-use Rattle.verifier.proofs.Entries.{entry_holds, pushed_default}
+use Rattle.segments.proofs.Targets.{pushed_default}
+use Rattle.verifier.proofs.Entries.{entry_holds}
 use Rattle.kinds.specs.declared.state.Kind.TheVariants.{Empty}
 use Rattle.std.proofs.Common.{◌∙◌}
 use Rattle.verifier.proofs.entry.entry_of.Goals as goal

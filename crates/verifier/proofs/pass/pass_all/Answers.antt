@@ -1,11 +1,13 @@
 use Rattle.std.proofs.Common.{◌≡◌, ◌<◌, ◌+◌, ◌⊎◌, Some, inr, arith, subst, sym, length}
 use Rattle.isa.specs.Flow.{Begins}
-use Rattle.verifier.specs.Places.{segment_of}
-use Rattle.verifier.specs.Segments.{IsCurrentUnlessStated}
-use Rattle.verifier.proofs.Soundness.{inside_code}
+use Rattle.segments.specs.Places.{segment_of}
+use Rattle.segments.specs.Segments.{IsCurrentUnlessStated}
+use Rattle.segments.proofs.Made.{inside_code}
 use Rattle.std.specs.Prelude.{slice_get}
 use Rattle.isa.specs.declared.code.Slot.TheVariants.{Start}
 use Rattle.verifier.proofs.SegmentLemmas.{code_begins, entry_current, fine_more}
+use Rattle.segments.specs.Refusals.{IsPassedTo}
+use Rattle.verifier.proofs.Refused.{made_more, passed_behind, passed_to_start, split_first, split_refused}
 use Rattle.verifier.proofs.pass.pass_all.Goals as goal
 
 pub loop-slot-init : goal.loop-slot-init
@@ -13,6 +15,8 @@ loop-slot-init g c = record {
   fine = λ k none begins. absurd (omega (arith, none));
   current = entry_current g.D.Domain.contains c.args.code.now c.args.hook c.args.targets.now c.args.entry.now c.requires.live c.requires.own;
   place = inr (code_begins c.args.code.now c.slots-is_code.ensures.code);
+  passed = passed_to_start c.args.code.now;
+  made = λ statements are k none. absurd (omega (arith, none));
 }
 
 pub loop-slot-preserved : goal.loop-slot-preserved
@@ -27,9 +31,32 @@ loop-slot-preserved g c =
           (c.in-Ok.ensures.current c.loop-slot.invariant.current);
       place = subst (λ n. (c.loop-slot.slot + n ≡ length code) ⊎ Begins code (c.loop-slot.slot + n)) (sym c.slots_of-slot.ensures.value)
           (c.an_instruction_is_followed.ensures code c.loop-slot.slot c.in-Some-Start.instruction c.slots-is_code.ensures.code here);
+      passed = subst (λ n. IsPassedTo c.falls_through-is_passed_to.result code (c.loop-slot.slot + n)) (sym c.slots_of-slot.ensures.value)
+          (passed_behind c.one_instruction_ends_at_a_slot.ensures code c.slots-is_code.ensures.code c.loop-slot.slot c.in-Some-Start.instruction here c.falls_through-is_passed_to.result (sym c.falls_through-is_passed_to.ensures));
+      made = λ statements are k below. made_more g.D.Domain.contains c.a_wide_instruction_has_its_second_half.ensures code c.slots-is_code.ensures.code statements c.args.targets.now are c.loop-slot.slot c.in-Some-Start.instruction here
+          (c.loop-slot.invariant.made statements are) (c.in-Ok.ensures.made statements are c.loop-slot.invariant.passed) (c.splits.ensures.whole c.if-splits.false) k (subst (λ n. k < c.loop-slot.slot + n) c.slots_of-slot.ensures.value below);
     }
 
-pub returns : goal.returns
-returns g c = record {
-  fine = λ slot begins. let inside = inside_code c.args.code.now slot begins in c.loop-slot.invariant.fine slot (omega (arith, inside)) begins;
+pub returns-clause-fine : goal.returns-clause-fine
+returns-clause-fine g c = λ slot begins. let inside = inside_code c.args.code.now slot begins in c.loop-slot.invariant.fine slot (omega (arith, inside)) begins
+
+pub returns-in-Err-clause-named : goal.returns-in-Err-clause-named
+returns-in-Err-clause-named g c = λ statements entry_rank are. (c.in-Err.ensures.named statements entry_rank are c.loop-slot.invariant.passed).0
+
+pub returns-in-Err-clause-first : goal.returns-in-Err-clause-first
+returns-in-Err-clause-first g c = λ statements are. record {
+  earlier = c.loop-slot.invariant.made statements are;
+  here = (c.in-Err.ensures.named statements 0 are c.loop-slot.invariant.passed).1;
 }
+
+pub returns-then-splits-clause-named : goal.returns-then-splits-clause-named
+returns-then-splits-clause-named g c = λ statements entry_rank are.
+    let here : slice_get c.args.code.now c.loop-slot.slot ≡ Some (Start c.in-Some-Start.instruction) = cc (c.at.ensures.value, c.in-Some-Start.is, c.in-Some-Start.field-0-is, c.in-Some-Start.ensures.value) in
+    split_refused g.D.Domain.contains c.a_wide_instruction_has_its_second_half.ensures c.args.code.now c.slots-is_code.ensures.code statements c.args.targets.now are c.loop-slot.slot c.in-Some-Start.instruction here
+    c.args.hook entry_rank (c.splits.ensures.split c.if-splits.true)
+
+pub returns-then-splits-clause-first : goal.returns-then-splits-clause-first
+returns-then-splits-clause-first g c = λ statements are.
+    let here : slice_get c.args.code.now c.loop-slot.slot ≡ Some (Start c.in-Some-Start.instruction) = cc (c.at.ensures.value, c.in-Some-Start.is, c.in-Some-Start.field-0-is, c.in-Some-Start.ensures.value) in
+    split_first g.D.Domain.contains c.a_wide_instruction_has_its_second_half.ensures c.args.code.now c.slots-is_code.ensures.code statements c.args.targets.now are c.loop-slot.slot c.in-Some-Start.instruction here
+    (c.loop-slot.invariant.made statements are) (c.in-Ok.ensures.made statements are c.loop-slot.invariant.passed)

@@ -1,4 +1,5 @@
 use Rattle.verifier.proofs.SegmentLemmas.{arrived, current_fine, next_current}
+use Rattle.verifier.proofs.Refused.{IsRefusal, follow_refused, handed_on, place_refused}
 use Rattle.verifier.proofs.pass.step.Goals as goal
 
 pub returns-clause-fine : goal.returns-clause-fine
@@ -10,3 +11,13 @@ pub returns-clause-current : goal.returns-clause-current
 returns-clause-current g c = λ current.
     let found = arrived g.D.Domain.contains c.args.code.now c.args.hook c.args.targets.now c.args.entry.now c.args.slot c.args.begun c.arrive-here.result.0 c.args.known c.arrive-here.result.1 current c.arrive-here.ensures in
     next_current g.D.Domain.contains c.args.code.now c.args.hook c.args.targets.now c.args.entry.now c.arrive-here.result.1 c.in_ok-after.after c.args.instruction.now c.one_instruction_ends_at_a_slot.ensures c.slots-is_code.ensures.code c.requires.here found c.in_ok-after.ensures.passed
+
+pub returns-in_err-check_places-clause-named : goal.returns-in_err-check_places-clause-named
+returns-in_err-check_places-clause-named g c = λ statements entry_rank are passed.
+    handed_on c.from_residual.result c.in_err-check_places.field-0.0 (IsRefusal c.args.hook c.args.code.now entry_rank statements c.args.slot) c.from_residual.ensures.1
+    (place_refused c.args.hook c.args.code.now entry_rank statements c.args.slot c.in_err-check_places.field-0.0 (c.in_err-check_places.ensures.made statements are passed))
+
+pub returns-in_err-after-clause-named : goal.returns-in_err-after-clause-named
+returns-in_err-after-clause-named g c = λ statements entry_rank are passed.
+    handed_on c.from_residual-in_err-after.result c.in_err-after.field-0.0 (IsRefusal c.args.hook c.args.code.now entry_rank statements c.args.slot) c.from_residual-in_err-after.ensures.1
+    (follow_refused c.args.hook c.args.code.now entry_rank statements c.args.slot c.args.instruction.now c.in_err-after.field-0.0 c.requires.here (c.in_ok-check_places.ensures.made statements are passed) c.in_err-after.ensures.named)

@@ -1,0 +1,4 @@
+pub mod Targets
+pub mod Made
+pub mod Named
+pub mod Followed

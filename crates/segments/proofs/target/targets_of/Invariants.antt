@@ -1,0 +1,7 @@
+use Rattle.std.proofs.Common.{drop}
+use Rattle.segments.proofs.Targets.{AreFoundSoFar}
+use Rattle.segments.proofs.target.targets_of.Given as goal
+
+abbrev pub invariant-loop-statement : goal.invariant-loop-statement
+invariant-loop-statement g l =
+    AreFoundSoFar g.D.Domain.contains l.statements (drop l.statement-index l.statements) l.size l.targets.items

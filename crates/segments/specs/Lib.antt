@@ -1,0 +1,4 @@
+pub mod Places
+pub mod Segments
+pub mod Stated
+pub mod Refusals

@@ -1,0 +1,38 @@
+//! What has to hold where a statement is entered.
+ghost use Rattle.std.specs.Prelude.{IfErr, IfOk};
+ghost use Rattle.machine.specs.declared.state.State.{State as Machine};
+ghost use Rattle.segments.specs.Refusals.{IsOfEdge};
+ghost use Rattle.segments.specs.Segments.{Enters, IsKnown};
+
+use absdom::Domain;
+use kinds::{State, Target, bytes_within, kinds_within};
+use ranks::{bound_of, falls};
+use transfer::rule::Rule;
+
+/// Whether what is known at an edge is within the statement that it leads to, and the rank falls as it has to.
+pub fn enter<'a, D: Domain>(
+    target: &Target<'a, D>,
+    back: bool,
+    segment: &Target<'a, D>,
+    state: &State<D>,
+) -> Result<(), Rule>
+    ensures enters { IfOk result (λ _. (start now : Machine)
+        → IsKnown D.contains segment.now state.now start now
+        → Enters D.contains back segment.now target.now start now) }
+    ensures named { IfErr result IsOfEdge }
+{
+    if !kinds_within(&state.kinds, &target.kinds) {
+        return Err(Rule::NotWithin);
+    }
+    if !bytes_within(&state.entries, target.statement.stack()) {
+        return Err(Rule::NotWithin);
+    }
+    let Some(line) = bound_of(target.statement.rank(), state) else {
+        return Err(Rule::Rank);
+    };
+    if falls(line, back, segment) {
+        Ok(())
+    } else {
+        Err(Rule::Rank)
+    }
+}

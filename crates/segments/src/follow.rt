@@ -1,0 +1,292 @@
+//! What one instruction makes of what is known, and where it may lead.
+ghost use Rattle.std.specs.Prelude.{◌≡◌, ◌<◌, ℕ, List, IfErr, IfOk, IsSome, IsSomeAnd, Some, true, slice_get};
+ghost use Rattle.isa.specs.declared.code.Slot.{Slot as AnySlot};
+ghost use Rattle.isa.specs.declared.code.Slot.TheVariants.{Start};
+ghost use Rattle.isa.specs.declared.hook.Hook.{Hook as AnyHook};
+ghost use Rattle.isa.specs.declared.instruction.Instruction.TheVariants.{Exit};
+ghost use Rattle.machine.specs.declared.fault.Fault.{Fault};
+ghost use Rattle.machine.specs.Steps.{IsAt};
+ghost use Rattle.machine.specs.Faults.{Stuck};
+ghost use Rattle.transfer.specs.Given.{Given, setting_of};
+ghost use Rattle.machine.specs.declared.state.State.{State as Machine};
+ghost use Rattle.machine.specs.State.{held, operand};
+ghost use Rattle.kinds.specs.Meaning.{StateHolds, TargetHolds};
+ghost use Rattle.transfer.specs.Branches.{HoldsBesides, PairHolds};
+ghost use Rattle.transfer.specs.Plain.{IsStraight};
+ghost use Rattle.transfer.specs.Rules.{IsOfExit};
+ghost use Rattle.segments.specs.Places.{IsWellPlaced, goes_on, target_at};
+ghost use Rattle.segments.specs.Refusals.{IsOfEdge, MayFollow};
+ghost use Rattle.segments.specs.Segments.{EntersNext, IsFollowed, IsKnown, PassesTo};
+
+use crate::edge::enter;
+use crate::known::Known;
+use crate::places::{jumped, jumped_near, slots_of};
+use crate::target::stated_at;
+use absdom::Domain;
+use isa::{Code, Hook, Instruction, Register, Source, Test, Width};
+use kinds::{State, Target};
+use transfer::branch::{refined, tested};
+use transfer::exit::answers;
+use transfer::laws::{
+    a_sound_instruction_is_met, an_answer_is_never_stuck, what_can_step_is_never_stuck,
+};
+use transfer::rule::Rule;
+use transfer::straight::straight;
+
+/// What a conditional jump compares.
+#[derive(Clone, Copy)]
+pub struct Operands {
+    pub left: Register,
+    pub right: Source,
+}
+
+/// Whether a jump enters the statement that it leads to.
+pub fn jump_to<'a, D: Domain>(
+    targets: &[Option<Target<'a, D>>],
+    segment: &Target<'a, D>,
+    state: &State<D>,
+    slot: usize,
+    to: usize,
+) -> Result<(), Rule>
+    requires stated { IsSome (target_at targets.now to) }
+    ensures enters { IfOk result (λ _. (start next : Machine) → next.slot ≡ to
+        → IsKnown D.contains segment.now state.now start next
+        → EntersNext D.contains targets.now segment.now slot start next) }
+    ensures named { IfErr result IsOfEdge }
+{
+    let Some(target) = stated_at(targets, to) else {
+        unreachable!()
+    };
+    enter(target, to <= slot, segment, state)
+}
+
+/// What is known at the next slot; where it has a statement, that is entered.
+pub fn pass_on<'a, D: Domain>(
+    targets: &[Option<Target<'a, D>>],
+    segment: &Target<'a, D>,
+    state: State<D>,
+    next_slot: usize,
+) -> Result<Known<D>, Rule>
+    ensures passes { IfOk result (λ after. (start next : Machine) (slot : ℕ)
+        → slot < next_slot → next.slot ≡ next_slot
+        → IsKnown D.contains segment.now state start next
+        → PassesTo D.contains targets.now segment.now slot next_slot after start next) }
+    ensures named { IfErr result IsOfEdge }
+{
+    let Some(target) = stated_at(targets, next_slot) else {
+        return Ok(Known {
+            state,
+            is_live: true,
+        });
+    };
+    enter(target, false, segment, &state)?;
+    Ok(Known {
+        state,
+        is_live: false,
+    })
+}
+
+/// Whether a conditional jump enters the statement that it leads to, where its test may hold. The
+/// state serves the other edge afterwards.
+fn take<'a, D: Domain>(
+    targets: &[Option<Target<'a, D>>],
+    segment: &Target<'a, D>,
+    state: State<D>,
+    slot: usize,
+    operands: &Operands,
+    taken: Option<(D, D)>,
+    to: usize,
+) -> Result<State<D>, Rule>
+    requires stated { IsSome (target_at targets.now to) }
+    ensures besides { IfOk result (λ after. (start now : Machine)
+        → HoldsBesides D.contains operands.now.left operands.now.right state start now
+        → HoldsBesides D.contains operands.now.left operands.now.right after start now) }
+    ensures enters { IfOk result (λ _. (start now next : Machine)
+        → TargetHolds D.contains segment.now start
+        → HoldsBesides D.contains operands.now.left operands.now.right state start now
+        → IsSomeAnd taken (λ values. PairHolds D.contains values (held now operands.now.left)
+        (operand now operands.now.right))
+        → next ≡ record now { slot = to }
+        → EntersNext D.contains targets.now segment.now slot start next) }
+    ensures named { IfErr result IsOfEdge }
+{
+    let Some(values) = taken else {
+        return Ok(state);
+    };
+    let there = refined(state, operands.left, operands.right, values);
+    jump_to(targets, segment, &there, slot, to)?;
+    Ok(there)
+}
+
+/// What is known at the next slot after a conditional jump, where its test may fail.
+fn stay<'a, D: Domain>(
+    targets: &[Option<Target<'a, D>>],
+    segment: &Target<'a, D>,
+    state: State<D>,
+    operands: &Operands,
+    passed: Option<(D, D)>,
+    next_slot: usize,
+) -> Result<Known<D>, Rule>
+    ensures passes { IfOk result (λ after. (start now next : Machine) (slot : ℕ)
+        → TargetHolds D.contains segment.now start
+        → HoldsBesides D.contains operands.now.left operands.now.right state start now
+        → IsSomeAnd passed (λ values. PairHolds D.contains values (held now operands.now.left)
+        (operand now operands.now.right))
+        → slot < next_slot → next ≡ record now { slot = next_slot }
+        → PassesTo D.contains targets.now segment.now slot next_slot after start next) }
+    ensures named { IfErr result IsOfEdge }
+{
+    let Some(values) = passed else {
+        return Ok(Known {
+            state,
+            is_live: false,
+        });
+    };
+    let here = refined(state, operands.left, operands.right, values);
+    let after = pass_on(targets, segment, here, next_slot)?;
+    Ok(after)
+}
+
+/// What is known at the next slot after a conditional jump.
+fn branch<'a, D: Domain>(
+    code: &Code,
+    hook: Hook,
+    targets: &[Option<Target<'a, D>>],
+    segment: &Target<'a, D>,
+    state: State<D>,
+    slot: usize,
+    width: Width,
+    test: Test,
+    operands: &Operands,
+    distance: i16,
+) -> Result<Known<D>, Rule>
+    requires small { slot < 4096 }
+    requires here { slice_get code.now slot ≡ Some (Start
+        (Instruction.Branch width test operands.now.left operands.now.right distance)) }
+    requires placed { IsWellPlaced code.now targets.now slot
+        (Instruction.Branch width test operands.now.left operands.now.right distance) }
+    ensures followed { IfOk result (IsFollowed D.contains code.now hook targets.now segment.now slot
+        (Instruction.Branch width test operands.now.left operands.now.right distance) state) }
+    ensures named { IfErr result (MayFollow hook
+        (Instruction.Branch width test operands.now.left operands.now.right distance)) }
+{
+    what_can_step_is_never_stuck();
+    let edges = tested(&state, width, test, operands.left, operands.right)?;
+    let to = jumped_near(slot, distance);
+    let left = take(targets, segment, state, slot, operands, edges.taken, to)?;
+    let after = stay(targets, segment, left, operands, edges.passed, slot + 1)?;
+    Ok(after)
+}
+
+/// Whether an unconditional jump enters the statement that it leads to.
+fn leave<'a, D: Domain>(
+    targets: &[Option<Target<'a, D>>],
+    segment: &Target<'a, D>,
+    state: State<D>,
+    slot: usize,
+    to: usize,
+) -> Result<Known<D>, Rule>
+    requires stated { IsSome (target_at targets.now to) }
+    ensures enters { IfOk result (λ _. (start now next : Machine)
+        → IsKnown D.contains segment.now state start now → next ≡ record now { slot = to }
+        → EntersNext D.contains targets.now segment.now slot start next) }
+    ensures named { IfErr result IsOfEdge }
+{
+    jump_to(targets, segment, &state, slot, to)?;
+    Ok(Known {
+        state,
+        is_live: false,
+    })
+}
+
+/// What is known behind EXIT: nothing.
+fn end<D: Domain>(state: State<D>) -> Result<Known<D>, Rule>
+    ensures free { IfOk result (λ _. (code : List AnySlot) (hook : AnyHook) (input : Given)
+        (start now : Machine) → StateHolds D.contains state start now
+        → IsAt (setting_of code hook input) now Exit
+        → (fault : Fault) → Stuck (setting_of code hook input) now fault → ⊥) }
+    ensures named { IfErr result IsOfExit }
+{
+    an_answer_is_never_stuck(&state);
+    answers(&state)?;
+    Ok(Known {
+        state,
+        is_live: false,
+    })
+}
+
+/// What is known behind an instruction that goes on there.
+fn go_on<'a, D: Domain>(
+    code: &Code,
+    hook: Hook,
+    targets: &[Option<Target<'a, D>>],
+    segment: &Target<'a, D>,
+    state: State<D>,
+    slot: usize,
+    instruction: Instruction,
+) -> Result<Known<D>, Rule>
+    requires small { slot < 4096 }
+    requires here { slice_get code.now slot ≡ Some (Start instruction) }
+    requires placed { IsWellPlaced code.now targets.now slot instruction }
+    requires goes_on { goes_on instruction ≡ true }
+    requires straight { IsStraight instruction }
+    ensures followed { IfOk result
+        (IsFollowed D.contains code.now hook targets.now segment.now slot instruction state) }
+    ensures named { IfErr result (MayFollow hook instruction) }
+{
+    what_can_step_is_never_stuck();
+    let next_slot = slot + slots_of(&instruction);
+    let known = straight(state, hook, instruction)?;
+    let after = pass_on(targets, segment, known, next_slot)?;
+    Ok(after)
+}
+
+/// What is known at the next slot after an instruction, if it may be reached.
+pub fn follow<'a, D: Domain>(
+    code: &Code,
+    hook: Hook,
+    targets: &[Option<Target<'a, D>>],
+    segment: &Target<'a, D>,
+    state: State<D>,
+    slot: usize,
+    instruction: Instruction,
+) -> Result<Known<D>, Rule>
+    requires small { slot < 4096 }
+    requires here { slice_get code.now slot ≡ Some (Start instruction) }
+    requires placed { IsWellPlaced code.now targets.now slot instruction }
+    ensures followed { IfOk result
+        (IsFollowed D.contains code.now hook targets.now segment.now slot instruction state) }
+    ensures named { IfErr result (MayFollow hook instruction) }
+{
+    what_can_step_is_never_stuck();
+    match instruction {
+        Instruction::Jump { distance } => Ok(leave(
+            targets,
+            segment,
+            state,
+            slot,
+            jumped_near(slot, distance),
+        )?),
+        Instruction::LongJump { distance } => Ok(leave(
+            targets,
+            segment,
+            state,
+            slot,
+            jumped(slot, distance),
+        )?),
+        Instruction::Branch {
+            width,
+            test,
+            left,
+            right,
+            distance,
+        } => {
+            let operands = Operands { left, right };
+            Ok(branch(
+                code, hook, targets, segment, state, slot, width, test, &operands, distance,
+            )?)
+        }
+        Instruction::Exit => Ok(end(state)?),
+        _ => Ok(go_on(code, hook, targets, segment, state, slot, instruction)?),
+    }
+}

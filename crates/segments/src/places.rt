@@ -1,0 +1,154 @@
+//! Where the instruction at a slot may lead, and whether it may lead there.
+ghost use Rattle.std.specs.Prelude.{◌≡◌, ◌↔◌, ◌+◌, ◌<◌, ◌≤◌, ◌⊎◌, List, IfErr, IfOk, IfSome, IsSome, IsSomeAnd, IsTrue, MatchResult, None, Some, false, length, slice_get, true};
+ghost use Rattle.object.specs.Statements.{StatementParts};
+ghost use Rattle.isa.specs.declared.code.Slot.TheVariants.{Start};
+ghost use Rattle.isa.specs.Flow.{Begins, size, jump_target, slot_at_distance};
+ghost use Rattle.segments.specs.Places.{IsWellPlaced, goes_on, target_at};
+ghost use Rattle.segments.specs.Stated.{AreTargets};
+ghost use Rattle.segments.specs.Refusals.{IsPassedTo, IsPlaceRefusal, IsWellMade};
+
+use crate::target::is_stated;
+use absdom::Domain;
+use isa::laws::an_instruction_is_followed;
+use isa::{Code, Instruction, Slot};
+use kinds::Target;
+use transfer::rule::Rule;
+
+/// How many slots the instruction takes.
+pub fn slots_of(instruction: &Instruction) -> usize
+    ensures value { result ≡ size instruction.now }
+    ensures some { 1 ≤ result }
+    ensures few { result ≤ 2 }
+{
+    if instruction.is_wide() { 2 } else { 1 }
+}
+
+/// Whether the instruction may go on behind itself.
+pub fn falls_through(instruction: &Instruction) -> bool
+    ensures { result ≡ goes_on instruction.now }
+{
+    !matches!(
+        instruction,
+        Instruction::Jump { .. } | Instruction::LongJump { .. } | Instruction::Exit
+    )
+}
+
+/// The slot at a distance from a jump.
+pub fn jumped(slot: usize, distance: i32) -> usize
+    requires { slot < 4096 }
+    ensures { result ≡ slot_at_distance slot distance }
+{
+    (slot as u64 + 1).wrapping_add(i64::from(distance).cast_unsigned()) as usize
+}
+
+/// The slot at a distance of 16 bits from a jump.
+pub fn jumped_near(slot: usize, distance: i16) -> usize
+    requires { slot < 4096 }
+    ensures { result ≡ slot_at_distance slot distance }
+{
+    jumped(slot, i32::from(distance))
+}
+
+/// Where the instruction at the slot may jump to.
+pub fn jump_of(slot: usize, instruction: &Instruction) -> Option<usize>
+    requires { slot < 4096 }
+    ensures { result ≡ jump_target slot instruction.now }
+{
+    match *instruction {
+        Instruction::Jump { distance } => Some(jumped_near(slot, distance)),
+        Instruction::Branch { distance, .. } => Some(jumped_near(slot, distance)),
+        Instruction::LongJump { distance } => Some(jumped(slot, distance)),
+        _ => None,
+    }
+}
+
+/// Whether an instruction begins at the slot.
+pub fn begins(code: &Code, slot: usize) -> bool
+    ensures { IsTrue result ↔ Begins code.now slot }
+{
+    match code.at(slot as u64) {
+        Some(Slot::Start(_)) => true,
+        Some(Slot::SecondHalf) | None => false,
+    }
+}
+
+/// Whether the instruction jumps to where none begins: rule 1.
+fn jumps_nowhere(code: &Code, to: Option<usize>) -> bool
+    ensures begins { result ≡ false → IfSome to (Begins code.now) }
+    ensures nowhere { result ≡ true → IsSomeAnd to (λ slot. Begins code.now slot → ⊥) }
+{
+    match to {
+        Some(to) => !begins(code, to),
+        None => false,
+    }
+}
+
+/// Whether the instruction jumps to where nothing is stated: rule 4.
+fn jumps_unstated<'a, D: Domain>(targets: &[Option<Target<'a, D>>], to: Option<usize>) -> bool
+    ensures stated { result ≡ false → IfSome to (λ slot. IsSome (target_at targets.now slot)) }
+    ensures unstated { result ≡ true → IsSomeAnd to (λ slot. target_at targets.now slot ≡ None) }
+{
+    match to {
+        Some(to) => !is_stated(targets, to),
+        None => false,
+    }
+}
+
+/// Whether the code ends behind an instruction that may go on there: rule 2.
+fn falls_off(code: &Code, slot: usize, instruction: &Instruction) -> bool
+    requires { slot < 4096 }
+    ensures off { result ≡ true → (goes_on instruction.now ≡ true)
+        × (Begins code.now (slot + size instruction.now) → ⊥) }
+    ensures on { result ≡ false → goes_on instruction.now ≡ true
+        → Begins code.now (slot + size instruction.now) }
+{
+    falls_through(instruction) && !begins(code, slot + slots_of(instruction))
+}
+
+/// Whether nothing leads to the slot: rule 3.
+fn is_unreached<'a, D: Domain>(
+    targets: &[Option<Target<'a, D>>],
+    is_passed_to: bool,
+    slot: usize,
+) -> bool
+    ensures unreached { result ≡ true
+        → (is_passed_to ≡ false) × (target_at targets.now slot ≡ None) }
+    ensures reached { result ≡ false
+        → (is_passed_to ≡ true) ⊎ IsSome (target_at targets.now slot) }
+{
+    !is_passed_to && !is_stated(targets, slot)
+}
+
+/// Whether the slots that may come after the instruction are as they should be: rules 1 to 4.
+pub fn check_places<'a, D: Domain>(
+    code: &Code,
+    targets: &[Option<Target<'a, D>>],
+    is_passed_to: bool,
+    slot: usize,
+    instruction: &Instruction,
+) -> Result<(), Rule>
+    requires small { slot < 4096 }
+    requires here { slice_get code.now slot ≡ Some (Start instruction.now) }
+    ensures placed { IfOk result (λ _. IsWellPlaced code.now targets.now slot instruction.now) }
+    ensures made { (statements : List StatementParts) → AreTargets D.contains statements targets.now
+        → IsPassedTo is_passed_to code.now slot
+        → MatchResult result (λ _. IsWellMade code.now statements slot)
+        (IsPlaceRefusal code.now statements slot) }
+{
+    an_instruction_is_followed();
+    let _is_code = code.slots();
+    let to = jump_of(slot, instruction);
+    if jumps_nowhere(code, to) {
+        return Err(Rule::Target);
+    }
+    if falls_off(code, slot, instruction) {
+        return Err(Rule::FallsOff);
+    }
+    if is_unreached(targets, is_passed_to, slot) {
+        return Err(Rule::Unreached);
+    }
+    if jumps_unstated(targets, to) {
+        return Err(Rule::Unstated);
+    }
+    Ok(())
+}
