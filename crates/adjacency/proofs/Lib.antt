@@ -8,3 +8,5 @@ pub mod Told
 pub mod Neighbors
 pub mod Floods
 pub mod Sets
+pub mod Sends
+pub mod Answered

@@ -1,8 +1,16 @@
 -- Steps of the neighbor's table under names that contracts use, and what is made of no neighbor.
-use Rattle.std.specs.Prelude.{Option, None, Some}
+use Rattle.std.specs.Prelude.{Bool, false, if◌then◌else◌, List, map, Option, None, Some}
+use Rattle.std.specs.List.{filter_map, list_all}
+use Rattle.std.specs.FinMap as finite
 use Rattle.words.specs.Numbers.{Moment, RouterNumber}
+use Rattle.words.specs.declared.key.Key.{Key}
+use Rattle.lsdb.specs.Copies.{Database}
+use Rattle.lsdb.specs.Headers.{Lsa}
+use Rattle.adjacency.specs.Adjacencies.{mismatched}
+use Rattle.adjacency.specs.Contents.{Step, Updates, no_sends}
 use Rattle.adjacency.specs.declared.state.State.{State}
-use Rattle.adjacency.specs.Neighbors.{Neighbor}
+use Rattle.adjacency.specs.Neighbors.{Neighbor, is_exchange_or_later}
+use Rattle.adjacency.specs.Retransmissions.{lsa_of}
 
 -- the Router ID and the state of the neighbor that is there, if one is
 abbrev pub named : Option Neighbor → Option (RouterNumber × State)
@@ -13,3 +21,27 @@ named (Some n) = Some (n.router, n.state)
 abbrev pub heard : Moment → Option Neighbor → Option Neighbor
 heard moment None = None
 heard moment (Some n) = Some (record n { last_heard = moment })
+
+-- there is a neighbor in Exchange or later
+abbrev pub any_exchange_or_later : Option Neighbor → Bool
+any_exchange_or_later None = false
+any_exchange_or_later (Some n) = is_exchange_or_later n.state
+
+-- ---- Requests (section 10.7)
+
+abbrev pub is_there : Database → Key → Bool
+is_there db key = finite.contains_key db key
+
+-- the copies of these keys, as they are at the moment
+abbrev pub lsas_of : Moment → Database → List Key → List Lsa
+lsas_of moment db keys = filter_map (λ (key : Key). lsa_of moment (finite.get db key)) keys
+
+-- the LSAs are sent and go on no list; where one is missing, none is (BadLSReq)
+abbrev pub answered : Moment → Database → List Key → Neighbor → Step
+answered moment db keys n =
+    if list_all (is_there db) keys then record { neighbor = n; sends = map Updates (lsas_of moment db keys) }
+    else mismatched moment n
+
+-- a Request counts from Exchange on
+unfoldable pub after_request : Moment → Database → List Key → Neighbor → Step
+after_request moment db keys n = if is_exchange_or_later n.state then answered moment db keys n else no_sends n

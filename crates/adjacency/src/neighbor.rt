@@ -230,7 +230,8 @@ impl Neighbor {
         self.standing.last_heard = moment;
     }
 
-    fn floods(&self) -> bool
+    /// Tells whether it takes part in flooding: it is in Exchange or later.
+    pub fn floods(&self) -> bool
         ensures { result ≡ is_exchange_or_later self.now.present.state }
     {
         is_exchange_or_later(self.standing.state)

@@ -1,14 +1,16 @@
 //! The place of a neighbor on a link.
 ghost use Rattle.std.specs.Prelude.{◌≡◌, ℕ, IfOk, OnOk, None, Some};
 ghost use Rattle.lsdb.specs.Copies.{lsa_now};
-ghost use Rattle.adjacency.specs.Adjacencies.{after_hello, two_way_received};
+ghost use Rattle.adjacency.specs.Adjacencies.{after_hello, enter_exstart, two_way_received};
 ghost use Rattle.adjacency.specs.Contents.{no_sends, sent_on, step_on};
 ghost use Rattle.adjacency.specs.Drafts.{drafting};
 ghost use Rattle.adjacency.specs.Floods.{flooded, is_any};
 ghost use Rattle.adjacency.specs.Requests.{request_next};
 ghost use Rattle.adjacency.specs.Retransmissions.{after_acknowledgment};
-ghost use Rattle.adjacency.specs.Steps.{heard, named};
+ghost use Rattle.adjacency.specs.Steps.{any_exchange_or_later, heard, named};
 ghost use Rattle.adjacency.specs.Views.{begins, begun, present_of};
+
+mod requests;
 
 use crate::draft::Draft;
 use crate::neighbor::{Neighbor, initial_description, next_dd_sequence_start};
@@ -168,6 +170,45 @@ impl Place {
         let neighbor = Neighbor::fresh(alloc, router, dd_sequence_start, moment);
         self.replace(Some(neighbor));
         Ok(())
+    }
+
+    // A new attempt at an exchange, into ExStart.
+    fn attempt(
+        &mut self,
+        alloc: Global,
+        moment: Second,
+        draft: &mut Draft,
+    ) -> Result<(), AllocError>
+        ensures ok { OnOk result (self.new.present ≡ step_on (enter_exstart moment) self.old.present) }
+        ensures draft { OnOk result ((delay : ℕ) → draft.new ≡ drafting delay (sent_on (enter_exstart moment) self.old.present) draft.old) }
+        ensures settled { self.new.settled ≡ self.old.settled }
+    {
+        let Some(neighbor) = &self.neighbor else {
+            return Ok(());
+        };
+        let standing = neighbor.standing();
+        let number = next_dd_sequence_start(moment, standing.dd_sequence_start);
+        let opened = initial_description(alloc, number);
+        draft.describe(opened)?;
+        let started = Neighbor::started(
+            alloc,
+            moment,
+            standing.router,
+            standing.dd_sequence_start,
+            standing.last_heard,
+        );
+        self.replace(Some(started));
+        Ok(())
+    }
+
+    // Tells whether there is a neighbor in Exchange or later.
+    fn is_exchange_or_later(&self) -> bool
+        ensures { result ≡ any_exchange_or_later self.now.present }
+    {
+        match &self.neighbor {
+            None => false,
+            Some(neighbor) => neighbor.floods(),
+        }
     }
 
     // The inactivity timer starts again.

@@ -1,17 +1,24 @@
 //! A neighbor by its calls: what it becomes, what is sent to it, and that a refusal is taken back.
 mod hellos;
+mod requests;
 
 use adjacency::{Draft, Place, State};
+use lsdb::Lsdb;
 use std::alloc::{AllocError, Global};
 use std::test::Fail;
-use words::{RouterId, Second};
+use words::{Key, RouterId, Second, Sequence};
 
 // What comes from the neighbor, or is due.
 #[derive(Drop)]
 enum Happening {
     // A Hello, which names this router or doesn't.
     Hello(bool),
+    Request(Sequence<Key>),
     Silence,
+}
+
+fn own() -> RouterId {
+    RouterId::new(0x0101_0101)
 }
 
 fn peer() -> RouterId {
@@ -20,6 +27,7 @@ fn peer() -> RouterId {
 
 fn happens(
     place: &mut Place,
+    database: &Lsdb,
     alloc: Global,
     moment: Second,
     happening: &Happening,
@@ -27,6 +35,9 @@ fn happens(
 ) -> Result<(), AllocError> {
     match happening {
         Happening::Hello(names) => place.hello(alloc, moment, peer(), *names, draft),
+        Happening::Request(keys) => {
+            place.answer(alloc, moment, 1, database, keys.as_slice(), draft)
+        }
         Happening::Silence => {
             place.go_down();
             Ok(())
@@ -37,20 +48,22 @@ fn happens(
 // What is sent in an event. An allocation may be refused once, as a run of the tests with a refusal makes it: then the place is as it was.
 fn played(
     place: &mut Place,
+    database: &Lsdb,
     alloc: Global,
     moment: u64,
     happening: &Happening,
 ) -> Result<Draft, Fail> {
     let before = place.neighbor();
+    let moment = Second::new(moment);
     let mut draft = Draft::new(alloc);
-    let answer = happens(place, alloc, Second::new(moment), happening, &mut draft);
+    let answer = happens(place, database, alloc, moment, happening, &mut draft);
     if answer.is_err() {
         place.roll_back();
         if place.neighbor() != before {
             return Err(Fail::new("a refusal changed the neighbor"));
         }
         draft = Draft::new(alloc);
-        happens(place, alloc, Second::new(moment), happening, &mut draft)?;
+        happens(place, database, alloc, moment, happening, &mut draft)?;
     }
     place.settle();
     Ok(draft)

@@ -3,8 +3,9 @@ use super::*;
 
 #[test]
 fn a_hello_that_names_this_router_begins_an_attempt(rt: HostRuntime) -> Result<(), Fail> {
+    let database = Lsdb::new(rt.alloc(), own());
     let mut place = Place::down();
-    let sent = played(&mut place, rt.alloc(), 7, &Happening::Hello(true))?;
+    let sent = played(&mut place, &database, rt.alloc(), 7, &Happening::Hello(true))?;
     assert_eq!(rt; place.neighbor(), Some((peer(), State::ExStart)));
     assert_eq!(rt; sent.descriptions().len(), 1);
     let first = &sent.descriptions()[0];
@@ -18,6 +19,7 @@ fn a_hello_that_names_this_router_begins_an_attempt(rt: HostRuntime) -> Result<(
 
 #[test]
 fn the_neighbor_goes_back_to_init_and_on_again(rt: HostRuntime) -> Result<(), Fail> {
+    let database = Lsdb::new(rt.alloc(), own());
     let mut place = Place::down();
     // the names of this router, the state, and the number of the attempt that is sent
     for (moment, names, state, number) in [
@@ -28,7 +30,7 @@ fn the_neighbor_goes_back_to_init_and_on_again(rt: HostRuntime) -> Result<(), Fa
         (11, false, State::Init, None),
         (12, true, State::ExStart, Some(10)),
     ] {
-        let sent = played(&mut place, rt.alloc(), moment, &Happening::Hello(names))?;
+        let sent = played(&mut place, &database, rt.alloc(), moment, &Happening::Hello(names))?;
         assert_eq!(rt; place.neighbor(), Some((peer(), state)), "at {moment}");
         let attempt = match sent.descriptions() {
             [first] => Some(first.sequence),
@@ -41,19 +43,20 @@ fn the_neighbor_goes_back_to_init_and_on_again(rt: HostRuntime) -> Result<(), Fa
 
 #[test]
 fn attempts_are_numbered_over_a_wrap(rt: HostRuntime) -> Result<(), Fail> {
+    let database = Lsdb::new(rt.alloc(), own());
     let mut place = Place::down();
     let moment = 0x7_ffff_ffff;
     for number in [0xffff_ffff, 0, 1] {
-        let sent = played(&mut place, rt.alloc(), moment, &Happening::Hello(true))?;
+        let sent = played(&mut place, &database, rt.alloc(), moment, &Happening::Hello(true))?;
         assert_eq!(rt; sent.descriptions()[0].sequence, number);
-        let left = played(&mut place, rt.alloc(), moment, &Happening::Hello(false))?;
+        let left = played(&mut place, &database, rt.alloc(), moment, &Happening::Hello(false))?;
         assert!(rt; left.descriptions().is_empty());
     }
     // a neighbor that was Down is counted anew
-    let gone = played(&mut place, rt.alloc(), moment, &Happening::Silence)?;
+    let gone = played(&mut place, &database, rt.alloc(), moment, &Happening::Silence)?;
     assert!(rt; gone.descriptions().is_empty());
     assert_eq!(rt; place.neighbor(), None);
-    let sent = played(&mut place, rt.alloc(), 40, &Happening::Hello(true))?;
+    let sent = played(&mut place, &database, rt.alloc(), 40, &Happening::Hello(true))?;
     assert_eq!(rt; sent.descriptions()[0].sequence, 40);
     Ok(())
 }
