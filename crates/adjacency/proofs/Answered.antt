@@ -5,7 +5,7 @@ use Rattle.std.specs.List.{list_all}
 use Rattle.words.specs.declared.key.Key.{Key}
 use Rattle.lsdb.specs.Copies.{Database}
 use Rattle.adjacency.specs.Adjacencies.{enter_exstart, mismatched}
-use Rattle.adjacency.specs.Contents.{Content, Step, Updates, no_sends, sent_on, step_on}
+use Rattle.adjacency.specs.Contents.{Step, Updates, no_sends, sent_on, step_on}
 use Rattle.adjacency.specs.Neighbors.{Neighbor, is_exchange_or_later}
 use Rattle.adjacency.specs.Steps.{after_request, answered, any_exchange_or_later, is_there, lsas_of}
 

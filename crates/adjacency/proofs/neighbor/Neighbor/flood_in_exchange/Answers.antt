@@ -6,7 +6,7 @@ use Rattle.adjacency.specs.Retransmissions.{add_retransmission, remove_retransmi
 use Rattle.adjacency.specs.Floods.{without_met_request}
 use Rattle.adjacency.specs.Drafts.{drafting}
 use Rattle.adjacency.specs.Floods.{is_any}
-use Rattle.adjacency.proofs.Floods.{drafting-none, drafting-one}
+use Rattle.adjacency.proofs.Floods.{drafting-none}
 use Rattle.adjacency.proofs.neighbor.Neighbor.flood_in_exchange.Goals as goal
 
 pub returns-then-gets-clause-ok : goal.returns-then-gets-clause-ok
