@@ -1,0 +1,5 @@
+pub mod Lists
+pub mod KeyNodes
+pub mod Leads
+pub mod Whole
+pub mod Steps

@@ -1,0 +1,156 @@
+-- Vertices that stand for all nodes are a graph of the database's links, and one as the search for least walks asks.
+use Rattle.std.proofs.Common.{◌≡◌, ℕ, zero, suc, ◌+◌, ◌<◌, ◌≤◌, ◌⊎◌, inl, inr, List, [], ◌∷◌, ◌++◌, length, get_or, Some, slice_get, refl, sym, ◌∙◌, ap, subst, arith}
+use Rattle.std.proofs.lemmas.Bool.{cases_eq, cases_lt}
+use Rattle.std.proofs.lemmas.List.Elements.{All-contains}
+use Rattle.std.proofs.lemmas.Option.{get_or_from_slice_get, none-some, same_Some, slice_get-get_or, slice_get_within}
+use Rattle.std.specs.List.{All, Contains}
+use Rattle.std.specs.declared.cmp.Ordering.{Ordering}
+use Rattle.std.specs.declared.cmp.Ordering.TheVariants.{Equal, Less}
+use Rattle.std.specs.Cmp.{nat_cmp_total, tied_itself}
+use Rattle.std.specs.Ordering.{nat_cmp, ordering_then}
+use Rattle.routes.specs.Graphs.{Graph, HasLink, IsGraph, IsGraphOf, IsLawful, IsSameStep}
+use Rattle.routes.specs.Links.{Leads}
+use Rattle.routes.specs.Paths.{Step}
+use Rattle.routes.specs.Said.{Said}
+use Rattle.routes.specs.declared.graph.Kind.{Kind}
+use Rattle.routes.specs.declared.graph.Kind.TheVariants.{Network, Router}
+use Rattle.routes.specs.declared.graph.Link.{Link}
+use Rattle.routes.specs.declared.graph.Vertex.{Vertex}
+use Rattle.routes.specs.declared.node.Node.{Node}
+use Rattle.routes.specs.declared.node.Node.TheVariants.{ANetwork, ARouter}
+use Rattle.routes.specs.declared.root.Root.{Root}
+use Rattle.area_graph.specs.Graphs.{CostFits, IsLinkFrom, IsVertexOf, StandsAt, StandsFor, kind_of}
+use Rattle.area_graph.specs.Nodes.{AreNodes, Ascend, node_cmp}
+use Rattle.area_graph.specs.OneWay.{IsExit, LeadsToward, Tells}
+use Rattle.area_graph.specs.declared.one_way.OneWayLink.{OneWayLink}
+use Rattle.area_graph.proofs.Leads.{Told, far_end, leads, no_network, told}
+
+-- ---- places
+
+pub placed : {X : Type 0} (xs : List X) (x : X) → Contains xs x → (k : ℕ) × (slice_get xs k ≡ Some x)
+placed xs x (k, within, is) = (k, slice_get-get_or xs k x within ∙ ap (λ y. Some y) is)
+
+pub contained : {X : Type 0} (xs : List X) (k : ℕ) (x : X) → slice_get xs k ≡ Some x → Contains xs x
+contained xs k x here = (k, slice_get_within xs k x here, get_or_from_slice_get xs k x x here)
+
+pub element : {X : Type 0} (xs : List X) (k : ℕ) → k < length xs → (x : X) × (slice_get xs k ≡ Some x)
+element [] k lt = absurd (omega (arith, lt))
+element (x ∷ xs) zero lt = (x, refl)
+element (x ∷ xs) (suc k) lt = element xs k (omega (arith, lt))
+
+itself : (n : ℕ) → nat_cmp n n ≡ Equal
+itself n = tied_itself nat_cmp_total n
+
+never_before : (a : Node) → node_cmp a a ≡ Less → ⊥
+never_before (ARouter a) e = let f : Equal ≡ Less = sym (itself a) ∙ e in cc
+never_before (ANetwork id by) e =
+    let f : Equal ≡ Less = sym (ap (λ r. ordering_then r (nat_cmp by by)) (itself id) ∙ itself by) ∙ e in cc
+
+at_two : (nodes : List Node) → Ascend nodes → (node : Node) (i j : ℕ) → StandsAt nodes node i → StandsAt nodes node j → i < j → ⊥
+at_two nodes ascend node i j p q before =
+    let P : Node → Type 0 = λ x. node_cmp x (get_or nodes j node) ≡ Less in
+    let Q : Node → Type 0 = λ x. node_cmp node x ≡ Less in
+    never_before node (subst Q (get_or_from_slice_get nodes j node node q) (subst P (get_or_from_slice_get nodes i node node p) (ascend i j node before (slice_get_within nodes j node q))))
+
+pub one_place : (nodes : List Node) → Ascend nodes → (node : Node) (i j : ℕ) → StandsAt nodes node i → StandsAt nodes node j → i ≡ j
+one_place nodes ascend node i j p q =
+    elim (cases_eq i j) [
+      | inl e ↦ e
+      | inr apart ↦
+          elim (cases_lt i j) [
+            | inl before ↦ absurd (at_two nodes ascend node i j p q before)
+            | inr not_before ↦ absurd (at_two nodes ascend node j i q p (omega (arith, apart, not_before)))
+          ]
+    ]
+
+-- ---- vertices that stand for the nodes
+
+pub pushed : {X : Type 0} (xs : List X) (y : X) (k : ℕ) (z : X) → slice_get (xs ++ y ∷ []) k ≡ Some z → (slice_get xs k ≡ Some z) ⊎ ((k ≡ length xs) × (y ≡ z))
+pushed [] y zero z e = inr (refl, same_Some y z e)
+pushed [] y (suc k) z e = absurd (none-some z e)
+pushed (x ∷ xs) y zero z e = inl e
+pushed (x ∷ xs) y (suc k) z e = elim (pushed xs y k z e) [ inl p ↦ inl p | inr q ↦ inr (omega (arith, q.0), q.1) ]
+
+abbrev pub EachVertex : Said → Root → List Node → Graph → Type 0
+EachVertex said root nodes g = (at : ℕ) (node : Node) (vertex : Vertex) → StandsAt nodes node at → slice_get g at ≡ Some vertex → IsVertexOf said root nodes node vertex
+
+pub one_more : (said : Said) (root : Root) (nodes : List Node) (g : Graph) (i : ℕ) (node : Node) (vertex : Vertex) → length g ≡ i → StandsAt nodes node i → EachVertex said root nodes g → IsVertexOf said root nodes node vertex → EachVertex said root nodes (g ++ vertex ∷ [])
+one_more said root nodes g i node vertex count here each is at other its stands got =
+    elim (pushed g vertex at its got) [
+      | inl old ↦ each at other its stands old
+      | inr new ↦
+          let e : at ≡ i = omega (arith, new.0, count) in
+          let P : ℕ → Type 0 = λ k. slice_get nodes k ≡ Some other in
+          let N : Node → Type 0 = λ n. IsVertexOf said root nodes n its in
+          let V : Vertex → Type 0 = λ v. IsVertexOf said root nodes node v in
+          subst N (same_Some node other (sym here ∙ subst P e stands)) (subst V new.1 is)
+    ]
+
+pub record Stand (said : Said) (root : Root) (nodes : List Node) (g : Graph) : Type 0 where
+  pub count : length g ≡ length nodes
+  pub each : (at : ℕ) (node : Node) (vertex : Vertex) → StandsAt nodes node at → slice_get g at ≡ Some vertex → IsVertexOf said root nodes node vertex
+
+module _ (said : Said) (root : Root) (nodes : List Node) (g : Graph) (are : AreNodes said nodes) (s : Stand said root nodes g) where
+  forth : (v : Node) (at : ℕ) (step : Step Node) → StandsAt nodes v at → Leads said root v step → (link : Link) × HasLink g at link × IsSameStep (StandsAt nodes) step link
+  forth v at step here l =
+      let t = told said root v step.target step.price step.exit l in
+      let to = placed nodes step.target ((are.each step.target).1 (far_end said v step.target t.back)) in
+      let link : Link = record { to = to.0; cost = step.price; interface = step.exit } in
+      let vertex = element g at (omega (arith, s.count, slice_get_within nodes at v here)) in
+      let is = s.each at v vertex.0 here vertex.1 in
+      let from : IsLinkFrom said root nodes v link = (t.way, t.tells, record { target = step.target; stands = to.1; toward = t.toward; back = t.back; costs = t.costs; exit = t.by }) in
+      let among = placed vertex.0.links.items link ((is.links link).1 from) in
+      (link, record { vertex = vertex.0; here = vertex.1; place = among.0; among = among.1 }, record { target = to.1; price = refl; exit = refl })
+
+  back : (v : Node) (at : ℕ) (link : Link) → StandsAt nodes v at → HasLink g at link → (step : Step Node) × Leads said root v step × IsSameStep (StandsAt nodes) step link
+  back v at link here has =
+      let is = s.each at v has.vertex here has.here in
+      let from = (is.links link).0 (contained has.vertex.links.items has.place link has.among) in
+      let stands = from.2 in
+      let step : Step Node = record { target = stands.target; price = link.cost; exit = link.interface } in
+      (step, leads said root v stands.target link.cost link.interface (record { way = from.0; tells = from.1; toward = stands.toward; back = stands.back; costs = stands.costs; by = stands.exit }), record { target = stands.stands; price = refl; exit = refl })
+
+  pub is_graph_of : IsGraphOf (Leads said root) (StandsAt nodes) g
+  is_graph_of = record {
+    forth = forth;
+    back = back;
+    one_vertex = λ v w at p q. same_Some v w (sym p ∙ q);
+    one_place = λ v i j p q. one_place nodes are.ascend v i j p q;
+  }
+
+  -- ---- as the search asks
+
+  below_64 : (v : Node) (way : OneWayLink) (exit : ℕ) → length root.addresses ≤ 63 → IsExit root v way exit → exit < 64
+  below_64 (ARouter r) way exit few is =
+      elim (cases_eq r root.router) [
+        | inl e ↦ let own = is.by_interface e in omega (arith, own.1, slice_get_within root.addresses own.0 way.address own.2, few)
+        | inr off ↦ omega (arith, is.elsewhere off)
+      ]
+  below_64 (ANetwork id by) way exit few is = omega (arith, is)
+
+  router : (id by : ℕ) (way : OneWayLink) → Tells said (ANetwork id by) way → (target : Node) → LeadsToward way target → kind_of target ≡ Router
+  router id by way tells (ARouter r) toward = refl
+  router id by way tells (ANetwork other its) toward = absurd (no_network said id by way tells toward.0)
+
+  free : (v : Node) (vertex : Vertex) (link : Link) → vertex.kind ≡ kind_of v → IsLinkFrom said root nodes v link → link.cost ≡ 0 → (vertex.kind ≡ Network) × ((to : Vertex) → slice_get g link.to ≡ Some to → to.kind ≡ Router)
+  free (ARouter r) vertex link kind from costs = absurd (omega (arith, from.2.costs, costs, ap (λ (w : OneWayLink). w.cost) from.1.3, from.1.2))
+  free (ANetwork id by) vertex link kind from costs = (
+    kind,
+    (λ to here. (s.each link.to from.2.target to from.2.stands here).kind ∙ router id by from.0 from.1 from.2.target from.2.toward),
+  )
+
+  node_of : (at : ℕ) → at < length g → (node : Node) × StandsAt nodes node at
+  node_of at lt = element nodes at (omega (arith, s.count, lt))
+
+  pub is_graph : length root.addresses ≤ 63 → IsGraph g
+  is_graph few at vertex place link here among =
+      let node = node_of at (slice_get_within g at vertex here) in
+      let is = s.each at node.0 vertex node.1 here in
+      let member = contained vertex.links.items place link among in
+      let from = (is.links link).0 member in
+      record {
+        inside = omega (arith, s.count, slice_get_within nodes link.to from.2.target from.2.stands);
+        interface = below_64 node.0 from.0 link.interface few from.2.exit;
+        fits = All-contains CostFits vertex.links.items link is.fits member;
+        free = free node.0 vertex link is.kind from;
+      }

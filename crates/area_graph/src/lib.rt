@@ -1,0 +1,12 @@
+//! The graph of an area: the routers and transit networks of its database, and the links between them that count (RFC 2328, section 16.1).
+#![tactic(auto)]
+
+mod advertised;
+mod back;
+mod links;
+mod nodes;
+mod one_way;
+mod vertices;
+
+pub use nodes::{nodes_of, place_of};
+pub use vertices::graph_of;

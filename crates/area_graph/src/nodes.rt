@@ -1,0 +1,99 @@
+//! The nodes of the graph, each at its place.
+ghost use Rattle.std.specs.Prelude.{◌≡◌, ◌<◌, ◌≤◌, ℕ, length, IfOk, Some, slice_get};
+ghost use Rattle.std.specs.FinMap as finite;
+ghost use Rattle.std.specs.Ordering.{is_lt};
+ghost use Rattle.routes.specs.Said.{said_at};
+ghost use Rattle.area_graph.specs.Nodes.{AreNodes, Ascend, node_at, node_cmp};
+ghost use Rattle.routes.specs.declared.node.Node.{Node};
+ghost use Rattle.std.specs.declared.cmp.Ordering.TheVariants.{Less};
+
+use crate::advertised::{network_lsa, router_lsa};
+use lsdb::Lsdb;
+use routes::Node;
+use std::alloc::{AllocError, Global};
+use std::cmp::Ordering;
+use words::{Key, Second};
+
+/// The routers and transit networks whose LSAs stand in the database and aren't at MaxAge, routers first, by their numbers: the order of the
+/// keys (RFC 2328, section 16.1).
+///
+/// # Errors
+/// Where memory for them or for the keys is refused.
+pub fn nodes_of(alloc: Global, db: &Lsdb, moment: Second) -> Result<Vec<Node>, AllocError>
+    ensures nodes { IfOk result (λ nodes. AreNodes (said_at moment db.now.present) nodes.items) }
+    ensures few { IfOk result (λ nodes. length nodes.items ≤ finite.len db.now.present) }
+{
+    let keys = db.first(alloc, db.len())?;
+    let mut nodes = Vec::new(alloc);
+    for key in &keys {
+        if let Some(node) = node_at(db, moment, key) {
+            nodes.push(node)?;
+        }
+    }
+    Ok(nodes)
+}
+
+// The node whose LSA has this key, if that says something.
+fn node_at(db: &Lsdb, moment: Second, key: &Key) -> Option<Node>
+    ensures { result ≡ node_at (said_at moment db.now.present) key.now }
+{
+    let router = key.advertising_router;
+    if key.ls_type == 1 && key.link_state_id.number() == router.number() {
+        return match router_lsa(db, moment, router) {
+            None => None,
+            Some(_) => Some(Node::ARouter(router)),
+        };
+    }
+    if key.ls_type == 2 {
+        return match network_lsa(db, moment, key.link_state_id, router) {
+            None => None,
+            Some(_) => Some(Node::ANetwork(key.link_state_id, router)),
+        };
+    }
+    None
+}
+
+/// The first place of a node that isn't before this one, or their count where all are.
+pub fn place_of(nodes: &[Node], node: &Node) -> usize
+    requires { Ascend nodes.now }
+    ensures within { result ≤ length nodes.now }
+    ensures before { (k : ℕ) (other : Node) → slice_get nodes.now k ≡ Some other → k < result → node_cmp other node.now ≡ Less }
+    ensures beyond { (k : ℕ) (other : Node) → slice_get nodes.now k ≡ Some other → result ≤ k → node_cmp other node.now ≡ Less → ⊥ }
+{
+    let mut low = 0;
+    let mut high = nodes.len();
+    while low < high {
+        let middle = low + (high - low) / 2;
+        if is_before(&nodes[middle], node) {
+            low = middle + 1;
+        } else {
+            high = middle;
+        }
+    }
+    low
+}
+
+fn compare(a: &Node, b: &Node) -> Ordering
+    ensures { result ≡ node_cmp a.now b.now }
+{
+    match a {
+        Node::ARouter(a) => match b {
+            Node::ARouter(b) => a.number().cmp(&b.number()),
+            Node::ANetwork(..) => Ordering::Less,
+        },
+        Node::ANetwork(id, by) => match b {
+            Node::ARouter(_) => Ordering::Greater,
+            Node::ANetwork(other, its) => id
+                .number()
+                .cmp(&other.number())
+                .then(by.number().cmp(&its.number())),
+        },
+    }
+}
+
+/// Tells whether the first comes before the other: routers by Router ID, then networks by Link State ID and Advertising Router.
+pub fn is_before(a: &Node, b: &Node) -> bool
+    ensures { result ≡ is_lt (node_cmp a.now b.now) }
+{
+    compare(a, b) == Ordering::Less
+}
