@@ -1,11 +1,11 @@
 -- The keys of a database give its nodes, in order.
-use Rattle.std.proofs.Common.{◌≡◌, ℕ, ◌+◌, ◌<◌, ◌≤◌, ◌++◌, get_or, slice_get, Bool, true, false, ◌&&◌, ◌==◌, cond, IsTrue, T, List, [], ◌∷◌, length, map, take, Option, None, Some, is_some, inl, inr, refl, sym, ◌∙◌, ap, subst, arith, eqb-true, eq-eqb, Ordering}
+use Rattle.std.proofs.Common.{◌≡◌, ℕ, ◌+◌, ◌<◌, ◌≤◌, ◌++◌, get_or, slice_get, Bool, true, false, ◌&&◌, ◌==◌, cond, T, List, [], ◌∷◌, length, map, take, Option, None, Some, is_some, inl, inr, refl, sym, ◌∙◌, ap, subst, arith, eqb-true, eq-eqb, Ordering}
 use Rattle.std.proofs.lemmas.Bool.{cases_lt, false≢true}
 use Rattle.std.proofs.lemmas.List.{length-map, take_all, take_more}
 use Rattle.std.proofs.lemmas.List.Elements.{filter_map-append}
 use Rattle.std.proofs.lemmas.Map.Views.{Contains-from_any}
 use Rattle.std.proofs.lemmas.Option.{get_or_from_slice_get, none-some, same_Some, slice_get_within}
-use Rattle.std.specs.List.{AllPairs, Contains, cons_option, filter_map}
+use Rattle.std.specs.List.{Contains, cons_option, filter_map}
 use Rattle.std.specs.FinMap as finite
 use Rattle.std.specs.FinMap.Entries.{below_all, is_sorted}
 use Rattle.std.specs.Ordering.{eq_by_cmp, is_eq, is_lt, nat_cmp, ordering_then}
@@ -15,7 +15,7 @@ use Rattle.lsa.specs.declared.body.Body.{Body}
 use Rattle.lsa.specs.declared.body.Body.TheVariants as body
 use Rattle.lsa.specs.declared.body.NetworkLsa.{NetworkLsa}
 use Rattle.lsa.specs.declared.body.RouterLsa.{RouterLsa}
-use Rattle.lsdb.specs.Copies.{Database, DatabaseCopy, is_aged_out}
+use Rattle.lsdb.specs.Copies.{Database, DatabaseCopy}
 use Rattle.lsdb.specs.Keys.{key_cmp}
 use Rattle.lsdb.proofs.Keys.{keys_exact, keys_total}
 use Rattle.routes.specs.Links.{network_key, router_key}

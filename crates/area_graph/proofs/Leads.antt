@@ -1,10 +1,8 @@
 -- A link counts where one end tells of it and the other end tells of one back.
-use Rattle.std.proofs.Common.{◌≡◌, ◌≢◌, ℕ, ◌+◌, ◌<◌, Some, slice_get, refl, sym, ◌∙◌, ap, subst, arith}
-use Rattle.lsa.specs.declared.body.Link.{Link}
+use Rattle.std.proofs.Common.{◌≡◌, ℕ, Some, refl, sym, ◌∙◌, ap, subst, arith}
 use Rattle.lsa.specs.declared.body.LinkKind.{LinkKind}
 use Rattle.lsa.specs.declared.body.LinkKind.TheVariants.{PointToPoint, Transit}
-use Rattle.routes.specs.Links.{Counts, HasLink, Leads, LeadsTo, ListsRouter}
-use Rattle.routes.specs.Paths.{Step}
+use Rattle.routes.specs.Links.{Counts, LeadsTo, ListsRouter}
 use Rattle.routes.specs.Said.{Said}
 use Rattle.routes.specs.declared.node.Node.{Node}
 use Rattle.routes.specs.declared.node.Node.TheVariants.{ANetwork, ARouter}

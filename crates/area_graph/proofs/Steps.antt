@@ -1,5 +1,5 @@
 -- The steps of the loops that add the links of a node.
-use Rattle.std.proofs.Common.{◌≡◌, ℕ, zero, suc, ◌+◌, ◌<◌, ◌≤◌, ◌⊎◌, inl, inr, List, [], ◌∷◌, ◌++◌, length, get_or, ◌↔◌, Option, None, Some, Ok, Err, Result, slice_get, refl, sym, ◌∙◌, ap, subst, arith}
+use Rattle.std.proofs.Common.{◌≡◌, ℕ, ◌+◌, ◌<◌, ◌≤◌, inl, inr, List, [], ◌∷◌, ◌++◌, length, get_or, ◌↔◌, None, Some, Ok, Err, Result, slice_get, refl, sym, ◌∙◌, ap, subst, arith}
 use Rattle.std.proofs.lemmas.Bool.{cases_eq, cases_lt}
 use Rattle.std.proofs.lemmas.Cmp.{ranked}
 use Rattle.std.proofs.lemmas.Option.{get_or_from_slice_get, none-some, same_Some, slice_get_within}
@@ -8,14 +8,12 @@ use Rattle.std.specs.FinMap.{nat_cmp-IsAntisymmetric}
 use Rattle.std.specs.List.{Contains}
 use Rattle.std.specs.Result.{OnOk}
 use Rattle.std.specs.Ordering.{nat_cmp, ordering_then}
-use Rattle.std.specs.declared.cmp.Ordering.{Ordering}
 use Rattle.std.specs.declared.cmp.Ordering.TheVariants.{Equal, Greater, Less}
 use Rattle.lsa.specs.declared.body.Link.{Link as Told}
 use Rattle.lsa.specs.declared.body.LinkKind.{LinkKind}
-use Rattle.lsa.specs.declared.body.LinkKind.TheVariants.{PointToPoint, Stub, Transit, Virtual}
 use Rattle.lsa.specs.declared.body.NetworkLsa.{NetworkLsa}
 use Rattle.lsa.specs.declared.body.RouterLsa.{RouterLsa}
-use Rattle.routes.specs.Links.{HasLink, IsNetworkLsa, IsRouterLsa, ListsRouter}
+use Rattle.routes.specs.Links.{IsNetworkLsa, IsRouterLsa}
 use Rattle.routes.specs.Said.{Said}
 use Rattle.routes.specs.declared.graph.Link.{Link}
 use Rattle.routes.specs.declared.node.Node.{Node}
@@ -24,7 +22,7 @@ use Rattle.routes.specs.declared.root.Root.{Root}
 use Rattle.routes.proofs.Lists.{of_empty}
 use Rattle.area_graph.specs.Graphs.{Adds, IsLinkFrom, StandsAt, StandsFor, StandsForLink}
 use Rattle.area_graph.specs.Nodes.{Ascend, network_in, network_lsa, node_cmp, router_in, router_lsa}
-use Rattle.area_graph.specs.OneWay.{IsExit, LeadsToward, Tells, TellsBack, least_of, least_toward, of_link, to_attached}
+use Rattle.area_graph.specs.OneWay.{IsExit, LeadsToward, TellsBack, least_of, least_toward, of_link, to_attached}
 use Rattle.area_graph.specs.declared.one_way.OneWayLink.{OneWayLink}
 use Rattle.area_graph.proofs.Lists.{OfAll, adds_both, adds_more, adds_none, adds_same}
 use Rattle.area_graph.proofs.KeyNodes.{network_said, router_said}

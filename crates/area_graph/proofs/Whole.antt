@@ -1,29 +1,27 @@
 -- Vertices that stand for all nodes are a graph of the database's links, and one as the search for least walks asks.
-use Rattle.std.proofs.Common.{◌≡◌, ℕ, zero, suc, ◌+◌, ◌<◌, ◌≤◌, ◌⊎◌, inl, inr, List, [], ◌∷◌, ◌++◌, length, get_or, Some, slice_get, refl, sym, ◌∙◌, ap, subst, arith}
+use Rattle.std.proofs.Common.{◌≡◌, ℕ, zero, suc, ◌<◌, ◌≤◌, ◌⊎◌, inl, inr, List, [], ◌∷◌, ◌++◌, length, get_or, Some, slice_get, refl, sym, ◌∙◌, ap, subst, arith}
 use Rattle.std.proofs.lemmas.Bool.{cases_eq, cases_lt}
 use Rattle.std.proofs.lemmas.List.Elements.{All-contains}
 use Rattle.std.proofs.lemmas.Option.{get_or_from_slice_get, none-some, same_Some, slice_get-get_or, slice_get_within}
-use Rattle.std.specs.List.{All, Contains}
-use Rattle.std.specs.declared.cmp.Ordering.{Ordering}
+use Rattle.std.specs.List.{Contains}
 use Rattle.std.specs.declared.cmp.Ordering.TheVariants.{Equal, Less}
 use Rattle.std.specs.Cmp.{nat_cmp_total, tied_itself}
 use Rattle.std.specs.Ordering.{nat_cmp, ordering_then}
-use Rattle.routes.specs.Graphs.{Graph, HasLink, IsGraph, IsGraphOf, IsLawful, IsSameStep}
+use Rattle.routes.specs.Graphs.{Graph, HasLink, IsGraph, IsGraphOf, IsSameStep}
 use Rattle.routes.specs.Links.{Leads}
 use Rattle.routes.specs.Paths.{Step}
 use Rattle.routes.specs.Said.{Said}
-use Rattle.routes.specs.declared.graph.Kind.{Kind}
 use Rattle.routes.specs.declared.graph.Kind.TheVariants.{Network, Router}
 use Rattle.routes.specs.declared.graph.Link.{Link}
 use Rattle.routes.specs.declared.graph.Vertex.{Vertex}
 use Rattle.routes.specs.declared.node.Node.{Node}
 use Rattle.routes.specs.declared.node.Node.TheVariants.{ANetwork, ARouter}
 use Rattle.routes.specs.declared.root.Root.{Root}
-use Rattle.area_graph.specs.Graphs.{CostFits, IsLinkFrom, IsVertexOf, StandsAt, StandsFor, kind_of}
+use Rattle.area_graph.specs.Graphs.{CostFits, IsLinkFrom, IsVertexOf, StandsAt, kind_of}
 use Rattle.area_graph.specs.Nodes.{AreNodes, Ascend, node_cmp}
 use Rattle.area_graph.specs.OneWay.{IsExit, LeadsToward, Tells}
 use Rattle.area_graph.specs.declared.one_way.OneWayLink.{OneWayLink}
-use Rattle.area_graph.proofs.Leads.{Told, far_end, leads, no_network, told}
+use Rattle.area_graph.proofs.Leads.{far_end, leads, no_network, told}
 
 -- ---- places
 

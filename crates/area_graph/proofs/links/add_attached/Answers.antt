@@ -1,4 +1,4 @@
-use Rattle.std.proofs.Common.{◌≡◌, ℕ, List, subst}
+use Rattle.std.proofs.Common.{ℕ, List, subst}
 use Rattle.routes.specs.Said.{said_at}
 use Rattle.routes.specs.declared.graph.Link.{Link}
 use Rattle.area_graph.specs.Graphs.{Adds, StandsFor}

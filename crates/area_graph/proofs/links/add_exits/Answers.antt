@@ -1,4 +1,4 @@
-use Rattle.std.proofs.Common.{◌≡◌, sym, ◌∙◌}
+use Rattle.std.proofs.Common.{sym, ◌∙◌}
 use Rattle.area_graph.specs.Graphs.{Adds}
 use Rattle.area_graph.proofs.Steps.{Own, ToPlace, exits_at_root, on_ok}
 use Rattle.area_graph.proofs.links.add_exits.Goals as goal

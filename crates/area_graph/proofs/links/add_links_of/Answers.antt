@@ -1,4 +1,4 @@
-use Rattle.std.proofs.Common.{◌≡◌, ◌<◌, ℕ, List, arith, subst}
+use Rattle.std.proofs.Common.{◌<◌, List, arith, subst}
 use Rattle.lsa.specs.declared.body.Link.{Link as Told}
 use Rattle.routes.specs.Said.{said_at}
 use Rattle.routes.specs.declared.graph.Link.{Link}

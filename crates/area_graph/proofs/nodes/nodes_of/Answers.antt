@@ -1,5 +1,5 @@
-use Rattle.std.proofs.Common.{◌≡◌, ◌≤◌, List, [], take, length, sym, ◌∙◌, ap, subst}
-use Rattle.std.proofs.Common.{Option, ◌++◌, ℕ}
+use Rattle.std.proofs.Common.{◌≤◌, List, [], take, length, sym, ◌∙◌, ap, subst}
+use Rattle.std.proofs.Common.{Option, ◌++◌}
 use Rattle.std.proofs.lemmas.List.{append-nil}
 use Rattle.std.specs.FinMap as finite
 use Rattle.std.specs.List.{cons_option, filter_map}

@@ -1,11 +1,9 @@
-use Rattle.std.proofs.Common.{◌≡◌, ℕ, List, [], ◌∷◌, ◌++◌, Some, length, arith, refl, sym, ◌∙◌, ap}
+use Rattle.std.proofs.Common.{[], ◌∷◌, length, arith, refl, ap}
 use Rattle.std.proofs.lemmas.List.{length-append}
 use Rattle.std.proofs.lemmas.Option.{slice_get_read}
 use Rattle.routes.specs.Said.{said_at}
-use Rattle.routes.specs.declared.node.Node.{Node}
-use Rattle.routes.specs.declared.graph.Vertex.{Vertex}
 use Rattle.area_graph.specs.Graphs.{StandsAt}
-use Rattle.area_graph.proofs.Whole.{Stand, is_graph, is_graph_of, one_more}
+use Rattle.area_graph.proofs.Whole.{is_graph, is_graph_of, one_more}
 use Rattle.area_graph.proofs.vertices.graph_of.Goals as goal
 
 pub loop-node-preserved : goal.loop-node-preserved
