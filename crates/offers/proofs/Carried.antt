@@ -1,0 +1,235 @@
+-- What is gathered from the LSAs of the keys is what the database offers within and between areas, where the ways are those of its links.
+use Rattle.std.proofs.Common.{◌≡◌, ◌≢◌, ℕ, ◌+◌, ◌-◌, ◌%◌, ◌^◌, ◌<◌, ◌≤◌, ◌⊎◌, inl, inr, IsTrue, cond, nat_eq, List, Option, Some, None, arith, refl, sym, ◌∙◌, ap, subst}
+use Rattle.std.specs.List.{Contains}
+use Rattle.words.specs.Interfaces.{has_interface}
+use Rattle.words.specs.Prefixes.{Network, network_address}
+use Rattle.words.specs.declared.key.Key.{Key}
+use Rattle.words.specs.declared.route.Route.{Route}
+use Rattle.words.specs.declared.route.RouteKind.TheVariants.{Inter}
+use Rattle.lsa.specs.declared.body.Body.{Body}
+use Rattle.lsa.specs.declared.body.Body.TheVariants as body
+use Rattle.lsa.specs.declared.body.ExternalLsa.{ExternalLsa}
+use Rattle.lsa.specs.declared.body.SummaryLsa.{SummaryLsa}
+use Rattle.routes.specs.Answers.{IsNodeAnswer}
+use Rattle.routes.specs.Candidates.{IsExternalWay, OffersExternal, external_offer}
+use Rattle.routes.specs.Links.{Leads, network_key, router_key}
+use Rattle.routes.specs.Offers.{Attaches, OffersWithin, ReachesBoundaryRouter, intra}
+use Rattle.routes.specs.Paths.{IsWay}
+use Rattle.routes.specs.Paths.{Way as WalkWay}
+use Rattle.routes.specs.Routes.{AreRoutesAmong, IsForwarded, IsNoLater, IsNoWorse, IsRouteAmong}
+use Rattle.routes.specs.Routes.IsNoLater.{ByTag}
+use Rattle.routes.specs.Routes.IsNoWorse.{ByCost, ByDistance, ByKind}
+use Rattle.routes.specs.Said.{Said}
+use Rattle.routes.specs.Summaries.{CountsAsSummary, IsBoundaryWay, IsToldOf, IsWayBetween, OffersBetween, OffersInside, ReachesBorderRouter, inter, summary_key}
+use Rattle.routes.specs.Summaries.IsBoundaryWay.{Inside as InsideWay, Outside as OutsideWay}
+use Rattle.routes.specs.declared.graph.Way.{Way}
+use Rattle.routes.specs.declared.node.Node.{Node}
+use Rattle.routes.specs.declared.node.Node.TheVariants.{ANetwork, ARouter}
+use Rattle.routes.specs.declared.offer.Offer.{Offer}
+use Rattle.routes.specs.declared.root.Root.{Root}
+use Rattle.routes.proofs.Determined.{one_way}
+use Rattle.std.proofs.Common.{true, false, eqb-true, eq-eqb}
+use Rattle.std.proofs.lemmas.Bool.{cases_eq, cases_Bool}
+use Rattle.offers.specs.Borders.{IsBoundary, IsCounted, IsFlagged, IsFound, IsLongest, IsOutward, Tells, host, way_by}
+use Rattle.offers.specs.Borders.IsBoundary.{Inside, Outside}
+use Rattle.offers.specs.Gathering.{OfEach}
+use Rattle.offers.specs.Sources.{IsInner, IsStub, OfExternal, OfNetwork, OfRouter, OfSummary, leaving}
+use Rattle.offers.specs.Sources.IsInner.{ByNetwork, ByRouter, BySummary}
+use Rattle.offers.specs.Ways.{AreWays, Ways}
+
+abbrev pub as_way : Way → WalkWay
+as_way w = record { distance = w.distance; hops = w.hops }
+
+abbrev pub as_found : WalkWay → Way
+as_found w = record { distance = w.distance; hops = w.hops }
+
+-- ---- the way by which a router's own networks are offered
+
+own_hops : (root : Root) (router : ℕ) (way : Way) → router ≡ root.router → (leaving root router way).hops ≡ 1
+own_hops root router way e = ap (λ b. (cond b (record way { hops = 1 }) way).hops) (eq-eqb router root.router e)
+
+other_hops : (root : Root) (router : ℕ) (way : Way) → (router ≡ root.router → ⊥) → (leaving root router way).hops ≡ way.hops
+other_hops root router way other =
+    elim (cases_Bool (nat_eq router root.router)) [
+      | inl on ↦ absurd (other (eqb-true router root.router on))
+      | inr off ↦ ap (λ b. (cond b (record way { hops = 1 }) way).hops) off
+    ]
+
+same_distance : (root : Root) (router : ℕ) (way : Way) → (leaving root router way).distance ≡ way.distance
+same_distance root router way =
+    elim (nat_eq router root.router) as (λ b. (cond b (record way { hops = 1 }) way).distance ≡ way.distance) [
+      | true ↦ refl
+      | false ↦ refl
+    ]
+
+module _ (said : Said) (root : Root) (ways : Ways) (are : AreWays said root ways) where
+  abbrev IsReached : Node → WalkWay → Type 0
+  IsReached node way = IsWay (Leads said root) (ARouter root.router) node way
+
+  reached : (node : Node) (w : Way) → ways node ≡ Some w → IsReached node (as_way w)
+  reached node w e = let Is : Option Way → Type 0 = λ a. IsNodeAnswer said root node a in subst Is e (are node)
+
+  by_answer : (node : Node) (answer : Option Way) → IsNodeAnswer said root node answer → (way : WalkWay) → IsReached node way → (w : Way) × (answer ≡ Some w) × (as_way w ≡ way)
+  by_answer node None none way is = absurd (none is.distance.0 is.distance.1.is_walk)
+  by_answer node (Some w) answer way is = (w, refl, one_way (Leads said root) (ARouter root.router) node (as_way w) way answer is)
+
+  found : (node : Node) (way : WalkWay) → IsReached node way → (w : Way) × (ways node ≡ Some w) × (as_way w ≡ way)
+  found node way is = by_answer node (ways node) (are node) way is
+
+  -- ---- routers with flags
+
+  pub boundary_forth : (router : ℕ) (w : Way) → IsFlagged said ways router 2 w → ReachesBoundaryRouter said root router (as_way w)
+  boundary_forth router w k = record { lsa = k.lsa; its = k.its; has_e = k.has_flag; reached = reached (ARouter router) w k.reached }
+
+  pub boundary_back : (router : ℕ) (way : WalkWay) → ReachesBoundaryRouter said root router way → (w : Way) × IsFlagged said ways router 2 w × (as_way w ≡ way)
+  boundary_back router way k =
+      let f = found (ARouter router) way k.reached in
+      (f.0, record { lsa = k.lsa; its = k.its; has_flag = k.has_e; reached = f.1 }, f.2)
+
+  pub counted_forth : (originator : ℕ) (lsa : SummaryLsa) (border : Way) → IsCounted said root ways originator lsa border → CountsAsSummary said root originator lsa (as_way border)
+  counted_forth originator lsa border k = record {
+    reachable = k.reachable;
+    of_another = k.of_another;
+    reaches = record { lsa = k.reaches.lsa; its = k.reaches.its; has_b = k.reaches.has_flag; reached = reached (ARouter originator) border k.reaches.reached };
+  }
+
+  pub counted_back : (originator : ℕ) (lsa : SummaryLsa) (border : WalkWay) → CountsAsSummary said root originator lsa border → (w : Way) × IsCounted said root ways originator lsa w × (as_way w ≡ border)
+  counted_back originator lsa border k =
+      let f = found (ARouter originator) border k.reaches.reached in (
+        f.0,
+        record {
+          reachable = k.reachable;
+          of_another = k.of_another;
+          reaches = record { lsa = k.reaches.lsa; its = k.reaches.its; has_flag = k.reaches.has_b; reached = f.1 };
+        },
+        f.2,
+      )
+
+  -- ---- within and between areas
+
+  by_router : (key : Key) (o : Offer) → OfRouter said root ways key o → OffersWithin said root o
+  by_router key o k =
+      let router = key.advertising_router in
+      let here : key ≡ router_key router = λ i. record { ls_type = k.is_type i; link_state_id = k.own i; advertising_router = router } in
+      let its : said (router_key router) ≡ Some (body.Router k.lsa) = ap said (sym here) ∙ k.its in
+      let stub = k.offered.2 in
+      record {
+        node = ARouter router;
+        prefix = stub.prefix;
+        more = k.offered.0.metric;
+        attached = (k.offered.0, record { lsa = k.lsa; its = its; among = k.offered.1 }, stub.is_stub, stub.is_prefix, refl);
+        way = as_way k.way;
+        reached = reached (ARouter router) k.way k.reached;
+        hops = (leaving root router k.way).hops;
+        by_root = λ e. own_hops root router k.way (cc);
+        by_others = λ other. other_hops root router k.way (λ e. other (ap (λ n. ARouter n) e));
+        is = stub.is ∙ ap (λ d. intra stub.prefix (d + k.offered.0.metric) (leaving root router k.way).hops) (same_distance root router k.way);
+      }
+
+  by_network : (key : Key) (o : Offer) → OfNetwork said ways key o → OffersWithin said root o
+  by_network key o k =
+      let id = key.link_state_id in
+      let by = key.advertising_router in
+      let here : key ≡ network_key id by = λ i. record { ls_type = k.is_type i; link_state_id = id; advertising_router = by } in
+      let its : said (network_key id by) ≡ Some (body.Network k.lsa) = ap said (sym here) ∙ k.its in
+      let none : k.way.distance ≡ k.way.distance + 0 = omega arith in
+      record {
+        node = ANetwork id by;
+        prefix = k.prefix;
+        more = 0;
+        attached = (k.lsa, its, k.is_prefix, refl);
+        way = as_way k.way;
+        reached = reached (ANetwork id by) k.way k.reached;
+        hops = k.way.hops;
+        by_root = λ e. absurd (cc);
+        by_others = λ other. refl;
+        is = k.is ∙ ap (λ d. intra k.prefix d k.way.hops) none;
+      }
+
+  by_summary : (key : Key) (o : Offer) → OfSummary said root ways key o → OffersBetween said root o
+  by_summary key o k =
+      let id = key.link_state_id in
+      let by = key.advertising_router in
+      let here : key ≡ summary_key 3 id by = λ i. record { ls_type = k.is_type i; link_state_id = id; advertising_router = by } in
+      record {
+        id = id;
+        originator = by;
+        lsa = k.lsa;
+        its = ap said (sym here) ∙ k.its;
+        border = as_way k.border;
+        counts = counted_forth by k.lsa k.border k.counts;
+        prefix = k.prefix;
+        is_prefix = k.is_prefix;
+        is = k.is;
+      }
+
+  pub inner_forth : (keys : List Key) (o : Offer) → OfEach (IsInner said root ways) keys o → OffersInside said root o
+  inner_forth keys o (key, among, ByRouter k) = inl (by_router key o k)
+  inner_forth keys o (key, among, ByNetwork k) = inl (by_network key o k)
+  inner_forth keys o (key, among, BySummary k) = inr (by_summary key o k)
+
+  module _ (keys : List Key) (covers : (key : Key) (says : Body) → said key ≡ Some says → Contains keys key) where
+    of_within : (node : Node) (prefix : Network) (more : ℕ) → Attaches said node prefix more → (way : WalkWay) → IsReached node way → (hops : ℕ) → (node ≡ ARouter root.router → hops ≡ 1)
+        → ((node ≡ ARouter root.router → ⊥) → hops ≡ way.hops) → OfEach (IsInner said root ways) keys (intra prefix (way.distance + more) hops)
+    of_within (ANetwork id by) prefix more a way is hops by_root by_others =
+        let f = found (ANetwork id by) way is in
+        let key = network_key id by in
+        let more_is : more ≡ 0 = a.3 in
+        let cost : way.distance + more ≡ f.0.distance = omega (arith, more_is, ap (λ (w : WalkWay). w.distance) f.2) in
+        let leaves : hops ≡ f.0.hops = by_others (λ e. absurd (cc)) ∙ sym (ap (λ (w : WalkWay). w.hops) f.2) in (
+          key,
+          covers key (body.Network a.0) a.1,
+          ByNetwork (record {
+            is_type = refl;
+            lsa = a.0;
+            its = a.1;
+            way = f.0;
+            reached = f.1;
+            prefix = prefix;
+            is_prefix = a.2;
+            is = λ i. intra prefix (cost i) (leaves i);
+          }),
+        )
+    of_within (ARouter router) prefix more a way is hops by_root by_others =
+        let f = found (ARouter router) way is in
+        let key = router_key router in
+        let link = a.0 in
+        let cost : way.distance + more ≡ (leaving root router f.0).distance + link.metric = omega (arith, a.4, ap (λ (w : WalkWay). w.distance) f.2, same_distance root router f.0) in
+        let leaves : hops ≡ (leaving root router f.0).hops =
+        elim (cases_eq router root.router) [
+          | inl e ↦ by_root (ap (λ n. ARouter n) e) ∙ sym (own_hops root router f.0 e)
+          | inr other ↦ by_others (λ e. let same : router ≡ root.router = cc in other same) ∙ sym (ap (λ (w : WalkWay). w.hops) f.2) ∙ sym (other_hops root router f.0 other)
+        ] in (
+          key,
+          covers key (body.Router a.1.lsa) a.1.its,
+          ByRouter (record {
+            is_type = refl;
+            own = refl;
+            lsa = a.1.lsa;
+            its = a.1.its;
+            way = f.0;
+            reached = f.1;
+            offered = (link, a.1.among, record { is_stub = a.2; prefix = prefix; is_prefix = a.3; is = λ i. intra prefix (cost i) (leaves i) });
+          }),
+        )
+
+    pub inner_back : (o : Offer) → OffersInside said root o → OfEach (IsInner said root ways) keys o
+    inner_back o (inl k) =
+        let P : Offer → Type 0 = λ x. OfEach (IsInner said root ways) keys x in
+        subst P (sym k.is) (of_within k.node k.prefix k.more k.attached k.way k.reached k.hops k.by_root k.by_others)
+    inner_back o (inr k) =
+        let c = counted_back k.originator k.lsa k.border k.counts in
+        let key = summary_key 3 k.id k.originator in (
+          key,
+          covers key (body.NetworkSummary k.lsa) k.its,
+          BySummary (record {
+            is_type = refl;
+            lsa = k.lsa;
+            its = k.its;
+            border = c.0;
+            counts = c.1;
+            prefix = k.prefix;
+            is_prefix = k.is_prefix;
+            is = k.is ∙ ap (λ (w : WalkWay). inter k.prefix (w.distance + k.lsa.metric) w.hops) (sym c.2);
+          }),
+        )

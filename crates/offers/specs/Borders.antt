@@ -1,0 +1,93 @@
+-- Routers with a flag that ways lead to, and what area border routers tell (RFC 2328, sections 16.2 and 16.4).
+use Rattle.std.specs.Prelude.{◌≡◌, ◌≢◌, ℕ, ◌+◌, ◌<◌, ◌≤◌, Bool, false, true, List, Some, bit_and, slice_index_or}
+use Rattle.std.specs.List.{AllPairs, Contains}
+use Rattle.words.specs.Prefixes.{IsUnder, Network, network_address}
+use Rattle.words.specs.declared.key.Key.{Key}
+use Rattle.words.specs.declared.route.Route.{Route}
+use Rattle.lsa.specs.declared.body.Body.TheVariants as body
+use Rattle.lsa.specs.declared.body.ExternalLsa.{ExternalLsa}
+use Rattle.lsa.specs.declared.body.RouterLsa.{RouterLsa}
+use Rattle.lsa.specs.declared.body.SummaryLsa.{SummaryLsa}
+use Rattle.routes.specs.Links.{IsRouterLsa}
+use Rattle.routes.specs.Routes.{IsBefore}
+use Rattle.routes.specs.Said.{Said}
+use Rattle.routes.specs.Summaries.{inter}
+use Rattle.offers.specs.Ways.{Ways}
+use Rattle.routes.specs.declared.graph.Way.{Way}
+use Rattle.routes.specs.declared.node.Node.TheVariants.{ARouter}
+use Rattle.routes.specs.declared.offer.Offer.{Offer}
+use Rattle.routes.specs.declared.root.Root.{Root}
+
+-- the router's LSA has the flag, and this way leads to it
+pub record IsFlagged (said : Said) (ways : Ways) (router flag : ℕ) (way : Way) : Type 0 where
+  pub lsa : RouterLsa
+  pub its : IsRouterLsa said router lsa
+  pub has_flag : bit_and lsa.flags flag ≡ flag
+  pub reached : ways (ARouter router) ≡ Some way
+
+-- the summary counts: it is of another router, an area border router that this way leads to
+pub record IsCounted (said : Said) (root : Root) (ways : Ways) (originator : ℕ) (lsa : SummaryLsa) (border : Way) : Type 0 where
+  pub reachable : lsa.metric < 16777215
+  pub of_another : originator ≢ root.router
+  pub reaches : IsFlagged said ways originator 1 border
+
+-- ---- AS boundary routers
+
+-- the address of a router's name as a network of its own, by which routers stand in a list of routes
+abbrev pub host : ℕ → Network
+host router = record { address = network_address 32 router; length = 32 }
+
+-- the summary of the key tells of an AS boundary router
+pub record Tells (said : Said) (root : Root) (ways : Ways) (key : Key) (o : Offer) : Type 0 where
+  pub is_type : key.ls_type ≡ 4
+  pub lsa : SummaryLsa
+  pub its : said key ≡ Some (body.RouterSummary lsa)
+  pub border : Way
+  pub counts : IsCounted said root ways key.advertising_router lsa border
+  pub is : o ≡ inter (host key.link_state_id) (border.distance + lsa.metric) border.hops
+
+abbrev pub way_by : Route → Way
+way_by r = record { distance = r.cost; hops = r.hops }
+
+-- in the order of their prefixes
+abbrev pub Ascend : List Route → Type 0
+Ascend routes = AllPairs (λ (a : Route) (b : Route). IsBefore a.prefix b.prefix) routes
+
+-- with a metric more, their costs fit 32 bits
+abbrev pub AreBelow : List Route → Type 0
+AreBelow routes = (route : Route) → Contains routes route → route.cost < 2147483648
+
+-- the route for the prefix is among them
+pub record IsFound (routes : List Route) (prefix : Network) (route : Route) : Type 0 where
+  pub among : Contains routes route
+  pub is_for : route.prefix ≡ prefix
+
+-- within the area where there is such a way, else what is told
+pub data IsBoundary (said : Said) (ways : Ways) (told : List Route) (router : ℕ) (way : Way) : Type 0 where
+  Inside : IsFlagged said ways router 2 way → IsBoundary said ways told router way
+  Outside : ((other : Way) → IsFlagged said ways router 2 other → ⊥) → (route : Route) → IsFound told (host router) route → way ≡ way_by route → IsBoundary said ways told router way
+
+-- ---- forwarding addresses
+
+-- a route of this length whose network has the address
+pub record IsMatch (routes : List Route) (address length : ℕ) (route : Route) : Type 0 where
+  pub among : Contains routes route
+  pub under : IsUnder address route.prefix
+  pub is_long : route.prefix.length ≡ length
+
+-- the lengths of their prefixes are marked
+abbrev pub HasLengths : List Route → List Bool → Type 0
+HasLengths routes lengths = (route : Route) → Contains routes route → slice_index_or lengths route.prefix.length false ≡ true
+
+-- the route of the longest prefix that the address lies in
+pub record IsLongest (routes : List Route) (address : ℕ) (route : Route) : Type 0 where
+  pub among : Contains routes route
+  pub under : IsUnder address route.prefix
+  pub longest : (other : Route) → Contains routes other → IsUnder address other.prefix → other.prefix.length ≤ route.prefix.length
+
+-- the way to an external destination: by the originator, or by the forwarding address
+pub record IsOutward (said : Said) (ways : Ways) (told inner : List Route) (originator : ℕ) (lsa : ExternalLsa) (way : Way) : Type 0 where
+  pub boundary : Way
+  pub reaches : IsBoundary said ways told originator boundary
+  pub direct : lsa.forwarding ≡ 0 → way ≡ boundary
+  pub forwarded : lsa.forwarding ≢ 0 → (route : Route) × IsLongest inner lsa.forwarding route × (way ≡ way_by route)

@@ -1,0 +1,21 @@
+-- How offers are gathered: each step adds what one source offers, and nothing else.
+use Rattle.std.specs.Prelude.{◌≡◌, ◌<◌, ◌↔◌, ◌⊎◌, List, Option, Some, None}
+use Rattle.std.specs.List.{Contains}
+use Rattle.routes.specs.declared.offer.Offer.{Offer}
+
+-- the one thing of which P holds, or none
+abbrev pub IsJust : {X : Type 0} → (X → Type 0) → Option X → Type 0
+IsJust {X} P None = (x : X) → P x → ⊥
+IsJust {X} P (Some it) = (x : X) → P x ↔ (x ≡ it)
+
+-- the new list has what the old one has, and what P holds of
+abbrev pub Adds : List Offer → List Offer → (Offer → Type 0) → Type 0
+Adds old new P = (o : Offer) → Contains new o ↔ (Contains old o ⊎ P o)
+
+-- one of them offers it
+abbrev pub OfEach : {X : Type 0} → (X → Offer → Type 0) → List X → Offer → Type 0
+OfEach {X} Q xs o = (x : X) × Contains xs x × Q x o
+
+-- with a metric more, their costs fit 32 bits
+abbrev pub AreCheap : List Offer → Type 0
+AreCheap offers = (o : Offer) → Contains offers o → o.cost < 2147483648

@@ -1,0 +1,4 @@
+pub mod Gathering
+pub mod Sources
+pub mod Borders
+pub mod Ways

@@ -1,0 +1,139 @@
+//! What networks, stub links and summaries offer (RFC 2328, sections 16.1 and 16.2).
+ghost use Rattle.std.specs.Prelude.{◌≡◌, ◌<◌, IfSome, OnOk};
+ghost use Rattle.routes.specs.Said.{said_at};
+ghost use Rattle.offers.specs.Ways.{AreNear};
+ghost use Rattle.offers.specs.Gathering.{Adds, AreCheap, IsJust, OfEach};
+ghost use Rattle.offers.specs.Sources.{IsInner, IsStub, OfNetwork, OfRouter, OfSummary, leaving};
+
+use crate::borders::counted_border;
+use crate::gathering::{network_of, network_under, push_offer};
+use crate::offer::{inter, intra};
+use crate::said::{network_lsa, network_summary, router_lsa};
+use crate::ways::Ways;
+use lsa::{Link, LinkKind};
+use lsdb::Lsdb;
+use routes::{Node, Offer, Root, Way};
+use std::alloc::AllocError;
+use words::{Address, Key, RouterId, Second};
+
+fn stub_offer(link: &Link, way: Way) -> Option<Offer>
+    requires { way.distance < 1073741824 }
+    ensures just { IsJust (IsStub way link.now) result }
+    ensures few { IfSome result (λ o. o.cost < 2147483648) }
+{
+    if link.kind != LinkKind::Stub {
+        return None;
+    }
+    let prefix = network_under(Address::new(link.link_id), Address::new(link.link_data))?;
+    Some(intra(prefix, way.distance + u32::from(link.metric), way.hops))
+}
+
+fn push_stubs(links: &[Link], way: Way, offers: &mut Vec<Offer>) -> Result<(), AllocError>
+    requires { way.distance < 1073741824 }
+    ensures adds { OnOk result (Adds offers.old.items offers.new.items (OfEach (IsStub way) links.now)) }
+    ensures cheap { OnOk result (AreCheap offers.old.items → AreCheap offers.new.items) }
+{
+    for link in links {
+        push_offer(offers, stub_offer(link, way))?;
+    }
+    Ok(())
+}
+
+// The root's own networks are offered by no other hop than 0.
+fn leaving(root: &Root, router: RouterId, way: Way) -> Way
+    ensures value { result ≡ leaving root.now router way }
+    ensures near { result.distance ≡ way.distance }
+{
+    if router == root.router {
+        Way {
+            distance: way.distance,
+            hops: 1,
+        }
+    } else {
+        way
+    }
+}
+
+fn push_router<W: Ways>(
+    db: &Lsdb,
+    moment: Second,
+    root: &Root,
+    ways: &W,
+    key: &Key,
+    offers: &mut Vec<Offer>,
+) -> Result<(), AllocError>
+    requires { AreNear (W.ways ways.now) }
+    ensures adds { OnOk result (Adds offers.old.items offers.new.items (OfRouter (said_at moment db.now.present) root.now (W.ways ways.now) key.now)) }
+    ensures cheap { OnOk result (AreCheap offers.old.items → AreCheap offers.new.items) }
+{
+    if key.ls_type != 1 || key.link_state_id.number() != key.advertising_router.number() {
+        return Ok(());
+    }
+    let Some(lsa) = router_lsa(db, moment, key) else {
+        return Ok(());
+    };
+    let Some(way) = ways.way_to(&Node::ARouter(key.advertising_router)) else {
+        return Ok(());
+    };
+    push_stubs(
+        lsa.links.as_slice(),
+        leaving(root, key.advertising_router, way),
+        offers,
+    )?;
+    Ok(())
+}
+
+fn network_offer<W: Ways>(db: &Lsdb, moment: Second, ways: &W, key: &Key) -> Option<Offer>
+    ensures just { IsJust (OfNetwork (said_at moment db.now.present) (W.ways ways.now) key.now) result }
+    ensures few { AreNear (W.ways ways.now) → IfSome result (λ o. o.cost < 2147483648) }
+{
+    if key.ls_type != 2 {
+        return None;
+    }
+    let lsa = network_lsa(db, moment, key)?;
+    let way = ways.way_to(&Node::ANetwork(key.link_state_id, key.advertising_router))?;
+    let prefix = network_of(key, lsa.mask)?;
+    Some(intra(prefix, way.distance, way.hops))
+}
+
+fn summary_offer<W: Ways>(
+    db: &Lsdb,
+    moment: Second,
+    root: &Root,
+    ways: &W,
+    key: &Key,
+) -> Option<Offer>
+    requires { AreNear (W.ways ways.now) }
+    ensures just { IsJust (OfSummary (said_at moment db.now.present) root.now (W.ways ways.now) key.now) result }
+    ensures few { IfSome result (λ o. o.cost < 2147483648) }
+{
+    if key.ls_type != 3 {
+        return None;
+    }
+    let lsa = network_summary(db, moment, key)?;
+    let border = counted_border(db, moment, root, ways, key.advertising_router, lsa)?;
+    let prefix = network_of(key, lsa.mask)?;
+    Some(inter(prefix, border.distance + lsa.metric, border.hops))
+}
+
+/// Adds what the LSA of this key offers within the area and between areas.
+///
+/// # Errors
+/// Where memory for the offers is refused.
+pub fn push_inner<W: Ways>(
+    db: &Lsdb,
+    moment: Second,
+    root: &Root,
+    ways: &W,
+    key: &Key,
+    offers: &mut Vec<Offer>,
+) -> Result<(), AllocError>
+    requires { AreNear (W.ways ways.now) }
+    ensures adds { OnOk result (Adds offers.old.items offers.new.items (IsInner (said_at moment db.now.present) root.now (W.ways ways.now) key.now)) }
+    ensures cheap { OnOk result (AreCheap offers.old.items → AreCheap offers.new.items) }
+{
+    push_router(db, moment, root, ways, key, offers)?;
+    push_offer(offers, network_offer(db, moment, ways, key))?;
+    push_offer(offers, summary_offer(db, moment, root, ways, key))?;
+    Ok(())
+}

@@ -1,0 +1,20 @@
+//! What the LSAs of a database offer: ways to networks within the area, between areas and to external destinations (RFC 2328, sections 16.1 to
+//! 16.4).
+#![tactic(auto)]
+
+mod area;
+mod borders;
+mod externals;
+mod gathering;
+mod offer;
+mod order;
+mod passes;
+mod said;
+mod search;
+mod ways;
+
+pub use externals::Inner;
+pub use order::routes_of_offers;
+pub use passes::{inner_offers, push_externals, told_routes};
+pub use search::lengths_of;
+pub use ways::Ways;

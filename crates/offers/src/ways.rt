@@ -1,0 +1,17 @@
+//! Where the walks from the root lead, however that is kept.
+ghost use Rattle.std.specs.Prelude.{◌≡◌};
+
+use routes::{Node, Way};
+
+/// The ways to the nodes of a database, as the calculation of routes asks for them (RFC 2328, section 16.1).
+pub trait Ways {
+    ghost use Rattle.std.specs.Prelude.{Option};
+    ghost use Rattle.routes.specs.declared.graph.Way.{Way as WayTo};
+    ghost use Rattle.routes.specs.declared.node.Node.{Node as NodeAt};
+
+    ghost ways: { Self → NodeAt → Option WayTo };
+
+    /// The way to a node, or None where no walk leads there.
+    fn way_to(&self, node: &Node) -> Option<Way>
+        ensures { result ≡ ways self.now node.now };
+}
