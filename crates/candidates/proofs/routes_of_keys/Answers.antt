@@ -1,0 +1,36 @@
+use Rattle.std.proofs.Common.{◌≡◌, List, sym, subst}
+use Rattle.std.specs.List.{Contains}
+use Rattle.words.specs.declared.route.Route.{Route}
+use Rattle.routes.specs.Routes.{AreRoutesAmong}
+use Rattle.routes.specs.Said.{Said, said_at}
+use Rattle.routes.specs.declared.offer.Offer.{Offer}
+use Rattle.offers.specs.Borders.{AreBelow, Ascend, HasLengths}
+use Rattle.offers.specs.Gathering.{Adds, OfEach}
+use Rattle.offers.specs.Sources.{OfExternal}
+use Rattle.candidates.proofs.All.{are_candidates}
+use Rattle.candidates.proofs.routes_of_keys.Goals as goal
+
+pub push_externals-requires-clause-routers : goal.push_externals-requires-clause-routers
+push_externals-requires-clause-routers g c =
+    let P : List Route → Type 0 = λ xs. Ascend xs × AreBelow xs in
+    subst P (sym c.deref-2.ensures.value) (c.in_ok-told.ensures.routes.ascending, c.in_ok-told.ensures.few)
+
+pub push_externals-requires-clause-networks : goal.push_externals-requires-clause-networks
+push_externals-requires-clause-networks g c =
+    let P : List Route → Type 0 = λ xs. Ascend xs × AreBelow xs in
+    subst P (sym c.deref-3.ensures.value) (c.in_ok-networks.ensures.routes.ascending, c.in_ok-networks.ensures.few c.in_ok-offers.ensures.cheap)
+
+pub push_externals-requires-clause-lengths : goal.push_externals-requires-clause-lengths
+push_externals-requires-clause-lengths g c =
+    let P : List Route → Type 0 = λ xs. HasLengths xs c.lengths_of-lengths.result in
+    subst P (sym c.deref-3.ensures.value) (subst P c.deref.ensures.value c.lengths_of-lengths.ensures)
+
+pub returns : goal.returns
+returns g c =
+    let said : Said = said_at c.args.moment c.args.db.now.present in
+    let Q : List Route → List Route → Type 0 = λ told networks. Adds c.routes_of_offers.new.offers.items c.push_externals.new.offers.items (OfEach (OfExternal said c.args.root.now (g.W.Ways.ways c.args.ways.now) told networks) c.args.keys.now) in
+    are_candidates said c.args.root.now (g.W.Ways.ways c.args.ways.now) c.requires.ways c.args.keys.now c.requires.keys c.in_ok-told.told.items c.in_ok-networks.networks.items c.in_ok-routes.routes.items
+    c.in_ok-offers.offers.items c.routes_of_offers.new.offers.items c.push_externals.new.offers.items c.in_ok-told.ensures.routes c.in_ok-offers.ensures.adds c.in_ok-networks.ensures.routes
+    c.routes_of_offers.ensures.same
+    (subst (λ told. Q told c.in_ok-networks.networks.items) c.deref-2.ensures.value (subst (λ networks. Q c.deref-2.result.now networks) c.deref-3.ensures.value c.in_ok-push_externals.ensures))
+    c.in_ok-routes.ensures.routes

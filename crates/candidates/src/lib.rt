@@ -1,0 +1,67 @@
+//! The candidates for the routing table: of all that a database offers, the best for each prefix (RFC 2328, section 16).
+#![tactic(auto)]
+
+ghost use Rattle.std.specs.Prelude.{◌≡◌, Some, IfOk};
+ghost use Rattle.std.specs.List.{Contains};
+ghost use Rattle.lsa.specs.declared.body.Body.{Body as BodyValue};
+ghost use Rattle.words.specs.declared.key.Key.{Key as KeyValue};
+ghost use Rattle.routes.specs.Candidates.{AreCandidates};
+ghost use Rattle.routes.specs.Said.{said_at};
+ghost use Rattle.offers.specs.Ways.{AreNear, AreWays};
+
+use lsdb::Lsdb;
+use offers::{
+    Inner, Ways, inner_offers, lengths_of, push_externals, routes_of_offers, told_routes,
+};
+use routes::Root;
+use std::alloc::{AllocError, Global};
+use words::{Key, Route, Second};
+
+/// The candidates of a database at a moment, where these are the ways of its links: for each prefix that anything offers one route, in the
+/// order of the prefixes (RFC 2328, section 16). The time is that of a look-up for each LSA and of two sorts of the offers.
+///
+/// # Errors
+/// Where memory for the keys, the offers or the routes is refused.
+pub fn routes_of<W: Ways>(
+    alloc: Global,
+    db: &Lsdb,
+    root: &Root,
+    moment: Second,
+    ways: &W,
+) -> Result<Vec<Route>, AllocError>
+    requires near { AreNear (W.ways ways.now) }
+    requires ways { AreWays (said_at moment db.now.present) root.now (W.ways ways.now) }
+    ensures { IfOk result (λ routes. AreCandidates (said_at moment db.now.present) root.now routes.items) }
+{
+    let keys = db.first(alloc, db.len())?;
+    let routes = routes_of_keys(alloc, db, root, moment, ways, &keys)?;
+    Ok(routes)
+}
+
+// The same from the keys of all LSAs.
+fn routes_of_keys<W: Ways>(
+    alloc: Global,
+    db: &Lsdb,
+    root: &Root,
+    moment: Second,
+    ways: &W,
+    keys: &[Key],
+) -> Result<Vec<Route>, AllocError>
+    requires near { AreNear (W.ways ways.now) }
+    requires ways { AreWays (said_at moment db.now.present) root.now (W.ways ways.now) }
+    requires keys { (key : KeyValue) (says : BodyValue) → said_at moment db.now.present key ≡ Some says → Contains keys.now key }
+    ensures { IfOk result (λ routes. AreCandidates (said_at moment db.now.present) root.now routes.items) }
+{
+    let told = told_routes(alloc, db, moment, root, ways, keys)?;
+    let mut offers = inner_offers(alloc, db, moment, root, ways, keys)?;
+    let networks = routes_of_offers(alloc, &mut offers)?;
+    let lengths = lengths_of(&networks);
+    let inner = Inner {
+        routers: &told,
+        networks: &networks,
+        lengths: &lengths,
+    };
+    push_externals(db, moment, root, ways, &inner, keys, &mut offers)?;
+    let routes = routes_of_offers(alloc, &mut offers)?;
+    Ok(routes)
+}
