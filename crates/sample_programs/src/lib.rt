@@ -1,0 +1,18 @@
+//! Programs that are safe, and programs that are unsafe in one way each, with what the verifier says of them and what their runs come to.
+//! Each is a text of assembly on few lines: a semicolon ends a line of it, a label's colon too, and `any` stands for the set of all numbers.
+#![tactic(auto)]
+
+#[cfg(test)]
+mod loops;
+#[cfg(test)]
+mod mended;
+#[cfg(test)]
+mod pointers;
+#[cfg(test)]
+mod stuck;
+#[cfg(test)]
+mod tables;
+#[cfg(test)]
+mod trials;
+#[cfg(test)]
+mod worked;

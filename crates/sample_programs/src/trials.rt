@@ -1,0 +1,263 @@
+//! How a program is tried: verified, and run on two inputs.
+ghost use Rattle.std.specs.Prelude.{◌≡◌, length, map, IfOk};
+ghost use Rattle.std.specs.List.{range_with_len, slice_range};
+ghost use Rattle.isa.specs.Hooks.{hook_number};
+ghost use Rattle.machine.specs.Memory.{number_of};
+ghost use Rattle.maps.specs.Words.{IsOf, fresh};
+
+use asm::assemble;
+use interp::{Run, Trap, run, run_checked};
+use isa::{Code, Hook, decode};
+use machine::Input;
+use maps::{MapsError, Seat, Shared};
+use object::Object;
+use object_verdicts::{VerifyError, verify_object};
+use std::alloc::{AllocError, Global};
+use std::process::Abort;
+use std::test::Fail;
+use verifier::Accepted;
+use words::{Address, Prefix, TableRow};
+
+/// The program of a text in which a semicolon or a label's colon ends a line, and `any` is the set of all numbers.
+pub fn object_of(alloc: Global, text: &str) -> Result<Object, Fail> {
+    let lines = text.replace(alloc, "; ", "\n")?;
+    let labels = lines.replace(alloc, ": ", ":\n")?;
+    let stated = labels.replace(alloc, "any", "number 0 18446744073709551615 0 0")?;
+    Ok(assemble(alloc, &stated)?)
+}
+
+/// What the verifier says of the object.
+pub fn verdict_of(alloc: Global, object: &Object) -> Result<Result<Accepted, VerifyError>, Fail> {
+    let bytes = object::write(alloc, object)?;
+    Ok(verify_object(alloc, &bytes))
+}
+
+/// A table of so many seats.
+pub fn table(alloc: Global, count: usize) -> Result<(Shared, Vec<Seat>), MapsError>
+    ensures { IfOk result (λ r. r.1.items ≡ map (fresh r.0.table) (range_with_len 0 count)) }
+{
+    match Shared::new(alloc, count) {
+        Err(MapsError::Memory) => Shared::new(alloc, count),
+        made => made,
+    }
+}
+
+/// A context of zeros but for its hook.
+fn bare_context(hook: Hook) -> [u8; 64]
+    ensures { number_of (slice_range result 0 4) ≡ hook_number hook }
+{
+    let mut context = [0; 64];
+    context[0] = match hook {
+        Hook::Count => 1,
+        Hook::Tag => 2,
+        Hook::Price => 3,
+        Hook::Veto => 4,
+    };
+    context
+}
+
+/// A context with 7 at byte 4, 2^63 + 4,660 at byte 8, 200 at byte 16 and 64 at byte 20.
+pub fn rich_context(hook: Hook) -> [u8; 64]
+    ensures { number_of (slice_range result 0 4) ≡ hook_number hook }
+{
+    let mut context = bare_context(hook);
+    context[4] = 7;
+    context[8] = 0x34;
+    context[9] = 0x12;
+    context[15] = 0x80;
+    context[16] = 200;
+    context[20] = 64;
+    context
+}
+
+/// A packet of 20 bytes.
+const PACKET: [u8; 20] = [
+    2, 1, 0, 44, 1, 1, 1, 1, 0, 0, 0, 0, 0xf8, 0x9a, 0, 0, 0, 0, 0, 0,
+];
+
+/// One row: 192.0.2.0/24 at cost 20.
+fn rows(alloc: Global) -> Result<Vec<TableRow>, AllocError> {
+    let mut rows = Vec::new(alloc);
+    if let Some(prefix) = Prefix::new(Address::new(0xc000_0200), 24) {
+        rows.push(TableRow { prefix, cost: 20 })?;
+    }
+    Ok(rows)
+}
+
+/// What the run and the checked run of an accepted program come to, each on a table of its own. The checked run is given its bound.
+fn both_runs(
+    alloc: Global,
+    accepted: &Accepted,
+    code: &Code,
+    input: &Input,
+) -> Result<(Run, Result<Run, Trap>), Fail>
+    requires { number_of (slice_range input.now.context 0 4) ≡ hook_number accepted.now.hook }
+{
+    let (words, mut seats) = table(alloc, 1)?;
+    let mut seat = seats.pop().ok_or("no seat")?;
+    let ended = run(accepted, input, &words, &mut seat);
+    let (words, mut seats) = table(alloc, 1)?;
+    let mut seat = seats.pop().ok_or("no seat")?;
+    let hook = accepted.hook();
+    let checked = run_checked(code, hook, accepted.bound(), input, &words, &mut seat);
+    Ok((ended, checked))
+}
+
+/// The answers of an accepted program on two inputs. Each run takes at most its bound, and is the checked one.
+fn answers_of(
+    rt: &impl Abort,
+    alloc: Global,
+    accepted: &Accepted,
+    code: &Code,
+    text: &str,
+) -> Result<[u64; 2], Fail> {
+    let hook = accepted.hook();
+    let bare = Input {
+        context: bare_context(hook),
+        packet: &[],
+        rows: &[],
+    };
+    let rows = rows(alloc)?;
+    let rich = Input {
+        context: rich_context(hook),
+        packet: &PACKET,
+        rows: &rows,
+    };
+    let (first, checked) = both_runs(alloc, accepted, code, &bare)?;
+    assert!(rt;
+        checked == Ok(first) && first.used <= accepted.bound(),
+        "{text}"
+    );
+    let (second, checked) = both_runs(alloc, accepted, code, &rich)?;
+    assert!(rt;
+        checked == Ok(second) && second.used <= accepted.bound(),
+        "{text}"
+    );
+    Ok([first.answer, second.answer])
+}
+
+/// The program is accepted with its bound, gives by `run` what it gives by `run_checked`, and answers this on an input of zeros and on
+/// the other one.
+fn accepts(rt: &impl Abort, alloc: Global, text: &str, answers: [u64; 2]) -> Result<(), Fail> {
+    let object = object_of(alloc, text)?;
+    let code = decode(alloc, object.code())?;
+    match verdict_of(alloc, &object)? {
+        Ok(accepted) => {
+            let passes = u64::from(object.entry_rank()) + 1;
+            assert!(rt;
+                accepted.bound() == passes * object.slots() as u64,
+                "{text}"
+            );
+            let given = answers_of(rt, alloc, &accepted, &code, text)?;
+            assert!(rt; given == answers, "{text}: {given:?}");
+        }
+        Err(error) => assert!(rt; false, "{text}: {error:?}"),
+    }
+    Ok(())
+}
+
+/// The program is accepted with this bound, and its run on the other input, by `run` and by `run_checked`, comes to this.
+pub fn ends(
+    rt: &impl Abort,
+    alloc: Global,
+    text: &str,
+    bound: u64,
+    wanted: Run,
+) -> Result<(), Fail> {
+    let object = object_of(alloc, text)?;
+    let code = decode(alloc, object.code())?;
+    let rows = rows(alloc)?;
+    match verdict_of(alloc, &object)? {
+        Ok(accepted) => {
+            assert_eq!(rt; accepted.bound(), bound, "{text}");
+            let input = Input {
+                context: rich_context(accepted.hook()),
+                packet: &PACKET,
+                rows: &rows,
+            };
+            let (ended, checked) = both_runs(alloc, &accepted, &code, &input)?;
+            assert!(rt;
+                ended == wanted && checked == Ok(wanted),
+                "{text}: {ended:?}"
+            );
+        }
+        Err(error) => assert!(rt; false, "{text}: {error:?}"),
+    }
+    Ok(())
+}
+
+/// A safe program, and its answers on no packet and a context of zeros, and on the other input.
+pub type Safe = (&'static str, [u64; 2]);
+
+/// Each of these programs is accepted and answers as its row says.
+pub fn accepts_each(rt: &impl Abort, alloc: Global, rows: &[Safe]) -> Result<(), Fail> {
+    for (text, answers) in rows.iter().copied() {
+        accepts(rt, alloc, text, answers)?;
+    }
+    Ok(())
+}
+
+/// Where the checked run of refused code is stuck, on an input of zeros or on the other one: within the number of instructions that its
+/// object allows and one more, which may leave the code.
+fn trap_of(alloc: Global, object: &Object) -> Result<Option<Trap>, Fail> {
+    let code = decode(alloc, object.code())?;
+    let hook = object.hook();
+    let limit = (u64::from(object.entry_rank()) + 1) * object.slots() as u64 + 1;
+    let rows = rows(alloc)?;
+    for input in [
+        Input {
+            context: bare_context(hook),
+            packet: &[],
+            rows: &[],
+        },
+        Input {
+            context: rich_context(hook),
+            packet: &PACKET,
+            rows: &rows,
+        },
+    ] {
+        let (words, mut seats) = table(alloc, 1)?;
+        let mut seat = seats.pop().ok_or("no seat")?;
+        if let Err(trap) = run_checked(&code, hook, limit, &input, &words, &mut seat) {
+            return Ok(Some(trap));
+        }
+    }
+    Ok(None)
+}
+
+/// The program is refused at this slot by the rule of this number, and rightly: a run of it comes to the trap of this number.
+fn refuses(
+    rt: &impl Abort,
+    alloc: Global,
+    text: &str,
+    slot: usize,
+    rule: u8,
+    trap: u8,
+) -> Result<(), Fail> {
+    let object = object_of(alloc, text)?;
+    match verdict_of(alloc, &object)? {
+        Ok(_) => assert!(rt; false, "{text}: accepted"),
+        Err(VerifyError::Refused(refusal)) => {
+            let number = refusal.rule.number();
+            assert!(rt;
+                refusal.slot == slot && number == rule,
+                "{text}: {refusal:?}"
+            );
+        }
+        Err(error) => assert!(rt; false, "{text}: {error:?}"),
+    }
+    let number = trap_of(alloc, &object)?.map(|trap| trap.number());
+    assert!(rt; number == Some(trap), "{text}: {number:?}");
+    Ok(())
+}
+
+/// An unsafe program, the slot and the rule of its refusal, and the trap of a run.
+pub type Unsafe = (&'static str, usize, u8, u8);
+
+/// Each of these programs is refused as its row says.
+pub fn refuses_each(rt: &impl Abort, alloc: Global, rows: &[Unsafe]) -> Result<(), Fail> {
+    for (text, slot, rule, trap) in rows.iter().copied() {
+        refuses(rt, alloc, text, slot, rule, trap)?;
+    }
+    Ok(())
+}

@@ -1,0 +1,133 @@
+//! The worked programs of the documents: their bounds, their answers and how many instructions they take.
+ghost use Rattle.std.specs.Prelude.{◌≤◌};
+
+use crate::trials::{ends, object_of, rich_context, table, verdict_of};
+use interp::{Run, run};
+use machine::Input;
+use std::alloc::Global;
+use std::process::Abort;
+use std::test::Fail;
+
+/// A program, its bound, its answer and how many instructions its run takes.
+const WORKED: [(&str, u64, u64, u64); 9] = [
+    ("hook price; rank 0; r0 = 7; exit", 2, 7, 2),
+    // the hook's number, by a pointer that was stored
+    (
+        "hook count; rank 0; *u64 r10 -8 = r1; r2 = *u64 r10 -8; r0 = *u32 r2 0; exit",
+        4,
+        1,
+        4,
+    ),
+    // slots that no run comes to
+    (
+        "hook veto; rank 0; r0 = 0; if r0 == 0 goto +2; r5 = r6; exit; exit; \
+        state 4 rank 0; with r0 any",
+        5,
+        0,
+        3,
+    ),
+    // the greatest bound
+    (
+        "hook tag; rank 249999; r0 = 1; r0 = 2; r0 = 3; exit",
+        1_000_000,
+        3,
+        4,
+    ),
+    // a counter by a number of the context
+    (
+        "hook price; rank 0; r1 = *u64 r1 8; r1 &= 255; r1 <<= 3; r2 = map 0 0; r2 += r1; \
+        r0 = *u64 r2 0; exit",
+        8,
+        0,
+        7,
+    ),
+    // the cost of a route, and of none
+    (
+        "hook tag; rank 0; r1 = wide 3221225984; r2 = 24; call 4; exit",
+        5,
+        20,
+        4,
+    ),
+    (
+        "hook tag; rank 0; r1 = wide 3221225984; r2 = 25; call 4; exit",
+        5,
+        4_294_967_296,
+        4,
+    ),
+    // a byte of the packet, and none
+    ("hook count; rank 0; r1 = 1; call 3; exit", 3, 1, 3),
+    ("hook count; rank 0; r1 = 44; call 3; exit", 3, 256, 3),
+];
+
+#[test]
+fn worked_programs_end_as_told(rt: HostRuntime) -> Result<(), Fail> {
+    for (text, bound, answer, used) in WORKED {
+        ends(&rt, rt.alloc(), text, bound, Run { answer, used })?;
+    }
+    Ok(())
+}
+
+/// The sum of the numbers from n down to 1, for each of these n, takes 3 * n + 3 instructions.
+fn sums(rt: &impl Abort, alloc: Global, least: u64, most: u64) -> Result<(), Fail>
+    requires { most ≤ 1000 }
+{
+    for n in least..=most {
+        let text = format!(in alloc;
+            "hook price; rank {n}; r1 = {n}; r0 = 0; L: r0 += r1; r1 += -1; if r1 != 0 goto L; exit; \
+            state L rank 0 r1 * 1; with r0 any; with r1 number 1 {n} 0 0"
+        )?;
+        let wanted = Run {
+            answer: n * (n + 1) / 2,
+            used: 3 * n + 3,
+        };
+        ends(rt, alloc, &text, 6 * n + 6, wanted)?;
+    }
+    Ok(())
+}
+
+#[test]
+fn sums_of_up_to_250_numbers_end_within_their_bound(rt: HostRuntime) -> Result<(), Fail> {
+    sums(&rt, rt.alloc(), 1, 250)
+}
+
+#[test]
+fn sums_of_up_to_500_numbers_end_within_their_bound(rt: HostRuntime) -> Result<(), Fail> {
+    sums(&rt, rt.alloc(), 251, 500)
+}
+
+#[test]
+fn sums_of_up_to_750_numbers_end_within_their_bound(rt: HostRuntime) -> Result<(), Fail> {
+    sums(&rt, rt.alloc(), 501, 750)
+}
+
+#[test]
+fn sums_of_up_to_1000_numbers_end_within_their_bound(rt: HostRuntime) -> Result<(), Fail> {
+    sums(&rt, rt.alloc(), 751, 1_000)
+}
+
+#[test]
+fn each_seat_counts_its_own_runs(rt: HostRuntime) -> Result<(), Fail> {
+    let alloc = rt.alloc();
+    let counts = "hook price; rank 0; r6 = map 1 8; r0 = *u64 r6 0; r0 += 1; *u64 r6 0 = r0; exit";
+    let object = object_of(alloc, counts)?;
+    let accepted = verdict_of(alloc, &object)?.map_err(|_| "refused")?;
+    assert_eq!(rt; accepted.bound(), 6);
+    let input = Input {
+        context: rich_context(accepted.hook()),
+        packet: &[],
+        rows: &[],
+    };
+    let (words, mut seats) = table(alloc, 2)?;
+    let mut second = seats.pop().ok_or("no seat")?;
+    let mut first = seats.pop().ok_or("no seat")?;
+    let one = run(&accepted, &input, &words, &mut first);
+    let two = run(&accepted, &input, &words, &mut first);
+    let three = run(&accepted, &input, &words, &mut first);
+    let other = run(&accepted, &input, &words, &mut second);
+    let answers = [one.answer, two.answer, three.answer, other.answer];
+    assert!(rt; answers == [1, 2, 3, 1], "{answers:?}");
+    for ended in [one, two, three, other] {
+        assert_eq!(rt; ended.used, 5);
+    }
+    Ok(())
+}
