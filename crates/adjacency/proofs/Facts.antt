@@ -73,7 +73,7 @@ pub requested_kept : IsKept Requested
 requested_kept = record {
   begins = λ key e. nothing_asked finite.empty key e;
   restarts = λ key e. nothing_asked finite.empty key e;
-  negotiates = λ s r t s' t' o h. h;
+  negotiates = λ s r t s' t' o begun h. h;
   wants = λ s r t o key x h q e. ap is_some (finite.get-insert keys_total r key x q) ∙ still_there (same_key q key) x (finite.get r q) (h q e);
   describes = λ s r t s' o h. h;
   loads = λ s r t o h. h;
@@ -84,7 +84,7 @@ requested_kept = record {
   meets = λ state s r t o key h q e.
       ap is_some (finite.get-remove keys_total r key q) ∙ both_left (same_key q key) (set.contains o q) (finite.get r q) (h q) (sym (set.contains-remove keys_total o key q) ∙ e);
   releases = λ state s r t o key h. h;
-  has_retransmission = λ state s r t o key x part h. h;
+  has_retransmission = λ state s r t o key x adds part h. h;
 }
 
 -- ---- before Exchange there are no lists
@@ -103,7 +103,7 @@ pub listless_kept : IsKept Listless
 listless_kept = record {
   begins = λ e. (refl, refl, refl, refl);
   restarts = λ e. (refl, refl, refl, refl);
-  negotiates = λ s r t s' t' o h e. not_both e;
+  negotiates = λ s r t s' t' o begun h e. not_both e;
   wants = λ s r t o key x h e. not_both e;
   describes = λ s r t s' o h e. not_both e;
   loads = λ s r t o h e. not_both e;
@@ -112,7 +112,7 @@ listless_kept = record {
   asks = λ state s r t o busy h e. not_both (synchronizing_part state busy e);
   meets = λ state s r t o key h e. let l = h e in (l.0, removed r key l.1, l.2, left_out o key l.3);
   releases = λ state s r t o key h e. let l = h e in (l.0, l.1, removed t key l.2, l.3);
-  has_retransmission = λ state s r t o key x part h e. not_both (sym part ∙ e);
+  has_retransmission = λ state s r t o key x adds part h e. not_both (sym part ∙ e);
 }
 
 -- ---- where the neighbor is Full nothing is to be requested
@@ -127,7 +127,7 @@ pub bare_kept : IsKept Bare
 bare_kept = record {
   begins = λ e. other_state Init refl e;
   restarts = λ e. other_state ExStart refl e;
-  negotiates = λ s r t s' t' o h e. other_state Exchange refl e;
+  negotiates = λ s r t s' t' o begun h e. other_state Exchange refl e;
   wants = λ s r t o key x h e. other_state Exchange refl e;
   describes = λ s r t s' o h e. other_state Exchange refl e;
   loads = λ s r t o h e. other_state Loading refl e;
@@ -137,7 +137,7 @@ bare_kept = record {
   meets = λ state s r t o key h e.
       ap (λ (m : ByKey ListEntry). finite.len m == 0) (removed r key (none r (h e))) ∙ ap (λ n. n == 0) (finite.len-empty key_cmp ListEntry);
   releases = λ state s r t o key h. h;
-  has_retransmission = λ state s r t o key x part h. h;
+  has_retransmission = λ state s r t o key x adds part h. h;
 }
 
 -- ---- all of it
@@ -162,7 +162,7 @@ both_kept : (A B : Fact) → IsKept A → IsKept B → IsKept (Both A B)
 both_kept A B a b = record {
   begins = (a.begins, b.begins);
   restarts = (a.restarts, b.restarts);
-  negotiates = λ s r t s' t' o h. (a.negotiates s r t s' t' o h.0, b.negotiates s r t s' t' o h.1);
+  negotiates = λ s r t s' t' o begun h. (a.negotiates s r t s' t' o tt h.0, b.negotiates s r t s' t' o tt h.1);
   wants = λ s r t o key x h. (a.wants s r t o key x h.0, b.wants s r t o key x h.1);
   describes = λ s r t s' o h. (a.describes s r t s' o h.0, b.describes s r t s' o h.1);
   loads = λ s r t o h. (a.loads s r t o h.0, b.loads s r t o h.1);
@@ -171,7 +171,7 @@ both_kept A B a b = record {
   asks = λ state s r t o busy h. (a.asks state s r t o busy h.0, b.asks state s r t o busy h.1);
   meets = λ state s r t o key h. (a.meets state s r t o key h.0, b.meets state s r t o key h.1);
   releases = λ state s r t o key h. (a.releases state s r t o key h.0, b.releases state s r t o key h.1);
-  has_retransmission = λ state s r t o key x part h. (a.has_retransmission state s r t o key x part h.0, b.has_retransmission state s r t o key x part h.1);
+  has_retransmission = λ state s r t o key x adds part h. (a.has_retransmission state s r t o key x tt part h.0, b.has_retransmission state s r t o key x tt part h.1);
 }
 
 abbrev pub Sound : Fact

@@ -14,7 +14,7 @@ use Rattle.adjacency.specs.declared.state.State.{State}
 use Rattle.adjacency.specs.declared.state.State.TheVariants.{Init, ExStart, Exchange, Loading, Full}
 use Rattle.adjacency.specs.Adjacencies.{after_hello, loading_done, has_passed, with_hello_heard, mismatched, two_way_received, two_way_received_in, requests_nothing, enter_exstart}
 use Rattle.adjacency.specs.Contents.{Requests, Step, Updates, no_sends}
-use Rattle.adjacency.specs.Descriptions.{Verdict, accept, act, after_description, announced_more, changes_options, describe, exchange_done, exchange_over, exchanging, expected, in_state, is_duplicate, is_kept, is_over_for, is_wanted, judge, knows_types, as_received, master_goes_on, negotiated, negotiating, is_initial_description, repeat, same_flag, slave_replies, with_requests, without_old_description}
+use Rattle.adjacency.specs.Descriptions.{Verdict, accept, act, after_description, aged_copies, announced_more, changes_options, describe, exchange_done, exchange_over, exchanging, expected, in_state, is_duplicate, is_kept, is_over_for, is_wanted, judge, knows_types, as_received, master_goes_on, negotiated, negotiating, is_initial_description, repeat, same_flag, slave_replies, with_requests, without_old_description}
 use Rattle.adjacency.specs.Neighbors.{Neighbor, is_exchange_or_loading, is_exchange_or_later}
 use Rattle.adjacency.specs.Requests.{may_request, next_request, request_next, still_outstanding, without_request}
 use Rattle.adjacency.specs.Retransmissions.{acknowledged, after_acknowledgment, describe_again, is_entry, next_retransmissions, add_retransmission, remove_retransmission, repeats_description, request_again, send_again, update_again}
@@ -33,11 +33,12 @@ Fact = State → ByKey ListEntry → ByKey ListEntry → ByKey ListEntry → Key
 abbrev pub Of : Fact → Neighbor → Type 0
 Of Q n = Q n.state n.summary n.requests n.retransmissions n.outstanding
 
--- it holds where the lists are empty, and each change of the lists keeps it
-pub record IsKept (Q : Fact) : Type 0 where
+-- it holds where the lists are empty, and each change of the lists keeps it: an exchange begins with retransmissions of which `Begins`
+-- holds, and flooding puts entries of which `Adds` holds on the list
+pub record IsKeptWith (Begins : ByKey ListEntry → Type 0) (Adds : Key → ListEntry → Type 0) (Q : Fact) : Type 0 where
   pub begins : Q Init finite.empty finite.empty finite.empty set.empty
   pub restarts : Q ExStart finite.empty finite.empty finite.empty set.empty
-  pub negotiates : (s r t s' t' : ByKey ListEntry) (o : KeySet) → Q ExStart s r t o → Q Exchange s' r t' o
+  pub negotiates : (s r t s' t' : ByKey ListEntry) (o : KeySet) → Begins t' → Q ExStart s r t o → Q Exchange s' r t' o
   pub wants : (s r t : ByKey ListEntry) (o : KeySet) (key : Key) (x : ListEntry) → Q Exchange s r t o → Q Exchange s (finite.insert r key x) t o
   pub describes : (s r t s' : ByKey ListEntry) (o : KeySet) → Q Exchange s r t o → Q Exchange s' r t o
   pub loads : (s r t : ByKey ListEntry) (o : KeySet) → Q Exchange s r t o → Q Loading s r t o
@@ -46,8 +47,12 @@ pub record IsKept (Q : Fact) : Type 0 where
   pub asks : (state : State) (s r t : ByKey ListEntry) (o : KeySet) → is_exchange_or_loading state ≡ true → Q state s r t o → Q state s r t (set.from_list (take 680 (finite.keys r)))
   pub meets : (state : State) (s r t : ByKey ListEntry) (o : KeySet) (key : Key) → Q state s r t o → Q state s (finite.remove r key) t (set.remove o key)
   pub releases : (state : State) (s r t : ByKey ListEntry) (o : KeySet) (key : Key) → Q state s r t o → Q state s r (finite.remove t key) o
-  pub has_retransmission : (state : State) (s r t : ByKey ListEntry) (o : KeySet) (key : Key) (x : ListEntry) → is_exchange_or_later state ≡ true → Q state s r t o
+  pub has_retransmission : (state : State) (s r t : ByKey ListEntry) (o : KeySet) (key : Key) (x : ListEntry) → Adds key x → is_exchange_or_later state ≡ true → Q state s r t o
       → Q state s r (finite.insert (finite.remove t key) key x) o
+
+-- whatever an exchange begins with, and whatever flooding puts on the list
+abbrev pub IsKept : Fact → Type 0
+IsKept Q = IsKeptWith (λ t. Unit {0}) (λ key x. Unit {0}) Q
 
 left_true : (a b : Bool) → (a && b) ≡ true → a ≡ true
 left_true true b e = refl
@@ -83,7 +88,7 @@ module _ (V : Verdict → Type 0) (n : Neighbor) (d : Description) where
   over_one_of : V Verdict.Discarded → V Verdict.Repeated → V Verdict.Mismatch → V (exchange_over n d)
   over_one_of discarded repeated mismatch = first_two (is_duplicate n.received d && n.is_master) (is_duplicate n.received d && is_kept n.described) Verdict.Mismatch discarded repeated mismatch
 
-module _ (Q : Fact) (kept : IsKept Q) where
+module _ {Begins : ByKey ListEntry → Type 0} {Adds : Key → ListEntry → Type 0} (Q : Fact) (kept : IsKeptWith Begins Adds Q) where
   -- ---- attempts and Hellos
 
   pub mismatched_kept : (moment : ℕ) (n : Neighbor) → Of Q n → Of Q (mismatched moment n).neighbor
@@ -152,7 +157,7 @@ module _ (Q : Fact) (kept : IsKept Q) where
       (λ e. mismatched_kept moment (in_exchange n) h)
 
   -- a verdict's step, by the state in which it is given
-  module _ (moment : ℕ) (db : Database) (d : Description) where
+  module _ (moment : ℕ) (db : Database) (d : Description) (begun : Begins (aged_copies moment db)) where
     abbrev Keeps : Neighbor → Verdict → Type 0
     Keeps m v = Of Q (act v moment db d m).neighbor
 
@@ -160,7 +165,7 @@ module _ (Q : Fact) (kept : IsKept Q) where
         → Of Q (accept moment db d (negotiated is_master sequence moment db (record m { state = ExStart }))).neighbor
     negotiated_kept is_master sequence m k =
         let t : Neighbor = negotiated is_master sequence moment db (record m { state = ExStart }) in
-        accept_kept moment db d t (kept.negotiates m.summary m.requests m.retransmissions t.summary t.retransmissions m.outstanding k)
+        accept_kept moment db d t (kept.negotiates m.summary m.requests m.retransmissions t.summary t.retransmissions m.outstanding begun k)
 
     judged_in : (s : State) (own : ℕ) (n : Neighbor) → Of Q (record n { state = s }) → Of Q (judge own moment db d (record n { state = s })).neighbor
     judged_in Init own n k = k
@@ -176,24 +181,27 @@ module _ (Q : Fact) (kept : IsKept Q) where
         let at : Neighbor = record n { state = Full } in
         over_one_of (Keeps at) at d k (repeat_kept moment at k) (mismatched_kept moment at k)
 
-  judge_kept : (own moment : ℕ) (db : Database) (d : Description) (n : Neighbor) → Of Q n → Of Q (judge own moment db d n).neighbor
-  judge_kept own moment db d n h = judged_in moment db d n.state own n h
+  judge_kept : (own moment : ℕ) (db : Database) (d : Description) → Begins (aged_copies moment db) → (n : Neighbor) → Of Q n
+      → Of Q (judge own moment db d n).neighbor
+  judge_kept own moment db d begun n h = judged_in moment db d begun n.state own n h
 
   module _ (two_way : ℕ → Neighbor → Step) (two_way_kept : (moment : ℕ) (n : Neighbor) → Of Q n → Of Q (two_way moment n).neighbor) where
     pub hello_kept : (moment from : ℕ) (names : Bool) (o : Option Neighbor) → Of Q (with_hello_heard from moment o) → Of Q (after_hello two_way moment from names o).neighbor
     hello_kept moment from true o h = two_way_kept moment (with_hello_heard from moment o) h
     hello_kept moment from false o h = kept.begins
 
-    stated_kept : (s : State) (own moment : ℕ) (db : Database) (d : Description) (n : Neighbor) → Of Q n → Of Q (in_state two_way s own moment db d n).neighbor
-    stated_kept Init own moment db d n h = judge_kept own moment db d (two_way moment n).neighbor (two_way_kept moment n h)
-    stated_kept ExStart own moment db d n h = judge_kept own moment db d n h
-    stated_kept Exchange own moment db d n h = judge_kept own moment db d n h
-    stated_kept Loading own moment db d n h = judge_kept own moment db d n h
-    stated_kept Full own moment db d n h = judge_kept own moment db d n h
+    stated_kept : (s : State) (own moment : ℕ) (db : Database) (d : Description) → Begins (aged_copies moment db) → (n : Neighbor) → Of Q n
+        → Of Q (in_state two_way s own moment db d n).neighbor
+    stated_kept Init own moment db d begun n h = judge_kept own moment db d begun (two_way moment n).neighbor (two_way_kept moment n h)
+    stated_kept ExStart own moment db d begun n h = judge_kept own moment db d begun n h
+    stated_kept Exchange own moment db d begun n h = judge_kept own moment db d begun n h
+    stated_kept Loading own moment db d begun n h = judge_kept own moment db d begun n h
+    stated_kept Full own moment db d begun n h = judge_kept own moment db d begun n h
 
-    pub description_kept : (own moment : ℕ) (db : Database) (d : Description) (n : Neighbor) → Of Q n → Of Q (after_description two_way own moment db d n).neighbor
-    description_kept own moment db d n h =
-        chosen (λ (s : Step). Of Q s.neighbor) (nat_lt 8192 d.mtu) (no_sends n) (in_state two_way n.state own moment db d n) (λ e. h) (λ e. stated_kept n.state own moment db d n h)
+    pub description_kept : (own moment : ℕ) (db : Database) (d : Description) → Begins (aged_copies moment db) → (n : Neighbor) → Of Q n
+        → Of Q (after_description two_way own moment db d n).neighbor
+    description_kept own moment db d begun n h =
+        chosen (λ (s : Step). Of Q s.neighbor) (nat_lt 8192 d.mtu) (no_sends n) (in_state two_way n.state own moment db d n) (λ e. h) (λ e. stated_kept n.state own moment db d begun n h)
 
   -- ---- Loading and Requests
 
@@ -222,8 +230,10 @@ module _ (Q : Fact) (kept : IsKept Q) where
   pub released_kept : (key : Key) (n : Neighbor) → Of Q n → Of Q (remove_retransmission key n)
   released_kept key n h = kept.releases n.state n.summary n.requests n.retransmissions n.outstanding key h
 
-  pub owed_kept : (moment : ℕ) (x : Header) (n : Neighbor) → is_exchange_or_later n.state ≡ true → Of Q n → Of Q (add_retransmission moment x n)
-  owed_kept moment x n part h = kept.has_retransmission n.state n.summary n.requests n.retransmissions n.outstanding (key_of x) (record { header = x; at = moment }) part h
+  pub owed_kept : (moment : ℕ) (x : Header) (n : Neighbor) → Adds (key_of x) (record { header = x; at = moment }) → is_exchange_or_later n.state ≡ true → Of Q n
+      → Of Q (add_retransmission moment x n)
+  owed_kept moment x n adds part h =
+      kept.has_retransmission n.state n.summary n.requests n.retransmissions n.outstanding (key_of x) (record { header = x; at = moment }) adds part h
 
   pub acknowledgment_kept : (moment : ℕ) (hs : List Header) (n : Neighbor) → Of Q n → Of Q (after_acknowledgment moment hs n)
   acknowledgment_kept moment [] n h = h

@@ -1,17 +1,17 @@
 -- An Update with a new LSA comes twice from a Full neighbor.
-use Rattle.std.proofs.Common.{◌≡◌, ℕ, ◌+◌, ◌-◌, ◌<◌, ◌==◌, Bool, true, false, cond, not, ◌&&◌, ◌||◌, List, [], ◌∷◌, map, Option, None, Some, refl, sym, ap, ◌∙◌, subst, is_some, nat_lt, arith, true≢false}
-use Rattle.std.specs.List.{fold, list_any}
+use Rattle.std.proofs.Common.{◌≡◌, ℕ, ◌+◌, ◌-◌, ◌<◌, ◌==◌, Bool, true, false, cond, not, ◌&&◌, ◌||◌, List, [], ◌∷◌, map, Option, None, Some, refl, sym, ap, ◌∙◌, subst, is_some, nat_lt, arith}
+use Rattle.std.specs.List.{list_any}
 use Rattle.std.specs.Cmp.{int_cmp_total, nat_cmp_total, tied_itself}
 use Rattle.std.specs.FinMap as finite
-use Rattle.std.specs.Ordering.{eq_by_cmp, is_eq, is_gt, ordering_then}
+use Rattle.std.specs.Ordering.{is_eq, is_gt, ordering_then}
 use Rattle.std.specs.declared.cmp.Ordering.{Ordering}
 use Rattle.std.specs.declared.cmp.Ordering.TheVariants.{Less, Equal, Greater}
 use Rattle.words.specs.declared.key.Key.{Key}
 use Rattle.lsa.specs.Reading.{lsa_in}
-use Rattle.lsdb.specs.Copies.{Database, DatabaseCopy, copy_now, has_just_aged_out, install_flooded, installed_just_now, mark_sent, sent_just_now}
+use Rattle.lsdb.specs.Copies.{DatabaseCopy, copy_now, has_just_aged_out, install_flooded, installed_just_now, sent_just_now}
 use Rattle.lsdb.specs.Headers.{Lsa, lsa_key}
 use Rattle.lsdb.specs.Instances.{instance_of}
-use Rattle.lsdb.specs.Keys.{ByKey, key_cmp}
+use Rattle.lsdb.specs.Keys.{ByKey}
 use Rattle.lsdb.specs.Order.{age_at, compare_ages, compare_instances, is_max_age, max_age_diff}
 use Rattle.lsdb.proofs.Keys.{keys_total}
 use Rattle.packet.specs.declared.model.Body.TheVariants as body
@@ -25,8 +25,9 @@ use Rattle.adjacency.specs.Retransmissions.{is_entry, add_retransmission, remove
 use Rattle.received.specs.Cases.{Case, case_of_readable, first_case, is_wrapping}
 use Rattle.received.specs.Flooding.{flood_to, meets, passes, request_of, without_met_request}
 use Rattle.received.specs.Links.{Area, Link, acknowledge_later, any_has_retransmission, any_exchange_or_loading, link_at, neighbor_at, neighbor_on}
-use Rattle.received.specs.Outcomes.{Outcome, Send, marked, step_on, stepped, stepping_sends}
+use Rattle.received.specs.Outcomes.{Outcome, step_on, stepped, stepping_sends}
 use Rattle.received.specs.Updates.{case_at, goes_on, install}
+pub use Rattle.received.proofs.Marks.{IsStill, changed_by, mark_all, marked_once, tied}
 use Rattle.events.specs.declared.model.Out.{Out}
 use Rattle.events.specs.Endings.{start_event, end_event, stays_as}
 use Rattle.events.specs.Events.{Happens, OwnPart, whole}
@@ -51,57 +52,6 @@ inserted m k x = finite.get-insert keys_total m k x k ∙ ap (λ (o : Ordering).
 
 pub taken_off : {X : Type 0} (m : ByKey X) (k : Key) → finite.get (finite.remove m k) k ≡ None
 taken_off m k = finite.get-remove keys_total m k k ∙ ap (λ (o : Ordering). cond (is_eq o) None (finite.get m k)) (tied_itself keys_total k)
-
-pub tied : (o : Ordering) → is_eq o ≡ true → o ≡ Equal
-tied Less e = absurd (true≢false (sym e))
-tied Equal e = refl
-tied Greater e = absurd (true≢false (sym e))
-
--- ---- what is sent marks a copy and leaves it otherwise
-
-abbrev pub changed_by : Key → (DatabaseCopy → DatabaseCopy) → Database → Option DatabaseCopy → Database
-changed_by key change db None = db
-changed_by key change db (Some c) = finite.insert db key (change c)
-
-abbrev sent_then : ℕ → DatabaseCopy → DatabaseCopy
-sent_then moment c = record c { sent = Some moment }
-
-abbrev marks : ℕ → Option DatabaseCopy → Option DatabaseCopy
-marks moment None = None
-marks moment (Some c) = Some (sent_then moment c)
-
-abbrev pub IsStill : Database → Key → DatabaseCopy → Type 0
-IsStill db key c = (sent : Option ℕ) × (finite.get db key ≡ Some (record c { sent = sent }))
-
-pub marked_once : (moment : ℕ) (other key : Key) (c : DatabaseCopy) (db : Database) → finite.get db key ≡ Some c → IsStill (mark_sent moment other db) key c
-marked_once moment other key c db there = by_found (finite.get db other) refl
-  where
-    by_same : (d : DatabaseCopy) → finite.get db other ≡ Some d → (b : Bool) → eq_by_cmp key_cmp key other ≡ b → IsStill (finite.insert db other (sent_then moment d)) key c
-    by_same d e true is = (
-      Some moment,
-      finite.get-insert keys_total db other (sent_then moment d) key
-          ∙ ap (λ b. cond b (Some (sent_then moment d)) (finite.get db key)) is
-          ∙ ap (marks moment) (sym e ∙ finite.get_tied keys_total db key other (tied (key_cmp key other) is) ∙ there),
-    )
-    by_same d e false is = (c.sent, finite.get-insert keys_total db other (sent_then moment d) key ∙ ap (λ b. cond b (Some (sent_then moment d)) (finite.get db key)) is ∙ there)
-
-    by_found : (o : Option DatabaseCopy) → finite.get db other ≡ o → IsStill (changed_by other (sent_then moment) db o) key c
-    by_found None e = (c.sent, there)
-    by_found (Some d) e = by_same d e (eq_by_cmp key_cmp key other) refl
-
-mark_one : (moment : ℕ) (says : Content) (key : Key) (c : DatabaseCopy) (db : Database) → finite.get db key ≡ Some c → IsStill (marked moment db says) key c
-mark_one moment (Content.SendsHello h) key c db there = (c.sent, there)
-mark_one moment (Content.Describes d) key c db there = (c.sent, there)
-mark_one moment (Content.Requests keys) key c db there = (c.sent, there)
-mark_one moment (Content.Updates lsa) key c db there = marked_once moment (lsa_key lsa) key c db there
-mark_one moment (Content.Acknowledges h) key c db there = (c.sent, there)
-
-pub mark_all : (moment : ℕ) (more : List Send) (key : Key) (c : DatabaseCopy) (db : Database) → finite.get db key ≡ Some c
-    → IsStill (fold (λ (d : Database) (s : Send). marked moment d s.content) db more) key c
-mark_all moment [] key c db there = (c.sent, there)
-mark_all moment (s ∷ more) key c db there =
-    let one : IsStill (marked moment db s.content) key c = mark_one moment s.content key c db there in
-    mark_all moment more key (record c { sent = one.0 }) (marked moment db s.content) one.1
 
 -- ---- an instance and its copy of this second
 

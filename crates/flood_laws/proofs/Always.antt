@@ -17,7 +17,7 @@ holds_so : (P R : Neighbor → Type 0) → ((n : Neighbor) → P n → R n) → 
 holds_so P R so None h = tt
 holds_so P R so (Some n) h = so n h
 
-each_so : (P R : Neighbor → Type 0) → ((n : Neighbor) → P n → R n) → (xs : List Link) → HoldsOfEach P xs → HoldsOfEach R xs
+pub each_so : (P R : Neighbor → Type 0) → ((n : Neighbor) → P n → R n) → (xs : List Link) → HoldsOfEach P xs → HoldsOfEach R xs
 each_so P R so [] h = tt
 each_so P R so (x ∷ xs) h = (holds_so P R so x.neighbor h.0, each_so P R so xs h.1)
 

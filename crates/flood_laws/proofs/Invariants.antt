@@ -6,6 +6,8 @@ use Rattle.words.specs.declared.key.Key.{Key}
 use Rattle.lsa.specs.Reading.{lsa_in}
 use Rattle.lsdb.specs.Copies.{DatabaseCopy, age_out, has_just_aged_out, install_originated, lsa_now}
 use Rattle.lsdb.specs.Headers.{Lsa, lsa_aged}
+use Rattle.lsdb.specs.Instances.{ListEntry}
+use Rattle.lsdb.specs.Keys.{ByKey}
 use Rattle.packet.specs.declared.model.Body.{Body}
 use Rattle.packet.specs.declared.model.Body.TheVariants as body
 use Rattle.packet.specs.declared.model.Hello.{Hello}
@@ -16,7 +18,7 @@ use Rattle.adjacency.specs.Neighbors.{Neighbor}
 use Rattle.adjacency.specs.declared.interface.Interface.{Interface}
 use Rattle.adjacency.specs.Requests.{request_next}
 use Rattle.adjacency.specs.Retransmissions.{after_acknowledgment}
-use Rattle.adjacency.proofs.Kept.{Fact, IsKept, Of, acknowledgment_kept, again_kept, chosen, description_kept, filled_kept, hello_kept, mismatched_kept, old_description_kept, request_kept}
+use Rattle.adjacency.proofs.Kept.{Fact, IsKept, IsKeptWith, Of, acknowledgment_kept, again_kept, chosen, description_kept, filled_kept, hello_kept, mismatched_kept, old_description_kept, request_kept}
 use Rattle.received.specs.Holds.{Holds, HoldsOfEach}
 use Rattle.received.specs.Links.{Link, link_at, neighbor_on}
 use Rattle.received.specs.Outcomes.{Outcome, on_database}
@@ -34,6 +36,23 @@ use Rattle.events.specs.Routers.{Occurrence, Router, fresh_link, unannounced}
 use Rattle.events.specs.Ticks.{again, with_hello_sent, run_out, settled_exchange, without_acknowledgments}
 use Rattle.event_rooms.proofs.Walk.{Brings, Invariant, IsKeptByParts, OfBrought, OfBytes, originate_or_wait_kept}
 use Rattle.event_rooms.proofs.Walk as walk
+
+-- ---- one link
+
+module _ {Begins : ByKey ListEntry → Type 0} {Adds : Key → ListEntry → Type 0} (Q : Fact) (kept : IsKeptWith Begins Adds Q) where
+  pub still_heard_kept : (moment dead : ℕ) (o : Option Neighbor) → Holds (Of Q) o → Holds (Of Q) (adjacencies.after_inactivity_timer moment dead o)
+  still_heard_kept moment dead None h = tt
+  still_heard_kept moment dead (Some n) h = chosen (Holds (Of Q)) (adjacencies.has_passed n.last_heard dead moment) None (Some n) (λ is. tt) (λ is. h)
+
+  pub exchange_settled : (moment dead : ℕ) (o : Option Neighbor) → Holds (Of Q) o → Holds (Of Q) (settled_exchange moment dead o)
+  exchange_settled moment dead None h = tt
+  exchange_settled moment dead (Some n) h = old_description_kept Q kept moment dead n h
+
+  pub filled_on_kept : (o : Option Neighbor) → Holds (Of Q) o → Holds (Of Q) (loading_done_on o)
+  filled_on_kept None h = tt
+  filled_on_kept (Some n) h = filled_kept Q kept n h
+
+-- ---- every link
 
 module _ (Q : Fact) (kept : IsKept Q) where
   abbrev on_neighbors : Invariant
@@ -54,20 +73,6 @@ module _ (Q : Fact) (kept : IsKept Q) where
   ages_kept before moment (e ∷ es) o h =
       ages_kept before moment es (with_age before moment o e)
       (chosen OnOutcome (has_just_aged_out before moment e.1) (flood_from_nobody moment (lsa_now moment e.1) o) o (λ is. flood_kept Q kept moment None (lsa_now moment e.1) o h) (λ is. h))
-
-  -- ---- one link
-
-  still_heard_kept : (moment dead : ℕ) (o : Option Neighbor) → Holds (Of Q) o → Holds (Of Q) (adjacencies.after_inactivity_timer moment dead o)
-  still_heard_kept moment dead None h = tt
-  still_heard_kept moment dead (Some n) h = chosen (Holds (Of Q)) (adjacencies.has_passed n.last_heard dead moment) None (Some n) (λ is. tt) (λ is. h)
-
-  exchange_settled : (moment dead : ℕ) (o : Option Neighbor) → Holds (Of Q) o → Holds (Of Q) (settled_exchange moment dead o)
-  exchange_settled moment dead None h = tt
-  exchange_settled moment dead (Some n) h = old_description_kept Q kept moment dead n h
-
-  filled_on_kept : (o : Option Neighbor) → Holds (Of Q) o → Holds (Of Q) (loading_done_on o)
-  filled_on_kept None h = tt
-  filled_on_kept (Some n) h = filled_kept Q kept n h
 
   keys_any : (keys : List Key) → AllByRecursion (λ key. Unit {0}) keys
   keys_any [] = tt
@@ -99,7 +104,7 @@ module _ (Q : Fact) (kept : IsKept Q) where
       hello = λ own moment number from hello o h. hello_heard own moment number from hello (link_at number o.area.links) o (one_holds (Of Q) number o.area.links h) h;
       description = λ own moment number d o h.
           one_keeps (Of Q) moment number (after_description rules.two_way own moment o.area.database d)
-          (description_kept Q kept rules.two_way two_way_kept own moment o.area.database d) o h;
+          (description_kept Q kept rules.two_way two_way_kept own moment o.area.database d tt) o h;
       requested = λ moment number keys o h. h;
       mismatch = λ moment number o h. one_keeps (Of Q) moment number (adjacencies.mismatched moment) (mismatched_kept Q kept moment) o h;
       acknowledgment = λ moment number headers o h.
@@ -108,8 +113,8 @@ module _ (Q : Fact) (kept : IsKept Q) where
       inactive = λ moment o h.
           each_link_keeps (Of Q) (run_out moment)
           (λ link at.
-          exchange_settled moment link.interface.dead_interval (adjacencies.after_inactivity_timer moment link.interface.dead_interval link.neighbor)
-          (still_heard_kept moment link.interface.dead_interval link.neighbor at)) o.area.links h;
+          exchange_settled Q kept moment link.interface.dead_interval (adjacencies.after_inactivity_timer moment link.interface.dead_interval link.neighbor)
+          (still_heard_kept Q kept moment link.interface.dead_interval link.neighbor at)) o.area.links h;
       again = λ moment o h.
           each_keeps (Of Q) moment (again moment o) (λ number link n at. again_kept Q kept moment link.interface.retransmit_interval o.area.database n at) o h;
       acknowledges = λ moment o h. each_link_keeps (Of Q) without_acknowledgments (λ link at. at) o.area.links h;
@@ -117,7 +122,7 @@ module _ (Q : Fact) (kept : IsKept Q) where
       announces = λ r e own h. tt;
       unannounces = λ r key h. tt;
       link_down = λ number o h. changed_keeps (Of Q) number taken_down (λ link at. tt) o.area.links h;
-      loaded = λ o h. each_link_keeps (Of Q) link_loading_done (λ link at. filled_on_kept link.neighbor at) o.area.links h;
+      loaded = λ o h. each_link_keeps (Of Q) link_loading_done (λ link at. filled_on_kept Q kept link.neighbor at) o.area.links h;
       requests = λ moment o h. each_keeps (Of Q) moment (λ number link n. request_next moment n) (λ number link n at. request_kept Q kept moment n at) o h;
       removes = λ moment o h. h;
     }

@@ -10,3 +10,5 @@ pub mod Invariants
 pub mod Always
 pub mod Requesting
 pub mod Limits
+pub mod Retransmitted
+pub mod OwnLsas

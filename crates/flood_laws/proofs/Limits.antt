@@ -48,7 +48,7 @@ use Rattle.flood_laws.specs.LimitLaws.{AnnouncesExternals, OthersStayWithinLimit
 
 -- ---- keys and options
 
-tied_key : (q k : Key) → same_key q k ≡ true → q ≡ k
+pub tied_key : (q k : Key) → same_key q k ≡ true → q ≡ k
 tied_key q k is = keys_exact q k (equal (key_cmp q k) is)
   where
     equal : (r : Ordering) → is_eq r ≡ true → r ≡ Equal
@@ -80,7 +80,7 @@ one_less announced k h key x at = by_key (same_key key k) (sym (finite.get-remov
     by_key false found = h key x found
 
 -- an own LSA that is wanted is of its key's type
-wanted_type : (r : Router) (key : Key) (says : LsaBody) → AreExternal r.announced → wanted_body r key ≡ Some says → type_of says ≡ key.ls_type
+pub wanted_type : (r : Router) (key : Key) (says : LsaBody) → AreExternal r.announced → wanted_body r key ≡ Some says → type_of says ≡ key.ls_type
 wanted_type r key says externals wants = by_key (same_key key (router_key r.id)) refl wants
   where
     by_key : (b : Bool) → same_key key (router_key r.id) ≡ b → cond b (Some (router_body r.area.links)) (announced_body (finite.get r.announced key)) ≡ Some says

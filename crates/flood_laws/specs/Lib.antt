@@ -2,3 +2,5 @@ pub mod Known
 pub mod Lawful
 pub mod NeighborLaws
 pub mod LimitLaws
+pub mod Retransmissions
+pub mod OwnLsas

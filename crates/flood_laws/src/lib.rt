@@ -6,6 +6,8 @@ ghost use Rattle.flood_laws.specs.Known.{EventsHoldOnlyWhatIsKnown, UpdatesTellW
 ghost use Rattle.flood_laws.specs.Lawful.{TextsAreLawful};
 ghost use Rattle.flood_laws.specs.LimitLaws.{OthersStayWithinLimits};
 ghost use Rattle.flood_laws.specs.NeighborLaws.{FullNeighborsRequestNothing, ListsAreSound, WhatIsLeftIsRequested};
+ghost use Rattle.flood_laws.specs.OwnLsas.{OnlyRouterAndExternalLsasAreWanted};
+ghost use Rattle.flood_laws.specs.Retransmissions.{RetransmissionsAreOfTheDatabase};
 ghost use Rattle.events.specs.Taken.{WhatIsTakenOffWasTold};
 ghost use Rattle.events.specs.Worlds.{AcknowledgedWasReceived};
 
@@ -27,10 +29,23 @@ pub fn what_is_left_is_requested()
     ensures { WhatIsLeftIsRequested }
 {}
 
+/// What stands on a retransmission list is the database's instance of its key: there is a copy, and at each moment from when the entry was
+/// made on the entry's header is the copy's, its age included. So it is at the start, each event keeps it so, and so it is after every run
+/// (RFC 2328, sections 10 and 13.3).
+pub fn retransmissions_are_of_the_database()
+    ensures { RetransmissionsAreOfTheDatabase }
+{}
+
 /// A Tick, a Withdraw, an Install and a LinkDown leave a router within its limits, 16,384 LSAs and 4,096 own externals, that was within
 /// them, and are never refused for want of room: what they originate looks for room first. Only a Packet and a Redistribute may be.
 pub fn others_stay_within_limits()
     ensures { OthersStayWithinLimits }
+{}
+
+/// A router of one area originates its router-LSA and AS-external-LSAs alone: at every point of a run, what it wants to say under a key is of
+/// the key's type, and that is 1 or 5. It never wants a network-LSA or a summary-LSA (RFC 2328, section 12.4).
+pub fn only_router_and_external_lsas_are_wanted()
+    ensures { OnlyRouterAndExternalLsasAreWanted }
 {}
 
 /// What an Acknowledgment, or an LSA that is an implied acknowledgment, takes off the retransmission list of its sender is an instance that

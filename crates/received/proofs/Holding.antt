@@ -77,7 +77,7 @@ module _ (Q : Fact) (kept : IsKept Q) where
       chosen (λ (l : Neighbor). Of Q l × (is_exchange_or_later l.state ≡ true)) (meets moment lsa (request_of n lsa)) (without_request (lsa_key lsa) n) n
       (λ e. (met_kept Q kept (lsa_key lsa) n h, part)) (λ e. (h, part)) in
       chosen (λ (s : Step). Of Q s.neighbor) (gets moment sender number lsa n) got not_got
-      (λ e. owed_kept Q kept moment lsa.header m both.1 both.0) (λ e. released_kept Q kept (lsa_key lsa) m both.0))
+      (λ e. owed_kept Q kept moment lsa.header m tt both.1 both.0) (λ e. released_kept Q kept (lsa_key lsa) m both.0))
       (λ e. h)
 
   pub flood_kept : (moment : ℕ) (sender : Option ℕ) (lsa : Lsa) (o : Outcome) → HoldsOfEach (Of Q) o.area.links → HoldsOfEach (Of Q) (flood moment sender lsa o).area.links

@@ -4,3 +4,4 @@ pub mod Holding
 pub mod Roomy
 pub mod Told
 pub mod Examined
+pub mod Marks

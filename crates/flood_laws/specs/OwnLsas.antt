@@ -1,0 +1,21 @@
+-- Which LSAs a router of one area originates (RFC 2328, section 12.4).
+use Rattle.std.specs.Prelude.{◌≡◌, ℕ, ◌==◌, Bool, true, ◌||◌, List, Some}
+use Rattle.words.specs.declared.key.Key.{Key}
+use Rattle.lsa.specs.Text.{type_of}
+use Rattle.lsa.specs.declared.body.Body.{Body}
+use Rattle.events.specs.declared.model.Config.{Config}
+use Rattle.events.specs.Events.{Run, Step, initial}
+use Rattle.events.specs.Originations.{wanted_body}
+use Rattle.events.specs.Routers.{Router}
+
+-- a router-LSA or an AS-external-LSA
+abbrev pub is_router_or_external : ℕ → Bool
+is_router_or_external ls_type = ls_type == 1 || ls_type == 5
+
+-- at every point of a run, what the router wants to say in an LSA of its own is of the type of the
+-- LSA's key, and that is none of the network-LSAs and summary-LSAs
+abbrev pub OnlyRouterAndExternalLsasAreWanted : Type 0
+OnlyRouterAndExternalLsasAreWanted =
+    (c : Config) (steps : List Step) (new : Router) → Run (initial c) steps new
+    → (key : Key) (says : Body) → wanted_body new key ≡ Some says
+    → (is_router_or_external key.ls_type ≡ true) × (type_of says ≡ key.ls_type)

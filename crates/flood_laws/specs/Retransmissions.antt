@@ -1,0 +1,48 @@
+-- What stands on retransmission lists (RFC 2328, sections 10 and 13.3): the instances of the
+-- database.
+use Rattle.std.specs.Prelude.{◌≡◌, ◌≤◌, List, Some}
+use Rattle.std.specs.FinMap as finite
+use Rattle.words.specs.Numbers.{Moment}
+use Rattle.words.specs.declared.key.Key.{Key}
+use Rattle.lsdb.specs.Copies.{Database, DatabaseCopy, copy_header}
+use Rattle.lsdb.specs.Headers.{lsa_key}
+use Rattle.lsdb.specs.Instances.{ListEntry, aged_header}
+use Rattle.adjacency.specs.Lists.{HasSoundLists}
+use Rattle.adjacency.specs.Neighbors.{Neighbor}
+use Rattle.events.specs.declared.model.Config.{Config}
+use Rattle.events.specs.declared.model.Out.{Out}
+use Rattle.events.specs.Events.{Happens, Run, Step, initial}
+use Rattle.events.specs.Routers.{Occurrence, Router}
+use Rattle.event_rooms.specs.RoomLaws.{OfEachNeighbor}
+
+-- the database has a copy of the key, and at each moment from when the entry was made on the entry's
+-- header is the copy's
+abbrev pub IsOfCopy : Database → Key → ListEntry → Type 0
+IsOfCopy db key entry =
+    (copy : DatabaseCopy) × (finite.get db key ≡ Some copy)
+    × ((moment : Moment) → entry.at ≤ moment
+    → aged_header moment entry ≡ copy_header moment copy)
+
+-- so each entry of the neighbor's retransmission list
+abbrev pub AreOfTheDatabase : Database → Neighbor → Type 0
+AreOfTheDatabase db n =
+    (key : Key) (entry : ListEntry) → finite.get n.retransmissions key ≡ Some entry
+    → IsOfCopy db key entry
+
+pub record HasItsRetransmissions (r : Router) : Type 0 where
+  -- each copy stands under its own key
+  pub keys : (key : Key) (copy : DatabaseCopy) → finite.get r.area.database key ≡ Some copy
+      → lsa_key copy.lsa ≡ key
+  pub lists : OfEachNeighbor HasSoundLists r
+  pub entries : OfEachNeighbor (AreOfTheDatabase r.area.database) r
+
+pub record RetransmissionsAreOfTheDatabase : Type 0 where
+  -- at the start
+  pub first : (c : Config) → HasItsRetransmissions (initial c)
+  -- after each event, where it held before it
+  pub event : (old : Router) (moment : Moment) (event : Occurrence) (outs : List Out)
+      (new : Router) → Happens old moment event outs new → HasItsRetransmissions old
+      → HasItsRetransmissions new
+  -- so after every run from the start, whatever happens in it
+  pub run : (c : Config) (steps : List Step) (new : Router) → Run (initial c) steps new
+      → HasItsRetransmissions new
