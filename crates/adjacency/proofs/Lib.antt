@@ -10,3 +10,4 @@ pub mod Floods
 pub mod Sets
 pub mod Sends
 pub mod Answered
+pub mod Exchanges
