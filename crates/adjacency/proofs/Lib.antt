@@ -11,3 +11,5 @@ pub mod Sets
 pub mod Sends
 pub mod Answered
 pub mod Exchanges
+pub mod Timers
+pub mod Intersections

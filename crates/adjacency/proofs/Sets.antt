@@ -34,7 +34,7 @@ module _ {X : Type 0} where
   keys_none m is = finite.same_map keys_total keys_exact m finite.empty (λ q.
       none_of (finite.get m q) (sym (contains_key_of m q) ∙ ap (λ s. set.contains s q) is ∙ set.contains-empty key_cmp q) ∙ sym (finite.get-empty key_cmp q))
 
-  empty_keys : (m : ByKey X) → (finite.len m == 0) ≡ (set.len (keys_of m) == 0)
+  pub empty_keys : (m : ByKey X) → (finite.len m == 0) ≡ (set.len (keys_of m) == 0)
   empty_keys m = same_tests (finite.len m) (set.len (keys_of m))
       (λ is. ap (λ n. set.len (keys_of n)) (finite.empty_of_len m is) ∙ ap set.len (no_keys X) ∙ set.len-empty key_cmp)
       (λ is. ap finite.len (keys_none m (set.empty_of_len (keys_of m) is)) ∙ finite.len-empty key_cmp X)

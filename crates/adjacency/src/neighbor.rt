@@ -13,6 +13,8 @@ ghost use Rattle.adjacency.specs.Retransmissions.{acknowledged, after_acknowledg
 
 mod descriptions;
 mod requests;
+mod timers;
+mod updates;
 
 use crate::draft::Draft;
 use crate::listed::{ListEntry, instance_of};

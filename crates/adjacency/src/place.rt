@@ -11,6 +11,8 @@ ghost use Rattle.adjacency.specs.Steps.{any_exchange_or_later, heard, named};
 ghost use Rattle.adjacency.specs.Views.{begins, begun, present_of};
 
 mod requests;
+mod timers;
+mod updates;
 
 use crate::draft::Draft;
 use crate::neighbor::{Neighbor, initial_description, next_dd_sequence_start};

@@ -1,0 +1,28 @@
+-- What an LSA of a received Update asks of its sender, if there is one (RFC 2328, section 13).
+use Rattle.std.specs.Prelude.{Bool, false, Option, None, Some}
+use Rattle.std.specs.FinMap as finite
+use Rattle.words.specs.Numbers.{Moment}
+use Rattle.words.specs.declared.key.Key.{Key}
+use Rattle.lsdb.specs.Headers.{Header, key_of}
+use Rattle.adjacency.specs.Neighbors.{Neighbor, is_exchange_or_loading}
+use Rattle.adjacency.specs.Retransmissions.{is_entry}
+
+-- there is a neighbor in Exchange or Loading
+abbrev pub any_exchange_or_loading : Option Neighbor → Bool
+any_exchange_or_loading None = false
+any_exchange_or_loading (Some n) = is_exchange_or_loading n.state
+
+-- the neighbor is still asked for this key
+abbrev pub was_requested : Key → Option Neighbor → Bool
+was_requested key None = false
+was_requested key (Some n) = finite.contains_key n.requests key
+
+-- the neighbor is still to acknowledge an instance under this key
+abbrev pub has_retransmission : Key → Option Neighbor → Bool
+has_retransmission key None = false
+has_retransmission key (Some n) = finite.contains_key n.retransmissions key
+
+-- it is still to acknowledge just this instance
+abbrev pub has_instance : Moment → Header → Option Neighbor → Bool
+has_instance moment h None = false
+has_instance moment h (Some n) = is_entry moment h (finite.get n.retransmissions (key_of h))
