@@ -1,11 +1,9 @@
 -- What a Tick makes of a neighbor, by the tests.
-use Rattle.std.proofs.Common.{◌≡◌, ℕ, ◌+◌, ◌==◌, Bool, true, false, cond, not, ◌&&◌, List, [], ◌∷◌, ◌++◌, map, refl, sym, ap, subst, ◌∙◌}
+use Rattle.std.proofs.Common.{◌≡◌, ℕ, ◌+◌, ◌==◌, Bool, true, false, cond, not, ◌&&◌, List, [], ◌∷◌, ◌++◌, map, refl, sym, ap, ◌∙◌}
 use Rattle.std.specs.Prelude.{Option, None, Some, nat_le}
 use Rattle.std.specs.List.{filter}
 use Rattle.std.specs.FinMap as finite
 use Rattle.std.specs.FinSet as set
-use Rattle.words.specs.declared.key.Key.{Key}
-use Rattle.lsdb.specs.Copies.{Database, DatabaseCopy, lsa_now}
 use Rattle.lsdb.specs.Headers.{Lsa}
 use Rattle.lsdb.specs.Instances.{ListEntry}
 use Rattle.lsdb.specs.Keys.{ByKey}
@@ -14,8 +12,8 @@ use Rattle.adjacency.specs.declared.standing.Standing.{Standing}
 use Rattle.adjacency.specs.declared.state.State.{State}
 use Rattle.adjacency.specs.declared.state.State.TheVariants.{Init, ExStart, Exchange, Loading, Full}
 use Rattle.adjacency.specs.Adjacencies.{enter_exstart, has_passed, loading_done, loading_done_in, mismatched, requests_nothing}
-use Rattle.adjacency.specs.Contents.{Describes, Step, Updates, no_sends, sent_on, step_on, then_}
-use Rattle.adjacency.specs.Descriptions.{repeat, without_old_description}
+use Rattle.adjacency.specs.Contents.{Step, Updates, no_sends, sent_on, step_on, then_}
+use Rattle.adjacency.specs.Descriptions.{without_old_description}
 use Rattle.adjacency.specs.Drafts.{Drafted, drafting}
 use Rattle.adjacency.specs.Neighbors.{Neighbor}
 use Rattle.adjacency.specs.Retransmissions.{repeats_description, that_fit}
@@ -25,17 +23,6 @@ use Rattle.adjacency.specs.Timers.{description_is_due, full_where, is_any_inacti
 use Rattle.adjacency.specs.Views.{keys_of, neighbor_of}
 use Rattle.adjacency.proofs.Sends.{drafting-append}
 use Rattle.adjacency.proofs.Sets.{empty_keys}
-
--- ---- the last Description
-
-pub repeats_none : (moment : ℕ) (n : Neighbor) → n.described ≡ None → no_sends n ≡ repeat moment n
-repeats_none moment n is =
-    subst (λ (d : Option Description). no_sends (record n { described = d }) ≡ repeat moment (record n { described = d })) (sym is) refl
-
-pub repeats_some : (moment : ℕ) (n : Neighbor) (d : Description) → n.described ≡ Some d
-    → ◌≡◌ {A = Step} (record { neighbor = record n { described_at = moment }; sends = Describes d ∷ [] }) (repeat moment n)
-repeats_some moment n d is =
-    subst (λ (o : Option Description). ◌≡◌ {A = Step} (record { neighbor = record n { described = o; described_at = moment }; sends = Describes d ∷ [] }) (repeat moment (record n { described = o }))) (sym is) refl
 
 -- ---- Loading
 
@@ -60,10 +47,6 @@ module _ {X : Type 0} (s : Standing) (des : Option Description) (sum req : ByKey
   unfolding neighbor_of
   exchanged_now = refl
 
-  pub described_now : des ≡ (neighbor_of s des sum req out retr).described
-  unfolding neighbor_of
-  described_now = refl
-
   pub outstanding_there : filter (set.contains (keys_of out)) (finite.keys req) ≡ still_outstanding (neighbor_of s des sum req out retr)
   unfolding neighbor_of
   outstanding_there = refl
@@ -79,10 +62,6 @@ module _ {X : Type 0} (s : Standing) (des : Option Description) (sum req : ByKey
   pub forgets : neighbor_of s None sum req out retr ≡ record (neighbor_of s des sum req out retr) { described = None }
   unfolding neighbor_of
   forgets = refl
-
-  pub describes_at : (moment : ℕ) → neighbor_of (record s { described_at = moment }) des sum req out retr ≡ record (neighbor_of s des sum req out retr) { described_at = moment }
-  unfolding neighbor_of
-  describes_at moment = refl
 
   pub requests_at : (moment : ℕ) → neighbor_of (record s { requested_at = moment }) des sum req out retr ≡ record (neighbor_of s des sum req out retr) { requested_at = moment }
   unfolding neighbor_of

@@ -203,8 +203,8 @@ impl Place {
         Ok(())
     }
 
-    // Tells whether there is a neighbor in Exchange or later.
-    fn is_exchange_or_later(&self) -> bool
+    /// Tells whether there is a neighbor in Exchange or later: Requests, Updates and Acknowledgments of it count.
+    pub fn is_exchange_or_later(&self) -> bool
         ensures { result ≡ any_exchange_or_later self.now.present }
     {
         match &self.neighbor {

@@ -1,5 +1,4 @@
 use Rattle.std.proofs.Common.{cond, sym, ap, ◌∙◌}
-use Rattle.keyed_map.proofs.Helds.{on_ok}
 use Rattle.adjacency.specs.Contents.{no_sends}
 use Rattle.adjacency.specs.Descriptions.{repeat}
 use Rattle.adjacency.specs.Drafts.{drafting}

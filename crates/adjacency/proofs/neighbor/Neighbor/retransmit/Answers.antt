@@ -3,7 +3,7 @@ use Rattle.keyed_map.proofs.Helds.{on_ok}
 use Rattle.std.specs.FinMap as finite
 use Rattle.adjacency.specs.Contents.{Updates}
 use Rattle.adjacency.specs.Drafts.{drafting}
-use Rattle.adjacency.specs.Retransmissions.{next_retransmissions, that_fit}
+use Rattle.adjacency.specs.Retransmissions.{that_fit}
 use Rattle.adjacency.specs.Steps.{lsas_of}
 use Rattle.adjacency.proofs.Timers.{retransmissions_now, retransmits_at}
 use Rattle.adjacency.proofs.neighbor.Neighbor.retransmit.Goals as goal

@@ -1,5 +1,4 @@
-use Rattle.std.proofs.Common.{◌∷◌, map, sym, ap, ◌∙◌}
-use Rattle.std.specs.FinMap as finite
+use Rattle.std.proofs.Common.{map, sym, ap, ◌∙◌}
 use Rattle.adjacency.specs.Contents.{Updates}
 use Rattle.adjacency.specs.Drafts.{drafting}
 use Rattle.adjacency.specs.Retransmissions.{that_fit}
@@ -9,7 +8,15 @@ use Rattle.adjacency.proofs.Floods.{drafting-none}
 use Rattle.adjacency.proofs.neighbor.timers.send_that_fit.Goals as goal
 
 pub returns-in_default : goal.returns-in_default
-returns-in_default c = ?
+returns-in_default c =
+    let moment = c.args.moment in
+    let db = c.args.database.now.present in
+    let drafted = c.send_key_if_it_fits.new.draft in
+    drafting-none c.args.delay drafted
+    ∙ ap (λ o. drafting c.args.delay (map Updates (that_fit_after o (lsas_of moment db c.next.new.self))) drafted) (sym c.in_default.is)
+    ∙ c.in_ok-next.ensures c.next.new.self
+    ∙ ap (λ ks. drafting c.args.delay (map Updates (that_fit c.loop-key.used (lsas_of moment db ks))) c.loop-key.draft) (sym c.in-Some.ensures.steps)
+    ∙ c.loop-key.invariant
 
 pub returns : goal.returns
 returns c =
@@ -18,9 +25,3 @@ returns c =
     drafting-none c.args.delay c.loop-key.draft
     ∙ ap (λ ks. drafting c.args.delay (map Updates (that_fit c.loop-key.used (lsas_of moment db ks))) c.loop-key.draft) (sym c.in-None.ensures.steps.0)
     ∙ c.loop-key.invariant
-
-pub loop-key-init : goal.loop-key-init
-loop-key-init c = ?
-
-pub loop-key-preserved : goal.loop-key-preserved
-loop-key-preserved c = ?
