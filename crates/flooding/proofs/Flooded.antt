@@ -1,0 +1,122 @@
+-- Flooding's loop over the links.
+use Rattle.std.proofs.Common.{◌≡◌, ℕ, ◌+◌, Bool, true, false, cond, not, ◌&&◌, ◌||◌, List, [], ◌∷◌, map, refl, sym, ap, ◌∙◌}
+use Rattle.std.specs.Prelude.{Option, None, Some}
+use Rattle.std.specs.List.{fold}
+use Rattle.lsdb.specs.Copies.{Database, mark_sent}
+use Rattle.lsdb.specs.Headers.{Lsa, lsa_key}
+use Rattle.lsdb.specs.Instances.{ListEntry}
+use Rattle.adjacency.specs.Contents.{Content, Step, Updates, no_sends}
+use Rattle.adjacency.specs.Contents as neighbor
+use Rattle.adjacency.specs.Drafts.{Drafted, drafting}
+use Rattle.adjacency.specs.Floods.{flooded, is_any}
+use Rattle.adjacency.specs.Floods as neighbor_flood
+use Rattle.adjacency.specs.Kept.{Kept}
+use Rattle.adjacency.specs.Neighbors.{Neighbor, is_exchange_or_later}
+use Rattle.adjacency.specs.Requests.{without_request}
+use Rattle.adjacency.specs.Retransmissions.{add_retransmission, remove_retransmission}
+use Rattle.received.specs.Flooding.{flood_to, is_sender, meets, passes, request_of, without_met_request}
+use Rattle.received.specs.Links.{Link}
+use Rattle.received.specs.Outcomes.{Send, Stepping, marked, sent_on, step_on, stepped, stepping_sends}
+use Rattle.flooding.specs.Drafted.{drafted_from}
+use Rattle.flooding.specs.Links.{present, with_neighbor}
+use Rattle.flooding.proofs.Finish.{Finishes, finish_counts, finish_drafts, items_all}
+use Rattle.flooding.proofs.Sends.{any_from, any_is, draft_from, drafts_are}
+use Rattle.flooding.proofs.Marks.{marks_all}
+
+-- ---- a neighbor's step is the definition's, by whether the link is the sender's
+
+passes_is : (moment : ℕ) (lsa : Lsa) (r : Option ListEntry) → passes moment lsa r ≡ neighbor_flood.passes moment lsa r
+passes_is moment lsa None = refl
+passes_is moment lsa (Some r) = refl
+
+meets_is : (moment : ℕ) (lsa : Lsa) (r : Option ListEntry) → meets moment lsa r ≡ neighbor_flood.meets moment lsa r
+meets_is moment lsa None = refl
+meets_is moment lsa (Some r) = refl
+
+-- the step by what the neighbor's request comes to
+abbrev by_request : ℕ → Bool → Lsa → Neighbor → (passed met : Bool) → Step
+by_request moment from lsa n passed met =
+    cond (is_exchange_or_later n.state)
+    (cond (not from && passed)
+    (record { neighbor = add_retransmission moment lsa.header (cond met (without_request (lsa_key lsa) n) n); sends = Updates lsa ∷ [] })
+    (no_sends (remove_retransmission (lsa_key lsa) (cond met (without_request (lsa_key lsa) n) n))))
+    (no_sends n)
+
+pub flooded_to : (moment : ℕ) (sender : Option ℕ) (lsa : Lsa) (number : ℕ) (link : Link) (n : Neighbor)
+    → flood_to moment sender lsa number link n ≡ flooded moment (is_sender sender number) lsa n
+unfolding flooded
+flooded_to moment sender lsa number link n =
+    let r = request_of n lsa in
+    ap (λ b. by_request moment (is_sender sender number) lsa n b (meets moment lsa r)) (passes_is moment lsa r)
+    ∙ ap (λ b. by_request moment (is_sender sender number) lsa n (neighbor_flood.passes moment lsa r) b) (meets_is moment lsa r)
+
+pub step_is : (moment : ℕ) (sender : Option ℕ) (lsa : Lsa) (number : ℕ) (link : Link) (o : Option Neighbor)
+    → neighbor.step_on (flooded moment (is_sender sender number) lsa) o ≡ step_on (flood_to moment sender lsa number link) o
+step_is moment sender lsa number link None = refl
+step_is moment sender lsa number link (Some n) = ap (λ (s : Step). Some s.neighbor) (sym (flooded_to moment sender lsa number link n))
+
+pub sent_is : (moment : ℕ) (sender : Option ℕ) (lsa : Lsa) (number : ℕ) (link : Link) (o : Option Neighbor)
+    → neighbor.sent_on (flooded moment (is_sender sender number) lsa) o ≡ sent_on (flood_to moment sender lsa number link) o
+sent_is moment sender lsa number link None = refl
+sent_is moment sender lsa number link (Some n) = ap (λ (s : Step). s.sends) (sym (flooded_to moment sender lsa number link n))
+
+-- ---- an Update to each neighbor, or nothing
+
+one_by : (lsa : Lsa) (n m r : Neighbor) (part gets : Bool)
+    → (cond part (cond gets (record { neighbor = m; sends = Updates lsa ∷ [] }) (no_sends r)) (no_sends n)).sends
+    ≡ cond (is_any (cond part (cond gets (record { neighbor = m; sends = Updates lsa ∷ [] }) (no_sends r)) (no_sends n)).sends) (Updates lsa ∷ []) []
+one_by lsa n m r true true = refl
+one_by lsa n m r true false = refl
+one_by lsa n m r false gets = refl
+
+module _ (moment : ℕ) (sender : Option ℕ) (lsa : Lsa) where
+  abbrev pub step : Stepping
+  step = flood_to moment sender lsa
+
+  abbrev pub sent_at : ℕ → Link → List Content
+  sent_at n l = sent_on (step n l) l.neighbor
+
+  abbrev pub after_step : ℕ → Link → Link
+  after_step n l = with_neighbor (step_on (step n l) l.neighbor) l
+
+  abbrev pub after_draft : ℕ → Link → Drafted → Drafted
+  after_draft n l d = drafting l.interface.delay (sent_at n l) d
+
+  abbrev pub counts : ℕ → Link → Bool
+  counts n l = is_any (sent_at n l)
+
+  one_on : (number : ℕ) (link : Link) (o : Option Neighbor) → sent_on (step number link) o ≡ cond (is_any (sent_on (step number link) o)) (Updates lsa ∷ []) []
+  one_on number link None = refl
+  one_on number link (Some n) =
+      let m = without_met_request moment lsa n in
+      one_by lsa n (add_retransmission moment lsa.header m) (remove_retransmission (lsa_key lsa) m) (is_exchange_or_later n.state) (not (is_sender sender number) && passes moment lsa (request_of n lsa))
+
+  -- an Update to each neighbor, or nothing
+  pub one : (number : ℕ) (link : Link) → sent_at number link ≡ cond (is_any (sent_at number link)) (Updates lsa ∷ []) []
+  one number link = one_on number link link.neighbor
+
+  drafts_all : (n : ℕ) (xs : List (Kept Link)) (ds : List Drafted) → finish_drafts present after_step after_draft counts 0 n xs ds ≡ draft_from sent_at n (map present xs) ds
+  drafts_all n [] ds = refl
+  drafts_all n (x ∷ xs) [] = refl
+  drafts_all n (x ∷ xs) (d ∷ ds) = ap (λ zs. after_draft n (present x) d ∷ zs) (drafts_all (n + 1) xs ds)
+
+  counts_all : (n : ℕ) (xs : List (Kept Link)) → finish_counts present after_step after_draft counts 0 n xs ≡ any_from sent_at n (map present xs)
+  counts_all n [] = refl
+  counts_all n (x ∷ xs) = ap (λ b. counts n (present x) || b) (counts_all (n + 1) xs)
+
+  -- where nothing is done yet
+  abbrev pub Floods : ℕ → List (Kept Link) → List Drafted → Bool → List Link → List Drafted → Type 0
+  Floods i xs ds sent olds drafts =
+      Finishes present after_step after_draft counts i xs ds sent (stepped step olds) (drafted_from 1 (stepping_sends step olds) olds drafts) (is_any (stepping_sends step olds))
+
+  pub begins : (xs : List (Kept Link)) (ds : List Drafted) → Floods 0 xs ds false (map present xs) ds
+  begins xs ds = record {
+    items_is = items_all present after_step after_draft counts 1 xs;
+    drafts_is = drafts_all 1 xs ds ∙ sym (drafts_are sent_at (map present xs) ds);
+    counts_is = counts_all 1 xs ∙ any_is sent_at 1 (map present xs);
+  }
+
+  -- the marks of all Updates are one
+  pub marks_once : (links : List Link) (d : Database)
+      → fold (λ (db : Database) (s : Send). marked moment db s.content) d (stepping_sends step links) ≡ cond (is_any (stepping_sends step links)) (mark_sent moment (lsa_key lsa) d) d
+  marks_once links d = marks_all sent_at moment lsa one 1 links d

@@ -1,0 +1,27 @@
+-- What is sent at each interface goes into its draft.
+use Rattle.std.specs.Prelude.{◌+◌, ◌==◌, if◌then◌else◌, List, [], ◌∷◌}
+use Rattle.std.specs.Prelude.{Option, None, Some}
+use Rattle.std.specs.List.{filter_map}
+use Rattle.words.specs.Numbers.{InterfaceNumber}
+use Rattle.adjacency.specs.Contents.{Content}
+use Rattle.adjacency.specs.Drafts.{Drafted, drafting}
+use Rattle.received.specs.Links.{Link}
+use Rattle.received.specs.Outcomes.{Send}
+
+abbrev pub at_interface : InterfaceNumber → Send → Option Content
+at_interface number s = if s.number == number then Some s.content else None
+
+abbrev pub drafted_at : InterfaceNumber → List Send → Link → Drafted → Drafted
+drafted_at number sends link d =
+    drafting link.interface.delay (filter_map (at_interface number) sends) d
+
+-- the first link has this number
+abbrev pub drafted_from : InterfaceNumber → List Send → List Link → List Drafted → List Drafted
+drafted_from n sends [] ds = ds
+drafted_from n sends (l ∷ ls) [] = []
+drafted_from n sends (l ∷ ls) (d ∷ ds) =
+    drafted_at n sends l d ∷ drafted_from (n + 1) sends ls ds
+
+-- interface n is at place n - 1
+abbrev pub drafted : List Send → List Link → List Drafted → List Drafted
+drafted sends links ds = drafted_from 1 sends links ds

@@ -1,0 +1,168 @@
+//! Links and database as one value.
+ghost use Rattle.std.specs.Prelude.{◌≡◌, OnOk, length, map};
+ghost use Rattle.std.specs.FinMap as finite;
+ghost use Rattle.flooding.specs.Drafted.{drafted};
+ghost use Rattle.flooding.specs.Links.{area_of, flooded_key, installed, present, settled};
+
+use crate::flood::{flood, install, roll_back_links, settle_links};
+use crate::link::Link;
+use adjacency::Draft;
+use lsa::Lsa;
+use lsdb::Lsdb;
+use std::alloc::{AllocError, Global};
+use std::marker::Model;
+use words::{Key, RouterId, Second};
+
+/// The links of a router and its database, and what they were when they were last settled.
+#[derive(Drop)]
+pub struct Area {
+    links: Vec<Link>,
+    database: Lsdb,
+}
+
+impl Model for Area {
+    ghost use Rattle.std.specs.Prelude.{map};
+    ghost use Rattle.std.specs.Coded.{codes};
+    ghost use Rattle.std.specs.FinMap as finite;
+    ghost use Rattle.lsdb.specs.Copies.{DatabaseCopy};
+    ghost use Rattle.lsdb.specs.Keys.{coded_key, key_cmp};
+    ghost use Rattle.adjacency.specs.Codes.{coded_headers, coded_keys, coded_lists};
+    ghost use Rattle.flooding.specs.Kept.{RouterArea, coded_area};
+
+    ghost Value = { RouterArea };
+
+    ghost coded = { coded_area (Prim.hlevel (
+      codes,
+      coded_lists,
+      coded_keys,
+      coded_headers,
+      finite.code {X = DatabaseCopy} {R = key_cmp} coded_key (Prim.hlevel codes),
+    )) };
+
+    ghost use Rattle.flooding.specs.Links.{present, settled};
+
+    ghost view = { λ a. record {
+      router = a.database.router;
+      present = record { links = map present a.links.items; database = a.database.present };
+      settled = record { links = map settled a.links.items; database = a.database.settled };
+    } };
+}
+
+impl Area {
+    /// These links, interface n at place n - 1, and an empty database of this router. It wants no
+    /// memory.
+    pub fn new(alloc: Global, router: RouterId, links: Vec<Link>) -> Self
+        ensures { result ≡ record {
+          router = router;
+          present = area_of links.items finite.empty;
+          settled = record { links = map settled links.items; database = finite.empty };
+        } }
+    {
+        Area {
+            links,
+            database: Lsdb::new(alloc, router),
+        }
+    }
+
+    /// The links, interface n at place n - 1.
+    pub fn links(&self) -> &[Link]
+        ensures present { map present result.now ≡ self.now.present.links }
+        ensures settled { map settled result.now ≡ self.now.settled.links }
+    {
+        &self.links
+    }
+
+    /// The database.
+    pub fn database(&self) -> &Lsdb
+        ensures { result.now ≡ record {
+          router = self.now.router;
+          present = self.now.present.database;
+          settled = self.now.settled.database;
+        } }
+    {
+        &self.database
+    }
+
+    /// Floods the copy of this key over all links (RFC 2328, section 13.3), each Update into the
+    /// draft of its interface. It came in at the sender's interface, if it came from anybody. An
+    /// Update that takes it along marks it as sent. Without a copy nothing happens.
+    ///
+    /// `AllocError` comes where memory was refused; the area is to be rolled back then, and the
+    /// drafts are of no use.
+    pub fn flood(
+        &mut self,
+        alloc: Global,
+        moment: Second,
+        sender: Option<usize>,
+        key: &Key,
+        drafts: &mut [Draft],
+    ) -> Result<(), AllocError>
+        requires { length drafts.old ≡ length self.old.present.links }
+        ensures ok { OnOk result (self.new.present
+            ≡ (flooded_key moment sender key.now self.old.present).area) }
+        ensures drafts { OnOk result (drafts.new
+            ≡ drafted (flooded_key moment sender key.now self.old.present).sends
+            self.old.present.links drafts.old) }
+        ensures settled { self.new.settled ≡ self.old.settled }
+        ensures router { self.new.router ≡ self.old.router }
+    {
+        flood(
+            alloc,
+            moment,
+            sender,
+            key,
+            &mut self.links,
+            &mut self.database,
+            drafts,
+        )
+    }
+
+    /// Installs the LSA that flooding brought, and floods it as `flood` does (RFC 2328, sections
+    /// 13.2 and 13.3).
+    ///
+    /// `AllocError` comes where memory was refused; the area is to be rolled back then, and the
+    /// drafts are of no use.
+    pub fn install(
+        &mut self,
+        alloc: Global,
+        moment: Second,
+        sender: Option<usize>,
+        lsa: Lsa,
+        drafts: &mut [Draft],
+    ) -> Result<(), AllocError>
+        requires { length drafts.old ≡ length self.old.present.links }
+        ensures ok { OnOk result (self.new.present
+            ≡ (installed moment sender lsa self.old.present).area) }
+        ensures drafts { OnOk result (drafts.new
+            ≡ drafted (installed moment sender lsa self.old.present).sends
+            self.old.present.links drafts.old) }
+        ensures settled { self.new.settled ≡ self.old.settled }
+        ensures router { self.new.router ≡ self.old.router }
+    {
+        install(
+            alloc,
+            moment,
+            sender,
+            lsa,
+            &mut self.links,
+            &mut self.database,
+            drafts,
+        )
+    }
+
+    /// Makes the changes so far final. It wants no memory.
+    pub fn settle(&mut self)
+        ensures { self.new ≡ record self.old { settled = self.old.present } }
+    {
+        settle_links(&mut self.links);
+        self.database.settle();
+    }
+
+    /// Takes all changes back that were made since it was last settled. It wants no memory.
+    pub fn roll_back(&mut self)
+        ensures { self.new ≡ record self.old { present = self.old.settled } }
+    {
+        roll_back_links(&mut self.links);
+        self.database.roll_back();
+    }
+}

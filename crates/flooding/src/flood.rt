@@ -1,0 +1,137 @@
+//! Flooding over links and database, as parts that the caller holds apart.
+ghost use Rattle.std.specs.Prelude.{◌≡◌, ◌||◌, IfOk, OnOk, length, map};
+ghost use Rattle.lsdb.specs.Copies.{lsa_now};
+ghost use Rattle.adjacency.specs.Floods.{is_any};
+ghost use Rattle.received.specs.Flooding.{flood_to, is_sender};
+ghost use Rattle.received.specs.Outcomes.{stepped, stepping_sends};
+ghost use Rattle.flooding.specs.Drafted.{drafted};
+ghost use Rattle.flooding.specs.Links.{area_of, flooded_key, installed, present, settled};
+
+use crate::link::Link;
+use adjacency::Draft;
+use lsa::Lsa;
+use lsdb::{DatabaseCopy, Lsdb};
+use std::alloc::{AllocError, Global};
+use words::{Key, Second};
+
+fn is_sender(sender: Option<usize>, number: usize) -> bool
+    ensures { result ≡ is_sender sender number }
+{
+    match sender {
+        None => false,
+        Some(s) => s == number,
+    }
+}
+
+fn either(a: bool, b: bool) -> bool
+    ensures { result ≡ (a || b) }
+{
+    a || b
+}
+
+// Floods the copy over all links, each Update into the draft of its interface; tells whether one
+// was sent.
+fn flood_links(
+    alloc: Global,
+    moment: Second,
+    sender: Option<usize>,
+    copy: &DatabaseCopy<'_>,
+    links: &mut [Link],
+    drafts: &mut [Draft],
+) -> Result<bool, AllocError>
+    requires { length drafts.old ≡ length links.old }
+    ensures links { IfOk result (λ _. map present links.new
+        ≡ stepped (flood_to moment sender (lsa_now moment copy.now)) (map present links.old)) }
+    ensures drafts { IfOk result (λ _. drafts.new
+        ≡ drafted (stepping_sends (flood_to moment sender (lsa_now moment copy.now)) (map present links.old))
+        (map present links.old) drafts.old) }
+    ensures sent { IfOk result (λ sent. sent
+        ≡ is_any (stepping_sends (flood_to moment sender (lsa_now moment copy.now)) (map present links.old))) }
+    ensures settled { map settled links.new ≡ map settled links.old }
+{
+    let mut sent = false;
+    for i in 0..links.len() {
+        let from = is_sender(sender, i + 1);
+        let one = links[i].flood(alloc, moment, from, copy, &mut drafts[i])?;
+        sent = either(sent, one);
+    }
+    Ok(sent)
+}
+
+// Floods the copy of this key over all links, if there is one, and marks it as sent where an Update
+// takes it along.
+pub fn flood(
+    alloc: Global,
+    moment: Second,
+    sender: Option<usize>,
+    key: &Key,
+    links: &mut [Link],
+    database: &mut Lsdb,
+    drafts: &mut [Draft],
+) -> Result<(), AllocError>
+    requires { length drafts.old ≡ length links.old }
+    ensures ok { OnOk result (area_of links.new database.new.present
+        ≡ (flooded_key moment sender key.now (area_of links.old database.old.present)).area) }
+    ensures drafts { OnOk result (drafts.new
+        ≡ drafted (flooded_key moment sender key.now (area_of links.old database.old.present)).sends
+        (map present links.old) drafts.old) }
+    ensures links { map settled links.new ≡ map settled links.old }
+    ensures settled { database.new.settled ≡ database.old.settled }
+    ensures router { database.new.router ≡ database.old.router }
+{
+    let Some(copy) = database.get(key) else {
+        return Ok(());
+    };
+    let header = copy.header(moment);
+    let sent = flood_links(alloc, moment, sender, &copy, links, drafts)?;
+    if sent {
+        let sent_key = header.key();
+        return database.mark_sent(moment, &sent_key);
+    }
+    Ok(())
+}
+
+// Installs the LSA that flooding brought, and floods it.
+pub fn install(
+    alloc: Global,
+    moment: Second,
+    sender: Option<usize>,
+    lsa: Lsa,
+    links: &mut [Link],
+    database: &mut Lsdb,
+    drafts: &mut [Draft],
+) -> Result<(), AllocError>
+    requires { length drafts.old ≡ length links.old }
+    ensures ok { OnOk result (area_of links.new database.new.present
+        ≡ (installed moment sender lsa (area_of links.old database.old.present)).area) }
+    ensures drafts { OnOk result (drafts.new
+        ≡ drafted (installed moment sender lsa (area_of links.old database.old.present)).sends
+        (map present links.old) drafts.old) }
+    ensures links { map settled links.new ≡ map settled links.old }
+    ensures settled { database.new.settled ≡ database.old.settled }
+    ensures router { database.new.router ≡ database.old.router }
+{
+    lsa.check_age();
+    let header = lsa.header();
+    let key = header.key();
+    database.install_flooded(moment, lsa)?;
+    flood(alloc, moment, sender, &key, links, database, drafts)
+}
+
+pub fn settle_links(links: &mut [Link])
+    ensures present { map present links.new ≡ map present links.old }
+    ensures settled { map settled links.new ≡ map present links.old }
+{
+    for i in 0..links.len() {
+        links[i].settle();
+    }
+}
+
+pub fn roll_back_links(links: &mut [Link])
+    ensures present { map present links.new ≡ map settled links.old }
+    ensures settled { map settled links.new ≡ map settled links.old }
+{
+    for i in 0..links.len() {
+        links[i].roll_back();
+    }
+}

@@ -1,0 +1,122 @@
+//! Interfaces with what is kept of each.
+ghost use Rattle.std.specs.Prelude.{◌≡◌, IfOk, OnOk};
+ghost use Rattle.lsdb.specs.Copies.{lsa_now};
+ghost use Rattle.received.specs.Links.{acknowledge_later};
+ghost use Rattle.adjacency.specs.Contents.{sent_on, step_on};
+ghost use Rattle.adjacency.specs.Drafts.{drafting};
+ghost use Rattle.adjacency.specs.Floods.{flooded, is_any};
+ghost use Rattle.flooding.specs.Links.{unused, with_neighbor};
+
+use adjacency::{Draft, Interface, Place, Saved};
+use keyed_map::KeyedMap;
+use lsa::Header;
+use lsdb::DatabaseCopy;
+use std::alloc::{AllocError, Global};
+use std::marker::Model;
+use words::Second;
+
+/// An interface with its neighbor, the acknowledgments that wait for a Tick, and when the last Hello
+/// was sent; and what they were when they were last settled.
+#[derive(Drop)]
+pub struct Link {
+    interface: Interface,
+    place: Place,
+    // one a key, the latest
+    acknowledgments: KeyedMap<Header>,
+    last_hello_sent: Saved<Option<Second>>,
+}
+
+impl Model for Link {
+    ghost use Rattle.std.specs.Coded.{codes};
+    ghost use Rattle.adjacency.specs.Kept.{Kept};
+    ghost use Rattle.adjacency.specs.Codes.{coded_headers, coded_kept, coded_keys, coded_lists};
+    ghost use Rattle.received.specs.Links.{Link as Shown};
+
+    ghost Value = { Kept Shown };
+
+    ghost coded = { coded_kept (Prim.hlevel (codes, coded_lists, coded_keys, coded_headers)) };
+
+    ghost view = { λ a. record {
+      present = record {
+        interface = a.interface;
+        neighbor = a.place.present;
+        acknowledgments = a.acknowledgments.present;
+        last_hello_sent = a.last_hello_sent.present;
+      };
+      settled = record {
+        interface = a.interface;
+        neighbor = a.place.settled;
+        acknowledgments = a.acknowledgments.settled;
+        last_hello_sent = a.last_hello_sent.settled;
+      };
+    } };
+}
+
+impl Link {
+    /// An interface whose neighbor is Down, on which nothing was sent yet. It wants no memory.
+    pub fn new(alloc: Global, interface: Interface) -> Self
+        ensures { result ≡ record { present = unused interface; settled = unused interface } }
+    {
+        Link {
+            interface,
+            place: Place::down(),
+            acknowledgments: KeyedMap::new(alloc),
+            last_hello_sent: Saved::new(None),
+        }
+    }
+
+    /// Floods the copy to the neighbor, which is the one that it came from or isn't; tells whether
+    /// an Update takes it along, InfTransDelay seconds older than it is (RFC 2328, section 13.3).
+    ///
+    /// `AllocError` comes where memory was refused; the link is to be rolled back then.
+    pub fn flood(
+        &mut self,
+        alloc: Global,
+        moment: Second,
+        from: bool,
+        copy: &DatabaseCopy<'_>,
+        draft: &mut Draft,
+    ) -> Result<bool, AllocError>
+        ensures ok { IfOk result (λ _. self.new.present
+            ≡ with_neighbor (step_on (flooded moment from (lsa_now moment copy.now)) self.old.present.neighbor)
+            self.old.present) }
+        ensures draft { IfOk result (λ _. draft.new
+            ≡ drafting self.old.present.interface.delay
+            (sent_on (flooded moment from (lsa_now moment copy.now)) self.old.present.neighbor) draft.old) }
+        ensures sent { IfOk result (λ sent. sent
+            ≡ is_any (sent_on (flooded moment from (lsa_now moment copy.now)) self.old.present.neighbor)) }
+        ensures settled { self.new.settled ≡ self.old.settled }
+    {
+        let delay = self.interface.delay;
+        self.place.flood(alloc, moment, from, copy, delay, draft)
+    }
+
+    /// The instance is acknowledged at the next Tick, in the place of an earlier one of its key (RFC
+    /// 2328, section 13.5).
+    ///
+    /// `AllocError` comes where memory was refused; the link is to be rolled back then.
+    pub fn acknowledge_later(&mut self, header: Header) -> Result<(), AllocError>
+        ensures ok { OnOk result (self.new.present ≡ acknowledge_later header self.old.present) }
+        ensures settled { self.new.settled ≡ self.old.settled }
+    {
+        self.acknowledgments.insert(header.key(), header)
+    }
+
+    /// Makes the changes so far final.
+    pub fn settle(&mut self)
+        ensures { self.new ≡ record { present = self.old.present; settled = self.old.present } }
+    {
+        self.place.settle();
+        self.acknowledgments.settle();
+        self.last_hello_sent.settle();
+    }
+
+    /// Takes all changes back that were made since it was last settled.
+    pub fn roll_back(&mut self)
+        ensures { self.new ≡ record { present = self.old.settled; settled = self.old.settled } }
+    {
+        self.place.roll_back();
+        self.acknowledgments.roll_back();
+        self.last_hello_sent.roll_back();
+    }
+}
