@@ -10,6 +10,7 @@ mod place;
 mod saved;
 mod standing;
 mod state;
+mod verdict;
 
 pub use draft::{Draft, Update};
 pub use interface::Interface;
@@ -19,3 +20,4 @@ pub use place::Place;
 pub use saved::Saved;
 pub use standing::{ReceivedDescription, Standing};
 pub use state::State;
+pub use verdict::Verdict;

@@ -12,9 +12,11 @@ ghost use Rattle.adjacency.specs.Requests.{without_request};
 ghost use Rattle.adjacency.specs.Retransmissions.{acknowledged, after_acknowledgment, is_entry, add_retransmission, remove_retransmission};
 
 mod descriptions;
+mod negotiation;
 mod requests;
 mod timers;
 mod updates;
+mod verdicts;
 
 use crate::draft::Draft;
 use crate::listed::{ListEntry, instance_of};
@@ -28,6 +30,7 @@ use packet::Description;
 use std::alloc::{AllocError, Global};
 use std::cmp::Ordering;
 use std::marker::Model;
+pub use verdicts::starts_over;
 use words::{RouterId, Second, Sequence};
 
 /// A neighbor (RFC 2328, section 10), and what it was when it was last settled.

@@ -10,6 +10,7 @@ ghost use Rattle.adjacency.specs.Retransmissions.{after_acknowledgment};
 ghost use Rattle.adjacency.specs.Steps.{any_exchange_or_later, heard, named};
 ghost use Rattle.adjacency.specs.Views.{begins, begun, present_of};
 
+mod descriptions;
 mod requests;
 mod timers;
 mod updates;

@@ -1,0 +1,126 @@
+-- The exchange of Descriptions in words that the code's contracts use (RFC 2328, sections 10.6 and 10.8).
+use Rattle.std.specs.Prelude.{ℕ, ◌+◌, ◌%◌, ◌^◌, ◌==◌, Bool, true, false, not, ◌&&◌, nat_lt, if◌then◌else◌, Option, None, Some}
+use Rattle.std.specs.FinMap as finite
+use Rattle.words.specs.Numbers.{Moment, RouterNumber}
+use Rattle.words.specs.declared.key.Key.{Key}
+use Rattle.lsdb.specs.Copies.{Database, DatabaseCopy, is_aged_out, listed}
+use Rattle.lsdb.specs.Headers.{Header}
+use Rattle.lsdb.specs.Instances.{ListEntry, aged_header}
+use Rattle.lsdb.specs.Keys.{ByKey}
+use Rattle.packet.specs.declared.model.Description.{Description}
+use Rattle.adjacency.specs.declared.state.State.{State}
+use Rattle.adjacency.specs.declared.state.State.TheVariants.{Init, ExStart, Exchange, Loading, Full}
+use Rattle.adjacency.specs.declared.standing.Standing.{Standing}
+use Rattle.adjacency.specs.declared.verdict.Verdict.{Verdict as Said}
+use Rattle.adjacency.specs.declared.verdict.Verdict.TheVariants as said
+use Rattle.adjacency.specs.Contents.{Step, no_sends}
+use Rattle.adjacency.specs.Descriptions.{Verdict, as_received, is_initial_description, judge, knows_types, master_goes_on, negotiated, repeat, slave_replies, verdict, with_requests}
+use Rattle.adjacency.specs.Neighbors.{Neighbor}
+
+-- ---- verdicts
+
+-- the definitions' verdict that the code's names
+abbrev pub verdict_of : Said → Verdict
+verdict_of said.Discarded = Verdict.Discarded
+verdict_of said.NegotiatedAsSlave = Verdict.NegotiatedAsSlave
+verdict_of said.NegotiatedAsMaster = Verdict.NegotiatedAsMaster
+verdict_of said.Repeated = Verdict.Repeated
+verdict_of said.Accepted = Verdict.Accepted
+verdict_of said.Mismatch = Verdict.Mismatch
+
+-- what a neighbor keeps beside its lists and its last Description
+abbrev pub standing_of : Neighbor → Standing
+standing_of n = record {
+  router = n.router;
+  state = n.state;
+  is_master = n.is_master;
+  sequence = n.sequence;
+  dd_sequence_start = n.dd_sequence_start;
+  received = n.received;
+  exchanged = n.exchanged;
+  last_heard = n.last_heard;
+  described_at = n.described_at;
+  requested_at = n.requested_at;
+  retransmitted_at = n.retransmitted_at;
+}
+
+-- the verdict under a name that contracts use
+unfoldable pub judged : RouterNumber → Neighbor → Description → Verdict
+judged own n d = verdict own n d
+
+-- the verdict on a Description from the neighbor that is there, if one is
+abbrev pub judged_on : RouterNumber → Option Neighbor → Description → Verdict
+judged_on own None d = Verdict.Discarded
+judged_on own (Some n) d = judged own n d
+
+-- the other side follows: it has the larger Router ID and opens the exchange
+abbrev pub follows : RouterNumber → RouterNumber → Description → Bool
+follows own other d = is_initial_description d && nat_lt own other
+
+-- this router leads: the other side took its number over
+abbrev pub leads : RouterNumber → RouterNumber → ℕ → Description → Bool
+leads own other sequence d = not d.init && not d.master && d.sequence == sequence && nat_lt other own
+
+-- the number that the next Description from the other side has
+abbrev pub expected_of : Standing → ℕ
+expected_of s = if s.is_master then s.sequence else (s.sequence + 1) % 2 ^ 32
+
+-- ---- steps
+
+-- a mismatch, or a Description to be accepted that has a header of an unknown type
+abbrev pub starts_over : Verdict → Description → Bool
+starts_over Verdict.Discarded d = false
+starts_over Verdict.NegotiatedAsSlave d = not (knows_types d)
+starts_over Verdict.NegotiatedAsMaster d = not (knows_types d)
+starts_over Verdict.Repeated d = false
+starts_over Verdict.Accepted d = not (knows_types d)
+starts_over Verdict.Mismatch d = true
+
+-- a Description whose headers are all of known types is accepted
+unfoldable pub accepted : Moment → Database → Description → Neighbor → Step
+accepted moment db d n =
+    let m : Neighbor = with_requests moment db d.headers (record n { received = Some (as_received d) }) in
+    if m.is_master then master_goes_on moment d m else slave_replies moment d m
+
+-- the step by the verdict, but for one that starts over
+unfoldable pub proceeding : Verdict → Moment → Database → Description → Neighbor → Step
+proceeding Verdict.Discarded moment db d n = no_sends n
+proceeding Verdict.NegotiatedAsSlave moment db d n = accepted moment db d (negotiated false d.sequence moment db n)
+proceeding Verdict.NegotiatedAsMaster moment db d n = accepted moment db d (negotiated true n.sequence moment db n)
+proceeding Verdict.Repeated moment db d n = repeat moment n
+proceeding Verdict.Accepted moment db d n = accepted moment db d n
+proceeding Verdict.Mismatch moment db d n = no_sends n
+
+-- the whole under a name that contracts use
+unfoldable pub judging : RouterNumber → Moment → Database → Description → Neighbor → Step
+judging own moment db d n = judge own moment db d n
+
+abbrev pub is_init : State → Bool
+is_init Init = true
+is_init ExStart = false
+is_init Exchange = false
+is_init Loading = false
+is_init Full = false
+
+-- there is a neighbor in Init
+abbrev pub any_init : Option Neighbor → Bool
+any_init None = false
+any_init (Some n) = is_init n.state
+
+-- ---- lists
+
+-- the entry's header with its age at the moment, if there is an entry
+abbrev pub entry_header : Moment → Option ListEntry → Option Header
+entry_header moment None = None
+entry_header moment (Some l) = Some (aged_header moment l)
+
+-- the copy goes on the list, if there is one and it passes the test
+abbrev pub with_copy : (DatabaseCopy → Bool) → Moment → Key → Option DatabaseCopy → ByKey ListEntry → ByKey ListEntry
+with_copy test moment key None list = list
+with_copy test moment key (Some c) list = if test c then finite.insert list key (listed moment c) else list
+
+abbrev pub with_key : (DatabaseCopy → Bool) → Moment → Database → ByKey ListEntry → Key → ByKey ListEntry
+with_key test moment db list key = with_copy test moment key (finite.get db key) list
+
+abbrev pub is_young : Moment → DatabaseCopy → Bool
+is_young moment c = not (is_aged_out moment c)
