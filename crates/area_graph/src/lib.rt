@@ -8,5 +8,5 @@ mod nodes;
 mod one_way;
 mod vertices;
 
-pub use nodes::{nodes_of, place_of};
+pub use nodes::{is_before, nodes_of, place_of};
 pub use vertices::graph_of;

@@ -1,7 +1,8 @@
 //! The candidates for the routing table: of all that a database offers, the best for each prefix (RFC 2328, section 16).
 #![tactic(auto)]
 
-ghost use Rattle.std.specs.Prelude.{◌≡◌, Some, IfOk};
+ghost use Rattle.std.specs.Prelude.{◌≡◌, ◌≤◌, Some, IfOk, length};
+ghost use Rattle.std.specs.FinMap as finite;
 ghost use Rattle.std.specs.List.{Contains};
 ghost use Rattle.lsa.specs.declared.body.Body.{Body as BodyValue};
 ghost use Rattle.words.specs.declared.key.Key.{Key as KeyValue};
@@ -14,8 +15,29 @@ use offers::{
     Inner, Ways, inner_offers, lengths_of, push_externals, routes_of_offers, told_routes,
 };
 use routes::Root;
+use shortest_paths::walk;
 use std::alloc::{AllocError, Global};
 use words::{Key, Route, Second};
+
+/// The candidates of a database at a moment: for each prefix that anything offers one route, in the order of the prefixes (RFC 2328,
+/// section 16). The database has at most 16,384 LSAs, the root at most 63 interfaces.
+///
+/// # Errors
+/// Where memory for the walk, the offers or the routes is refused.
+pub fn candidates(
+    alloc: Global,
+    db: &Lsdb,
+    root: &Root,
+    moment: Second,
+) -> Result<Vec<Route>, AllocError>
+    requires interfaces { length root.now.addresses ≤ 63 }
+    requires size { finite.len db.now.present ≤ 16384 }
+    ensures candidates { IfOk result (λ routes. AreCandidates (said_at moment db.now.present) root.now routes.items) }
+{
+    let reached = walk(alloc, db, root, moment)?;
+    let routes = routes_of(alloc, db, root, moment, &reached)?;
+    Ok(routes)
+}
 
 /// The candidates of a database at a moment, where these are the ways of its links: for each prefix that anything offers one route, in the
 /// order of the prefixes (RFC 2328, section 16). The time is that of a look-up for each LSA and of two sorts of the offers.

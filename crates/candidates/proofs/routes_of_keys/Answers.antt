@@ -1,9 +1,6 @@
-use Rattle.std.proofs.Common.{◌≡◌, List, sym, subst}
-use Rattle.std.specs.List.{Contains}
+use Rattle.std.proofs.Common.{List, sym, subst}
 use Rattle.words.specs.declared.route.Route.{Route}
-use Rattle.routes.specs.Routes.{AreRoutesAmong}
 use Rattle.routes.specs.Said.{Said, said_at}
-use Rattle.routes.specs.declared.offer.Offer.{Offer}
 use Rattle.offers.specs.Borders.{AreBelow, Ascend, HasLengths}
 use Rattle.offers.specs.Gathering.{Adds, OfEach}
 use Rattle.offers.specs.Sources.{OfExternal}

@@ -1,0 +1,3 @@
+pub mod Places
+pub mod Whole
+pub mod Alone

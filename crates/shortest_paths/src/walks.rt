@@ -1,0 +1,41 @@
+//! The walk itself.
+ghost use Rattle.std.specs.Prelude.{◌≤◌, length, IfOk};
+ghost use Rattle.std.specs.FinMap as finite;
+ghost use Rattle.routes.specs.Said.{said_at};
+ghost use Rattle.offers.specs.Ways.{AreNear, AreWays};
+ghost use Rattle.shortest_paths.specs.Reached.{way_in};
+
+use crate::reached::{Reached, find, root_alone};
+use area_graph::{graph_of, nodes_of};
+use lsdb::Lsdb;
+use routes::{Node, Root, least_ways};
+use std::alloc::{AllocError, Global};
+use words::Second;
+
+/// The ways to all nodes that walks over the links of a database lead to: for each its least cost, and exactly the interfaces of the first
+/// links of all least walks (RFC 2328, section 16.1). Where the root's router-LSA isn't there or is at MaxAge, the root alone is reached.
+///
+/// The database has at most 16,384 LSAs, the root at most 63 interfaces. The time is that of a look-up for each LSA, a look-up for each
+/// link and the search for least walks.
+///
+/// # Errors
+/// Where memory for the nodes, the graph or the ways is refused.
+pub fn walk(alloc: Global, db: &Lsdb, root: &Root, moment: Second) -> Result<Reached, AllocError>
+    requires interfaces { length root.now.addresses ≤ 63 }
+    requires size { finite.len db.now.present ≤ 16384 }
+    ensures ways { IfOk result (λ reached. AreWays (said_at moment db.now.present) root.now (way_in reached)) }
+    ensures near { IfOk result (λ reached. AreNear (way_in reached)) }
+{
+    let nodes = nodes_of(alloc, db, moment)?;
+    match find(&nodes, &Node::ARouter(root.router)) {
+        None => {
+            let reached = root_alone(alloc, root)?;
+            Ok(reached)
+        }
+        Some(at) => {
+            let graph = graph_of(alloc, db, root, moment, &nodes)?;
+            let ways = least_ways(alloc, &graph, at)?;
+            Ok(Reached::new(nodes, ways))
+        }
+    }
+}
