@@ -28,6 +28,19 @@ pub struct Draft {
     acknowledgments: Vec<Header>,
 }
 
+/// What is to be sent at an interface, list by list, for whoever puts it in order and packs it.
+#[derive(Drop)]
+pub struct DraftLists {
+    pub hellos: Vec<Hello>,
+    pub descriptions: Vec<Description>,
+    /// Link State Requests, each by its keys.
+    pub requests: Vec<Sequence<Key>>,
+    /// What Updates take along.
+    pub updates: Vec<Update>,
+    /// The instances to be acknowledged.
+    pub acknowledgments: Vec<Header>,
+}
+
 impl Model for Draft {
     ghost use Rattle.adjacency.specs.Drafts.{Drafted};
 
@@ -139,5 +152,29 @@ impl Draft {
         ensures { result.now ≡ self.now.acknowledgments }
     {
         &self.acknowledgments
+    }
+
+    /// Hands its lists out, without memory.
+    pub fn into_lists(self) -> DraftLists
+        ensures hellos { result.hellos.items ≡ self.hellos }
+        ensures descriptions { result.descriptions.items ≡ self.descriptions }
+        ensures requests { result.requests.items ≡ self.requests }
+        ensures updates { result.updates.items ≡ self.updates }
+        ensures acknowledgments { result.acknowledgments.items ≡ self.acknowledgments }
+    {
+        let Draft {
+            hellos,
+            descriptions,
+            requests,
+            updates,
+            acknowledgments,
+        } = self;
+        DraftLists {
+            hellos,
+            descriptions,
+            requests,
+            updates,
+            acknowledgments,
+        }
     }
 }

@@ -12,7 +12,7 @@ mod standing;
 mod state;
 mod verdict;
 
-pub use draft::{Draft, Update};
+pub use draft::{Draft, DraftLists, Update};
 pub use interface::Interface;
 pub use listed::{ListEntry, instance_of};
 pub use neighbor::Neighbor;

@@ -21,7 +21,7 @@ use Rattle.received.specs.Links.{Link}
 use Rattle.received.specs.Outcomes.{Send}
 use Rattle.events.specs.declared.model.Out.{Out}
 use Rattle.events.specs.Packing.{acknowledgments, at_interface, bodies, descriptions, fill_on, first_key, header_size, hellos, in_key_order, lsa_size, out_of, outs_at, packed, packet_of, requests, sent_lsa, update_of, updates}
-use Rattle.event_rooms.specs.PackingLaws.{HasRoom, OutsAreOrderedAndPacked, sizes, total}
+use Rattle.event_rooms.specs.PackingLaws.{HasPacketRoom, HasRoom, OutsAreOrderedAndPacked, sizes, total}
 use Rattle.event_rooms.proofs.Packings.{by_interface, headers_fit, ordered, packs, put_all}
 
 -- ---- lists
@@ -73,33 +73,28 @@ chosen_all {Y = Y} f P each (c ∷ cs) p = in_front (f c) (each c p.0) (filter_m
 
 -- ---- bytes
 
-HasFewBytes : Body → Type 0
-HasFewBytes b = 24 + length (body_text closed b) ≤ 8192
-
 canonical_length : (p : Packet) → length (canonical p) ≡ 24 + length (body_text closed p.body)
 unfolding canonical
 canonical_length p = length-append (fields (header (type_of p.body) (24 + length (body_text closed p.body)) p.router (packet_checksum (text closed 0 p)) 0)) (body_text closed p.body)
 
-hello_room : (c : Content) → HasRoom c → AllByRecursion HasFewBytes (cons_option (hellos c) [])
-unfolding HasFewBytes
+hello_room : (c : Content) → HasRoom c → AllByRecursion HasPacketRoom (cons_option (hellos c) [])
 hello_room (Content.SendsHello h) room =
     let wide : length (flat_map router_text h.neighbors) ≡ 4 * length h.neighbors = length-records_text router_at router_text IsRouter 4 router-wide h.neighbors in
     let size : length (fields (hello closed h) ++ flat_map router_text h.neighbors) ≡ 20 + length (flat_map router_text h.neighbors) = length-append (fields (hello closed h)) (flat_map router_text h.neighbors) in
     let few : 24 + length (fields (hello closed h) ++ flat_map router_text h.neighbors) ≤ 8192 = omega (arith, wide, size, room) in
-    (few, tt)
+    (record { bytes = few; count = omega arith }, tt)
 hello_room (Content.Describes d) room = tt
 hello_room (Content.Requests keys) room = tt
 hello_room (Content.Updates lsa) room = tt
 hello_room (Content.Acknowledges h) room = tt
 
-description_room : (c : Content) → HasRoom c → AllByRecursion HasFewBytes (cons_option (descriptions c) [])
-unfolding HasFewBytes
+description_room : (c : Content) → HasRoom c → AllByRecursion HasPacketRoom (cons_option (descriptions c) [])
 description_room (Content.SendsHello h) room = tt
 description_room (Content.Describes d) room =
     let wide : length (flat_map header_text d.headers) ≡ 20 * length d.headers = length-records_text header_at header_text IsHeader 20 header-wide d.headers in
     let size : length (fields (description d) ++ flat_map header_text d.headers) ≡ 8 + length (flat_map header_text d.headers) = length-append (fields (description d)) (flat_map header_text d.headers) in
     let few : 24 + length (fields (description d) ++ flat_map header_text d.headers) ≤ 8192 = omega (arith, wide, size, room) in
-    (few, tt)
+    (record { bytes = few; count = omega arith }, tt)
 description_room (Content.Requests keys) room = tt
 description_room (Content.Updates lsa) room = tt
 description_room (Content.Acknowledges h) room = tt
@@ -115,11 +110,11 @@ request_room (Content.Requests keys) room = (room, tt)
 request_room (Content.Updates lsa) room = tt
 request_room (Content.Acknowledges h) room = tt
 
-request_bytes : (keys : List Key) → IsShort keys → HasFewBytes (body.Request keys)
-unfolding IsShort HasFewBytes
+request_bytes : (keys : List Key) → IsShort keys → HasPacketRoom (body.Request keys)
+unfolding IsShort
 request_bytes keys short =
     let wide : length (flat_map key_text keys) ≡ 12 * length keys = length-records_text key_at key_text IsKey 12 key-wide keys in
-    omega (arith, wide, short)
+    record { bytes = omega (arith, wide, short); count = omega arith }
 
 IsSized : Lsa → Type 0
 IsSized lsa = (length (lsa_text.text lsa) ≡ lsa_size lsa) × (28 + lsa_size lsa ≤ 8192)
@@ -144,13 +139,24 @@ texts_length delay (l ∷ ls) p =
     length-append (lsa_text.text (sent_lsa delay l)) (flat_map (λ (t : List ℕ). t) (map (λ (m : Lsa). lsa_text.text (sent_lsa delay m)) ls))
     ∙ (λ i. (sent_length delay l ∙ p.0.0) i + texts_length delay ls p.1 i)
 
-update_bytes : (delay : ℕ) (lsas : List Lsa) → AllByRecursion IsSized lsas × (total lsa_size 28 lsas ≤ 8192) → HasFewBytes (update_of delay lsas)
-unfolding HasFewBytes
+-- no more texts than they have bytes
+texts_count : (delay : ℕ) (lsas : List Lsa)
+    → length (map (λ (l : Lsa). lsa_text.text (sent_lsa delay l)) lsas) ≤ length (flat_map (λ (t : List ℕ). t) (map (λ (l : Lsa). lsa_text.text (sent_lsa delay l)) lsas))
+texts_count delay [] = omega arith
+texts_count delay (l ∷ ls) =
+    omega (
+      arith,
+      length-append (lsa_text.text (sent_lsa delay l)) (flat_map (λ (t : List ℕ). t) (map (λ (m : Lsa). lsa_text.text (sent_lsa delay m)) ls)),
+      length-append (header_text (sent_lsa delay l).header) (lsa_text.body_text l.body),
+      texts_count delay ls,
+    )
+
+update_bytes : (delay : ℕ) (lsas : List Lsa) → AllByRecursion IsSized lsas × (total lsa_size 28 lsas ≤ 8192) → HasPacketRoom (update_of delay lsas)
 update_bytes delay lsas p =
     let texts : List (List ℕ) = map (λ (l : Lsa). lsa_text.text (sent_lsa delay l)) lsas in
     let size : length (router_text (length texts) ++ flat_map (λ (t : List ℕ). t) texts) ≡ 4 + sizes lsa_size lsas =
     length-append (router_text (length texts)) (flat_map (λ (t : List ℕ). t) texts) ∙ ap (λ n. 4 + n) (texts_length delay lsas p.0) in
-    omega (arith, size, p.1)
+    record { bytes = omega (arith, size, p.1); count = omega (arith, texts_count delay lsas, texts_length delay lsas p.0, p.1) }
 
 sized_fit : (lsas : List Lsa) → AllByRecursion IsSized lsas → AllByRecursion (λ l. 28 + lsa_size l ≤ 8192) lsas
 unfolding IsSized
@@ -161,13 +167,12 @@ headers_length : (hs : List Header) → length (flat_map header_text hs) ≡ siz
 headers_length [] = refl
 headers_length (h ∷ hs) = length-append (header_text h) (flat_map header_text hs) ∙ ap (λ n. 20 + n) (headers_length hs)
 
-acknowledgment_bytes : (hs : List Header) → total header_size 24 hs ≤ 8192 → HasFewBytes (body.Acknowledgment hs)
-unfolding HasFewBytes
-acknowledgment_bytes hs p = omega (arith, p, headers_length hs)
+acknowledgment_bytes : (hs : List Header) → total header_size 24 hs ≤ 8192 → HasPacketRoom (body.Acknowledgment hs)
+acknowledgment_bytes hs p = record { bytes = omega (arith, p, headers_length hs); count = omega arith }
 
 -- ---- all packets
 
-bodies_few : (delay : ℕ) (cs : List Content) → AllByRecursion HasRoom cs → AllByRecursion HasFewBytes (bodies delay cs)
+bodies_few : (delay : ℕ) (cs : List Content) → AllByRecursion HasRoom cs → AllByRecursion HasPacketRoom (bodies delay cs)
 bodies_few delay cs rooms =
     let hs : List Body = filter_map hellos cs in
     let ds : List Body = filter_map descriptions cs in
@@ -179,15 +184,15 @@ bodies_few delay cs rooms =
     let parcels : AllByRecursion (λ p. AllByRecursion IsSized p × (total lsa_size 28 p ≤ 8192)) (packed lsa_size 28 lsas) =
     paired_all (λ p. AllByRecursion IsSized p) (λ p. total lsa_size 28 p ≤ 8192) (packed lsa_size 28 lsas)
     (packed_all lsa_size 28 IsSized lsas sized) (packs lsa_size 28 lsas (sized_fit lsas sized)).within in
-    both HasFewBytes _ (map body.Acknowledgment (packed header_size 24 headers))
-    (both HasFewBytes _ (map (update_of delay) (packed lsa_size 28 lsas))
-    (both HasFewBytes _ (map body.Request keys)
-    (both HasFewBytes hs ds (chosen_all hellos HasFewBytes hello_room cs rooms) (chosen_all descriptions HasFewBytes description_room cs rooms))
-    (mapped_all body.Request IsShort HasFewBytes request_bytes keys short))
-    (mapped_all (update_of delay) (λ p. AllByRecursion IsSized p × (total lsa_size 28 p ≤ 8192)) HasFewBytes (update_bytes delay) (packed lsa_size 28 lsas) parcels))
-    (mapped_all body.Acknowledgment (λ p. total header_size 24 p ≤ 8192) HasFewBytes acknowledgment_bytes (packed header_size 24 headers) (packs header_size 24 headers (headers_fit headers)).within)
+    both HasPacketRoom _ (map body.Acknowledgment (packed header_size 24 headers))
+    (both HasPacketRoom _ (map (update_of delay) (packed lsa_size 28 lsas))
+    (both HasPacketRoom _ (map body.Request keys)
+    (both HasPacketRoom hs ds (chosen_all hellos HasPacketRoom hello_room cs rooms) (chosen_all descriptions HasPacketRoom description_room cs rooms))
+    (mapped_all body.Request IsShort HasPacketRoom request_bytes keys short))
+    (mapped_all (update_of delay) (λ p. AllByRecursion IsSized p × (total lsa_size 28 p ≤ 8192)) HasPacketRoom (update_bytes delay) (packed lsa_size 28 lsas) parcels))
+    (mapped_all body.Acknowledgment (λ p. total header_size 24 p ≤ 8192) HasPacketRoom acknowledgment_bytes (packed header_size 24 headers) (packs header_size 24 headers (headers_fit headers)).within)
 
-there : (n : ℕ) (sends : List Send) → AllByRecursion (λ (s : Send). HasRoom s.content) sends → AllByRecursion HasRoom (filter_map (at_interface n) sends)
+pub there : (n : ℕ) (sends : List Send) → AllByRecursion (λ (s : Send). HasRoom s.content) sends → AllByRecursion HasRoom (filter_map (at_interface n) sends)
 there n [] p = tt
 there n (s ∷ sends) p = by_number (s.number == n) (there n sends p.1)
   where
@@ -195,16 +200,15 @@ there n (s ∷ sends) p = by_number (s.number == n) (there n sends p.1)
     by_number true rest = (p.0, rest)
     by_number false rest = rest
 
-out_few : (own n : ℕ) (b : Body) → HasFewBytes b → length (out_of own n b).bytes ≤ 8192
-unfolding HasFewBytes
-out_few own n b few = subst (λ k. k ≤ 8192) (sym (canonical_length (packet_of own b))) few
+out_few : (own n : ℕ) (b : Body) → HasPacketRoom b → length (out_of own n b).bytes ≤ 8192
+out_few own n b few = subst (λ k. k ≤ 8192) (sym (canonical_length (packet_of own b))) few.bytes
 
 outs_few : (own : ℕ) (sends : List Send) → AllByRecursion (λ (s : Send). HasRoom s.content) sends → (n : ℕ) (links : List Link)
     → AllByRecursion (λ (o : Out). length o.bytes ≤ 8192) (flat_map (λ (e : ℕ × Link). outs_at own sends e.0 e.1) (enumerate_from n links))
 outs_few own sends rooms n [] = tt
 outs_few own sends rooms n (link ∷ links) =
     both (λ (o : Out). length o.bytes ≤ 8192) (outs_at own sends n link) (flat_map (λ (e : ℕ × Link). outs_at own sends e.0 e.1) (enumerate_from (n + 1) links))
-    (mapped_all (out_of own n) HasFewBytes (λ (o : Out). length o.bytes ≤ 8192) (out_few own n) (bodies link.interface.delay (filter_map (at_interface n) sends))
+    (mapped_all (out_of own n) HasPacketRoom (λ (o : Out). length o.bytes ≤ 8192) (out_few own n) (bodies link.interface.delay (filter_map (at_interface n) sends))
     (bodies_few link.interface.delay (filter_map (at_interface n) sends) (there n sends rooms)))
     (outs_few own sends rooms (n + 1) links)
 
@@ -217,5 +221,6 @@ ordered_and_packed = record {
   acknowledgments = λ headers. ordered key_of headers;
   packed_updates = λ lsas fit. packs lsa_size 28 lsas fit;
   packed_acknowledgments = λ headers. packs header_size 24 headers (headers_fit headers);
+  bodies = bodies_few;
   bytes = λ own links sends rooms. outs_few own sends rooms 1 links;
 }

@@ -263,15 +263,19 @@ module _ (rules : Rules) (two_way_roomy : IsRoomyTwoWay rules.two_way) where
         on_database_roomy (λ db. finite.retain_keys db (stays moment o.area)) o (retained_fit o.area.database (stays moment o.area) h.fit) h;
   }
 
+  event_end : (old : Router) (moment : ℕ) (event : Occurrence) (outs : List Out) (new : Router) → (happens : HappensBy rules old moment event outs new)
+      → IsRoomy old → HasRoomFor (end_event old moment happens.after).router.area (end_event old moment happens.after).sends
+  event_end old moment event outs new happens h =
+      let start : OfEvent roomy (record { router = old; sends = [] }) = record {
+        area = record { fit = h.fit; lists = h.lists; few = h.few; sent = tt };
+        announced = tt;
+      } in (event_kept roomy rules parts_roomy old moment event happens.after (brings old event) happens.own start).area
+
   event_roomy : (old : Router) (moment : ℕ) (event : Occurrence) (outs : List Out) (new : Router) → HappensBy rules old moment event outs new
       → IsRoomy old → IsRoomy new × HaveRoom outs
   event_roomy old moment event outs new happens h =
       let p : EventState = end_event old moment happens.after in
-      let start : OfEvent roomy (record { router = old; sends = [] }) = record {
-        area = record { fit = h.fit; lists = h.lists; few = h.few; sent = tt };
-        announced = tt;
-      } in
-      let end : HasRoomFor p.router.area p.sends = (event_kept roomy rules parts_roomy old moment event happens.after (brings old event) happens.own start).area in
+      let end : HasRoomFor p.router.area p.sends = event_end old moment event outs new happens h in
       let after : IsRoomy p.router = record { fit = end.fit; lists = end.lists; few = end.few } in (
         subst IsRoomy (sym happens.router) after,
         subst HaveRoom (sym happens.sent) (ordered_and_packed.bytes old.id old.area.links p.sends end.sent),
@@ -317,6 +321,7 @@ pub every_packet_has_room : EveryPacketHasRoom
 every_packet_has_room = record {
   first = first_roomy;
   event = event_roomy whole named_roomy;
+  sends = λ old moment event outs new happens h. (event_end whole named_roomy old moment event outs new happens h).sent;
   hello_event = event_roomy hellos_alone unnamed_roomy;
   run = λ c steps new profile run. run_roomy steps (initial c) new run (first_roomy c profile);
 }

@@ -4,11 +4,14 @@ use Rattle.std.specs.List.{AllByRecursion, filter, flat_map}
 use Rattle.words.specs.declared.key.Key.{Key}
 use Rattle.lsdb.specs.Headers.{Header, Lsa, key_of, lsa_key}
 use Rattle.lsdb.specs.Keys.{same_key}
+use Rattle.packet.specs.declared.model.Body.{Body}
+use Rattle.packet.specs.Text.{body_text, closed, lsa_count}
+use Rattle.adjacency.specs.Contents.{Content}
 pub use Rattle.adjacency.specs.Rooms.{HasRoom}
 use Rattle.received.specs.Links.{Link}
 use Rattle.received.specs.Outcomes.{Send}
 use Rattle.events.specs.declared.model.Out.{Out}
-use Rattle.events.specs.Packing.{header_size, in_key_order, is_after, lsa_size, outs_of, packed}
+use Rattle.events.specs.Packing.{bodies, header_size, in_key_order, is_after, lsa_size, outs_of, packed}
 
 -- ---- in the order of the keys
 
@@ -53,6 +56,12 @@ pub record IsPacking {X : Type 0} (size : X → ℕ) (start : ℕ) (xs : List X)
   pub within : AllByRecursion (λ p. total size start p ≤ 8192) packets
   pub full : AreFull size start packets
 
+-- behind its header of 24 bytes a packet has room for what it says, and an Update for the number of
+-- its LSAs
+pub record HasPacketRoom (says : Body) : Type 0 where
+  pub bytes : 24 + length (body_text closed says) ≤ 8192
+  pub count : lsa_count says ≤ 8192
+
 -- ---- in the order of the interfaces
 
 abbrev pub AreByInterface : List Out → Type 0
@@ -74,6 +83,9 @@ pub record OutsAreOrderedAndPacked : Type 0 where
       → IsPacking lsa_size 28 lsas (packed lsa_size 28 lsas)
   pub packed_acknowledgments : (headers : List Header)
       → IsPacking header_size 24 headers (packed header_size 24 headers)
+  -- what each packet says has room in it
+  pub bodies : (delay : ℕ) (contents : List Content) → AllByRecursion HasRoom contents
+      → AllByRecursion HasPacketRoom (bodies delay contents)
   -- no packet has more than 8,192 bytes
   pub bytes : (own : ℕ) (links : List Link) (sends : List Send)
       → AllByRecursion (λ (s : Send). HasRoom s.content) sends

@@ -3,10 +3,12 @@
 use Rattle.std.specs.Prelude.{◌≡◌, ◌≤◌, ℕ, true, List, length}
 use Rattle.std.specs.List.{AllByRecursion}
 use Rattle.adjacency.specs.Neighbors.{Neighbor}
-use Rattle.adjacency.specs.Rooms.{AllFit, HasRoomyLists}
+use Rattle.adjacency.specs.Rooms.{AllFit, HasRoom, HasRoomyLists}
 use Rattle.received.specs.Holds.{HoldsOfEach}
+use Rattle.received.specs.Outcomes.{Send}
 use Rattle.events.specs.declared.model.Config.{Config}
 use Rattle.events.specs.declared.model.Out.{Out}
+use Rattle.events.specs.Endings.{end_event}
 use Rattle.events.specs.Events.{Happens, HappensBy, Run, Step, hellos_alone, initial}
 use Rattle.events.specs.Routers.{Occurrence, Router, in_profile}
 
@@ -31,6 +33,10 @@ pub record EveryPacketHasRoom : Type 0 where
   -- after each event, where it held before it; and what the event sends has room
   pub event : (old : Router) (moment : ℕ) (event : Occurrence) (outs : List Out) (new : Router)
       → Happens old moment event outs new → IsRoomy old → IsRoomy new × HaveRoom outs
+  -- each thing that it sends has room in a packet
+  pub sends : (old : Router) (moment : ℕ) (event : Occurrence) (outs : List Out) (new : Router)
+      → (happens : Happens old moment event outs new) → IsRoomy old
+      → AllByRecursion (λ (s : Send). HasRoom s.content) (end_event old moment happens.after).sends
   -- also where the Hello protocol alone is run
   pub hello_event : (old : Router) (moment : ℕ) (event : Occurrence) (outs : List Out)
       (new : Router)

@@ -1,0 +1,3 @@
+pub mod KeyOrder
+pub mod Packs
+pub mod Drafted

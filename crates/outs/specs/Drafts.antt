@@ -1,0 +1,21 @@
+-- The draft of what an event sends at an interface.
+use Rattle.std.specs.Prelude.{◌≡◌, List, []}
+use Rattle.std.specs.List.{AllByRecursion, filter_map}
+use Rattle.words.specs.Numbers.{InterfaceNumber}
+use Rattle.adjacency.specs.Drafts.{Drafted, drafting}
+use Rattle.adjacency.specs.Rooms.{HasRoom}
+use Rattle.received.specs.Links.{Link}
+use Rattle.received.specs.Outcomes.{Send}
+use Rattle.events.specs.Packing.{at_interface}
+
+abbrev pub nothing_drafted : Drafted
+nothing_drafted =
+    record { hellos = []; descriptions = []; requests = []; updates = []; acknowledgments = [] }
+
+-- of all that is sent, each with room in a packet, what goes to the interface of this number, which
+-- is that of the link
+pub record IsDraftAt (number : InterfaceNumber) (link : Link) (sends : List Send)
+    (draft : Drafted) : Type 0 where
+  pub drafted : draft
+      ≡ drafting link.interface.delay (filter_map (at_interface number) sends) nothing_drafted
+  pub room : AllByRecursion (λ (s : Send). HasRoom s.content) sends
