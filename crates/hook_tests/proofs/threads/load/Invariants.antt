@@ -1,0 +1,7 @@
+use Rattle.std.proofs.Common.{◌≡◌}
+use Rattle.hooks.specs.Known.{history_of}
+use Rattle.hook_tests.proofs.threads.load.Given as goal
+
+-- the loader's history stays
+abbrev pub invariant-loop-turn : goal.invariant-loop-turn
+invariant-loop-turn g l = history_of l.loader ≡ history_of l.fn.loader

@@ -1,0 +1,74 @@
+//! What the tests ask with.
+ghost use Rattle.std.specs.Prelude.{◌≡◌, [], IfOk, length, map};
+ghost use Rattle.std.specs.List.{range_with_len};
+ghost use Rattle.maps.specs.Words.{IsOf, fresh};
+
+use asm::assemble;
+use maps::{MapsError, Seat, Shared};
+use object_verdicts::verify_object;
+use std::alloc::Global;
+use std::test::Fail;
+use verifier::Accepted;
+use words::{Address, External, ExternalType, Hops, Prefix, Route, RouteKind, Second, TableRow};
+
+/// When every question is asked.
+pub fn moment() -> Second {
+    Second::new(5)
+}
+
+/// Answers 7 at `price`.
+pub const SEVEN: &str = "hook price\nrank 0\nr0 = 7\nexit\n";
+
+fn verified(alloc: Global, text: &str) -> Option<Accepted> {
+    let object = assemble(alloc, text).ok()?;
+    let bytes = object::write(alloc, &object).ok()?;
+    verify_object(alloc, &bytes).ok()
+}
+
+/// The program of the text. One allocation may be refused, as a run of the tests with a refusal makes it.
+pub fn accepted(alloc: Global, text: &str) -> Option<Accepted> {
+    match verified(alloc, text) {
+        None => verified(alloc, text),
+        made => made,
+    }
+}
+
+/// A table of so many seats. One allocation may be refused.
+pub fn table(alloc: Global, count: usize) -> Result<(Shared, Vec<Seat>), MapsError>
+    ensures { IfOk result (λ r. r.1.items ≡ map (fresh r.0.table) (range_with_len 0 count)) }
+{
+    match Shared::new(alloc, count) {
+        Err(MapsError::Memory) => Shared::new(alloc, count),
+        made => made,
+    }
+}
+
+/// 203.0.113.0/24 of type 2 with the configured metric 20 and the configured tag 0x05060708.
+pub fn external() -> Result<External, Fail> {
+    let prefix = Prefix::new(Address::new(0xcb00_7100), 24).ok_or("prefix")?;
+    Ok(External {
+        prefix,
+        metric: 20,
+        kind: ExternalType::Type2,
+        tag: 0x0506_0708,
+    })
+}
+
+/// 192.0.2.0/24 within the area, of cost 20 by the interface 1.
+pub fn route() -> Result<Route, Fail> {
+    let prefix = Prefix::new(Address::new(0xc000_0200), 24).ok_or("prefix")?;
+    Ok(Route {
+        prefix,
+        kind: RouteKind::Intra,
+        cost: 20,
+        distance: 0,
+        hops: Hops::only(1),
+        tag: 0,
+    })
+}
+
+/// The row 192.0.2.0/24 of cost 20.
+pub fn row() -> Result<TableRow, Fail> {
+    let prefix = Prefix::new(Address::new(0xc000_0200), 24).ok_or("prefix")?;
+    Ok(TableRow { prefix, cost: 20 })
+}

@@ -1,0 +1,127 @@
+//! An asker beside a loader on another thread.
+ghost use Rattle.std.specs.Prelude.{◌≡◌};
+ghost use Rattle.maps.specs.Words.{IsOf};
+ghost use Rattle.hooks.specs.Known.{asks_of, history_of};
+
+use crate::samples::{SEVEN, accepted, external, moment};
+use crate::trial::Trial;
+use hooks::{Asker, Loader};
+use machine::Hook;
+use maps::{Seat, Shared};
+use std::alloc::Global;
+use std::sync::Wait;
+use std::test::Fail;
+use std::thread::{Threads, join};
+use words::External;
+
+/// An asker with its seat.
+#[derive(Drop)]
+struct Worker {
+    asker: Asker,
+    seat: Seat,
+}
+
+impl Worker {
+    fn price(&mut self, external: &External, shared: &Shared) -> Option<u64>
+        requires { IsOf shared.now self.old.seat }
+        ensures history { asks_of self.new.asker ≡ asks_of self.old.asker }
+        ensures table { IsOf shared.now self.new.seat }
+    {
+        let answer = self
+            .asker
+            .price(external, moment(), &[], shared, &mut self.seat)?;
+        Some(answer.word())
+    }
+
+    // Asks until the program answers, but not forever.
+    fn ask_until_seven(&mut self, external: &External, shared: &Shared)
+        requires { IsOf shared.now self.old.seat }
+        ensures history { asks_of self.new.asker ≡ asks_of self.old.asker }
+        ensures table { IsOf shared.now self.new.seat }
+    {
+        for _turn in 0..1_000_000u32 {
+            if self.price(external, shared) == Some(7) {
+                return;
+            }
+        }
+    }
+
+    // Asks a thousand times, and counts the words that are neither the program's nor the metric.
+    fn ask_a_thousand(&mut self, external: &External, shared: &Shared) -> u32
+        requires { IsOf shared.now self.old.seat }
+        ensures history { asks_of self.new.asker ≡ asks_of self.old.asker }
+        ensures table { IsOf shared.now self.new.seat }
+    {
+        let mut others = 0u32;
+        for _turn in 0..1_000u32 {
+            match self.price(external, shared) {
+                Some(7 | 20) => {}
+                _ => others = others.wrapping_add(1),
+            }
+        }
+        others
+    }
+}
+
+// Attaches and detaches so often, and detaches at last. Whether each was done.
+fn load<R: Wait + Drop>(alloc: Global, loader: Loader<R>) -> (Loader<R>, bool)
+    ensures { history_of result.0 ≡ history_of loader }
+{
+    let mut loader = loader;
+    let mut done = true;
+    for _turn in 0..500u32 {
+        let attached = match accepted(alloc, SEVEN) {
+            Some(program) => loader.attach(program).is_ok(),
+            None => false,
+        };
+        let detached = loader.detach(Hook::Price).is_ok();
+        done = done && attached && detached;
+    }
+    (loader, done)
+}
+
+// Asks while the loader attaches and detaches. Whether all was done, how many words were others than 7 and 20, and the
+// word after learning of the last detach.
+fn race<R: Threads + Wait + Sync>(
+    rt: &R,
+    alloc: Global,
+    trial: Trial<&R>,
+    external: &External,
+) -> (bool, u32, Option<u64>) {
+    let Trial {
+        loader,
+        asker,
+        shared,
+        seat,
+    } = trial;
+    let words = &shared;
+    let worker = Worker { asker, seat };
+    let ((loader, done), (worker, others)) = join(
+        rt,
+        move || load(alloc, loader),
+        move || -> (Worker, u32)
+            requires { IsOf words.now worker.seat }
+            ensures history { asks_of result.0.asker ≡ asks_of worker.asker }
+            ensures table { IsOf words.entry.now result.0.seat }
+        {
+            let mut worker = worker;
+            worker.ask_until_seven(external, words);
+            let others = worker.ask_a_thousand(external, words);
+            (worker, others)
+        },
+    );
+    let mut worker = worker;
+    worker.asker.learn(loader.notice());
+    (done, others, worker.price(external, &shared))
+}
+
+#[test]
+fn each_word_beside_a_loader_is_the_programs_or_the_metric(rt: HostRuntime) -> Result<(), Fail> {
+    let trial = Trial::new(rt.alloc(), &rt)?;
+    let external = external()?;
+    assert_eq!(rt;
+        race(&rt, rt.alloc(), trial, &external),
+        (true, 0, Some(20))
+    );
+    Ok(())
+}

@@ -1,0 +1,126 @@
+//! A loader, one of its askers, and a seat of a table.
+ghost use Rattle.std.specs.Prelude.{◌≡◌, All, IfOk};
+ghost use Rattle.maps.specs.Words.{IsOf};
+ghost use Rattle.hooks.specs.Known.{IsNew, asks_of, history_of};
+
+use crate::samples::{accepted, external, moment, route, table};
+use hooks::{Asker, HookError, Loader, PriceAnswer, TagAnswer, VetoAnswer, programs};
+use machine::{Hook, TableRow};
+use maps::{Seat, Shared};
+use std::alloc::{AllocError, Global};
+use std::sync::Wait;
+use std::test::Fail;
+use words::{External, Route};
+
+/// The asker is the loader's, and the seat the table's.
+#[derive(Drop)]
+pub struct Trial<R: Wait + Drop> {
+    pub loader: Loader<R>,
+    pub asker: Asker,
+    pub shared: Shared,
+    pub seat: Seat,
+    ghost same: { asks_of asker ≡ history_of loader },
+    ghost table: { IsOf shared seat },
+}
+
+/// A loader with so many askers. One allocation may be refused.
+pub fn loader_and_askers<R: Wait + Drop + Copy>(
+    alloc: Global,
+    rt: R,
+    askers: usize,
+) -> Result<(Loader<R>, Vec<Asker>), HookError>
+    ensures { IfOk result (λ t. All (IsNew (history_of t.0)) t.1.items) }
+{
+    match programs(alloc, rt, askers) {
+        Err(HookError::Memory | HookError::Places) => programs(alloc, rt, askers),
+        made => made,
+    }
+}
+
+/// A loader with its only asker.
+pub fn loader_and_asker<R: Wait + Drop + Copy>(
+    alloc: Global,
+    rt: R,
+) -> Result<(Loader<R>, Asker), HookError>
+    ensures { IfOk result (λ t. asks_of t.1 ≡ history_of t.0) }
+{
+    let (loader, mut askers) = loader_and_askers(alloc, rt, 1)?;
+    let Some(asker) = askers.pop() else {
+        return Err(HookError::Places);
+    };
+    Ok((loader, asker))
+}
+
+impl<R: Wait + Drop + Copy> Trial<R> {
+    /// Nothing is attached.
+    pub fn new(alloc: Global, rt: R) -> Result<Trial<R>, Fail> {
+        let (loader, asker) = loader_and_asker(alloc, rt)?;
+        let (shared, mut seats) = table(alloc, 1)?;
+        let seat = seats.pop().ok_or("no seat")?;
+        Ok(Trial {
+            loader,
+            asker,
+            shared,
+            seat,
+        })
+    }
+}
+
+impl<R: Wait + Drop> Trial<R> {
+    /// Attaches the program of the text.
+    pub fn attach(&mut self, alloc: Global, text: &str) -> Result<(), Fail>
+        ensures history { asks_of self.new.asker ≡ asks_of self.old.asker }
+    {
+        let program = accepted(alloc, text).ok_or("refused")?;
+        self.loader.attach(program)?;
+        Ok(())
+    }
+
+    pub fn detach(&mut self, hook: Hook) -> Result<(), AllocError> {
+        self.loader.detach(hook)
+    }
+
+    /// The asker learns of all that the loader has done.
+    pub fn learn(&mut self) {
+        self.asker.learn(self.loader.notice());
+    }
+
+    /// The word of `count` on the packet.
+    pub fn count(&mut self, packet: &[u8]) -> Option<u64> {
+        let answer = self
+            .asker
+            .count(1, moment(), packet, &self.shared, &mut self.seat)?;
+        Some(answer.word())
+    }
+
+    pub fn tag(&mut self, external: &External, rows: &[TableRow]) -> Option<TagAnswer> {
+        self.asker
+            .tag(external, moment(), rows, &self.shared, &mut self.seat)
+    }
+
+    pub fn price(&mut self, external: &External) -> Option<PriceAnswer>
+        ensures history { asks_of self.new.asker ≡ asks_of self.old.asker }
+    {
+        self.asker
+            .price(external, moment(), &[], &self.shared, &mut self.seat)
+    }
+
+    pub fn veto(&mut self, route: &Route) -> Option<VetoAnswer> {
+        self.asker
+            .veto(route, moment(), &[], &self.shared, &mut self.seat)
+    }
+
+    /// The word of `price`.
+    pub fn price_word(&mut self) -> Result<Option<u64>, Fail>
+        ensures history { asks_of self.new.asker ≡ asks_of self.old.asker }
+    {
+        let external = external()?;
+        Ok(self.price(&external).map(|answer| answer.word()))
+    }
+
+    /// The word of `veto`.
+    pub fn veto_word(&mut self) -> Result<Option<u64>, Fail> {
+        let route = route()?;
+        Ok(self.veto(&route).map(|answer| answer.word()))
+    }
+}
