@@ -1,12 +1,12 @@
 -- What a step of each form leads to, from what is known of the slot.
-use Rattle.std.proofs.Common.{◌≡◌, ℕ, suc, ◌+◌, ◌<◌, Bool, true, false, List, Option, Some, None, ◌⊎◌, inl, inr, ⊎_elim, refl, sym, ap, ◌∙◌, subst, arith}
+use Rattle.std.proofs.Common.{◌≡◌, ℕ, ◌+◌, ◌<◌, Bool, true, false, List, Option, Some, None, ◌⊎◌, inl, inr, ⊎_elim, refl, ap, ◌∙◌, arith}
 use Rattle.std.specs.Prelude.{nat_le, slice_get, IsSomeAnd, ℤ, if◌then◌else◌}
 use Rattle.std.proofs.lemmas.Bool.Decides.{nat_tests}
 use Rattle.isa.specs.declared.code.Slot.{Slot}
 use Rattle.isa.specs.declared.code.Slot.TheVariants.{Start}
 use Rattle.isa.specs.declared.hook.Hook.{Hook}
 use Rattle.isa.specs.declared.instruction.Instruction.{Instruction}
-use Rattle.isa.specs.declared.instruction.Instruction.TheVariants.{Branch, Jump, LongJump, Exit}
+use Rattle.isa.specs.declared.instruction.Instruction.TheVariants.{Branch, Exit}
 use Rattle.isa.specs.declared.instruction.Width.{Width}
 use Rattle.isa.specs.declared.instruction.Test.{Test}
 use Rattle.isa.specs.declared.instruction.Source.{Source}
@@ -14,20 +14,20 @@ use Rattle.machine.specs.declared.fault.Fault.{Fault}
 use Rattle.machine.specs.declared.state.State.{State as Machine}
 use Rattle.machine.specs.Label.{Label, Silent}
 use Rattle.machine.specs.State.{held, operand, jumped, moved_on}
-use Rattle.machine.specs.Steps.{IsAt, Does, Goes, Branches, tested}
+use Rattle.machine.specs.Steps.{IsAt, Does, Goes}
 use Rattle.machine.specs.Faults.{Stuck}
 use Rattle.kinds.specs.declared.state.State.{State}
 use Rattle.kinds.specs.declared.statement.Target.{Target}
 use Rattle.kinds.specs.Meaning.{StateHolds, TargetHolds}
 use Rattle.transfer.specs.declared.branch.Edges.{Edges}
 use Rattle.transfer.specs.Given.{Given, blank, setting_of}
-use Rattle.transfer.specs.Soundness.{IsSound, CanStep, Answers}
+use Rattle.transfer.specs.Soundness.{IsSound, CanStep}
 use Rattle.transfer.specs.Branches.{IsTested, HoldsBesides, PairHolds}
 use Rattle.transfer.specs.Laws.{CanStepIsFree}
 use Rattle.segments.specs.declared.known.Known.{Known}
 use Rattle.isa.specs.Flow.{Begins, size, slot_at_distance}
-use Rattle.segments.specs.Places.{IsEntry, IsWellPlaced, goes_on, target_at}
-use Rattle.segments.specs.Segments.{Enters, EntersNext, FallsThrough, GoesOn, IsFollowed, IsKnown, Knows}
+use Rattle.segments.specs.Places.{IsWellPlaced, goes_on, target_at}
+use Rattle.segments.specs.Segments.{Enters, EntersNext, GoesOn, IsFollowed, IsKnown, Knows}
 
 -- what is known says nothing of the slot
 pub moved : {D : Type 0} (contains : D → ℕ → Type 0) (state : State D) (start now next : Machine) (slot : ℕ) → StateHolds contains state start now → next ≡ record now { slot = slot } → StateHolds contains state start next

@@ -1,5 +1,5 @@
 -- What the tests of a slot's jumps and statements show.
-use Rattle.std.proofs.Common.{◌≡◌, ℕ, ◌+◌, ◌<◌, ◌≤◌, true, false, List, Option, Some, None, ◌⊎◌, inl, inr, ⊎_elim, refl, sym, ap, ◌∙◌, subst, length, arith}
+use Rattle.std.proofs.Common.{◌≡◌, ℕ, ◌+◌, ◌<◌, ◌≤◌, true, List, Option, Some, None, ◌⊎◌, inl, ⊎_elim, refl, subst, length, arith}
 use Rattle.std.specs.Prelude.{IfSome, IsSome, IsSomeAnd, slice_get}
 use Rattle.std.proofs.lemmas.Bool.{cases_lt}
 use Rattle.std.proofs.lemmas.Option.{slice_get_past}
@@ -11,7 +11,7 @@ use Rattle.isa.specs.Flow.{Begins, BeginsAt, size, jump_target, slot_after}
 use Rattle.kinds.specs.declared.statement.Target.{Target}
 use Rattle.segments.specs.Places.{goes_on, target_at}
 use Rattle.segments.specs.Stated.{statement_at, AreTargets}
-use Rattle.segments.specs.Refusals.{JumpsNowhere, IsStray, IsBadTarget, FallsOff, IsCutOff, IsUnreached, IsUnstated, IsWellMade}
+use Rattle.segments.specs.Refusals.{JumpsNowhere, IsStray, IsBadTarget, FallsOff, IsCutOff, IsUnreached, IsUnstated}
 use Rattle.segments.proofs.Targets.{unstated_of, stated_of}
 
 some_and : {A : Type 0} {P : A → Type 0} (o : Option A) → IsSomeAnd o P → (x : A) × (o ≡ Some x) × P x

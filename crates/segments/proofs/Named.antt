@@ -1,5 +1,4 @@
 -- Which rules an instruction may be refused by.
-use Rattle.std.proofs.Common.{◌≡◌, true}
 use Rattle.isa.specs.declared.hook.Hook.{Hook}
 use Rattle.isa.specs.declared.instruction.Instruction.{Instruction}
 use Rattle.transfer.specs.declared.rule.Rule.{Rule}

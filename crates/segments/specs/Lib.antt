@@ -2,3 +2,4 @@ pub mod Places
 pub mod Segments
 pub mod Stated
 pub mod Refusals
+pub mod Plain

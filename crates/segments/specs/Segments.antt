@@ -1,7 +1,6 @@
 -- The segments of a run: each goes from the entry or a statement up to the next statement.
-use Rattle.std.specs.Prelude.{◌≡◌, ℕ, ◌+◌, ◌≤◌, ◌⊎◌, Bool, true, nat_le, if◌then◌else◌, List, Option, Some, None, IsSomeAnd, slice_get}
+use Rattle.std.specs.Prelude.{◌≡◌, ℕ, ◌+◌, ◌≤◌, ◌⊎◌, Bool, true, nat_le, if◌then◌else◌, List, Option, Some, None, IsSomeAnd}
 use Rattle.isa.specs.declared.code.Slot.{Slot}
-use Rattle.isa.specs.declared.code.Slot.TheVariants.{Start}
 use Rattle.isa.specs.declared.hook.Hook.{Hook}
 use Rattle.isa.specs.declared.instruction.Instruction.{Instruction}
 use Rattle.machine.specs.declared.fault.Fault.{Fault}

@@ -1,5 +1,5 @@
 -- What is stated at a slot, and the list of targets that says it once more.
-use Rattle.std.specs.Prelude.{◌≡◌, ℕ, ◌<◌, Bool, ◌==◌, if◌then◌else◌, List, [], ◌∷◌, Option, Some, None, IsSome, length, slice_index_or}
+use Rattle.std.specs.Prelude.{◌≡◌, ℕ, ◌<◌, ◌==◌, if◌then◌else◌, List, [], ◌∷◌, Option, Some, None, length, slice_index_or}
 use Rattle.object.specs.Statements.{StatementParts}
 use Rattle.object.specs.declared.kind.Kind.TheVariants as said
 use Rattle.kinds.specs.declared.state.Kind.TheVariants as kinds

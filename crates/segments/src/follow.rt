@@ -1,5 +1,5 @@
 //! What one instruction makes of what is known, and where it may lead.
-ghost use Rattle.std.specs.Prelude.{◌≡◌, ◌<◌, ℕ, List, IfErr, IfOk, IsSome, IsSomeAnd, Some, true, slice_get};
+ghost use Rattle.std.specs.Prelude.{◌≡◌, ◌<◌, ℕ, List, IfErr, IfOk, IsOk, IsSome, IsSomeAnd, Some, false, nat_le, true, slice_get};
 ghost use Rattle.isa.specs.declared.code.Slot.{Slot as AnySlot};
 ghost use Rattle.isa.specs.declared.code.Slot.TheVariants.{Start};
 ghost use Rattle.isa.specs.declared.hook.Hook.{Hook as AnyHook};
@@ -11,9 +11,11 @@ ghost use Rattle.transfer.specs.Given.{Given, setting_of};
 ghost use Rattle.machine.specs.declared.state.State.{State as Machine};
 ghost use Rattle.machine.specs.State.{held, operand};
 ghost use Rattle.kinds.specs.Meaning.{StateHolds, TargetHolds};
+ghost use Rattle.kinds.specs.Plain.{IsFilled};
 ghost use Rattle.transfer.specs.Branches.{HoldsBesides, PairHolds};
-ghost use Rattle.transfer.specs.Plain.{IsStraight};
+ghost use Rattle.transfer.specs.Plain.{IsStraight, KeepsFilled};
 ghost use Rattle.transfer.specs.Rules.{IsOfExit};
+ghost use Rattle.segments.specs.Plain.{IsPlainHere, KeepsNumbers, MayEnter};
 ghost use Rattle.segments.specs.Places.{IsWellPlaced, goes_on, target_at};
 ghost use Rattle.segments.specs.Refusals.{IsOfEdge, MayFollow};
 ghost use Rattle.segments.specs.Segments.{EntersNext, IsFollowed, IsKnown, PassesTo};
@@ -53,6 +55,8 @@ pub fn jump_to<'a, D: Domain>(
         → IsKnown D.contains segment.now state.now start next
         → EntersNext D.contains targets.now segment.now slot start next) }
     ensures named { IfErr result IsOfEdge }
+    ensures plain { MayEnter D.contains targets.now segment.now (nat_le to slot) to
+        (IsFilled state.now) → IsOk result }
 {
     let Some(target) = stated_at(targets, to) else {
         unreachable!()
@@ -72,6 +76,9 @@ pub fn pass_on<'a, D: Domain>(
         → IsKnown D.contains segment.now state start next
         → PassesTo D.contains targets.now segment.now slot next_slot after start next) }
     ensures named { IfErr result IsOfEdge }
+    ensures plain { MayEnter D.contains targets.now segment.now false next_slot (IsFilled state)
+        → IsOk result }
+    ensures same { IfOk result (λ after. after.state ≡ state) }
 {
     let Some(target) = stated_at(targets, next_slot) else {
         return Ok(Known {
@@ -109,6 +116,9 @@ fn take<'a, D: Domain>(
         → next ≡ record now { slot = to }
         → EntersNext D.contains targets.now segment.now slot start next) }
     ensures named { IfErr result IsOfEdge }
+    ensures plain { MayEnter D.contains targets.now segment.now (nat_le to slot) to (IsFilled state)
+        → IsOk result }
+    ensures keeps { IfOk result (KeepsNumbers state) }
 {
     let Some(values) = taken else {
         return Ok(state);
@@ -135,6 +145,9 @@ fn stay<'a, D: Domain>(
         → slot < next_slot → next ≡ record now { slot = next_slot }
         → PassesTo D.contains targets.now segment.now slot next_slot after start next) }
     ensures named { IfErr result IsOfEdge }
+    ensures plain { MayEnter D.contains targets.now segment.now false next_slot (IsFilled state)
+        → IsOk result }
+    ensures keeps { IfOk result (λ after. KeepsNumbers state after.state) }
 {
     let Some(values) = passed else {
         return Ok(Known {
@@ -169,6 +182,10 @@ fn branch<'a, D: Domain>(
         (Instruction.Branch width test operands.now.left operands.now.right distance) state) }
     ensures named { IfErr result (MayFollow hook
         (Instruction.Branch width test operands.now.left operands.now.right distance)) }
+    ensures plain { IsPlainHere D.contains targets.now segment.now slot
+        (Instruction.Branch width test operands.now.left operands.now.right distance) state
+        → IsOk result }
+    ensures keeps { IfOk result (λ after. KeepsNumbers state after.state) }
 {
     what_can_step_is_never_stuck();
     let edges = tested(&state, width, test, operands.left, operands.right)?;
@@ -191,6 +208,9 @@ fn leave<'a, D: Domain>(
         → IsKnown D.contains segment.now state start now → next ≡ record now { slot = to }
         → EntersNext D.contains targets.now segment.now slot start next) }
     ensures named { IfErr result IsOfEdge }
+    ensures plain { MayEnter D.contains targets.now segment.now (nat_le to slot) to (IsFilled state)
+        → IsOk result }
+    ensures same { IfOk result (λ after. after.state ≡ state) }
 {
     jump_to(targets, segment, &state, slot, to)?;
     Ok(Known {
@@ -206,6 +226,8 @@ fn end<D: Domain>(state: State<D>) -> Result<Known<D>, Rule>
         → IsAt (setting_of code hook input) now Exit
         → (fault : Fault) → Stuck (setting_of code hook input) now fault → ⊥) }
     ensures named { IfErr result IsOfExit }
+    ensures plain { IsFilled state 0 → IsOk result }
+    ensures same { IfOk result (λ after. after.state ≡ state) }
 {
     an_answer_is_never_stuck(&state);
     answers(&state)?;
@@ -233,6 +255,10 @@ fn go_on<'a, D: Domain>(
     ensures followed { IfOk result
         (IsFollowed D.contains code.now hook targets.now segment.now slot instruction state) }
     ensures named { IfErr result (MayFollow hook instruction) }
+    ensures plain { IsPlainHere D.contains targets.now segment.now slot instruction state
+        → IsOk result }
+    ensures keeps { IsPlainHere D.contains targets.now segment.now slot instruction state
+        → IfOk result (λ after. KeepsFilled instruction state after.state) }
 {
     what_can_step_is_never_stuck();
     let next_slot = slot + slots_of(&instruction);
@@ -257,8 +283,13 @@ pub fn follow<'a, D: Domain>(
     ensures followed { IfOk result
         (IsFollowed D.contains code.now hook targets.now segment.now slot instruction state) }
     ensures named { IfErr result (MayFollow hook instruction) }
+    ensures plain { IsPlainHere D.contains targets.now segment.now slot instruction state
+        → IsOk result }
+    ensures keeps { IsPlainHere D.contains targets.now segment.now slot instruction state
+        → IfOk result (λ after. KeepsFilled instruction state after.state) }
 {
     what_can_step_is_never_stuck();
+    instruction.check_ranges();
     match instruction {
         Instruction::Jump { distance } => Ok(leave(
             targets,

@@ -1,4 +1,4 @@
-use Rattle.std.proofs.Common.{◌≡◌, ◌+◌, ◌<◌, suc, List, [], ◌∷◌, length, drop, sym, ap, ◌∙◌, subst, arith, add-one, drop-cons}
+use Rattle.std.proofs.Common.{◌≡◌, ◌+◌, ◌<◌, suc, [], ◌∷◌, length, drop, sym, ap, ◌∙◌, subst, arith, add-one, drop-cons}
 use Rattle.std.proofs.lemmas.Grind.{common_steps}
 use Rattle.segments.proofs.Targets.{AreFoundSoFar, all_found, none_found, one_more_found}
 use Rattle.segments.proofs.target.targets_of.Goals as goal

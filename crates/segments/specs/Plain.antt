@@ -1,0 +1,66 @@
+-- What an instruction of a plain program finds known at its slot, and what may be asked where it leads.
+use Rattle.std.specs.Prelude.{◌≡◌, ◌⊎◌, ℕ, ◌+◌, ◌≤◌, Bool, true, false, nat_le, if◌then◌else◌, List, Option, Some, length}
+use Rattle.isa.specs.declared.instruction.Instruction.{Instruction}
+use Rattle.isa.specs.Flow.{jump_target, register_written, slot_after}
+use Rattle.machine.specs.Faults.{writes_frame}
+use Rattle.object.specs.Sets.{has_byte}
+use Rattle.kinds.specs.declared.state.Kind.{Kind}
+use Rattle.kinds.specs.declared.state.Kind.TheVariants as kinds
+use Rattle.kinds.specs.declared.state.State.{State}
+use Rattle.kinds.specs.declared.statement.Target.{Target}
+use Rattle.kinds.specs.Plain.{IsFilled, kind_in}
+use Rattle.kinds.specs.Stated.{HasEveryNumber}
+use Rattle.ranks.specs.Lines.{IsConstant}
+use Rattle.transfer.specs.Plain.{IsPlainInstruction, ReadsFilled}
+use Rattle.segments.specs.Places.{goes_on, target_at}
+
+-- the instruction at the slot may lead there, by its jump or behind itself
+abbrev pub LeadsTo : ℕ → Instruction → ℕ → Type 0
+LeadsTo slot i to =
+    (jump_target slot i ≡ Some to) ⊎ ((goes_on i ≡ true) × (slot_after slot i ≡ to))
+
+-- once the instruction is done the register is known to hold a number: it was, or is written
+abbrev pub IsFilledBehind : {D : Type 0} → Instruction → State D → ℕ → Type 0
+IsFilledBehind i state r = IsFilled state r ⊎ (register_written i ≡ Some r)
+
+-- Of a register nothing is asked, or that it is any number, and then it is filled.
+abbrev pub AsksAtMost : {D : Type 0} → (D → ℕ → Type 0) → Type 0 → Kind D → Type 0
+AsksAtMost contains filled kinds.Empty = Unit {0}
+AsksAtMost contains filled (kinds.Number value) =
+    HasEveryNumber contains (kinds.Number value) × filled
+AsksAtMost contains filled other = ⊥
+
+-- An edge of a plain program: the target asks for no more numbers than are filled, of any value, and
+-- for no bytes. Both ranks are constants, and the target's isn't above the segment's, on a back jump
+-- less.
+pub record IsPlainEdge {D : Type 0} (contains : D → ℕ → Type 0) (back : Bool)
+    (segment target : Target D) (filled : ℕ → Type 0) : Type 0 where
+  pub asks : (r : ℕ) → AsksAtMost contains (filled r) (kind_in target.kinds.items r)
+  pub no_bytes : (at : ℕ) → has_byte target.statement.now.stack at ≡ false
+  pub own : IsConstant segment.statement.now.rank
+  pub constant : IsConstant target.statement.now.rank
+  pub falls : target.statement.now.rank.constant + (if back then 1 else 0)
+      ≤ segment.statement.now.rank.constant
+
+-- where the slot has a statement, the edge to it is plain
+abbrev pub MayEnter : {D : Type 0} → (D → ℕ → Type 0) → List (Option (Target D)) → Target D → Bool
+    → ℕ → (ℕ → Type 0) → Type 0
+MayEnter {D} contains targets segment back to filled =
+    (target : Target D) → target_at targets to ≡ Some target
+    → IsPlainEdge contains back segment target filled
+
+-- An instruction of a plain program, not of r10: what it reads is known to be numbers, and each edge
+-- from it is plain.
+pub record IsPlainHere {D : Type 0} (contains : D → ℕ → Type 0) (targets : List (Option (Target D)))
+    (segment : Target D) (slot : ℕ) (i : Instruction) (state : State D) : Type 0 where
+  pub plain : IsPlainInstruction i
+  pub frame : writes_frame i ≡ false
+  pub reads : ReadsFilled i state
+  pub ten : length state.kinds.items ≡ 10
+  pub edges : (to : ℕ) → LeadsTo slot i to
+      → MayEnter contains targets segment (nat_le to slot) to (IsFilledBehind i state)
+
+-- as many registers as before, and numbers stay numbers
+pub record KeepsNumbers {D : Type 0} (state after : State D) : Type 0 where
+  pub long : length after.kinds.items ≡ length state.kinds.items
+  pub others : (r : ℕ) → IsFilled state r → IsFilled after r
