@@ -1,6 +1,5 @@
 -- The start of a run is as the entry says.
-use Rattle.std.proofs.Common.{◌≡◌, ℕ, zero, suc, ◌+◌, ◌<◌, ◌≤◌, Bool, true, false, List, [], ◌∷◌, ◌++◌, Option, Some, None, refl, sym, subst, ◌∙◌, get_or, length, arith, ⊎_elim}
-use Rattle.std.specs.Prelude.{replicate}
+use Rattle.std.proofs.Common.{◌≡◌, ℕ, zero, suc, ◌<◌, ◌≤◌, Bool, true, false, List, [], ◌∷◌, Option, Some, refl, subst, get_or, length, arith, ⊎_elim}
 use Rattle.std.proofs.lemmas.List.{get_or-replicate, length-replicate}
 use Rattle.std.proofs.lemmas.Bool.{cases_lt}
 use Rattle.object.specs.Sets.{has_byte, no_bytes}
@@ -12,7 +11,7 @@ use Rattle.kinds.specs.declared.state.Kind.{Kind}
 use Rattle.kinds.specs.declared.state.Kind.TheVariants.{Empty, Pointer}
 use Rattle.kinds.specs.declared.state.Place.TheVariants.{Context}
 use Rattle.kinds.specs.declared.statement.Target.{Target}
-use Rattle.kinds.specs.Meaning.{KindHolds, TargetHolds, StatedHolds}
+use Rattle.kinds.specs.Meaning.{KindHolds, TargetHolds}
 use Rattle.segments.specs.Places.{target_at}
 use Rattle.segments.specs.Segments.{Enters}
 

@@ -2,4 +2,6 @@ pub mod SegmentLemmas
 pub mod Soundness
 pub mod Entries
 pub mod Refused
+pub mod Plain
+pub mod Examples
 pub mod Idle

@@ -1,5 +1,5 @@
 -- Where the pass refuses a program, the rule that it names is broken, and none that is tried before.
-use Rattle.std.proofs.Common.{◌≡◌, ℕ, ◌+◌, ◌<◌, ◌≤◌, Bool, true, false, List, Option, Some, None, ◌⊎◌, inl, inr, ⊎_elim, refl, sym, subst, arith}
+use Rattle.std.proofs.Common.{◌≡◌, ℕ, ◌+◌, ◌<◌, ◌≤◌, Bool, true, false, List, Option, Some, None, inr, ⊎_elim, refl, sym, subst, arith}
 use Rattle.std.specs.Prelude.{IfErr, IsSome, Result, Ok, Err, slice_get}
 use Rattle.std.specs.Result.{IsErrAnd}
 use Rattle.std.proofs.lemmas.Bool.{cases_lt}
@@ -18,7 +18,7 @@ use Rattle.transfer.specs.declared.rule.Rule.TheVariants as rules
 use Rattle.transfer.specs.Rules.{LacksHelper}
 use Rattle.segments.specs.Places.{goes_on, target_at}
 use Rattle.segments.specs.Stated.{statement_at, AreTargets}
-use Rattle.segments.specs.Refusals.{JumpsNowhere, IsStray, IsBadTarget, LacksHelperAt, IsCutOff, IsWellMade, IsFirst, IsFirstHere, IsPassedTo, IsPlaceRefusal, IsOfEdge, MayFollow, MayRefuse}
+use Rattle.segments.specs.Refusals.{JumpsNowhere, IsStray, LacksHelperAt, IsWellMade, IsFirst, IsFirstHere, IsPassedTo, IsPlaceRefusal, IsOfEdge, MayFollow, MayRefuse}
 use Rattle.segments.proofs.Targets.{stated_of, unstated_of}
 use Rattle.verifier.proofs.SegmentLemmas.{none_between, size_some, sizes}
 

@@ -11,15 +11,13 @@ use Rattle.std.proofs.lemmas.Bool.{cases_lt}
 use Rattle.isa.specs.Flow.{Begins, size}
 use Rattle.isa.specs.Laws.{OneEndsAtASlot, WideHasSecondHalf}
 use Rattle.machine.specs.declared.state.State.{State as Machine}
-use Rattle.machine.specs.Label.{Label}
 use Rattle.machine.specs.Steps.{Does}
-use Rattle.kinds.specs.declared.state.State.{State}
 use Rattle.kinds.specs.declared.statement.Target.{Target}
 use Rattle.kinds.specs.Meaning.{StateHolds, TargetHolds}
 use Rattle.transfer.specs.Given.{Given, setting_of}
 use Rattle.segments.specs.declared.known.Known.{Known}
 use Rattle.segments.specs.Places.{segment_of, target_at}
-use Rattle.segments.specs.Segments.{Visits, at_entry, at_target, falls, Enters, EntersNext, LeadsOn, IsFine, IsKnown, Knows, FallsThrough, GoesOn, IsFollowed, IsCurrent, IsCurrentUnlessStated}
+use Rattle.segments.specs.Segments.{Visits, at_entry, at_target, falls, Enters, EntersNext, LeadsOn, IsFine, Knows, FallsThrough, IsFollowed, IsCurrent, IsCurrentUnlessStated}
 
 -- no statement, and yet one
 none_is_some : {A : Type 0} {x : A} (o : Option A) → o ≡ None → o ≡ Some x → ⊥

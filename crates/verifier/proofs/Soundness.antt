@@ -1,19 +1,17 @@
 -- A program whose slots are all fine is safe.
-use Rattle.std.proofs.Common.{◌≡◌, ℕ, zero, suc, ◌+◌, ◌-◌, ◌*◌, ◌<◌, ◌≤◌, true, false, List, [], ◌∷◌, Option, Some, None, ◌⊎◌, ⊎_elim, refl, sym, subst, length, arith}
-use Rattle.std.specs.Prelude.{slice_get, IsSomeAnd, IfSome, nat_le, if◌then◌else◌}
+use Rattle.std.proofs.Common.{◌≡◌, ℕ, suc, ◌+◌, ◌-◌, ◌*◌, ◌<◌, ◌≤◌, true, false, List, [], ◌∷◌, Option, Some, None, ⊎_elim, refl, subst, length, arith}
+use Rattle.std.specs.Prelude.{IsSomeAnd, nat_le, if◌then◌else◌}
 use Rattle.std.proofs.Math.Nat.{mul-le-mul_left}
 use Rattle.std.proofs.lemmas.Bool.{cases_lt}
 use Rattle.std.proofs.lemmas.Bool.Decides.{nat_tests}
 use Rattle.isa.specs.declared.code.Slot.{Slot}
-use Rattle.isa.specs.declared.code.Slot.TheVariants.{Start}
 use Rattle.isa.specs.declared.hook.Hook.{Hook}
-use Rattle.isa.specs.declared.instruction.Instruction.{Instruction}
 use Rattle.isa.specs.Flow.{Begins, size}
 use Rattle.machine.specs.declared.fault.Fault.{Fault}
 use Rattle.machine.specs.declared.state.State.{State as Machine}
 use Rattle.machine.specs.Label.{Label}
 use Rattle.machine.specs.State.{start}
-use Rattle.machine.specs.Steps.{Step, Does}
+use Rattle.machine.specs.Steps.{Step}
 use Rattle.machine.specs.Faults.{Stuck}
 use Rattle.machine.specs.Runs.{Leads, Run, Safe}
 use Rattle.kinds.specs.declared.statement.Target.{Target}

@@ -1,1 +1,4 @@
 pub mod Programs
+pub mod Plain
+pub mod Pass
+pub mod Examples

@@ -3,6 +3,7 @@ ghost use Rattle.std.specs.Prelude.{◌≡◌, ◌+◌, ◌*◌, ◌<◌, ◌≤
 ghost use Rattle.object.specs.Objects.{AreStatements};
 ghost use Rattle.machine.specs.Runs.{Safe};
 ghost use Rattle.segments.specs.Refusals.{IsFirst, MayRefuse, budget};
+ghost use Rattle.verifier.specs.Plain.{IsPlain};
 
 use crate::accepted::Accepted;
 use crate::entry::{enter_start, entry_of, entry_statement, unknown};
@@ -42,7 +43,9 @@ fn bound_of_runs(rank: u32, size: usize) -> Result<u64, Refusal>
 /// A refusal names the first slot that breaks a rule, and of the rules broken there the one that is
 /// tried first: those on jumps, statements and the code's end are named only where they are broken and
 /// none of them is broken before, those on helpers, on the bound and on r10 only where they are broken,
-/// and want of memory at slot 0 only where memory ran out. The statements are in the order of their slots,
+/// and want of memory at slot 0 only where memory ran out. A plain program, one that works on numbers in
+/// registers alone and states no more than that they are numbers, is refused where memory ran out alone,
+/// whatever the domain. The statements are in the order of their slots,
 /// each slot once, as an object holds them.
 pub fn verify<D: Domain>(
     alloc: Global,
@@ -60,6 +63,8 @@ pub fn verify<D: Domain>(
         MayRefuse hook code entry_rank statements.now refusal.slot refusal.rule) }
     ensures first { IfErr result (λ refusal.
         IsFirst code statements.now refusal.slot refusal.rule) }
+    ensures plain { IsPlain code entry_rank statements.now
+        → IfErr result (λ refusal. refusal.rule ≡ Rule.Memory) }
 {
     let _is_code = code.slots();
     let bound = bound_of_runs(entry_rank, code.len())?;

@@ -1,12 +1,13 @@
 //! Where a run begins.
-ghost use Rattle.std.specs.Prelude.{◌≡◌, true, false, IfErr, IfOk, Some};
+ghost use Rattle.std.specs.Prelude.{◌≡◌, ℕ, true, false, length, IfErr, IfOk, IsOk, Some};
 ghost use Rattle.machine.specs.declared.state.State.{State as Machine};
 ghost use Rattle.machine.specs.State.{start};
 ghost use Rattle.object.specs.Sets.{no_bytes};
 ghost use Rattle.kinds.specs.declared.statement.Target.{Target as AnyTarget};
 ghost use Rattle.kinds.specs.Meaning.{TargetHolds, StateHolds};
-ghost use Rattle.ranks.specs.Lines.{rank_value};
+ghost use Rattle.ranks.specs.Lines.{IsConstant, rank_value};
 ghost use Rattle.segments.specs.Places.{target_at};
+ghost use Rattle.segments.specs.Plain.{MayEnter};
 ghost use Rattle.segments.specs.Refusals.{IsOfEdge};
 ghost use Rattle.segments.specs.Segments.{Enters};
 
@@ -23,6 +24,8 @@ use std::alloc::{AllocError, Global};
 pub fn entry_statement(rank: u32) -> Statement
     ensures stack { result.stack ≡ no_bytes }
     ensures rank { (machine : Machine) → rank_value result.rank machine ≡ rank }
+    ensures flat { IsConstant result.rank }
+    ensures constant { result.rank.constant ≡ rank }
 {
     let constant = Rank {
         constant: rank,
@@ -54,15 +57,17 @@ pub fn entry_of<'a, D: Domain>(
 }
 
 /// Room for what is known at a slot.
-pub fn unknown<D: Domain>(alloc: Global) -> Result<State<D>, AllocError> {
+pub fn unknown<D: Domain>(alloc: Global) -> Result<State<D>, AllocError>
+    ensures ten { IfOk result (λ state. length state.kinds.items ≡ 10) }
+{
     let mut kinds = Vec::new(alloc);
     let mut facts = Vec::new(alloc);
-    for _ in 0..10usize {
+    for register in 0..10usize {
         kinds.push(Kind::Empty)?;
         facts.push(None)?;
     }
     let mut entries = Vec::new(alloc);
-    for _ in 0..512usize {
+    for place in 0..512usize {
         entries.push(Entry::Unknown)?;
     }
     Ok(State {
@@ -86,6 +91,8 @@ pub fn enter_start<'a, D: Domain>(
         → (machine : Machine) → TargetHolds D.contains entry.now machine
         → Enters D.contains false entry.now target machine machine) }
     ensures named { IfErr result (λ refusal. (refusal.slot ≡ 0) × IsOfEdge refusal.rule) }
+    ensures plain { MayEnter D.contains targets.now entry.now false 0 (λ r. ⊥) → IsOk result }
+    ensures long { IfOk result (λ known. length known.state.kinds.items ≡ length room.kinds.items) }
 {
     let state = reset(room, entry);
     let Some(target) = stated_at(targets, 0) else {

@@ -4,6 +4,7 @@
 mod accepted;
 mod checking;
 mod entry;
+pub mod laws;
 mod pass;
 mod refusal;
 

@@ -1,11 +1,14 @@
 //! The pass over the slots, in the order of their addresses.
-ghost use Rattle.std.specs.Prelude.{◌≡◌, ◌+◌, ◌<◌, ℕ, List, false, true, IfErr, IfOk, IsSome, MatchOption, None, Some, slice_get};
+ghost use Rattle.std.specs.Prelude.{◌≡◌, ◌+◌, ◌<◌, ℕ, List, false, true, IfErr, IfOk, IsOk, IsSome, MatchOption, None, Some, length, slice_get};
 ghost use Rattle.isa.specs.Code.{is_wide};
 ghost use Rattle.isa.specs.declared.code.Slot.TheVariants.{Start};
 ghost use Rattle.isa.specs.Flow.{Begins, size};
 ghost use Rattle.machine.specs.declared.state.State.{State as Machine};
 ghost use Rattle.kinds.specs.Meaning.{StateHolds, TargetHolds};
 ghost use Rattle.object.specs.Statements.{StatementParts};
+ghost use Rattle.kinds.specs.Plain.{kind_in};
+ghost use Rattle.kinds.specs.declared.statement.Target.{Target as AnyTarget};
+ghost use Rattle.verifier.specs.Pass.{ComesPlainly, HasRank, IsPlainIfLive, IsPlainProgram, KeepsPlain};
 ghost use Rattle.segments.specs.Places.{IsWellPlaced, segment_of, target_at};
 ghost use Rattle.segments.specs.Refusals.{IsFirst, IsFirstHere, IsPassedTo, IsWellMade, MayFollow, MayRefuse};
 ghost use Rattle.segments.specs.Segments.{IsCurrentUnlessStated, IsFine, IsFollowed};
@@ -32,11 +35,15 @@ fn arrive<'a, D: Domain>(
     begun: Option<usize>,
     known: Known<D>,
 ) -> (Option<usize>, Known<D>)
-    ensures { MatchOption (target_at targets.now slot)
+    ensures arrived { MatchOption (target_at targets.now slot)
         ((result.0 ≡ begun) × (result.1 ≡ known))
         (λ target. (result.0 ≡ Some slot) × (result.1.is_live ≡ true)
         × ((machine : Machine) → TargetHolds D.contains target machine
         → StateHolds D.contains result.1.state machine machine)) }
+    ensures ten { length known.state.kinds.items ≡ 10 → length result.1.state.kinds.items ≡ 10 }
+    ensures kinds { length known.state.kinds.items ≡ 10 → (target : AnyTarget D)
+        → target_at targets.now slot ≡ Some target
+        → (r : ℕ) → r < 10 → kind_in result.1.state.kinds.items r ≡ kind_in target.kinds.items r }
 {
     match stated_at(targets, slot) {
         Some(target) => (
@@ -67,6 +74,10 @@ fn pass<'a, D: Domain>(
         → IsFollowed D.contains code.now hook targets.now segment.now slot instruction
         known.state after) }
     ensures named { IfErr result (MayFollow hook instruction) }
+    ensures plain { IsPlainIfLive D.contains targets.now segment.now slot instruction known
+        → IsOk result }
+    ensures keeps { IsPlainIfLive D.contains targets.now segment.now slot instruction known
+        → length known.state.kinds.items ≡ 10 → IfOk result (KeepsPlain instruction known) }
 {
     if !known.is_live {
         return Ok(known);
@@ -93,6 +104,11 @@ fn pass_in<'a, D: Domain>(
         → IsFollowed D.contains code.now hook targets.now (segment_of targets.now entry.now begun)
         slot instruction.now known.state after) }
     ensures named { IfErr result (MayFollow hook instruction.now) }
+    ensures plain { IsPlainIfLive D.contains targets.now (segment_of targets.now entry.now begun)
+        slot instruction.now known → IsOk result }
+    ensures keeps { IsPlainIfLive D.contains targets.now (segment_of targets.now entry.now begun)
+        slot instruction.now known → length known.state.kinds.items ≡ 10
+        → IfOk result (KeepsPlain instruction.now known) }
 {
     let Some(start) = begun else {
         let first = pass(code, hook, targets, entry, known, slot, *instruction)?;
@@ -135,6 +151,18 @@ fn step<'a, D: Domain>(
         → IsPassedTo is_passed_to code.now slot
         → IfErr result (λ rule. MayRefuse hook code.now entry_rank statements slot rule
         × IsFirstHere code.now statements slot rule) }
+    ensures plain { (statements : List StatementParts) (entry_rank : ℕ)
+        → IsPlainProgram D.contains code.now entry_rank statements targets.now
+        → IsPassedTo is_passed_to code.now slot
+        → ComesPlainly code.now entry_rank statements slot
+        (segment_of targets.now entry.now begun) known
+        → IsOk result }
+    ensures keeps { (statements : List StatementParts) (entry_rank : ℕ)
+        → IsPlainProgram D.contains code.now entry_rank statements targets.now
+        → ComesPlainly code.now entry_rank statements slot
+        (segment_of targets.now entry.now begun) known
+        → IfOk result (λ next. ComesPlainly code.now entry_rank statements
+        (slot + size instruction.now) (segment_of targets.now entry.now next.0) next.1) }
 {
     one_instruction_ends_at_a_slot();
     let _is_code = code.slots();
@@ -170,6 +198,7 @@ pub fn pass_all<'a, D: Domain>(
     requires live { start.is_live ≡ true }
     requires own { (machine : Machine) → TargetHolds D.contains entry.now machine
         → StateHolds D.contains start.state machine machine }
+    requires ten { length start.state.kinds.items ≡ 10 }
     ensures fine { IfOk result (λ _. (slot : ℕ) → Begins code.now slot
         → IsFine D.contains code.now hook targets.now entry.now slot) }
     ensures named { (statements : List StatementParts) (entry_rank : ℕ)
@@ -178,6 +207,9 @@ pub fn pass_all<'a, D: Domain>(
         MayRefuse hook code.now entry_rank statements refusal.slot refusal.rule) }
     ensures first { (statements : List StatementParts) → AreTargets D.contains statements targets.now
         → IfErr result (λ refusal. IsFirst code.now statements refusal.slot refusal.rule) }
+    ensures plain { (statements : List StatementParts) (entry_rank : ℕ)
+        → IsPlainProgram D.contains code.now entry_rank statements targets.now
+        → HasRank entry.now entry_rank → IsOk result }
 {
     a_wide_instruction_has_its_second_half();
     an_instruction_is_followed();

@@ -1,4 +1,4 @@
-use Rattle.std.proofs.Common.{◌≡◌, ◌+◌, ◌*◌, ◌∙◌, length, sym, ap, subst}
+use Rattle.std.proofs.Common.{◌≡◌, ◌+◌, ◌*◌, ◌∙◌, length, refl, sym, ap, subst}
 use Rattle.machine.specs.Runs.{Safe}
 use Rattle.machine.specs.State.{start}
 use Rattle.ranks.specs.Lines.{rank_value}
@@ -6,7 +6,10 @@ use Rattle.verifier.proofs.SegmentLemmas.{code_begins}
 use Rattle.verifier.proofs.Soundness.{safe_program}
 use Rattle.isa.specs.Flow.{Begins}
 use Rattle.segments.specs.Refusals.{IsFirst, MayRefuse}
-use Rattle.verifier.proofs.Refused.{entry_refused, handed_on}
+use Rattle.verifier.proofs.Refused.{entry_refused, first_of_all, handed_on}
+use Rattle.segments.proofs.Plain.{never}
+use Rattle.verifier.specs.Pass.{HasRank, IsPlainProgram}
+use Rattle.verifier.proofs.Plain.{entry_edge}
 use Rattle.verifier.proofs.checking.verify.Goals as goal
 
 pub returns-clause-safe : goal.returns-clause-safe
@@ -44,3 +47,26 @@ pub returns-in_err-pass_all-clause-first : goal.returns-in_err-pass_all-clause-f
 returns-in_err-pass_all-clause-first g c =
     handed_on c.from_residual-in_err-pass_all.result c.in_err-pass_all.field-0.0 (λ r. IsFirst c.args.code c.args.statements.now r.slot r.rule) c.from_residual-in_err-pass_all.ensures.1
     (c.in_err-pass_all.ensures.first c.args.statements.now (rw c.deref-2.ensures.value c.in_ok-targets.ensures))
+
+pub returns-in_err-bound-clause-plain : goal.returns-in_err-bound-clause-plain
+returns-in_err-bound-clause-plain g c = λ plain.
+    absurd (plain.budget (record { first = refl; over = rw (← c.len.ensures.value) c.in_err-bound.ensures.over }))
+
+pub returns-in_err-known-clause-plain : goal.returns-in_err-known-clause-plain
+returns-in_err-known-clause-plain g c = λ plain.
+    let program : IsPlainProgram g.D.Domain.contains c.args.code c.args.entry_rank c.args.statements.now c.deref.result.now = record { are = rw c.deref.ensures.value c.in_ok-targets.ensures; plain = plain } in
+    let has : HasRank c.in_ok-entry.entry c.args.entry_rank = record { constant = rw c.in_ok-entry.ensures.statement c.entry_statement-statement.ensures.flat; same = rw c.in_ok-entry.ensures.statement c.entry_statement-statement.ensures.constant } in
+    never (c.in_err-known.ensures.plain (entry_edge g.D.Domain.contains c.args.code c.args.entry_rank c.args.statements.now _ program c.in_ok-entry.entry has))
+
+pub returns-in_err-pass_all-clause-plain : goal.returns-in_err-pass_all-clause-plain
+returns-in_err-pass_all-clause-plain g c = λ plain.
+    let program : IsPlainProgram g.D.Domain.contains c.args.code c.args.entry_rank c.args.statements.now c.deref-2.result.now = record { are = rw c.deref-2.ensures.value c.in_ok-targets.ensures; plain = plain } in
+    let has : HasRank c.in_ok-entry.entry c.args.entry_rank = record { constant = rw c.in_ok-entry.ensures.statement c.entry_statement-statement.ensures.flat; same = rw c.in_ok-entry.ensures.statement c.entry_statement-statement.ensures.constant } in
+    never (c.in_err-pass_all.ensures.plain c.args.statements.now c.args.entry_rank program has)
+
+pub returns-in_err-known-clause-first : goal.returns-in_err-known-clause-first
+returns-in_err-known-clause-first g c =
+    let begins : Begins c.args.code c.in_err-known.field-0.0.slot = rw c.in_err-known.ensures.named.0 (code_begins c.args.code c.slots-is_code.ensures.code) in
+    handed_on c.from_residual-in_err-known.result c.in_err-known.field-0.0 (λ r. IsFirst c.args.code c.args.statements.now r.slot r.rule) c.from_residual-in_err-known.ensures.1
+    (first_of_all c.args.code c.args.statements.now c.in_err-known.field-0.0.slot c.in_err-known.field-0.0.rule c.in_err-known.ensures.named.0
+    (entry_refused c.args.hook c.args.code c.args.entry_rank c.args.statements.now c.in_err-known.field-0.0.slot c.in_err-known.field-0.0.rule begins c.in_err-known.ensures.named.1).1)

@@ -8,6 +8,9 @@ use Rattle.isa.specs.declared.code.Slot.TheVariants.{Start}
 use Rattle.verifier.proofs.SegmentLemmas.{code_begins, entry_current, fine_more}
 use Rattle.segments.specs.Refusals.{IsPassedTo}
 use Rattle.verifier.proofs.Refused.{made_more, passed_behind, passed_to_start, split_first, split_refused}
+use Rattle.segments.proofs.Plain.{never}
+use Rattle.verifier.specs.Pass.{ComesPlainly}
+use Rattle.verifier.proofs.Plain.{comes_first}
 use Rattle.verifier.proofs.pass.pass_all.Goals as goal
 
 pub loop-slot-init : goal.loop-slot-init
@@ -16,6 +19,7 @@ loop-slot-init g c = record {
   current = entry_current g.D.Domain.contains c.args.code.now c.args.hook c.args.targets.now c.args.entry.now c.requires.live c.requires.own;
   place = inr (code_begins c.args.code.now c.slots-is_code.ensures.code);
   passed = passed_to_start c.args.code.now;
+  plain = λ statements entry_rank program has. comes_first g.D.Domain.contains c.args.code.now entry_rank statements c.args.targets.now program c.args.entry.now c.args.start has c.requires.ten;
   made = λ statements are k none. absurd (omega (arith, none));
 }
 
@@ -33,6 +37,9 @@ loop-slot-preserved g c =
           (c.an_instruction_is_followed.ensures code c.loop-slot.slot c.in-Some-Start.instruction c.slots-is_code.ensures.code here);
       passed = subst (λ n. IsPassedTo c.falls_through-is_passed_to.result code (c.loop-slot.slot + n)) (sym c.slots_of-slot.ensures.value)
           (passed_behind c.one_instruction_ends_at_a_slot.ensures code c.slots-is_code.ensures.code c.loop-slot.slot c.in-Some-Start.instruction here c.falls_through-is_passed_to.result (sym c.falls_through-is_passed_to.ensures));
+      plain = λ statements entry_rank program has.
+          subst (λ n. ComesPlainly code entry_rank statements (c.loop-slot.slot + n) (segment_of c.args.targets.now c.args.entry.now c.in-Ok.next.0) c.in-Ok.next.1) (sym c.slots_of-slot.ensures.value)
+          (c.in-Ok.ensures.keeps statements entry_rank program (c.loop-slot.invariant.plain statements entry_rank program has));
       made = λ statements are k below. made_more g.D.Domain.contains c.a_wide_instruction_has_its_second_half.ensures code c.slots-is_code.ensures.code statements c.args.targets.now are c.loop-slot.slot c.in-Some-Start.instruction here
           (c.loop-slot.invariant.made statements are) (c.in-Ok.ensures.made statements are c.loop-slot.invariant.passed) (c.splits.ensures.whole c.if-splits.false) k (subst (λ n. k < c.loop-slot.slot + n) c.slots_of-slot.ensures.value below);
     }
@@ -60,3 +67,14 @@ returns-then-splits-clause-first g c = λ statements are.
     let here : slice_get c.args.code.now c.loop-slot.slot ≡ Some (Start c.in-Some-Start.instruction) = cc (c.at.ensures.value, c.in-Some-Start.is, c.in-Some-Start.field-0-is, c.in-Some-Start.ensures.value) in
     split_first g.D.Domain.contains c.a_wide_instruction_has_its_second_half.ensures c.args.code.now c.slots-is_code.ensures.code statements c.args.targets.now are c.loop-slot.slot c.in-Some-Start.instruction here
     (c.loop-slot.invariant.made statements are) (c.in-Ok.ensures.made statements are c.loop-slot.invariant.passed)
+
+pub returns-in-Err-clause-plain : goal.returns-in-Err-clause-plain
+returns-in-Err-clause-plain g c = λ statements entry_rank program has.
+    never (c.in-Err.ensures.plain statements entry_rank program c.loop-slot.invariant.passed (c.loop-slot.invariant.plain statements entry_rank program has))
+
+pub returns-then-splits-clause-plain : goal.returns-then-splits-clause-plain
+returns-then-splits-clause-plain g c = λ statements entry_rank program has.
+    let here : slice_get c.args.code.now c.loop-slot.slot ≡ Some (Start c.in-Some-Start.instruction) = cc (c.at.ensures.value, c.in-Some-Start.is, c.in-Some-Start.field-0-is, c.in-Some-Start.ensures.value) in
+    absurd ((program.plain.made (c.loop-slot.slot + 1)).target
+    (split_refused g.D.Domain.contains c.a_wide_instruction_has_its_second_half.ensures c.args.code.now c.slots-is_code.ensures.code statements c.args.targets.now program.are c.loop-slot.slot c.in-Some-Start.instruction here
+    c.args.hook entry_rank (c.splits.ensures.split c.if-splits.true)))

@@ -5,16 +5,19 @@ use Rattle.segments.specs.Refusals.{IsPassedTo, IsWellMade}
 use Rattle.segments.specs.Stated.{AreTargets}
 use Rattle.segments.specs.Places.{segment_of}
 use Rattle.segments.specs.Segments.{IsFine, IsCurrentUnlessStated}
+use Rattle.verifier.specs.Pass.{ComesPlainly, HasRank, IsPlainProgram}
 use Rattle.verifier.proofs.pass.pass_all.Given as goal
 
 -- The instructions so far are fine and well made, what is known is known of every visit of this slot, and
--- the slot is the end or begins an instruction.
+-- the slot is the end or begins an instruction. Of a plain program what is filled is known.
 abbrev pub invariant-loop-slot : goal.invariant-loop-slot
 invariant-loop-slot g l = record {
   fine : (k : ℕ) → k < l.slot → Begins l.code k → IsFine g.D.Domain.contains l.code l.hook l.targets l.entry k;
   current : IsCurrentUnlessStated g.D.Domain.contains l.code l.hook l.targets l.entry l.slot (segment_of l.targets l.entry l.begun) l.known;
   place : (l.slot ≡ length l.code) ⊎ Begins l.code l.slot;
   passed : IsPassedTo l.is_passed_to l.code l.slot;
+  plain : (statements : List StatementParts) (entry_rank : ℕ) → IsPlainProgram g.D.Domain.contains l.code entry_rank statements l.targets → HasRank l.entry entry_rank
+      → ComesPlainly l.code entry_rank statements l.slot (segment_of l.targets l.entry l.begun) l.known;
   made : (statements : List StatementParts) → AreTargets g.D.Domain.contains statements l.targets → (k : ℕ) → k < l.slot → IsWellMade l.code statements k;
 }
 

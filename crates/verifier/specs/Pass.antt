@@ -1,0 +1,52 @@
+-- What the pass knows of a plain program.
+use Rattle.std.specs.Prelude.{◌≡◌, ℕ, true, List, Option, None, length}
+use Rattle.isa.specs.declared.code.Slot.{Slot}
+use Rattle.isa.specs.declared.instruction.Instruction.{Instruction}
+use Rattle.object.specs.Statements.{StatementParts}
+use Rattle.kinds.specs.declared.statement.Target.{Target}
+use Rattle.kinds.specs.Plain.{IsFilled}
+use Rattle.ranks.specs.Lines.{IsConstant}
+use Rattle.transfer.specs.Plain.{KeepsFilled}
+use Rattle.segments.specs.declared.known.Known.{Known}
+use Rattle.segments.specs.Plain.{IsPlainHere}
+use Rattle.segments.specs.Stated.{AreTargets, statement_at}
+use Rattle.verifier.specs.Plain.{IsFilledAt, IsPlain, IsRankAt}
+
+-- a plain program, and the list of its targets
+pub record IsPlainProgram {D : Type 0} (contains : D → ℕ → Type 0) (code : List Slot)
+    (entry_rank : ℕ) (statements : List StatementParts) (targets : List (Option (Target D))) : Type 0 where
+  pub are : AreTargets contains statements targets
+  pub plain : IsPlain code entry_rank statements
+
+-- the rank is this constant
+pub record HasRank {D : Type 0} (target : Target D) (rank : ℕ) : Type 0 where
+  pub constant : IsConstant target.statement.now.rank
+  pub same : target.statement.now.rank.constant ≡ rank
+
+-- Where the slot may be reached, what is filled there is known to hold numbers; and the segment's rank
+-- is the one there.
+pub record KnowsPlain {D : Type 0} (code : List Slot) (entry_rank : ℕ)
+    (statements : List StatementParts) (slot : ℕ) (segment : Target D) (known : Known D) : Type 0 where
+  pub filled : known.is_live ≡ true → (r : ℕ) → IsFilledAt code statements slot r
+      → IsFilled known.state r
+  pub constant : IsConstant segment.statement.now.rank
+  pub rank : IsRankAt code entry_rank statements slot segment.statement.now.rank.constant
+
+-- what came from the slot before, which counts unless the slot has a statement
+pub record ComesPlainly {D : Type 0} (code : List Slot) (entry_rank : ℕ)
+    (statements : List StatementParts) (slot : ℕ) (segment : Target D) (known : Known D) : Type 0 where
+  pub ten : length known.state.kinds.items ≡ 10
+  pub knows : statement_at statements slot ≡ None
+      → KnowsPlain code entry_rank statements slot segment known
+
+-- where the slot may be reached, the instruction is one of a plain program
+abbrev pub IsPlainIfLive : {D : Type 0} → (D → ℕ → Type 0) → List (Option (Target D)) → Target D → ℕ
+    → Instruction → Known D → Type 0
+IsPlainIfLive contains targets segment slot i known =
+    known.is_live ≡ true → IsPlainHere contains targets segment slot i known.state
+
+-- the slot behind may be reached only where this one may, and then what is filled is kept
+pub record KeepsPlain {D : Type 0} (i : Instruction) (known after : Known D) : Type 0 where
+  pub ten : length after.state.kinds.items ≡ 10
+  pub from : after.is_live ≡ true → known.is_live ≡ true
+  pub keeps : after.is_live ≡ true → KeepsFilled i known.state after.state
