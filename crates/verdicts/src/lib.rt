@@ -5,4 +5,6 @@
 #[cfg(test)]
 mod programs;
 #[cfg(test)]
+mod rooms;
+#[cfg(test)]
 mod runs;
