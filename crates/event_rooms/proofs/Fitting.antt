@@ -253,7 +253,7 @@ all_links : (links : List Link) → length (flat_map link_text (flat_map links_o
 all_links [] = omega arith
 all_links (x ∷ xs) = omega (arith, two_links x, all_links xs, length-links_text (links_of x) (flat_map links_of xs))
 
-router_few : (links : List Link) → length links ≤ 63 → length (body_text (router_body links)) ≤ 8144
+pub router_few : (links : List Link) → length links ≤ 63 → length (body_text (router_body links)) ≤ 8144
 router_few links few =
     omega (arith, few, all_links links, length-append (fields (router_fields (record { flags = 2; links = flat_map links_of links }))) (flat_map link_text (flat_map links_of links)))
 

@@ -5,15 +5,16 @@ ghost use Rattle.received.specs.Links.{acknowledge_later};
 ghost use Rattle.adjacency.specs.Contents.{sent_on, step_on};
 ghost use Rattle.adjacency.specs.Drafts.{drafting};
 ghost use Rattle.adjacency.specs.Floods.{flooded, is_any};
+ghost use Rattle.adjacency.specs.Steps.{named};
 ghost use Rattle.flooding.specs.Links.{unused, with_neighbor};
 
-use adjacency::{Draft, Interface, Place, Saved};
+use adjacency::{Draft, Interface, Place, Saved, State};
 use keyed_map::KeyedMap;
 use lsa::Header;
 use lsdb::DatabaseCopy;
 use std::alloc::{AllocError, Global};
 use std::marker::Model;
-use words::Second;
+use words::{RouterId, Second};
 
 /// An interface with its neighbor, the acknowledgments that wait for a Tick, and when the last Hello
 /// was sent; and what they were when they were last settled.
@@ -63,6 +64,20 @@ impl Link {
             acknowledgments: KeyedMap::new(alloc),
             last_hello_sent: Saved::new(None),
         }
+    }
+
+    /// The interface.
+    pub fn interface(&self) -> Interface
+        ensures { result ≡ self.now.present.interface }
+    {
+        self.interface
+    }
+
+    /// The neighbor's Router ID and its state, unless it is Down.
+    pub fn neighbor(&self) -> Option<(RouterId, State)>
+        ensures { result ≡ named self.now.present.neighbor }
+    {
+        self.place.neighbor()
     }
 
     /// Floods the copy to the neighbor, which is the one that it came from or isn't; tells whether

@@ -1,0 +1,34 @@
+-- What becomes of an own LSA that is wanted, and of the router then.
+use Rattle.std.specs.Prelude.{Bool, ◌&&◌, if◌then◌else◌, Option, None, Some}
+use Rattle.words.specs.Numbers.{Moment}
+use Rattle.words.specs.declared.key.Key.{Key}
+use Rattle.lsa.specs.declared.body.Body.{Body}
+use Rattle.lsdb.specs.Copies.{DatabaseCopy}
+use Rattle.lsdb.specs.Headers.{Lsa}
+use Rattle.events.specs.EventState.{EventState, on_area, on_router}
+use Rattle.events.specs.Originations.{as_originated, flush, has_max_sequence, install_and_flood, interval_is_over, new_instance, wait}
+use Rattle.originations.specs.declared.origination.Origination.{Origination}
+use Rattle.originations.specs.declared.origination.Origination.TheVariants.{Flushes, Waits, Originates}
+
+abbrev pub of_instance : Option Lsa → Origination
+of_instance None = Flushes
+of_instance (Some lsa) = Originates lsa
+
+abbrev pub unless_flushed : Option DatabaseCopy → Origination
+unless_flushed copy = if has_max_sequence copy then Flushes else Waits
+
+-- at once, if `may_now` and the five seconds since the last origination allow it, else at a Tick;
+-- after MaxSequenceNumber the copy is flushed first
+abbrev pub origination : (may_now : Bool) → Moment → Key → Body → Option DatabaseCopy
+    → (last : Option Moment) → Origination
+origination may_now moment key says copy last =
+    if has_max_sequence copy then Flushes
+    else if may_now && interval_is_over moment last then Originates (new_instance key copy says)
+    else Waits
+
+-- what is to be done
+abbrev pub after_origination : Moment → Key → Origination → EventState → EventState
+after_origination moment key Flushes p = flush moment key p
+after_origination moment key Waits p = on_router (wait key) p
+after_origination moment key (Originates lsa) p =
+    on_router (as_originated moment key) (on_area (install_and_flood moment lsa) p)

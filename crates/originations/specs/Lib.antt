@@ -1,0 +1,4 @@
+pub mod Instances
+pub mod Described
+pub mod Decisions
+pub mod Laws

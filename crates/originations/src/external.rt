@@ -1,0 +1,57 @@
+//! The AS-external-LSAs of this router (RFC 2328, section 12.4.4).
+ghost use Rattle.std.specs.Prelude.{◌≡◌, ◌<◌, ◌^◌, IfOk};
+ghost use Rattle.std.specs.FinMap as finite;
+ghost use Rattle.events.specs.Originations.{external_body, external_key};
+ghost use Rattle.originations.specs.Instances.{next_instance};
+
+use crate::instance::next_instance;
+use lsa::{Body, ExternalLsa, Lsa};
+use lsdb::Lsdb;
+use std::alloc::{AllocError, Global};
+use words::{Address, External, Key, LinkStateId, RouterId, Sequence};
+
+pub fn external_key(own: RouterId, external: &External) -> Key
+    ensures { result ≡ external_key own external.now.prefix }
+{
+    Key {
+        ls_type: 5,
+        link_state_id: LinkStateId::new(external.prefix.address().bits()),
+        advertising_router: own,
+    }
+}
+
+// What is said of the destination: traffic goes to this router itself.
+fn external_body(alloc: Global, external: &External) -> Body
+    ensures { result ≡ external_body external.now }
+{
+    Body::External(ExternalLsa {
+        mask: external.prefix.mask(),
+        kind: external.kind,
+        metric: external.metric,
+        forwarding: Address::UNSPECIFIED,
+        tag: external.tag,
+        tos: Sequence::from_vec(Vec::new(alloc)),
+    })
+}
+
+/// The instance of the own AS-external-LSA of this destination that follows the copy of the
+/// database (RFC 2328, section 12.4.4). None where the copy has MaxSequenceNumber: it is to be
+/// flushed first.
+///
+/// The only error is that an allocation was refused.
+pub fn external_instance(
+    alloc: Global,
+    own: RouterId,
+    external: &External,
+    database: &Lsdb,
+) -> Result<Option<Lsa>, AllocError>
+    // A metric has 24 bits.
+    requires { external.now.metric < 2 ^ 24 }
+    ensures { let key = external_key own external.now.prefix in
+        IfOk result (λ instance. instance
+        ≡ next_instance key (finite.get database.now.present key) (external_body external.now)) }
+{
+    let key = external_key(own, external);
+    let says = external_body(alloc, external);
+    next_instance(alloc, database, &key, says)
+}

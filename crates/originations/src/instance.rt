@@ -1,0 +1,44 @@
+//! New instances.
+ghost use Rattle.std.specs.Prelude.{◌≡◌, ◌≤◌, length, IfOk};
+ghost use Rattle.std.specs.FinMap as finite;
+ghost use Rattle.lsa.specs.Ranges.{BodyFits};
+ghost use Rattle.lsa.specs.Text.{body_text};
+ghost use Rattle.originations.specs.Instances.{next_instance};
+
+use crate::sequence::next_number;
+use lsa::{Body, Header, Lsa};
+use lsdb::Lsdb;
+use std::alloc::{AllocError, Global};
+use words::Key;
+
+/// The instance of this key that follows the copy of the database and says this: of age 0, its
+/// type, length and checksum those of what it says. None where the copy has MaxSequenceNumber.
+///
+/// The only error is that an allocation was refused.
+pub fn next_instance(
+    alloc: Global,
+    database: &Lsdb,
+    key: &Key,
+    says: Body,
+) -> Result<Option<Lsa>, AllocError>
+    requires fits { BodyFits says }
+    requires size { length (body_text says) ≤ 65515 }
+    ensures { IfOk result (λ instance. instance
+        ≡ next_instance key.now (finite.get database.now.present key.now) says) }
+{
+    let Some(sequence) = next_number(database.get(key)) else {
+        return Ok(None);
+    };
+    let header = Header {
+        age: 0,
+        options: 2,
+        ls_type: 0,
+        link_state_id: key.link_state_id,
+        advertising_router: key.advertising_router,
+        sequence,
+        checksum: 0,
+        length: 0,
+    };
+    let lsa = Lsa::new(alloc, header, says)?;
+    Ok(Some(lsa))
+}

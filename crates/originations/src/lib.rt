@@ -1,0 +1,13 @@
+//! The router's own LSAs (RFC 2328, section 12.4): what they are to say, and their next instances.
+#![tactic(auto)]
+
+mod external;
+mod instance;
+pub mod laws;
+mod origination;
+mod router;
+mod sequence;
+
+pub use external::external_instance;
+pub use origination::{Origination, interval_is_over, originate_external, originate_router};
+pub use router::router_instance;

@@ -1,0 +1,128 @@
+//! When an own LSA goes out (RFC 2328, sections 12.1.6 and 12.4).
+ghost use Rattle.std.specs.Prelude.{◌≡◌, ◌≤◌, ◌<◌, ◌^◌, ◌&&◌, length, map, IfOk};
+ghost use Rattle.std.specs.FinMap as finite;
+ghost use Rattle.events.specs.Originations.{
+  external_body,
+  external_key,
+  interval_is_over,
+  router_body,
+  router_key,
+};
+ghost use Rattle.flooding.specs.Links.{present};
+ghost use Rattle.originations.specs.Decisions.{of_instance, origination, unless_flushed};
+
+use crate::external::{external_instance, external_key};
+use crate::router::{router_instance, router_key};
+use crate::sequence::next_number;
+use flooding::Link;
+use lsa::Lsa;
+use lsdb::{DatabaseCopy, Lsdb};
+use std::alloc::{AllocError, Global};
+use words::{External, RouterId, Second};
+
+// MinLSInterval: so many seconds lie between two own instances of one LSA.
+const MIN_LS_INTERVAL: u64 = 5;
+
+/// What becomes of an own LSA that is wanted.
+#[derive(Debug, Drop)]
+pub enum Origination {
+    /// The copy has MaxSequenceNumber: it is to be flushed first.
+    Flushes,
+    /// The LSA waits for a Tick.
+    Waits,
+    /// This instance is to be installed and flooded.
+    Originates(Lsa),
+}
+
+/// Tells whether MinLSInterval, five seconds, has passed since this moment at which the LSA was last
+/// originated, if it was.
+pub fn interval_is_over(moment: Second, last: Option<Second>) -> bool
+    ensures { result ≡ interval_is_over moment last }
+{
+    let Some(last) = last else {
+        return true;
+    };
+    MIN_LS_INTERVAL <= moment.since(last)
+}
+
+fn is_time(may_now: bool, moment: Second, last: Option<Second>) -> bool
+    ensures { result ≡ (may_now && interval_is_over moment last) }
+{
+    may_now && interval_is_over(moment, last)
+}
+
+fn of_instance(instance: Option<Lsa>) -> Origination
+    ensures { result ≡ of_instance instance }
+{
+    match instance {
+        None => Origination::Flushes,
+        Some(lsa) => Origination::Originates(lsa),
+    }
+}
+
+// It isn't time yet.
+fn unless_flushed(copy: Option<DatabaseCopy<'_>>) -> Origination
+    ensures { result ≡ unless_flushed copy.entry }
+{
+    match next_number(copy) {
+        None => Origination::Flushes,
+        Some(_number) => Origination::Waits,
+    }
+}
+
+/// What becomes of the router-LSA of these links, interface n at place n - 1: it goes out at once if
+/// `may_now` and MinLSInterval allow it, else at a Tick; after MaxSequenceNumber its copy is flushed
+/// first (RFC 2328, sections 12.4.1 and 12.1.6). `last` is the moment at which it was last
+/// originated, if that is known.
+///
+/// The only error is that an allocation was refused.
+pub fn originate_router(
+    alloc: Global,
+    may_now: bool,
+    moment: Second,
+    own: RouterId,
+    links: &[Link],
+    database: &Lsdb,
+    last: Option<Second>,
+) -> Result<Origination, AllocError>
+    requires { length links.now ≤ 63 }
+    ensures { let key = router_key own in
+        IfOk result (λ found. found ≡ origination may_now moment key
+        (router_body (map present links.now)) (finite.get database.now.present key) last) }
+{
+    let now = is_time(may_now, moment, last);
+    if now {
+        let instance = router_instance(alloc, own, links, database)?;
+        return Ok(of_instance(instance));
+    }
+    let key = router_key(own);
+    Ok(unless_flushed(database.get(&key)))
+}
+
+/// What becomes of the own AS-external-LSA of this destination, as `originate_router` says of the
+/// router-LSA (RFC 2328, section 12.4.4).
+///
+/// The only error is that an allocation was refused.
+pub fn originate_external(
+    alloc: Global,
+    may_now: bool,
+    moment: Second,
+    own: RouterId,
+    external: &External,
+    database: &Lsdb,
+    last: Option<Second>,
+) -> Result<Origination, AllocError>
+    // A metric has 24 bits.
+    requires { external.now.metric < 2 ^ 24 }
+    ensures { let key = external_key own external.now.prefix in
+        IfOk result (λ found. found ≡ origination may_now moment key
+        (external_body external.now) (finite.get database.now.present key) last) }
+{
+    let now = is_time(may_now, moment, last);
+    if now {
+        let instance = external_instance(alloc, own, external, database)?;
+        return Ok(of_instance(instance));
+    }
+    let key = external_key(own, external);
+    Ok(unless_flushed(database.get(&key)))
+}

@@ -1,0 +1,143 @@
+//! The router-LSA (RFC 2328, section 12.4.1).
+ghost use Rattle.std.specs.Prelude.{◌≡◌, ◌≤◌, ◌++◌, length, map, IfOk, OnOk};
+ghost use Rattle.std.specs.FinMap as finite;
+ghost use Rattle.words.specs.Prefixes.{mask_of, network_address};
+ghost use Rattle.events.specs.Originations.{links_of, router_body, router_key, stub};
+ghost use Rattle.flooding.specs.Links.{present};
+ghost use Rattle.originations.specs.Instances.{next_instance};
+ghost use Rattle.originations.specs.Described.{described, full_router};
+
+use crate::instance::next_instance;
+use adjacency::{Interface, State};
+use flooding::Link;
+use lsa::{Body, Link as RouterLink, LinkKind, Lsa, RouterLsa};
+use lsdb::Lsdb;
+use std::alloc::{AllocError, Global};
+use words::{Key, LinkStateId, Prefix, RouterId, Sequence};
+
+pub fn router_key(own: RouterId) -> Key
+    ensures { result ≡ router_key own }
+{
+    Key {
+        ls_type: 1,
+        link_state_id: LinkStateId::new(own.number()),
+        advertising_router: own,
+    }
+}
+
+// The neighbor's Router ID, if it is Full.
+fn full_router(neighbor: Option<(RouterId, State)>) -> Option<RouterId>
+    ensures { result ≡ full_router neighbor }
+{
+    let Some((router, state)) = neighbor else {
+        return None;
+    };
+    match state {
+        State::Init => None,
+        State::ExStart => None,
+        State::Exchange => None,
+        State::Loading => None,
+        State::Full => Some(router),
+    }
+}
+
+fn subnet_address(interface: &Interface) -> u32
+    ensures { result ≡ network_address interface.now.length interface.now.address }
+{
+    let address = interface.address;
+    match Prefix::under(address, interface.length) {
+        Some(prefix) => prefix.address().bits(),
+        None => address.bits(),
+    }
+}
+
+fn subnet_mask(interface: &Interface) -> u32
+    ensures { result ≡ mask_of interface.now.length }
+{
+    let address = interface.address;
+    match Prefix::under(address, interface.length) {
+        Some(prefix) => prefix.mask().bits(),
+        None => u32::MAX,
+    }
+}
+
+// The link to the subnet.
+fn stub(alloc: Global, interface: &Interface) -> RouterLink
+    ensures { result ≡ stub interface.now }
+{
+    RouterLink {
+        link_id: subnet_address(interface),
+        link_data: subnet_mask(interface),
+        kind: LinkKind::Stub,
+        metric: interface.cost,
+        tos: Sequence::from_vec(Vec::new(alloc)),
+    }
+}
+
+// The link to the neighbor, if it is Full, and then the one to the subnet.
+fn put_described(
+    alloc: Global,
+    links: &mut Vec<RouterLink>,
+    interface: &Interface,
+    full: Option<RouterId>,
+) -> Result<(), AllocError>
+    ensures { OnOk result (links.new.items ≡ links.old.items ++ described interface.now full) }
+{
+    if let Some(router) = full {
+        links.push(RouterLink {
+            link_id: router.number(),
+            link_data: interface.address.bits(),
+            kind: LinkKind::PointToPoint,
+            metric: interface.cost,
+            tos: Sequence::from_vec(Vec::new(alloc)),
+        })?;
+        links.push(stub(alloc, interface))?;
+        return Ok(());
+    }
+    links.push(stub(alloc, interface))?;
+    Ok(())
+}
+
+fn put_links(alloc: Global, links: &mut Vec<RouterLink>, link: &Link) -> Result<(), AllocError>
+    ensures { OnOk result (links.new.items ≡ links.old.items ++ links_of link.now.present) }
+{
+    let interface = link.interface();
+    let full = full_router(link.neighbor());
+    put_described(alloc, links, &interface, full)
+}
+
+// What the router-LSA says: flag E alone, and the links of each interface in order.
+fn router_body(alloc: Global, links: &[Link]) -> Result<Body, AllocError>
+    ensures { IfOk result (λ body. body ≡ router_body (map present links.now)) }
+{
+    let mut said = Vec::new(alloc);
+    for link in links {
+        put_links(alloc, &mut said, link)?;
+    }
+    Ok(Body::Router(RouterLsa {
+        flags: 2,
+        links: Sequence::from_vec(said),
+    }))
+}
+
+/// The instance of the own router-LSA that follows the copy of the database and describes these
+/// links, interface n at place n - 1: of each the link to its neighbor, if that is Full, and the one
+/// to its subnet (RFC 2328, section 12.4.1). None where the copy has MaxSequenceNumber: it is to be
+/// flushed first.
+///
+/// The only error is that an allocation was refused.
+pub fn router_instance(
+    alloc: Global,
+    own: RouterId,
+    links: &[Link],
+    database: &Lsdb,
+) -> Result<Option<Lsa>, AllocError>
+    requires { length links.now ≤ 63 }
+    ensures { let key = router_key own in
+        IfOk result (λ instance. instance ≡ next_instance key
+        (finite.get database.now.present key) (router_body (map present links.now))) }
+{
+    let key = router_key(own);
+    let says = router_body(alloc, links)?;
+    next_instance(alloc, database, &key, says)
+}

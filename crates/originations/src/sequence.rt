@@ -1,0 +1,28 @@
+//! Sequence numbers of own LSAs (RFC 2328, section 12.1.6).
+ghost use Rattle.std.specs.Prelude.{◌≡◌, ◌≢◌, IfSome};
+ghost use Rattle.lsa.specs.Text.{reserved_sequence};
+ghost use Rattle.originations.specs.Instances.{next_number, number_after};
+
+use lsdb::DatabaseCopy;
+use words::SequenceNumber;
+
+// The number after this one, or None after MaxSequenceNumber.
+fn after(number: SequenceNumber) -> Option<SequenceNumber>
+    ensures { result ≡ number_after number }
+{
+    number.next()
+}
+
+/// The number of the next instance: after that of the copy, or the first one, where there is no
+/// copy; None after MaxSequenceNumber.
+pub fn next_number(copy: Option<DatabaseCopy<'_>>) -> Option<SequenceNumber>
+    ensures number { result ≡ next_number copy.entry }
+    ensures lawful { IfSome result (λ number. number ≢ reserved_sequence) }
+{
+    let Some(copy) = copy else {
+        return Some(SequenceNumber::INITIAL);
+    };
+    let header = copy.lsa.header();
+    header.check_ranges();
+    after(header.sequence)
+}
