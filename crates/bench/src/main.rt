@@ -16,7 +16,8 @@ use std::rt::Clock;
 use std::sync::Wait;
 use std::thread::Threads;
 
-const USAGE: &str = "usage: bench run | decode | encode | asm | objects | maps | texts | database";
+const USAGE: &str =
+    "usage: bench run | decode | encode | asm | objects | maps | texts | database | hooks";
 
 /// Prints the figures of this name. False where no figures have it.
 fn measure<R: Clock + Print + AllocGlobal + Threads + Wait + Copy + Send + 'static>(
@@ -32,6 +33,7 @@ fn measure<R: Clock + Print + AllocGlobal + Threads + Wait + Copy + Send + 'stat
         "maps" => maps_speed::print(*rt)?,
         "texts" => texts_speed::print(rt)?,
         "database" => bench_database::print(rt)?,
+        "hooks" => bench_hooks::print(*rt)?,
         _ => return Ok(false),
     }
     Ok(true)
