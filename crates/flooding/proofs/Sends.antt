@@ -11,10 +11,10 @@ use Rattle.adjacency.specs.Floods.{is_any}
 use Rattle.adjacency.proofs.Floods.{drafting-none}
 use Rattle.flooding.specs.Drafted.{at_interface, drafted_from}
 
-same_number : (n : ℕ) → (n == n) ≡ true
+pub same_number : (n : ℕ) → (n == n) ≡ true
 same_number n = grind (arith, nat_tests)
 
-other_number : (n m : ℕ) → n ≢ m → (n == m) ≡ false
+pub other_number : (n m : ℕ) → n ≢ m → (n == m) ≡ false
 other_number n m ne = grind (arith, nat_tests)
 
 by_number : (k : ℕ) (x : Send) (b : Bool) (whole front back : List Content) → whole ≡ front ++ back → cons_option (cond b (Some x.content) None) whole ≡ cons_option (cond b (Some x.content) None) front ++ back
@@ -25,15 +25,15 @@ picked-append : (k : ℕ) (xs ys : List Send) → filter_map (at_interface k) (x
 picked-append k [] ys = refl
 picked-append k (x ∷ xs) ys = by_number k x (x.number == k) (filter_map (at_interface k) (xs ++ ys)) (filter_map (at_interface k) xs) (filter_map (at_interface k) ys) (picked-append k xs ys)
 
-picked_here : (k : ℕ) (cs : List Content) → filter_map (at_interface k) (numbered k cs) ≡ cs
+pub picked_here : (k : ℕ) (cs : List Content) → filter_map (at_interface k) (numbered k cs) ≡ cs
 picked_here k [] = refl
 picked_here k (c ∷ cs) = ap (λ b. cons_option (cond b (Some c) None) (filter_map (at_interface k) (numbered k cs))) (same_number k) ∙ ap (λ zs. c ∷ zs) (picked_here k cs)
 
-picked_elsewhere : (k n : ℕ) (cs : List Content) → n ≢ k → filter_map (at_interface k) (numbered n cs) ≡ []
+pub picked_elsewhere : (k n : ℕ) (cs : List Content) → n ≢ k → filter_map (at_interface k) (numbered n cs) ≡ []
 picked_elsewhere k n [] ne = refl
 picked_elsewhere k n (c ∷ cs) ne = ap (λ b. cons_option (cond b (Some c) None) (filter_map (at_interface k) (numbered n cs))) (other_number n k ne) ∙ picked_elsewhere k n cs ne
 
-append_none : {A : Type 0} (xs : List A) → xs ++ [] ≡ xs
+pub append_none : {A : Type 0} (xs : List A) → xs ++ [] ≡ xs
 append_none [] = refl
 append_none (x ∷ xs) = ap (λ zs. x ∷ zs) (append_none xs)
 

@@ -1,3 +1,4 @@
 pub mod Kept
 pub mod Links
 pub mod Drafted
+pub mod Cases

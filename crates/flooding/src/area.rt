@@ -1,11 +1,15 @@
 //! Links and database as one value.
-ghost use Rattle.std.specs.Prelude.{◌≡◌, OnOk, length, map};
+ghost use Rattle.std.specs.Prelude.{◌≡◌, ◌≤◌, IfOk, OnOk, length, map};
 ghost use Rattle.std.specs.FinMap as finite;
+ghost use Rattle.received.specs.Updates.{after_case, case_at};
+ghost use Rattle.flooding.specs.Cases.{case_of};
 ghost use Rattle.flooding.specs.Drafted.{drafted};
-ghost use Rattle.flooding.specs.Links.{area_of, flooded_key, installed, present, settled};
+ghost use Rattle.flooding.specs.Links.{area_of, flooded_key, present, settled, start};
 
-use crate::flood::{flood, install, roll_back_links, settle_links};
+use crate::cases::Case;
+use crate::flood::{flood, roll_back_links, settle_links};
 use crate::link::Link;
+use crate::receiving::receive;
 use adjacency::Draft;
 use lsa::Lsa;
 use lsdb::Lsdb;
@@ -117,32 +121,39 @@ impl Area {
         )
     }
 
-    /// Installs the LSA that flooding brought, and floods it as `flood` does (RFC 2328, sections
-    /// 13.2 and 13.3).
+    /// Receives an LSA of an Update that came in at the interface of this number, 1 or more (RFC
+    /// 2328, section 13): tells which case it is, and does what the case says. A newer LSA is
+    /// installed and flooded, and its acknowledgment waits for a Tick; a duplicate is acknowledged
+    /// at once; the same instance as the sender is to acknowledge leaves its retransmission list;
+    /// an LSA that was asked for and isn't newer is BadLSReq; a newer copy goes to the sender. What
+    /// the router makes of an LSA of its own is no part of it.
     ///
     /// `AllocError` comes where memory was refused; the area is to be rolled back then, and the
     /// drafts are of no use.
-    pub fn install(
+    pub fn receive(
         &mut self,
         alloc: Global,
         moment: Second,
-        sender: Option<usize>,
+        number: usize,
         lsa: Lsa,
         drafts: &mut [Draft],
-    ) -> Result<(), AllocError>
-        requires { length drafts.old ≡ length self.old.present.links }
-        ensures ok { OnOk result (self.new.present
-            ≡ (installed moment sender lsa self.old.present).area) }
-        ensures drafts { OnOk result (drafts.new
-            ≡ drafted (installed moment sender lsa self.old.present).sends
+    ) -> Result<Case, AllocError>
+        requires first { 1 ≤ number }
+        requires last { number ≤ length self.old.present.links }
+        requires drafts { length drafts.old ≡ length self.old.present.links }
+        ensures case { IfOk result (λ c. case_of c ≡ case_at moment number lsa self.old.present) }
+        ensures ok { IfOk result (λ c. self.new.present
+            ≡ (after_case (case_of c) moment number lsa (start self.old.present)).area) }
+        ensures drafts { IfOk result (λ c. drafts.new
+            ≡ drafted (after_case (case_of c) moment number lsa (start self.old.present)).sends
             self.old.present.links drafts.old) }
         ensures settled { self.new.settled ≡ self.old.settled }
         ensures router { self.new.router ≡ self.old.router }
     {
-        install(
+        receive(
             alloc,
             moment,
-            sender,
+            number,
             lsa,
             &mut self.links,
             &mut self.database,

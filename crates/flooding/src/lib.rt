@@ -1,9 +1,14 @@
-//! Flooding over all links of an area (RFC 2328, section 13.3).
+//! Flooding over all links of an area, and what is done with a received LSA (RFC 2328, sections 13
+//! and 13.3).
 #![tactic(auto)]
 
 mod area;
+mod cases;
 mod flood;
 mod link;
+mod receiving;
+mod rows;
 
 pub use area::Area;
+pub use cases::Case;
 pub use link::Link;

@@ -1,11 +1,15 @@
 //! Interfaces with what is kept of each.
-ghost use Rattle.std.specs.Prelude.{◌≡◌, IfOk, OnOk};
+ghost use Rattle.std.specs.Prelude.{◌≡◌, ℕ, IfOk, OnOk};
+ghost use Rattle.lsa.specs.Headers.{key_of};
 ghost use Rattle.lsdb.specs.Copies.{lsa_now};
-ghost use Rattle.received.specs.Links.{acknowledge_later};
-ghost use Rattle.adjacency.specs.Contents.{sent_on, step_on};
+ghost use Rattle.adjacency.specs.Adjacencies.{mismatched};
+ghost use Rattle.adjacency.specs.Contents.{no_sends, sent_on, step_on};
 ghost use Rattle.adjacency.specs.Drafts.{drafting};
 ghost use Rattle.adjacency.specs.Floods.{flooded, is_any};
+ghost use Rattle.adjacency.specs.Asked.{any_exchange_or_loading, has_instance, was_requested};
+ghost use Rattle.adjacency.specs.Retransmissions.{remove_retransmission};
 ghost use Rattle.adjacency.specs.Steps.{named};
+ghost use Rattle.received.specs.Links.{acknowledge_later};
 ghost use Rattle.flooding.specs.Links.{unused, with_neighbor};
 
 use adjacency::{Draft, Interface, Place, Saved, State};
@@ -14,7 +18,7 @@ use lsa::Header;
 use lsdb::DatabaseCopy;
 use std::alloc::{AllocError, Global};
 use std::marker::Model;
-use words::{RouterId, Second};
+use words::{Key, RouterId, Second};
 
 /// An interface with its neighbor, the acknowledgments that wait for a Tick, and when the last Hello
 /// was sent; and what they were when they were last settled.
@@ -66,44 +70,58 @@ impl Link {
         }
     }
 
-    /// The interface.
-    pub fn interface(&self) -> Interface
-        ensures { result ≡ self.now.present.interface }
+    /// Tells whether there is a neighbor in Exchange or Loading.
+    pub fn is_exchange_or_loading(&self) -> bool
+        ensures { result ≡ any_exchange_or_loading self.now.present.neighbor }
     {
-        self.interface
+        self.place.is_exchange_or_loading()
     }
 
-    /// The neighbor's Router ID and its state, unless it is Down.
-    pub fn neighbor(&self) -> Option<(RouterId, State)>
-        ensures { result ≡ named self.now.present.neighbor }
+    /// Tells whether the LSA of this key is on the neighbor's request list.
+    pub fn was_requested(&self, key: &Key) -> bool
+        ensures { result ≡ was_requested key.now self.now.present.neighbor }
     {
-        self.place.neighbor()
+        self.place.was_requested(key)
     }
 
-    /// Floods the copy to the neighbor, which is the one that it came from or isn't; tells whether
-    /// an Update takes it along, InfTransDelay seconds older than it is (RFC 2328, section 13.3).
+    /// Tells whether the neighbor has still to acknowledge just this instance.
+    pub fn has_instance(&self, moment: Second, header: &Header) -> bool
+        ensures { result ≡ has_instance moment header.now self.now.present.neighbor }
+    {
+        self.place.has_instance(moment, header)
+    }
+
+    /// BadLSReq (RFC 2328, section 10.3): from Exchange on the neighbor goes back to ExStart, and the
+    /// first Description of a new attempt is sent.
     ///
     /// `AllocError` comes where memory was refused; the link is to be rolled back then.
-    pub fn flood(
+    pub fn bad_request(
         &mut self,
         alloc: Global,
         moment: Second,
-        from: bool,
-        copy: &DatabaseCopy<'_>,
         draft: &mut Draft,
-    ) -> Result<bool, AllocError>
-        ensures ok { IfOk result (λ _. self.new.present
-            ≡ with_neighbor (step_on (flooded moment from (lsa_now moment copy.now)) self.old.present.neighbor)
-            self.old.present) }
-        ensures draft { IfOk result (λ _. draft.new
-            ≡ drafting self.old.present.interface.delay
-            (sent_on (flooded moment from (lsa_now moment copy.now)) self.old.present.neighbor) draft.old) }
-        ensures sent { IfOk result (λ sent. sent
-            ≡ is_any (sent_on (flooded moment from (lsa_now moment copy.now)) self.old.present.neighbor)) }
+    ) -> Result<(), AllocError>
+        ensures ok { OnOk result (self.new.present
+            ≡ with_neighbor (step_on (mismatched moment) self.old.present.neighbor) self.old.present) }
+        ensures draft { OnOk result ((delay : ℕ) → draft.new
+            ≡ drafting delay (sent_on (mismatched moment) self.old.present.neighbor) draft.old) }
         ensures settled { self.new.settled ≡ self.old.settled }
     {
-        let delay = self.interface.delay;
-        self.place.flood(alloc, moment, from, copy, delay, draft)
+        self.place.bad_request(alloc, moment, draft)
+    }
+
+    /// The entry of the header's key leaves the neighbor's retransmission list.
+    ///
+    /// `AllocError` comes where memory was refused; the link is to be rolled back then.
+    pub fn take_off(&mut self, header: &Header) -> Result<(), AllocError>
+        ensures ok { OnOk result (self.new.present
+            ≡ with_neighbor
+            (step_on (λ n. no_sends (remove_retransmission (key_of header.now) n))
+            self.old.present.neighbor)
+            self.old.present) }
+        ensures settled { self.new.settled ≡ self.old.settled }
+    {
+        self.place.take_off(header)
     }
 
     /// The instance is acknowledged at the next Tick, in the place of an earlier one of its key (RFC

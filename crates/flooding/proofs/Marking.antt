@@ -1,0 +1,50 @@
+-- What is sent at one interface, and its marks.
+use Rattle.std.proofs.Common.{◌≡◌, ℕ, ◌+◌, ◌<◌, Bool, true, false, cond, List, [], ◌∷◌, length, map, get_or, refl, sym, ap, ◌∙◌, arith}
+use Rattle.std.specs.List.{fold}
+use Rattle.std.specs.Prelude.{Option, None, Some}
+use Rattle.words.specs.declared.key.Key.{Key}
+use Rattle.lsdb.specs.Copies.{Database}
+use Rattle.adjacency.specs.Adjacencies.{enter_exstart, mismatched}
+use Rattle.adjacency.specs.Contents as neighbor
+use Rattle.adjacency.specs.Contents.{no_sends}
+use Rattle.adjacency.specs.Kept.{Kept}
+use Rattle.adjacency.specs.Neighbors.{Neighbor, is_exchange_or_later}
+use Rattle.adjacency.specs.Retransmissions.{remove_retransmission}
+use Rattle.received.specs.Links.{Area, Link}
+use Rattle.received.specs.Outcomes.{Send, marked, numbered, only_at, stepping_sends}
+use Rattle.flooding.specs.Links.{present}
+use Rattle.flooding.proofs.Only.{sends_stepped}
+
+abbrev pub marks : ℕ → Database → List Send → Database
+marks moment db sends = fold (λ (d : Database) (s : Send). marked moment d s.content) db sends
+
+by_state : (moment k : ℕ) (db : Database) (n : Neighbor) (b : Bool) → marks moment db (numbered k (cond b (enter_exstart moment n) (no_sends n)).sends) ≡ db
+by_state moment k db n true = refl
+by_state moment k db n false = refl
+
+by_neighbor : (moment k : ℕ) (db : Database) (o : Option Neighbor) → marks moment db (numbered k (neighbor.sent_on (mismatched moment) o)) ≡ db
+by_neighbor moment k db None = refl
+by_neighbor moment k db (Some n) = by_state moment k db n (is_exchange_or_later n.state)
+
+-- a mismatch marks nothing
+pub mismatch_marks : (ls : List (Kept Link)) (i k : ℕ) → i < length ls → k ≡ 1 + i → (moment : ℕ) (db : Database)
+    → db ≡ marks moment db (stepping_sends (only_at k (mismatched moment)) (map present ls))
+mismatch_marks [] i k lt at moment db = absurd (omega (arith, lt))
+mismatch_marks (l ∷ ls) i k lt at moment db =
+    let f = mismatched moment in
+    sym (by_neighbor moment k db (get_or (l ∷ ls) i l).present.neighbor)
+    ∙ ap (marks moment db) (sends_stepped (l ∷ ls) i k l l lt at f)
+
+silent : (key : Key) (k : ℕ) (o : Option Neighbor) → [] ≡ numbered k (neighbor.sent_on (λ (n : Neighbor). no_sends (remove_retransmission key n)) o)
+silent key k None = refl
+silent key k (Some n) = refl
+
+-- a release sends nothing
+pub release_sends : (ls : List (Kept Link)) (i k : ℕ) → i < length ls → k ≡ 1 + i → (key : Key)
+    → [] ≡ stepping_sends (only_at k (λ (n : Neighbor). no_sends (remove_retransmission key n))) (map present ls)
+release_sends [] i k lt at key = absurd (omega (arith, lt))
+release_sends (l ∷ ls) i k lt at key =
+    silent key k (get_or (l ∷ ls) i l).present.neighbor ∙ sends_stepped (l ∷ ls) i k l l lt at (λ (n : Neighbor). no_sends (remove_retransmission key n))
+
+pub area_is : {ls ms : List Link} {d e : Database} → ls ≡ ms → d ≡ e → ◌≡◌ {A = Area} (record { links = ls; database = d }) (record { links = ms; database = e })
+area_is ls d i = record { links = ls i; database = d i }

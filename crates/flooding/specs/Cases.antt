@@ -1,0 +1,31 @@
+-- The cases of received LSAs as the code names them, and the tests that tell them apart.
+use Rattle.std.specs.Prelude.{Bool, List, [], ◌∷◌}
+use Rattle.received.specs.Cases.{Case}
+use Rattle.flooding.specs.declared.cases.Case.{Case as Named}
+use Rattle.flooding.specs.declared.cases.Case.TheVariants as named
+use Rattle.flooding.specs.declared.cases.Tests.{Tests}
+
+abbrev pub case_of : Named → Case
+case_of named.Unreadable = Case.Unreadable
+case_of named.NothingToFlush = Case.NothingToFlush
+case_of named.TooSoon = Case.TooSoon
+case_of named.Newer = Case.Newer
+case_of named.BadRequest = Case.BadRequest
+case_of named.ImpliedAcknowledgment = Case.ImpliedAcknowledgment
+case_of named.Duplicate = Case.Duplicate
+case_of named.SequenceWraps = Case.SequenceWraps
+case_of named.SentJustNow = Case.SentJustNow
+case_of named.Older = Case.Older
+
+-- the tests in their order, each with its case
+abbrev pub tests_of : Tests → List (Bool × Case)
+tests_of t =
+    (t.nothing_to_flush, Case.NothingToFlush)
+    ∷ (t.too_soon, Case.TooSoon)
+    ∷ (t.newer, Case.Newer)
+    ∷ (t.requested, Case.BadRequest)
+    ∷ (t.implied, Case.ImpliedAcknowledgment)
+    ∷ (t.same, Case.Duplicate)
+    ∷ (t.wraps, Case.SequenceWraps)
+    ∷ (t.sent_just_now, Case.SentJustNow)
+    ∷ []

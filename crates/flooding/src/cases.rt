@@ -1,0 +1,198 @@
+//! Which case an LSA of a received Update is (RFC 2328, section 13).
+ghost use Rattle.std.specs.Prelude.{◌≡◌, ◌&&◌, not};
+ghost use Rattle.lsdb.specs.Copies.{in_this_second, installed_just_now, newer_than_copy};
+ghost use Rattle.lsdb.specs.Copies.{same_as_copy, sent_just_now};
+ghost use Rattle.lsdb.specs.Order.{is_max_age};
+ghost use Rattle.received.specs.Cases.{Case as Row, case_tests, first_case, is_wrapping};
+ghost use Rattle.flooding.specs.Cases.{case_of, tests_of};
+
+use crate::link::Link;
+use adjacency::instance_of;
+use lsa::{Header, Lsa};
+use lsdb::{DatabaseCopy, compare, newer};
+use std::cmp::Ordering;
+use words::{Second, SequenceNumber};
+
+/// Which case an LSA of a received Update is: the first of the table that fits (RFC 2328, section
+/// 13).
+#[derive(Clone, Copy, Debug)]
+pub enum Case {
+    /// Its text is no LSA's.
+    Unreadable,
+    /// At MaxAge, without a copy, and nobody is in Exchange or Loading: there is nothing to flush.
+    NothingToFlush,
+    /// Newer than a copy that flooding installed less than a second ago.
+    TooSoon,
+    /// There is no copy, or it is newer.
+    Newer,
+    /// Not newer, and yet the sender was asked for it.
+    BadRequest,
+    /// The same instance as the sender was to acknowledge: an implied acknowledgment.
+    ImpliedAcknowledgment,
+    /// The same instance.
+    Duplicate,
+    /// The copy is newer, at MaxAge and at MaxSequenceNumber: it is about to be flushed.
+    SequenceWraps,
+    /// The copy is newer, and was sent less than a second ago.
+    SentJustNow,
+    /// The copy is newer.
+    Older,
+}
+
+/// MaxAge, in seconds (RFC 2328, appendix B).
+const MAX_AGE: u16 = 3600;
+
+/// The tests that tell the cases apart, in their order.
+#[derive(Clone, Copy, Debug)]
+pub struct Tests {
+    nothing_to_flush: bool,
+    too_soon: bool,
+    newer: bool,
+    requested: bool,
+    implied: bool,
+    same: bool,
+    wraps: bool,
+    sent_just_now: bool,
+}
+
+fn nothing_to_flush(age: u16, missing: bool, synchronizing: bool) -> bool
+    ensures { result ≡ (is_max_age age && missing && not synchronizing) }
+{
+    age == MAX_AGE && missing && !synchronizing
+}
+
+fn all_three(a: bool, b: bool, c: bool) -> bool
+    ensures { result ≡ (a && b && c) }
+{
+    a && b && c
+}
+
+fn both(a: bool, b: bool) -> bool
+    ensures { result ≡ (a && b) }
+{
+    a && b
+}
+
+fn newer_than_copy(moment: Second, header: &Header, copy: &Option<DatabaseCopy<'_>>) -> bool
+    ensures { result ≡ newer_than_copy moment header.now copy.now }
+{
+    match copy {
+        None => true,
+        Some(copy) => newer(instance_of(header), copy.instance(moment)),
+    }
+}
+
+fn same_as_copy(moment: Second, header: &Header, copy: &Option<DatabaseCopy<'_>>) -> bool
+    ensures { result ≡ same_as_copy moment header.now copy.now }
+{
+    match copy {
+        None => false,
+        Some(copy) => compare(instance_of(header), copy.instance(moment)) == Ordering::Equal,
+    }
+}
+
+// Less than a second ago, which over whole seconds means in this second (MinLSArrival).
+fn in_this_second(moment: Second, then: Option<Second>) -> bool
+    ensures { result ≡ in_this_second moment then }
+{
+    match then {
+        None => false,
+        Some(then) => moment.since(then) == 0,
+    }
+}
+
+fn installed_just_now(moment: Second, copy: &Option<DatabaseCopy<'_>>) -> bool
+    ensures { result ≡ installed_just_now moment copy.now }
+{
+    match copy {
+        None => false,
+        Some(copy) => in_this_second(moment, copy.times.installed),
+    }
+}
+
+fn sent_just_now(moment: Second, copy: &Option<DatabaseCopy<'_>>) -> bool
+    ensures { result ≡ sent_just_now moment copy.now }
+{
+    match copy {
+        None => false,
+        Some(copy) => in_this_second(moment, copy.times.sent),
+    }
+}
+
+// The copy is at MaxAge and has MaxSequenceNumber.
+fn is_wrapping(moment: Second, copy: &Option<DatabaseCopy<'_>>) -> bool
+    ensures { result ≡ is_wrapping moment copy.now }
+{
+    match copy {
+        None => false,
+        Some(copy) => {
+            let header = copy.header(moment);
+            let last = header.sequence.number() == SequenceNumber::MAX.number();
+            both(copy.is_aged_out(moment), last)
+        }
+    }
+}
+
+impl Tests {
+    /// The tests of an LSA that came in at this link, by the copy of its key and by whether any neighbor
+    /// is in Exchange or Loading.
+    pub fn of_received(
+        moment: Second,
+        copy: &Option<DatabaseCopy<'_>>,
+        link: &Link,
+        synchronizing: bool,
+        lsa: &Lsa,
+    ) -> Tests
+        ensures { tests_of result
+            ≡ case_tests moment copy.now link.now.present.neighbor synchronizing lsa.now }
+    {
+        let header = lsa.header();
+        let there = copy.is_some();
+        let missing = copy.is_none();
+        let newer = newer_than_copy(moment, &header, copy);
+        let same = same_as_copy(moment, &header, copy);
+        let installed = installed_just_now(moment, copy);
+        let listed = link.has_instance(moment, &header);
+        Tests {
+            nothing_to_flush: nothing_to_flush(header.age, missing, synchronizing),
+            too_soon: all_three(there, newer, installed),
+            newer,
+            requested: link.was_requested(&header.key()),
+            implied: both(same, listed),
+            same,
+            wraps: is_wrapping(moment, copy),
+            sent_just_now: sent_just_now(moment, copy),
+        }
+    }
+
+    /// The case of the first test that holds.
+    pub fn case(&self) -> Case
+        ensures { case_of result ≡ first_case (tests_of self.now) Row.Older }
+    {
+        if self.nothing_to_flush {
+            return Case::NothingToFlush;
+        }
+        if self.too_soon {
+            return Case::TooSoon;
+        }
+        if self.newer {
+            return Case::Newer;
+        }
+        if self.requested {
+            return Case::BadRequest;
+        }
+        if self.implied {
+            return Case::ImpliedAcknowledgment;
+        }
+        if self.same {
+            return Case::Duplicate;
+        }
+        if self.wraps {
+            return Case::SequenceWraps;
+        }
+        if self.sent_just_now {
+            return Case::SentJustNow;
+        }
+        Case::Older
+    }
+}

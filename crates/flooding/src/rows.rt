@@ -1,0 +1,130 @@
+//! What the cases of a received LSA make of links and drafts, as parts that the caller holds apart.
+ghost use Rattle.std.specs.Prelude.{◌≡◌, ◌≤◌, OnOk, [], ◌∷◌, length, map};
+ghost use Rattle.std.specs.List.{list_any};
+ghost use Rattle.lsa.specs.Headers.{key_of};
+ghost use Rattle.lsdb.specs.Copies.{lsa_now};
+ghost use Rattle.adjacency.specs.Adjacencies.{mismatched};
+ghost use Rattle.adjacency.specs.Contents.{Acknowledges, Updates, no_sends};
+ghost use Rattle.adjacency.specs.Asked.{any_exchange_or_loading as is_in_exchange};
+ghost use Rattle.adjacency.specs.Retransmissions.{remove_retransmission};
+ghost use Rattle.received.specs.Links.{acknowledge_later, any_exchange_or_loading, change_link};
+ghost use Rattle.adjacency.specs.Kept.{Kept};
+ghost use Rattle.received.specs.Links.{Link as OnLink};
+ghost use Rattle.received.specs.Outcomes.{numbered, only_at, stepped, stepping_sends};
+ghost use Rattle.flooding.specs.Drafted.{drafted};
+ghost use Rattle.flooding.specs.Links.{present, settled};
+
+use crate::link::Link;
+use adjacency::Draft;
+use lsa::Header;
+use lsdb::DatabaseCopy;
+use std::alloc::{AllocError, Global};
+use words::Second;
+
+fn some_is_exchange_or_loading(links: &[Link]) -> bool
+    ensures { result ≡ list_any (λ (l : Kept OnLink). is_in_exchange l.present.neighbor) links.now }
+{
+    for link in links {
+        let synchronizing = link.is_exchange_or_loading();
+        if synchronizing {
+            return true;
+        }
+    }
+    false
+}
+
+/// Tells whether some neighbor is in Exchange or Loading.
+pub fn any_exchange_or_loading(links: &[Link]) -> bool
+    ensures { result ≡ any_exchange_or_loading (map present links.now) }
+{
+    some_is_exchange_or_loading(links)
+}
+
+/// BadLSReq at one interface: from Exchange on the neighbor goes back to ExStart.
+pub fn mismatch(
+    alloc: Global,
+    moment: Second,
+    number: usize,
+    links: &mut [Link],
+    drafts: &mut [Draft],
+) -> Result<(), AllocError>
+    requires first { 1 ≤ number }
+    requires last { number ≤ length links.old }
+    requires drafts { length drafts.old ≡ length links.old }
+    ensures links { OnOk result (map present links.new
+        ≡ stepped (only_at number (mismatched moment)) (map present links.old)) }
+    ensures drafts { OnOk result (drafts.new
+        ≡ drafted (stepping_sends (only_at number (mismatched moment)) (map present links.old))
+        (map present links.old) drafts.old) }
+    ensures settled { map settled links.new ≡ map settled links.old }
+{
+    let i = number - 1;
+    links[i].bad_request(alloc, moment, &mut drafts[i])
+}
+
+/// The entry of the header's key leaves the retransmission list of the neighbor at one interface.
+pub fn release(number: usize, header: &Header, links: &mut [Link]) -> Result<(), AllocError>
+    requires first { 1 ≤ number }
+    requires last { number ≤ length links.old }
+    ensures links { OnOk result (map present links.new
+        ≡ stepped (only_at number (λ n. no_sends (remove_retransmission (key_of header.now) n)))
+        (map present links.old)) }
+    ensures settled { map settled links.new ≡ map settled links.old }
+{
+    let i = number - 1;
+    links[i].take_off(header)
+}
+
+/// An acknowledgment that waits for a Tick, at one interface.
+pub fn acknowledge_later(
+    number: usize,
+    header: Header,
+    links: &mut [Link],
+) -> Result<(), AllocError>
+    requires first { 1 ≤ number }
+    requires last { number ≤ length links.old }
+    ensures links { OnOk result (map present links.new
+        ≡ change_link number (acknowledge_later header) (map present links.old)) }
+    ensures settled { map settled links.new ≡ map settled links.old }
+{
+    let i = number - 1;
+    links[i].acknowledge_later(header)
+}
+
+/// An acknowledgment that is sent at one interface.
+pub fn acknowledge(
+    number: usize,
+    header: Header,
+    links: &[Link],
+    drafts: &mut [Draft],
+) -> Result<(), AllocError>
+    requires first { 1 ≤ number }
+    requires last { number ≤ length links.now }
+    requires drafts { length drafts.old ≡ length links.now }
+    ensures { OnOk result (drafts.new
+        ≡ drafted (numbered number (Acknowledges header ∷ [])) (map present links.now) drafts.old) }
+{
+    let i = number - 1;
+    drafts[i].acknowledge(header)
+}
+
+/// The copy is sent in an Update at one interface.
+pub fn update(
+    alloc: Global,
+    moment: Second,
+    number: usize,
+    copy: &DatabaseCopy<'_>,
+    links: &[Link],
+    drafts: &mut [Draft],
+) -> Result<(), AllocError>
+    requires first { 1 ≤ number }
+    requires last { number ≤ length links.now }
+    requires drafts { length drafts.old ≡ length links.now }
+    ensures { OnOk result (drafts.new
+        ≡ drafted (numbered number (Updates (lsa_now moment copy.now) ∷ [])) (map present links.now)
+        drafts.old) }
+{
+    let i = number - 1;
+    let delay = links[i].interface().delay;
+    drafts[i].update(alloc, delay, moment, copy)
+}
