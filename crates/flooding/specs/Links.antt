@@ -1,16 +1,19 @@
 -- Links by now and when they were last settled, and flooding of what the database has.
-use Rattle.std.specs.Prelude.{List, [], map, Option, None, Some}
+use Rattle.std.specs.Prelude.{if◌then◌else◌, List, [], map, Option, None, Some}
 use Rattle.std.specs.FinMap as finite
 use Rattle.words.specs.Numbers.{InterfaceNumber, Moment}
 use Rattle.words.specs.declared.key.Key.{Key}
-use Rattle.lsdb.specs.Copies.{Database, DatabaseCopy, install_flooded, lsa_now}
-use Rattle.lsdb.specs.Headers.{Lsa}
+use Rattle.words.specs.Constants.{max_age}
+use Rattle.lsdb.specs.Copies.{Database, DatabaseCopy, age_out, install_flooded}
+use Rattle.lsdb.specs.Copies.{install_originated, is_aged_out, lsa_now}
+use Rattle.lsdb.specs.Headers.{Lsa, lsa_aged}
 use Rattle.adjacency.specs.Kept.{Kept}
 use Rattle.adjacency.specs.Neighbors.{Neighbor}
+use Rattle.adjacency.specs.Requests.{request_next}
 use Rattle.adjacency.specs.declared.interface.Interface.{Interface}
 use Rattle.received.specs.Flooding.{flood}
 use Rattle.received.specs.Links.{Area, Link}
-use Rattle.received.specs.Outcomes.{Outcome, on_database}
+use Rattle.received.specs.Outcomes.{Outcome, Stepping, each_neighbor, on_database}
 
 abbrev pub present : Kept Link → Link
 present l = l.present
@@ -51,3 +54,26 @@ flooded_key moment sender key a = flooded_copy moment sender (finite.get a.datab
 abbrev pub installed : Moment → Option InterfaceNumber → Lsa → Area → Outcome
 installed moment sender lsa a =
     flood moment sender lsa (on_database (install_flooded moment lsa) (start a))
+
+-- this router originated the LSA: it is installed, and flooded as if from nobody
+abbrev pub originated : Moment → Lsa → Area → Outcome
+originated moment lsa a =
+    flood moment None lsa (on_database (install_originated moment lsa) (start a))
+
+-- premature aging (section 14.1): a copy that is younger than MaxAge gets that age, and is flooded
+-- as if from nobody
+abbrev pub flushed_copy : Moment → Key → Option DatabaseCopy → Outcome → Outcome
+flushed_copy moment key None o = o
+flushed_copy moment key (Some c) o =
+    if is_aged_out moment c then o
+    else flood moment None (lsa_aged max_age c.lsa) (on_database (age_out moment key) o)
+
+abbrev pub flushed : Moment → Key → Area → Outcome
+flushed moment key a = flushed_copy moment key (finite.get a.database key) (start a)
+
+-- each neighbor is sent the next Request
+abbrev pub requesting : Moment → Stepping
+requesting moment number link n = request_next moment n
+
+abbrev pub requested_all : Moment → Area → Outcome
+requested_all moment a = each_neighbor moment (requesting moment) (start a)

@@ -4,12 +4,14 @@ ghost use Rattle.std.specs.FinMap as finite;
 ghost use Rattle.received.specs.Updates.{after_case, case_at};
 ghost use Rattle.flooding.specs.Cases.{case_of};
 ghost use Rattle.flooding.specs.Drafted.{drafted};
-ghost use Rattle.flooding.specs.Links.{area_of, flooded_key, present, settled, start};
+ghost use Rattle.flooding.specs.Links.{area_of, flooded_key, flushed, originated};
+ghost use Rattle.flooding.specs.Links.{present, requested_all, settled, start};
 
 use crate::cases::Case;
-use crate::flood::{flood, roll_back_links, settle_links};
+use crate::flood::{flood, flush, originate, roll_back_links, settle_links};
 use crate::link::Link;
 use crate::receiving::receive;
+use crate::requests::request_all;
 use adjacency::Draft;
 use lsa::Lsa;
 use lsdb::Lsdb;
@@ -159,6 +161,87 @@ impl Area {
             &mut self.database,
             drafts,
         )
+    }
+
+    /// This router originated the LSA (RFC 2328, section 12.4): it takes the place of its copy, and
+    /// is flooded as if from nobody.
+    ///
+    /// `AllocError` comes where memory was refused; the area is to be rolled back then, and the
+    /// drafts are of no use.
+    pub fn originate(
+        &mut self,
+        alloc: Global,
+        moment: Second,
+        lsa: Lsa,
+        drafts: &mut [Draft],
+    ) -> Result<(), AllocError>
+        requires { length drafts.old ≡ length self.old.present.links }
+        ensures ok { OnOk result (self.new.present ≡ (originated moment lsa self.old.present).area) }
+        ensures drafts { OnOk result (drafts.new
+            ≡ drafted (originated moment lsa self.old.present).sends
+            self.old.present.links drafts.old) }
+        ensures settled { self.new.settled ≡ self.old.settled }
+        ensures router { self.new.router ≡ self.old.router }
+    {
+        originate(
+            alloc,
+            moment,
+            lsa,
+            &mut self.links,
+            &mut self.database,
+            drafts,
+        )
+    }
+
+    /// Premature aging (RFC 2328, section 14.1): a copy of this key that is younger than MaxAge gets
+    /// that age, and is flooded as if from nobody. Without such a copy nothing happens.
+    ///
+    /// `AllocError` comes where memory was refused; the area is to be rolled back then, and the
+    /// drafts are of no use.
+    pub fn flush(
+        &mut self,
+        alloc: Global,
+        moment: Second,
+        key: &Key,
+        drafts: &mut [Draft],
+    ) -> Result<(), AllocError>
+        requires { length drafts.old ≡ length self.old.present.links }
+        ensures ok { OnOk result (self.new.present ≡ (flushed moment key.now self.old.present).area) }
+        ensures drafts { OnOk result (drafts.new
+            ≡ drafted (flushed moment key.now self.old.present).sends
+            self.old.present.links drafts.old) }
+        ensures settled { self.new.settled ≡ self.old.settled }
+        ensures router { self.new.router ≡ self.old.router }
+    {
+        flush(
+            alloc,
+            moment,
+            key,
+            &mut self.links,
+            &mut self.database,
+            drafts,
+        )
+    }
+
+    /// Each neighbor is sent the next Request, where it is to be sent one (RFC 2328, section 10.9).
+    ///
+    /// `AllocError` comes where memory was refused; the area is to be rolled back then, and the
+    /// drafts are of no use.
+    pub fn request_all(
+        &mut self,
+        alloc: Global,
+        moment: Second,
+        drafts: &mut [Draft],
+    ) -> Result<(), AllocError>
+        requires { length drafts.old ≡ length self.old.present.links }
+        ensures ok { OnOk result (self.new.present ≡ (requested_all moment self.old.present).area) }
+        ensures drafts { OnOk result (drafts.new
+            ≡ drafted (requested_all moment self.old.present).sends
+            self.old.present.links drafts.old) }
+        ensures settled { self.new.settled ≡ self.old.settled }
+        ensures router { self.new.router ≡ self.old.router }
+    {
+        request_all(alloc, moment, &mut self.links, &self.database, drafts)
     }
 
     /// Makes the changes so far final. It wants no memory.

@@ -5,7 +5,8 @@ ghost use Rattle.adjacency.specs.Floods.{is_any};
 ghost use Rattle.received.specs.Flooding.{flood_to, is_sender};
 ghost use Rattle.received.specs.Outcomes.{stepped, stepping_sends};
 ghost use Rattle.flooding.specs.Drafted.{drafted};
-ghost use Rattle.flooding.specs.Links.{area_of, flooded_key, installed, present, settled};
+ghost use Rattle.flooding.specs.Links.{area_of, flooded_key, flushed, installed, originated};
+ghost use Rattle.flooding.specs.Links.{present, settled};
 
 use crate::link::Link;
 use adjacency::Draft;
@@ -116,6 +117,62 @@ pub fn install(
     let key = header.key();
     database.install_flooded(moment, lsa)?;
     flood(alloc, moment, sender, &key, links, database, drafts)
+}
+
+// Installs an LSA that this router originated, and floods it as if from nobody.
+pub fn originate(
+    alloc: Global,
+    moment: Second,
+    lsa: Lsa,
+    links: &mut [Link],
+    database: &mut Lsdb,
+    drafts: &mut [Draft],
+) -> Result<(), AllocError>
+    requires { length drafts.old ≡ length links.old }
+    ensures ok { OnOk result (area_of links.new database.new.present
+        ≡ (originated moment lsa (area_of links.old database.old.present)).area) }
+    ensures drafts { OnOk result (drafts.new
+        ≡ drafted (originated moment lsa (area_of links.old database.old.present)).sends
+        (map present links.old) drafts.old) }
+    ensures links { map settled links.new ≡ map settled links.old }
+    ensures settled { database.new.settled ≡ database.old.settled }
+    ensures router { database.new.router ≡ database.old.router }
+{
+    lsa.check_age();
+    let header = lsa.header();
+    let key = header.key();
+    database.install_originated(moment, lsa)?;
+    flood(alloc, moment, None, &key, links, database, drafts)
+}
+
+// A copy that is younger than MaxAge gets that age, and is flooded as if from nobody.
+pub fn flush(
+    alloc: Global,
+    moment: Second,
+    key: &Key,
+    links: &mut [Link],
+    database: &mut Lsdb,
+    drafts: &mut [Draft],
+) -> Result<(), AllocError>
+    requires { length drafts.old ≡ length links.old }
+    ensures ok { OnOk result (area_of links.new database.new.present
+        ≡ (flushed moment key.now (area_of links.old database.old.present)).area) }
+    ensures drafts { OnOk result (drafts.new
+        ≡ drafted (flushed moment key.now (area_of links.old database.old.present)).sends
+        (map present links.old) drafts.old) }
+    ensures links { map settled links.new ≡ map settled links.old }
+    ensures settled { database.new.settled ≡ database.old.settled }
+    ensures router { database.new.router ≡ database.old.router }
+{
+    let Some(copy) = database.get(key) else {
+        return Ok(());
+    };
+    let aged = copy.is_aged_out(moment);
+    if aged {
+        return Ok(());
+    }
+    database.age_out(moment, key)?;
+    flood(alloc, moment, None, key, links, database, drafts)
 }
 
 pub fn settle_links(links: &mut [Link])

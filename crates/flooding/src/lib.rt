@@ -7,6 +7,7 @@ mod cases;
 mod flood;
 mod link;
 mod receiving;
+mod requests;
 mod rows;
 
 pub use area::Area;

@@ -7,6 +7,7 @@ ghost use Rattle.adjacency.specs.Contents.{no_sends, sent_on, step_on};
 ghost use Rattle.adjacency.specs.Drafts.{drafting};
 ghost use Rattle.adjacency.specs.Floods.{flooded, is_any};
 ghost use Rattle.adjacency.specs.Asked.{any_exchange_or_loading, has_instance, was_requested};
+ghost use Rattle.adjacency.specs.Requests.{request_next};
 ghost use Rattle.adjacency.specs.Retransmissions.{remove_retransmission};
 ghost use Rattle.adjacency.specs.Steps.{named};
 ghost use Rattle.received.specs.Links.{acknowledge_later};
@@ -70,6 +71,46 @@ impl Link {
         }
     }
 
+    /// The interface.
+    pub fn interface(&self) -> Interface
+        ensures { result ≡ self.now.present.interface }
+    {
+        self.interface
+    }
+
+    /// The neighbor's Router ID and its state, unless it is Down.
+    pub fn neighbor(&self) -> Option<(RouterId, State)>
+        ensures { result ≡ named self.now.present.neighbor }
+    {
+        self.place.neighbor()
+    }
+
+    /// Floods the copy to the neighbor, which is the one that it came from or isn't; tells whether
+    /// an Update takes it along, InfTransDelay seconds older than it is (RFC 2328, section 13.3).
+    ///
+    /// `AllocError` comes where memory was refused; the link is to be rolled back then.
+    pub fn flood(
+        &mut self,
+        alloc: Global,
+        moment: Second,
+        from: bool,
+        copy: &DatabaseCopy<'_>,
+        draft: &mut Draft,
+    ) -> Result<bool, AllocError>
+        ensures ok { IfOk result (λ _. self.new.present
+            ≡ with_neighbor (step_on (flooded moment from (lsa_now moment copy.now)) self.old.present.neighbor)
+            self.old.present) }
+        ensures draft { IfOk result (λ _. draft.new
+            ≡ drafting self.old.present.interface.delay
+            (sent_on (flooded moment from (lsa_now moment copy.now)) self.old.present.neighbor) draft.old) }
+        ensures sent { IfOk result (λ sent. sent
+            ≡ is_any (sent_on (flooded moment from (lsa_now moment copy.now)) self.old.present.neighbor)) }
+        ensures settled { self.new.settled ≡ self.old.settled }
+    {
+        let delay = self.interface.delay;
+        self.place.flood(alloc, moment, from, copy, delay, draft)
+    }
+
     /// Tells whether there is a neighbor in Exchange or Loading.
     pub fn is_exchange_or_loading(&self) -> bool
         ensures { result ≡ any_exchange_or_loading self.now.present.neighbor }
@@ -122,6 +163,24 @@ impl Link {
         ensures settled { self.new.settled ≡ self.old.settled }
     {
         self.place.take_off(header)
+    }
+
+    /// The next Request, where the neighbor is to be sent one (RFC 2328, section 10.9).
+    ///
+    /// `AllocError` comes where memory was refused; the link is to be rolled back then.
+    pub fn request(
+        &mut self,
+        alloc: Global,
+        moment: Second,
+        draft: &mut Draft,
+    ) -> Result<(), AllocError>
+        ensures ok { OnOk result (self.new.present
+            ≡ with_neighbor (step_on (request_next moment) self.old.present.neighbor) self.old.present) }
+        ensures draft { OnOk result ((delay : ℕ) → draft.new
+            ≡ drafting delay (sent_on (request_next moment) self.old.present.neighbor) draft.old) }
+        ensures settled { self.new.settled ≡ self.old.settled }
+    {
+        self.place.request(alloc, moment, draft)
     }
 
     /// The instance is acknowledged at the next Tick, in the place of an earlier one of its key (RFC
