@@ -4,7 +4,7 @@ use Rattle.std.specs.List.{list_any, slice_get}
 use Rattle.std.specs.Prelude.{Option, None, Some}
 use Rattle.adjacency.specs.Kept.{Kept}
 use Rattle.adjacency.specs.Neighbors.{Neighbor}
-use Rattle.adjacency.specs.Received as neighbor
+use Rattle.adjacency.specs.Asked as neighbor
 use Rattle.received.specs.Links.{Link, any_exchange_or_loading, neighbor_at, neighbor_is_exchange_or_loading, neighbor_on}
 use Rattle.flooding.specs.Links.{present}
 
