@@ -93,17 +93,17 @@ map_twice g f (x ∷ xs) = ap (λ zs. g (f x) ∷ zs) (map_twice g f xs)
 -- ---- Updates
 
 -- what is said of an LSA that fits
-abbrev IsSized : Lsa → Type 0
+abbrev pub IsSized : Lsa → Type 0
 IsSized lsa = (length (lsa_text.text lsa) ≡ lsa_size lsa) × (28 + lsa_size lsa ≤ 8192)
 
-abbrev sent_text : ℕ → Lsa → List ℕ
+abbrev pub sent_text : ℕ → Lsa → List ℕ
 sent_text delay lsa = lsa_text.text (sent_lsa delay lsa)
 
-sent_size : (delay : ℕ) (lsa : Lsa) → IsSized lsa → text_size (sent_text delay lsa) ≡ lsa_size lsa
+pub sent_size : (delay : ℕ) (lsa : Lsa) → IsSized lsa → text_size (sent_text delay lsa) ≡ lsa_size lsa
 sent_size delay lsa is =
     length-append (header_text (sent_lsa delay lsa).header) (lsa_text.body_text lsa.body) ∙ sym (length-append (header_text lsa.header) (lsa_text.body_text lsa.body)) ∙ is.0
 
-updates_sized : (cs : List Content) → AllByRecursion HasRoom cs → AllByRecursion IsSized (filter_map updates cs)
+pub updates_sized : (cs : List Content) → AllByRecursion HasRoom cs → AllByRecursion IsSized (filter_map updates cs)
 updates_sized [] room = tt
 updates_sized (Content.SendsHello x ∷ cs) room = updates_sized cs room.1
 updates_sized (Content.Describes x ∷ cs) room = updates_sized cs room.1

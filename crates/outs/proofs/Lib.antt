@@ -1,3 +1,4 @@
 pub mod KeyOrder
 pub mod Packs
 pub mod Drafted
+pub mod Whole

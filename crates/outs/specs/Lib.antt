@@ -1,3 +1,4 @@
 pub mod Bodies
 pub mod Drafts
 pub mod Fillings
+pub mod Texts

@@ -2,9 +2,12 @@
 ghost use Rattle.std.specs.Prelude.{◌≡◌, ◌∷◌, [], ◌++◌, List, OnOk};
 ghost use Rattle.received.specs.Links.{Link};
 ghost use Rattle.received.specs.Outcomes.{Send};
-ghost use Rattle.events.specs.Packing.{out_of, outs_at};
+ghost use Rattle.std.specs.List.{AllByRecursion, filter_map};
+ghost use Rattle.packet.specs.Ranges.{LsasAreWhole};
+ghost use Rattle.events.specs.Packing.{at_interface, bodies, out_of, outs_at};
 ghost use Rattle.event_rooms.specs.PackingLaws.{HasPacketRoom};
 ghost use Rattle.outs.specs.Drafts.{IsDraftAt};
+ghost use Rattle.outs.specs.Texts.{IsSentText};
 
 use crate::bodies::bodies;
 use adjacency::Draft;
@@ -21,8 +24,10 @@ fn put_out(
     interface: u16,
     body: Body,
 ) -> Result<(), AllocError>
-    requires { HasPacketRoom body }
-    ensures { OnOk result (outs.new.items ≡ outs.old.items ++ out_of own interface body ∷ []) }
+    requires room { HasPacketRoom body }
+    requires whole { LsasAreWhole body }
+    ensures out { OnOk result (outs.new.items ≡ outs.old.items ++ out_of own interface body ∷ []) }
+    ensures text { OnOk result (IsSentText own body) }
 {
     let packet = Packet { router: own, body };
     let bytes = write(alloc, &packet)?;
@@ -48,8 +53,12 @@ pub fn put_outs(
 ) -> Result<(), AllocError>
     // The draft is that of what an event sends, each thing of which has room in a packet.
     requires { (link : Link) × (sends : List Send) × IsDraftAt interface link sends draft }
-    ensures { (link : Link) (sends : List Send) → IsDraftAt interface link sends draft
+    ensures outs { (link : Link) (sends : List Send) → IsDraftAt interface link sends draft
         → OnOk result (outs.new.items ≡ outs.old.items ++ outs_at own sends interface link) }
+    // The bytes of each are a text of a packet from this router that says so.
+    ensures texts { (link : Link) (sends : List Send) → IsDraftAt interface link sends draft
+        → OnOk result (AllByRecursion (IsSentText own)
+        (bodies link.interface.delay (filter_map (at_interface interface) sends))) }
 {
     for body in bodies(alloc, draft)? {
         put_out(alloc, outs, own, interface, body)?;
