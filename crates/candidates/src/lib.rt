@@ -6,10 +6,13 @@ ghost use Rattle.std.specs.FinMap as finite;
 ghost use Rattle.std.specs.List.{Contains};
 ghost use Rattle.lsa.specs.declared.body.Body.{Body as BodyValue};
 ghost use Rattle.words.specs.declared.key.Key.{Key as KeyValue};
-ghost use Rattle.routes.specs.Candidates.{AreCandidates};
+ghost use Rattle.words.specs.declared.route.Route.{Route as RouteValue};
+ghost use Rattle.routes.specs.Candidates.{AreCandidates, Offers};
+ghost use Rattle.routes.specs.declared.offer.Offer.{Offer};
 ghost use Rattle.routes.specs.Said.{said_at};
 ghost use Rattle.offers.specs.Ways.{AreNear, AreWays};
 
+use candidate_laws::every_offer_has_a_candidate;
 use lsdb::Lsdb;
 use offers::{
     Inner, Ways, inner_offers, lengths_of, push_externals, routes_of_offers, told_routes,
@@ -19,8 +22,8 @@ use shortest_paths::walk;
 use std::alloc::{AllocError, Global};
 use words::{Key, Route, Second};
 
-/// The candidates of a database at a moment: for each prefix that anything offers one route, in the order of the prefixes (RFC 2328,
-/// section 16). The database has at most 16,384 LSAs, the root at most 63 interfaces.
+/// The candidates of a database at a moment: for each prefix that anything offers one route, and no others, in the order of the prefixes
+/// (RFC 2328, section 16). The database has at most 16,384 LSAs, the root at most 63 interfaces.
 ///
 /// # Errors
 /// Where memory for the walk, the offers or the routes is refused.
@@ -33,9 +36,11 @@ pub fn candidates(
     requires interfaces { length root.now.addresses ≤ 63 }
     requires size { finite.len db.now.present ≤ 16384 }
     ensures candidates { IfOk result (λ routes. AreCandidates (said_at moment db.now.present) root.now routes.items) }
+    ensures every { IfOk result (λ routes. (o : Offer) → Offers (said_at moment db.now.present) root.now o → (r : RouteValue) × Contains routes.items r × (r.prefix ≡ o.prefix)) }
 {
     let reached = walk(alloc, db, root, moment)?;
     let routes = routes_of(alloc, db, root, moment, &reached)?;
+    every_offer_has_a_candidate();
     Ok(routes)
 }
 

@@ -1,7 +1,4 @@
 mod TableLaws
-mod Least
-mod Reached
-mod Offered
 mod Forwarding
 mod Entries
 mod NoSummaries

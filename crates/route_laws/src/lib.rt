@@ -2,7 +2,7 @@
 //! (RFC 2328, sections 16.1 and 16.4).
 #![tactic(auto)]
 
-ghost use Rattle.route_laws.specs.Laws.{AnswersToAllAreNotStale, BoundaryWaysAreDetermined, CandidatesAreCheapestWalks, EveryOfferHasACandidate, ForwardingIsDetermined, TablesAreDetermined, TablesArePartsOfCandidates};
+ghost use Rattle.route_laws.specs.Laws.{AnswersToAllAreNotStale, BoundaryWaysAreDetermined, ForwardingIsDetermined, TablesAreDetermined, TablesArePartsOfCandidates};
 ghost use Rattle.route_laws.specs.Worked.{WorkedSquare, WorkedTwoRouters};
 ghost use Rattle.route_laws.specs.WorkedExternals.{WorkedExternals};
 ghost use Rattle.route_laws.specs.WorkedOffers.{WorkedOffers};
@@ -18,17 +18,6 @@ pub fn forwarding_is_determined()
 /// An AS boundary router has one distance and one set of next hops, within the area or by area border routers (RFC 2328, section 16.4).
 pub fn boundary_ways_are_determined()
     ensures { BoundaryWaysAreDetermined }
-{}
-
-/// A prefix that is offered has a candidate: a list of all candidates has a route for it.
-pub fn every_offer_has_a_candidate()
-    ensures { EveryOfferHasACandidate }
-{}
-
-/// A network that a walk reaches has a candidate within the area only; that candidate's cost is the least of any walk, and its next hops
-/// are exactly the first interfaces of all walks of that cost (RFC 2328, section 16.1).
-pub fn candidates_are_cheapest_walks()
-    ensures { CandidatesAreCheapestWalks }
 {}
 
 /// A database and answers have one table.

@@ -15,7 +15,7 @@ use Rattle.lsa.specs.declared.body.ExternalLsa.{ExternalLsa}
 use Rattle.lsa.specs.declared.body.LinkKind.{LinkKind}
 use Rattle.routes.specs.Candidates.{IsBest, IsCandidate, Offers, external_offer}
 use Rattle.routes.specs.Candidates.Offers.{Between, External, Within}
-use Rattle.route_laws.specs.Laws.{CandidatesAreCheapestWalks, IsReached, first_exit}
+use Rattle.candidate_laws.specs.Laws.{CandidatesAreCheapestWalks, IsReached, first_exit}
 use Rattle.routes.specs.Links.{Counts, Leads, LeadsTo}
 use Rattle.routes.specs.declared.node.Node.{Node}
 use Rattle.routes.specs.declared.node.Node.TheVariants.{ANetwork, ARouter}
@@ -25,7 +25,7 @@ use Rattle.routes.specs.Routes.IsNoWorse.{ByCost, ByDistance, ByKind}
 use Rattle.routes.specs.Paths.{IsLeastWalk, IsWalk, IsWay, Step, Way, price_of}
 use Rattle.routes.specs.declared.root.Root.{Root}
 use Rattle.routes.proofs.Determined.{AreAlike, alike, as_good, bit_of_member}
-use Rattle.route_laws.proofs.Least as least
+use Rattle.candidate_laws.proofs.Least as least
 use Rattle.routes.specs.Said.{Said}
 use Rattle.routes.specs.Routes.{IsNoWorse, rank}
 

@@ -13,7 +13,7 @@ use Rattle.lsa.specs.declared.body.ExternalLsa.{ExternalLsa}
 use Rattle.routes.specs.Candidates.{IsBest, IsCandidate, Offers, OffersExternal, external_offer}
 use Rattle.routes.specs.Routes.IsNoLater.{ByOriginator, ByTag}
 use Rattle.routes.specs.Candidates.Offers.{Between, External, Within}
-use Rattle.route_laws.specs.Laws.{EveryOfferHasACandidate}
+use Rattle.candidate_laws.specs.Laws.{EveryOfferHasACandidate}
 use Rattle.routes.specs.Links.{Leads}
 use Rattle.routes.specs.declared.node.Node.{Node}
 use Rattle.routes.specs.declared.node.Node.TheVariants.{ARouter}
@@ -23,8 +23,8 @@ use Rattle.routes.specs.Routes.IsNoWorse.{ByCost, ByDistance, ByKind}
 use Rattle.routes.specs.Paths.{IsWay, Way}
 use Rattle.routes.specs.declared.root.Root.{Root}
 use Rattle.routes.proofs.Determined.{bit_of_member}
-use Rattle.route_laws.proofs.Least.{Chosen, chosen}
-use Rattle.route_laws.proofs.Reached as reached
+use Rattle.candidate_laws.proofs.Least.{Chosen, chosen}
+use Rattle.candidate_laws.proofs.Reached as reached
 use Rattle.routes.specs.Said.{Said}
 use Rattle.routes.specs.Routes.{IsForwarded, IsNoLater, IsNoWorse, rank}
 use Rattle.routes.specs.Summaries.IsBoundaryWay.{Inside, Outside}

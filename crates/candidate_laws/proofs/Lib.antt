@@ -1,0 +1,3 @@
+mod Least
+mod Reached
+mod Offered

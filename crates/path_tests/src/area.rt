@@ -1,0 +1,73 @@
+//! An area to test with: the LSAs that came in, and the router that calculates its routes.
+use candidates::candidates;
+use lsa::Lsa;
+use lsdb::Lsdb;
+use routes::Root;
+use std::alloc::{AllocError, Global};
+use std::test::Fail;
+use words::{Address, Prefix, Route, RouteKind, RouterId, Second, Sequence};
+
+/// When every LSA came in, and when the routes are asked for.
+pub fn moment() -> Second {
+    Second::new(1000)
+}
+
+/// The database of these LSAs.
+pub fn database(alloc: Global, lsas: &[Lsa]) -> Result<Lsdb, AllocError> {
+    let mut db = Lsdb::new(alloc, RouterId::new(0x0101_0101));
+    for lsa in lsas {
+        db.install_flooded(moment(), lsa.copy()?)?;
+        db.settle();
+    }
+    Ok(db)
+}
+
+/// The router of this Router ID, whose interfaces have these addresses.
+pub fn root(alloc: Global, router: u32, addresses: &[u32]) -> Result<Root, AllocError> {
+    let mut own = Vec::new(alloc);
+    for address in addresses {
+        own.push(Address::new(*address))?;
+    }
+    Ok(Root {
+        router: RouterId::new(router),
+        addresses: Sequence::from_vec(own),
+    })
+}
+
+/// The candidates of the database of these LSAs.
+pub fn routes(alloc: Global, lsas: &[Lsa], root: &Root) -> Result<Vec<Route>, Fail> {
+    let db = database(alloc, lsas)?;
+    if db.len() > 16384 || root.addresses.as_slice().len() > 63 {
+        return Err(Fail::from("a database or a router that is too large"));
+    }
+    Ok(candidates(alloc, &db, root, moment())?)
+}
+
+/// A route as a row of numbers, to compare with.
+#[derive(Clone, Copy, Debug, PartialEq, Eq, PartialOrd, Ord)]
+pub struct Row {
+    pub address: u32,
+    pub length: u8,
+    pub kind: RouteKind,
+    pub cost: u32,
+    pub distance: u32,
+    pub hops: u64,
+    pub tag: u32,
+}
+
+/// The routes as rows.
+pub fn rows(alloc: Global, routes: &[Route]) -> Result<Vec<Row>, AllocError> {
+    let mut rows = Vec::new(alloc);
+    for route in routes {
+        rows.push(Row {
+            address: route.prefix.address().bits(),
+            length: route.prefix.length(),
+            kind: route.kind,
+            cost: route.cost,
+            distance: route.distance,
+            hops: route.hops.bits(),
+            tag: route.tag,
+        })?;
+    }
+    Ok(rows)
+}
