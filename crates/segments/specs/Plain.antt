@@ -1,4 +1,5 @@
--- What an instruction of a plain program finds known at its slot, and what may be asked where it leads.
+-- What an instruction of a plain program finds known at its slot, and what may be asked where it
+-- leads.
 use Rattle.std.specs.Prelude.{◌≡◌, ◌⊎◌, ℕ, ◌+◌, ◌≤◌, Bool, true, false, nat_le, if◌then◌else◌, List, Option, Some, length}
 use Rattle.isa.specs.declared.instruction.Instruction.{Instruction}
 use Rattle.isa.specs.Flow.{jump_target, register_written, slot_after}
@@ -30,9 +31,9 @@ AsksAtMost contains filled (kinds.Number value) =
     HasEveryNumber contains (kinds.Number value) × filled
 AsksAtMost contains filled other = ⊥
 
--- An edge of a plain program: the target asks for no more numbers than are filled, of any value, and
--- for no bytes. Both ranks are constants, and the target's isn't above the segment's, on a back jump
--- less.
+-- An edge of a plain program: the target asks for no more numbers than are filled, of any value,
+-- and for no bytes. Both ranks are constants, and the target's isn't above the segment's, on a
+-- back jump less.
 pub record IsPlainEdge {D : Type 0} (contains : D → ℕ → Type 0) (back : Bool)
     (segment target : Target D) (filled : ℕ → Type 0) : Type 0 where
   pub asks : (r : ℕ) → AsksAtMost contains (filled r) (kind_in target.kinds.items r)
@@ -49,10 +50,11 @@ MayEnter {D} contains targets segment back to filled =
     (target : Target D) → target_at targets to ≡ Some target
     → IsPlainEdge contains back segment target filled
 
--- An instruction of a plain program, not of r10: what it reads is known to be numbers, and each edge
--- from it is plain.
-pub record IsPlainHere {D : Type 0} (contains : D → ℕ → Type 0) (targets : List (Option (Target D)))
-    (segment : Target D) (slot : ℕ) (i : Instruction) (state : State D) : Type 0 where
+-- An instruction of a plain program, not of r10: what it reads is known to be numbers, and each
+-- edge from it is plain.
+pub record IsPlainHere {D : Type 0} (contains : D → ℕ → Type 0)
+    (targets : List (Option (Target D))) (segment : Target D)
+    (slot : ℕ) (i : Instruction) (state : State D) : Type 0 where
   pub plain : IsPlainInstruction i
   pub frame : writes_frame i ≡ false
   pub reads : ReadsFilled i state

@@ -49,8 +49,8 @@ endless_code = Start (instructions.Jump (negsuc 0)) ∷ []
 abbrev pub constant_rank : ℕ → Rank
 constant_rank constant = record { constant = constant; first = None; second = None }
 
--- at the slot r0 is of the kind, of the other registers and of the stack nothing is said, and the rank
--- is the constant
+-- at the slot r0 is of the kind, of the other registers and of the stack nothing is said, and the
+-- rank is the constant
 abbrev pub says : ℕ → Kind → ℕ → StatementParts
 says slot kind constant = record {
   slot = slot;
@@ -76,7 +76,11 @@ says_byte = record {
 abbrev pub says_term : StatementParts
 says_term = record {
   slot = 1;
-  rank = record { constant = 0; first = Some (record { register = 0; coefficient = 1 }); second = None };
+  rank = record {
+    constant = 0;
+    first = Some (record { register = 0; coefficient = 1 });
+    second = None;
+  };
   kinds = any_number ∷ replicate 9 kinds.Empty;
   stack = no_bytes;
 }

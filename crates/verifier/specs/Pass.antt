@@ -14,7 +14,8 @@ use Rattle.verifier.specs.Plain.{IsFilledAt, IsPlain, IsRankAt}
 
 -- a plain program, and the list of its targets
 pub record IsPlainProgram {D : Type 0} (contains : D → ℕ → Type 0) (code : List Slot)
-    (entry_rank : ℕ) (statements : List StatementParts) (targets : List (Option (Target D))) : Type 0 where
+    (entry_rank : ℕ) (statements : List StatementParts)
+    (targets : List (Option (Target D))) : Type 0 where
   pub are : AreTargets contains statements targets
   pub plain : IsPlain code entry_rank statements
 
@@ -23,10 +24,11 @@ pub record HasRank {D : Type 0} (target : Target D) (rank : ℕ) : Type 0 where
   pub constant : IsConstant target.statement.now.rank
   pub same : target.statement.now.rank.constant ≡ rank
 
--- Where the slot may be reached, what is filled there is known to hold numbers; and the segment's rank
--- is the one there.
+-- Where the slot may be reached, what is filled there is known to hold numbers; and the segment's
+-- rank is the one there.
 pub record KnowsPlain {D : Type 0} (code : List Slot) (entry_rank : ℕ)
-    (statements : List StatementParts) (slot : ℕ) (segment : Target D) (known : Known D) : Type 0 where
+    (statements : List StatementParts) (slot : ℕ) (segment : Target D)
+    (known : Known D) : Type 0 where
   pub filled : known.is_live ≡ true → (r : ℕ) → IsFilledAt code statements slot r
       → IsFilled known.state r
   pub constant : IsConstant segment.statement.now.rank
@@ -34,14 +36,15 @@ pub record KnowsPlain {D : Type 0} (code : List Slot) (entry_rank : ℕ)
 
 -- what came from the slot before, which counts unless the slot has a statement
 pub record ComesPlainly {D : Type 0} (code : List Slot) (entry_rank : ℕ)
-    (statements : List StatementParts) (slot : ℕ) (segment : Target D) (known : Known D) : Type 0 where
+    (statements : List StatementParts) (slot : ℕ) (segment : Target D)
+    (known : Known D) : Type 0 where
   pub ten : length known.state.kinds.items ≡ 10
   pub knows : statement_at statements slot ≡ None
       → KnowsPlain code entry_rank statements slot segment known
 
 -- where the slot may be reached, the instruction is one of a plain program
-abbrev pub IsPlainIfLive : {D : Type 0} → (D → ℕ → Type 0) → List (Option (Target D)) → Target D → ℕ
-    → Instruction → Known D → Type 0
+abbrev pub IsPlainIfLive : {D : Type 0} → (D → ℕ → Type 0) → List (Option (Target D)) → Target D
+    → ℕ → Instruction → Known D → Type 0
 IsPlainIfLive contains targets segment slot i known =
     known.is_live ≡ true → IsPlainHere contains targets segment slot i known.state
 

@@ -1,5 +1,6 @@
--- Plain programs: they work on numbers in registers alone, and their statements ask for no more than
--- that registers hold numbers. The verifier accepts each of them, whatever the precision of its domain.
+-- Plain programs: they work on numbers in registers alone, and their statements ask for no more
+-- than that registers hold numbers. The verifier accepts each of them, whatever the precision of
+-- its domain.
 use Rattle.std.specs.Prelude.{◌≡◌, ◌⊎◌, ℕ, ◌+◌, ◌≤◌, ◌<◌, Bool, nat_le, if◌then◌else◌, List, Some, None, slice_index_or}
 use Rattle.std.specs.List.{AllByRecursion}
 use Rattle.isa.specs.declared.code.Slot.{Slot}
@@ -23,8 +24,8 @@ use Rattle.segments.specs.Stated.{statement_at}
 abbrev pub said_of : StatementParts → ℕ → Kind
 said_of s r = slice_index_or s.kinds r kinds.Empty
 
--- it says of each register nothing, or that it is any number, and nothing of the stack; its rank is a
--- constant
+-- it says of each register nothing, or that it is any number, and nothing of the stack; its rank
+-- is a constant
 pub record IsPlainStatement (s : StatementParts) : Type 0 where
   pub registers : (r : ℕ) → r < 10 → (said_of s r ≡ kinds.Empty) ⊎ (said_of s r ≡ any_number)
   pub stack : s.stack ≡ no_bytes
@@ -38,11 +39,11 @@ pub record IsNumberIn (s : StatementParts) (r : ℕ) : Type 0 where
 
 -- ---- filled registers
 
--- The register is filled at the slot: at a statement those that it states as numbers, elsewhere those of
--- the instruction before and the one that it wrote. At the entry none is.
+-- The register is filled at the slot: at a statement those that it states as numbers, elsewhere
+-- those of the instruction before and the one that it wrote. At the entry none is.
 pub data IsFilledAt (code : List Slot) (statements : List StatementParts) : ℕ → ℕ → Type 0 where
-  is_stated : {slot r : ℕ} (s : StatementParts) → statement_at statements slot ≡ Some s → IsNumberIn s r
-      → IsFilledAt code statements slot r
+  is_stated : {slot r : ℕ} (s : StatementParts) → statement_at statements slot ≡ Some s
+      → IsNumberIn s r → IsFilledAt code statements slot r
   stays : {slot r : ℕ} (before : ℕ) (i : Instruction) → statement_at statements slot ≡ None
       → BeginsAt i code before → slot_after before i ≡ slot → IsFilledAt code statements before r
       → IsFilledAt code statements slot r
@@ -59,14 +60,16 @@ IsFilledAfter code statements slot i r =
 
 -- The rank of the segment that the slot is in: the entry's, a statement's, or the one of the
 -- instruction before.
-pub data IsRankAt (code : List Slot) (entry_rank : ℕ) (statements : List StatementParts) : ℕ → ℕ → Type 0 where
+pub data IsRankAt (code : List Slot) (entry_rank : ℕ) (statements : List StatementParts)
+    : ℕ → ℕ → Type 0 where
   at_entry : {slot rank : ℕ} → statement_at statements slot ≡ None → slot ≡ 0 → rank ≡ entry_rank
       → IsRankAt code entry_rank statements slot rank
   at_statement : {slot rank : ℕ} (s : StatementParts) → statement_at statements slot ≡ Some s
       → rank ≡ s.rank.constant → IsRankAt code entry_rank statements slot rank
-  goes_behind : {slot rank : ℕ} (before : ℕ) (i : Instruction) → statement_at statements slot ≡ None
-      → BeginsAt i code before → slot_after before i ≡ slot
-      → IsRankAt code entry_rank statements before rank → IsRankAt code entry_rank statements slot rank
+  goes_behind : {slot rank : ℕ} (before : ℕ) (i : Instruction)
+      → statement_at statements slot ≡ None → BeginsAt i code before → slot_after before i ≡ slot
+      → IsRankAt code entry_rank statements before rank
+      → IsRankAt code entry_rank statements slot rank
 
 -- the rank, on a back jump one more, is at most the other
 abbrev pub Falls : Bool → ℕ → ℕ → Type 0
@@ -75,19 +78,20 @@ Falls back rank other = rank + (if back then 1 else 0) ≤ other
 -- ---- edges
 
 -- the instruction at the slot may lead to one that has a statement
-pub record IsEdge (code : List Slot) (statements : List StatementParts) (slot : ℕ) (i : Instruction)
-    (to : ℕ) (s : StatementParts) : Type 0 where
+pub record IsEdge (code : List Slot) (statements : List StatementParts) (slot : ℕ)
+    (i : Instruction) (to : ℕ) (s : StatementParts) : Type 0 where
   pub at : BeginsAt i code slot
   pub leads : LeadsTo slot i to
   pub stated : statement_at statements to ≡ Some s
 
 -- ---- programs
 
--- Only arithmetic, jumps, wide numbers and EXIT; plain statements; the rules on jumps, statements, the
--- code's end, the bound and r10 are met. Each register that is read, and each that an edge's target
--- states as a number, is filled; and the target's rank is never above the segment's, on a back jump
--- less.
-pub record IsPlain (code : List Slot) (entry_rank : ℕ) (statements : List StatementParts) : Type 0 where
+-- Only arithmetic, jumps, wide numbers and EXIT; plain statements; the rules on jumps,
+-- statements, the code's end, the bound and r10 are met. Each register that is read, and each
+-- that an edge's target states as a number, is filled; and the target's rank is never above the
+-- segment's, on a back jump less.
+pub record IsPlain (code : List Slot) (entry_rank : ℕ)
+    (statements : List StatementParts) : Type 0 where
   pub instructions : (slot : ℕ) (i : Instruction) → BeginsAt i code slot → IsPlainInstruction i
   pub states : (slot : ℕ) (s : StatementParts) → statement_at statements slot ≡ Some s
       → IsPlainStatement s

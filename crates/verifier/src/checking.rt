@@ -19,8 +19,8 @@ use transfer::rule::Rule;
 /// The greatest number of instructions that a run may execute.
 pub const BUDGET: u64 = 1_000_000;
 
-/// How many instructions a run may execute: the code's slots for each turn that the rank allows, and
-/// once more. That may be too many.
+/// How many instructions a run may execute: the code's slots for each turn that the rank allows,
+/// and once more. That may be too many.
 fn bound_of_runs(rank: u32, size: usize) -> Result<u64, Refusal>
     requires { size ≤ 4096 }
     ensures value { IfOk result (λ bound. bound ≡ (rank + 1) * size) }
@@ -40,13 +40,13 @@ fn bound_of_runs(rank: u32, size: usize) -> Result<u64, Refusal>
 
 /// Accepts the code only where it is safe within (rank + 1) times its slots, at most 1,000,000.
 ///
-/// A refusal names the first slot that breaks a rule, and of the rules broken there the one that is
-/// tried first: those on jumps, statements and the code's end are named only where they are broken and
-/// none of them is broken before, those on helpers, on the bound and on r10 only where they are broken,
-/// and want of memory at slot 0 only where memory ran out. A plain program, one that works on numbers in
-/// registers alone and states no more than that they are numbers, is refused where memory ran out alone,
-/// whatever the domain. The statements are in the order of their slots,
-/// each slot once, as an object holds them.
+/// A refusal names the first slot that breaks a rule, and of the rules broken there the one that
+/// is tried first: those on jumps, statements and the code's end are named only where they are
+/// broken and none of them is broken before, those on helpers, on the bound and on r10 only where
+/// they are broken, and want of memory at slot 0 only where memory ran out. A plain program, one
+/// that works on numbers in registers alone and states no more than that they are numbers, is
+/// refused where memory ran out alone, whatever the domain. The statements are in the order of
+/// their slots, each slot once, as an object holds them.
 pub fn verify<D: Domain>(
     alloc: Global,
     hook: Hook,

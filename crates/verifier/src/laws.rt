@@ -13,8 +13,9 @@ pub fn a_test_of_a_number_is_plain()
     ensures { IsPlain tested_code 0 (says 2 any_number 0 ∷ []) }
 {}
 
-/// Not plain are a call, a read of a register that nothing filled, a write of r10, an open end, a bound
-/// that is too large, a jump to where nothing is stated, and an instruction that nothing leads to.
+/// Not plain are a call, a read of a register that nothing filled, a write of r10, an open end, a
+/// bound that is too large, a jump to where nothing is stated, and an instruction that nothing
+/// leads to.
 pub fn these_codes_are_not_plain()
     ensures call { IsPlain (ended (Call (pos 3))) 0 [] → ⊥ }
     ensures empty { IsPlain (ended (moved 0 (Register 2))) 0 [] → ⊥ }
@@ -25,8 +26,8 @@ pub fn these_codes_are_not_plain()
     ensures unreached { IsPlain (Start seven ∷ ended Exit) 0 [] → ⊥ }
 {}
 
-/// Not plain is a program with a statement where no instruction begins, or one that says which numbers a
-/// register may hold, which bytes the stack has or a rank that isn't a constant.
+/// Not plain is a program with a statement where no instruction begins, or one that says which
+/// numbers a register may hold, which bytes the stack has or a rank that isn't a constant.
 pub fn these_statements_are_not_plain()
     ensures stray { IsPlain (ended seven) 0 (says 5 Empty 0 ∷ []) → ⊥ }
     ensures numbers { IsPlain (ended seven) 0 (says 1 only_seven 0 ∷ []) → ⊥ }
@@ -34,8 +35,8 @@ pub fn these_statements_are_not_plain()
     ensures term { IsPlain (ended seven) 0 (says_term ∷ []) → ⊥ }
 {}
 
-/// Not plain is a program where a statement asks for a register that nothing filled, or has a rank above
-/// the one before, or on a back jump one that isn't less.
+/// Not plain is a program where a statement asks for a register that nothing filled, or has a
+/// rank above the one before, or on a back jump one that isn't less.
 pub fn these_edges_are_not_plain()
     ensures unfilled { IsPlain (Start (moved 1 (Immediate (pos 7))) ∷ ended seven) 0
         (says 1 any_number 0 ∷ []) → ⊥ }
