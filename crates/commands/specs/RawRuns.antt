@@ -12,7 +12,7 @@ use Rattle.maps.specs.Words.{SeatView, SharedWords, fresh}
 use Rattle.interp.specs.declared.ending.Run.{Run}
 use Rattle.interp.specs.declared.trap.Trap.{Trap}
 use Rattle.interp.specs.Outcome.{Outcome, trap_number}
-use Rattle.object_runs.specs.Limits.{most_instructions}
+use Rattle.segments.specs.Refusals.{budget}
 use Rattle.commands.specs.declared.fault.Fault.{Fault}
 use Rattle.commands.specs.declared.raw.Finished.{Finished}
 use Rattle.commands.specs.declared.report.Report.{Report}
@@ -41,7 +41,7 @@ setting_of slots hook = record { code = slots; hook = hook; input = record { con
 
 -- the seat ran that once, for as many instructions as any program may take
 abbrev pub Ran : Setting → SeatView → Finished → Type 0
-Ran setting seat one = Outcome setting most_instructions seat one.outcome one.seat
+Ran setting seat one = Outcome setting budget seat one.outcome one.seat
 
 -- and so did each of these seats, in their order
 abbrev pub EachRan : Setting → List SeatView → List Finished → Type 0

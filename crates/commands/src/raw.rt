@@ -12,10 +12,10 @@ use interp::{Run, Trap, run_checked};
 use isa::{Code, Hook, decode};
 use machine::Input;
 use maps::{Seat, Shared};
-use object_runs::MOST_INSTRUCTIONS;
 use std::alloc::{AllocError, Global};
 use std::rt::Files;
 use std::thread::{Threads, map_vec};
+use verifier::BUDGET;
 
 /// A seat after its run, and how the run ended.
 #[derive(Drop)]
@@ -47,7 +47,7 @@ fn run_each<R: Threads + Sync>(
             ensures ran { Ran (record { code = code.entry.now; hook = hook; input = given_by input.entry.now }) seat result }
         {
             let mut seat = seat;
-            let outcome = run_checked(code, hook, MOST_INSTRUCTIONS, input, shared, &mut seat);
+            let outcome = run_checked(code, hook, BUDGET, input, shared, &mut seat);
             Finished { seat, outcome }
         },
     )

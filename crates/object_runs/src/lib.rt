@@ -6,5 +6,5 @@ mod limit;
 mod run;
 
 pub use error::RunError;
-pub use limit::{Limit, MOST_INSTRUCTIONS};
+pub use limit::Limit;
 pub use run::run_object;

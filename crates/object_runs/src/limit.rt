@@ -3,9 +3,7 @@ ghost use Rattle.std.specs.Prelude.{◌≡◌};
 ghost use Rattle.object_runs.specs.Limits.{own_limit, limit_of};
 
 use object::Object;
-
-/// The most instructions that any program may take.
-pub const MOST_INSTRUCTIONS: u64 = 1_000_000;
+use verifier::BUDGET;
 
 /// For how many instructions a program runs at most.
 #[derive(Clone, Copy, PartialEq, Eq, Debug)]
@@ -22,7 +20,7 @@ fn own_limit(object: &Object) -> u64
     ensures { result ≡ own_limit object.now }
 {
     let passes = u64::from(object.entry_rank()) + 1;
-    (passes * object.slots() as u64).min(MOST_INSTRUCTIONS)
+    (passes * object.slots() as u64).min(BUDGET)
 }
 
 impl Limit {

@@ -8,6 +8,7 @@ use Rattle.machine.specs.Runs.{Safe}
 use Rattle.object.specs.Objects.{AreStatements, IsObject, ObjectParts, slots_of}
 use Rattle.object.specs.Spelling as objects
 use Rattle.object.specs.Statements.{StatementParts}
+use Rattle.segments.specs.Refusals.{budget}
 use Rattle.verifier.specs.Programs.{Program}
 use Rattle.object_verdicts.specs.Verdicts.{Accepts}
 
@@ -22,7 +23,7 @@ stated_in object bytes code statements is same spelled own =
 -- what is accepted is the program that the bytes hold
 pub accepts_of : (bytes : List ℕ) (object : ObjectParts) (spelled : List ℕ) (code : List Slot) (hook : Hook) (rank : ℕ) (accepted : Program)
     → objects.Spells bytes object → spelled ≡ object.code → Spells spelled code → hook ≡ object.hook → rank ≡ object.entry_rank
-    → accepted.code ≡ code → accepted.hook ≡ hook → accepted.bound ≡ (rank + 1) * length code → accepted.bound ≤ 1000000
+    → accepted.code ≡ code → accepted.hook ≡ hook → accepted.bound ≡ (rank + 1) * length code → accepted.bound ≤ budget
     → Safe code hook ((rank + 1) * length code) → Accepts bytes accepted
 accepts_of bytes object spelled code hook rank accepted spells own decoded at from same_code same_hook bound most safe = record {
   object = object;

@@ -8,6 +8,7 @@ use Rattle.object.specs.Objects.{ObjectParts}
 use Rattle.object.specs.Spelling as objects
 use Rattle.object.specs.Refusals as object_refusals
 use Rattle.machine.specs.Runs.{Safe}
+use Rattle.segments.specs.Refusals.{budget}
 use Rattle.verifier.specs.Programs.{Program}
 use Rattle.object_verdicts.specs.declared.error.VerifyError.{VerifyError}
 use Rattle.object_verdicts.specs.declared.error.VerifyError.TheVariants as errors
@@ -27,7 +28,7 @@ pub record Accepts (bytes : List ℕ) (accepted : Program) : Type 0 where
   pub holds : HoldsProgram bytes object accepted.code
   pub hook : accepted.hook ≡ object.hook
   pub bound : accepted.bound ≡ bound_of object accepted.code
-  pub most : accepted.bound ≤ 1000000
+  pub most : accepted.bound ≤ budget
   pub safe : Safe accepted.code accepted.hook accepted.bound
 
 -- The bytes hold a program. Which rule it breaks no clause says yet.
