@@ -2,6 +2,8 @@
 #![tactic(auto)]
 
 #[cfg(test)]
+mod databases;
+#[cfg(test)]
 mod hello_protocol;
 #[cfg(test)]
 mod instances;
