@@ -1,4 +1,4 @@
-//! Tests of `lsdb`, `routes` and `flood` by their public calls. They stand above, since a crate is proved once more for its tests.
+//! Tests of `lsdb`, `adjacency`, `routes` and `flood` by their public calls. They stand above, since a crate is proved once more for its tests.
 #![tactic(auto)]
 
 #[cfg(test)]
@@ -7,5 +7,7 @@ mod databases;
 mod hello_protocol;
 #[cfg(test)]
 mod instances;
+#[cfg(test)]
+mod neighbors;
 #[cfg(test)]
 mod walks;
