@@ -5,7 +5,7 @@ use Rattle.words.specs.Numbers.{InterfaceNumber, Moment}
 use Rattle.words.specs.declared.key.Key.{Key}
 use Rattle.words.specs.Constants.{max_age}
 use Rattle.lsdb.specs.Copies.{Database, DatabaseCopy, age_out, install_flooded}
-use Rattle.lsdb.specs.Copies.{install_originated, is_aged_out, lsa_now}
+use Rattle.lsdb.specs.Copies.{has_just_aged_out, install_originated, is_aged_out, lsa_now}
 use Rattle.lsdb.specs.Headers.{Lsa, lsa_aged}
 use Rattle.adjacency.specs.Kept.{Kept}
 use Rattle.adjacency.specs.Neighbors.{Neighbor}
@@ -77,3 +77,14 @@ requesting moment number link n = request_next moment n
 
 abbrev pub requested_all : Moment → Area → Outcome
 requested_all moment a = each_neighbor moment (requesting moment) (start a)
+
+-- a copy that has come to MaxAge since the moment before is flooded as if from nobody (section 14)
+abbrev pub come_of_age_copy : (before : Moment) → (moment : Moment) → Option DatabaseCopy → Outcome
+    → Outcome
+come_of_age_copy before moment None o = o
+come_of_age_copy before moment (Some c) o =
+    if has_just_aged_out before moment c then flood moment None (lsa_now moment c) o else o
+
+abbrev pub come_of_age : (before : Moment) → (moment : Moment) → Key → Area → Outcome
+come_of_age before moment key a =
+    come_of_age_copy before moment (finite.get a.database key) (start a)

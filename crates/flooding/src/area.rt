@@ -4,11 +4,11 @@ ghost use Rattle.std.specs.FinMap as finite;
 ghost use Rattle.received.specs.Updates.{after_case, case_at};
 ghost use Rattle.flooding.specs.Cases.{case_of};
 ghost use Rattle.flooding.specs.Drafted.{drafted};
-ghost use Rattle.flooding.specs.Links.{area_of, flooded_key, flushed, originated};
+ghost use Rattle.flooding.specs.Links.{area_of, come_of_age, flooded_key, flushed, originated};
 ghost use Rattle.flooding.specs.Links.{present, requested_all, settled, start};
 
 use crate::cases::Case;
-use crate::flood::{flood, flush, originate, roll_back_links, settle_links};
+use crate::flood::{come_of_age, flood, flush, originate, roll_back_links, settle_links};
 use crate::link::Link;
 use crate::receiving::receive;
 use crate::requests::request_all;
@@ -215,6 +215,39 @@ impl Area {
     {
         flush(
             alloc,
+            moment,
+            key,
+            &mut self.links,
+            &mut self.database,
+            drafts,
+        )
+    }
+
+    /// A copy of this key that has come to MaxAge since the moment before is flooded as if from nobody
+    /// (RFC 2328, section 14). Without such a copy nothing happens.
+    ///
+    /// `AllocError` comes where memory was refused; the area is to be rolled back then, and the
+    /// drafts are of no use.
+    pub fn come_of_age(
+        &mut self,
+        alloc: Global,
+        before: Second,
+        moment: Second,
+        key: &Key,
+        drafts: &mut [Draft],
+    ) -> Result<(), AllocError>
+        requires { length drafts.old ≡ length self.old.present.links }
+        ensures ok { OnOk result (self.new.present
+            ≡ (come_of_age before moment key.now self.old.present).area) }
+        ensures drafts { OnOk result (drafts.new
+            ≡ drafted (come_of_age before moment key.now self.old.present).sends
+            self.old.present.links drafts.old) }
+        ensures settled { self.new.settled ≡ self.old.settled }
+        ensures router { self.new.router ≡ self.old.router }
+    {
+        come_of_age(
+            alloc,
+            before,
             moment,
             key,
             &mut self.links,

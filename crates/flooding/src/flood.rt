@@ -1,12 +1,12 @@
 //! Flooding over links and database, as parts that the caller holds apart.
 ghost use Rattle.std.specs.Prelude.{◌≡◌, ◌||◌, IfOk, OnOk, length, map};
-ghost use Rattle.lsdb.specs.Copies.{lsa_now};
+ghost use Rattle.lsdb.specs.Copies.{has_just_aged_out, lsa_now};
 ghost use Rattle.adjacency.specs.Floods.{is_any};
 ghost use Rattle.received.specs.Flooding.{flood_to, is_sender};
 ghost use Rattle.received.specs.Outcomes.{stepped, stepping_sends};
 ghost use Rattle.flooding.specs.Drafted.{drafted};
-ghost use Rattle.flooding.specs.Links.{area_of, flooded_key, flushed, installed, originated};
-ghost use Rattle.flooding.specs.Links.{present, settled};
+ghost use Rattle.flooding.specs.Links.{area_of, come_of_age, flooded_key, flushed, installed};
+ghost use Rattle.flooding.specs.Links.{originated, present, settled};
 
 use crate::link::Link;
 use adjacency::Draft;
@@ -173,6 +173,42 @@ pub fn flush(
     }
     database.age_out(moment, key)?;
     flood(alloc, moment, None, key, links, database, drafts)
+}
+
+fn has_just_aged_out(before: Second, moment: Second, copy: &DatabaseCopy<'_>) -> bool
+    ensures { result ≡ has_just_aged_out before moment copy.now }
+{
+    copy.is_aged_out(moment) && !copy.is_aged_out(before)
+}
+
+// A copy that has come to MaxAge since the moment before is flooded as if from nobody.
+pub fn come_of_age(
+    alloc: Global,
+    before: Second,
+    moment: Second,
+    key: &Key,
+    links: &mut [Link],
+    database: &mut Lsdb,
+    drafts: &mut [Draft],
+) -> Result<(), AllocError>
+    requires { length drafts.old ≡ length links.old }
+    ensures ok { OnOk result (area_of links.new database.new.present
+        ≡ (come_of_age before moment key.now (area_of links.old database.old.present)).area) }
+    ensures drafts { OnOk result (drafts.new
+        ≡ drafted (come_of_age before moment key.now (area_of links.old database.old.present)).sends
+        (map present links.old) drafts.old) }
+    ensures links { map settled links.new ≡ map settled links.old }
+    ensures settled { database.new.settled ≡ database.old.settled }
+    ensures router { database.new.router ≡ database.old.router }
+{
+    let Some(copy) = database.get(key) else {
+        return Ok(());
+    };
+    let came = has_just_aged_out(before, moment, &copy);
+    if came {
+        return flood(alloc, moment, None, key, links, database, drafts);
+    }
+    Ok(())
 }
 
 pub fn settle_links(links: &mut [Link])

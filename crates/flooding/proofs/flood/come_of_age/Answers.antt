@@ -1,0 +1,76 @@
+use Rattle.std.proofs.Common.{cond, sym, ap, ◌∙◌}
+use Rattle.std.specs.Prelude.{None, map}
+use Rattle.lsdb.specs.Copies.{lsa_now}
+use Rattle.received.specs.Flooding.{flood}
+use Rattle.received.specs.Outcomes.{Outcome}
+use Rattle.keyed_map.proofs.Helds.{on_ok}
+use Rattle.flooding.specs.Drafted.{drafted}
+use Rattle.flooding.specs.Links.{area_of, come_of_age_copy, flooded_copy, present, start}
+use Rattle.flooding.proofs.Sends.{drafted_none}
+use Rattle.flooding.proofs.flood.come_of_age.Goals as goal
+
+pub returns-in_default-clause-ok : goal.returns-in_default-clause-ok
+returns-in_default-clause-ok c =
+    let m = c.args.moment in
+    let b = c.args.before in
+    let o : Outcome = start (area_of c.args.links.now c.args.database.now.present) in
+    ap (λ q. (come_of_age_copy b m q o).area) c.in_default.ensures
+
+pub returns-then-came-clause-ok : goal.returns-then-came-clause-ok
+returns-then-came-clause-ok c =
+    let m = c.args.moment in
+    let b = c.args.before in
+    let o : Outcome = start (area_of c.args.links.now c.args.database.now.present) in
+    let whole : Outcome = flood m None (lsa_now m c.in-Some.copy) o in
+    on_ok c.flood.result
+    (λ is.
+    is
+    ∙ ap (λ q. (flooded_copy m None q o).area) (sym c.in-Some.ensures)
+    ∙ ap (λ t. (cond t whole o).area) (sym c.if-came.true ∙ c.has_just_aged_out-came.ensures)
+    ∙ ap (λ q. (come_of_age_copy b m q o).area) c.in-Some.ensures)
+    c.flood.ensures.ok
+
+pub returns-clause-ok : goal.returns-clause-ok
+returns-clause-ok c =
+    let m = c.args.moment in
+    let b = c.args.before in
+    let o : Outcome = start (area_of c.args.links.now c.args.database.now.present) in
+    let whole : Outcome = flood m None (lsa_now m c.in-Some.copy) o in
+    ap (λ t. (cond t whole o).area) (sym c.if-came.false ∙ c.has_just_aged_out-came.ensures)
+    ∙ ap (λ q. (come_of_age_copy b m q o).area) c.in-Some.ensures
+
+pub returns-in_default-clause-drafts : goal.returns-in_default-clause-drafts
+returns-in_default-clause-drafts c =
+    let m = c.args.moment in
+    let b = c.args.before in
+    let o : Outcome = start (area_of c.args.links.now c.args.database.now.present) in
+    let P = map present c.args.links.now in
+    let ds = c.args.drafts.now in
+    drafted_none 1 P ds ∙ ap (λ q. drafted (come_of_age_copy b m q o).sends P ds) c.in_default.ensures
+
+pub returns-then-came-clause-drafts : goal.returns-then-came-clause-drafts
+returns-then-came-clause-drafts c =
+    let m = c.args.moment in
+    let b = c.args.before in
+    let o : Outcome = start (area_of c.args.links.now c.args.database.now.present) in
+    let P = map present c.args.links.now in
+    let ds = c.args.drafts.now in
+    let whole : Outcome = flood m None (lsa_now m c.in-Some.copy) o in
+    on_ok c.flood.result
+    (λ is.
+    is
+    ∙ ap (λ q. drafted (flooded_copy m None q o).sends P ds) (sym c.in-Some.ensures)
+    ∙ ap (λ t. drafted (cond t whole o).sends P ds) (sym c.if-came.true ∙ c.has_just_aged_out-came.ensures)
+    ∙ ap (λ q. drafted (come_of_age_copy b m q o).sends P ds) c.in-Some.ensures)
+    c.flood.ensures.drafts
+
+pub returns-clause-drafts : goal.returns-clause-drafts
+returns-clause-drafts c =
+    let m = c.args.moment in
+    let b = c.args.before in
+    let o : Outcome = start (area_of c.args.links.now c.args.database.now.present) in
+    let P = map present c.args.links.now in
+    let ds = c.args.drafts.now in
+    let whole : Outcome = flood m None (lsa_now m c.in-Some.copy) o in
+    drafted_none 1 P ds ∙ ap (λ t. drafted (cond t whole o).sends P ds) (sym c.if-came.false ∙ c.has_just_aged_out-came.ensures)
+    ∙ ap (λ q. drafted (come_of_age_copy b m q o).sends P ds) c.in-Some.ensures
