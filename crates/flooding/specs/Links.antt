@@ -33,6 +33,9 @@ unused interface = record {
 abbrev pub with_neighbor : Option Neighbor → Link → Link
 with_neighbor n link = record link { neighbor = n }
 
+abbrev pub without_neighbor : Link → Link
+without_neighbor link = record link { neighbor = None }
+
 abbrev pub area_of : List (Kept Link) → Database → Area
 area_of links db = record { links = map present links; database = db }
 
@@ -70,13 +73,6 @@ flushed_copy moment key (Some c) o =
 
 abbrev pub flushed : Moment → Key → Area → Outcome
 flushed moment key a = flushed_copy moment key (finite.get a.database key) (start a)
-
--- each neighbor is sent the next Request
-abbrev pub requesting : Moment → Stepping
-requesting moment number link n = request_next moment n
-
-abbrev pub requested_all : Moment → Area → Outcome
-requested_all moment a = each_neighbor moment (requesting moment) (start a)
 
 -- a copy that has come to MaxAge since the moment before is flooded as if from nobody (section 14)
 abbrev pub come_of_age_copy : (before : Moment) → (moment : Moment) → Option DatabaseCopy → Outcome

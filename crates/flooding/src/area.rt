@@ -5,13 +5,14 @@ ghost use Rattle.received.specs.Updates.{after_case, case_at};
 ghost use Rattle.flooding.specs.Cases.{case_of};
 ghost use Rattle.flooding.specs.Drafted.{drafted};
 ghost use Rattle.flooding.specs.Links.{area_of, come_of_age, flooded_key, flushed, originated};
-ghost use Rattle.flooding.specs.Links.{present, requested_all, settled, start};
+ghost use Rattle.flooding.specs.Links.{present, settled, start};
+
+mod steps;
 
 use crate::cases::Case;
 use crate::flood::{come_of_age, flood, flush, originate, roll_back_links, settle_links};
 use crate::link::Link;
 use crate::receiving::receive;
-use crate::requests::request_all;
 use adjacency::Draft;
 use lsa::Lsa;
 use lsdb::Lsdb;
@@ -254,27 +255,6 @@ impl Area {
             &mut self.database,
             drafts,
         )
-    }
-
-    /// Each neighbor is sent the next Request, where it is to be sent one (RFC 2328, section 10.9).
-    ///
-    /// `AllocError` comes where memory was refused; the area is to be rolled back then, and the
-    /// drafts are of no use.
-    pub fn request_all(
-        &mut self,
-        alloc: Global,
-        moment: Second,
-        drafts: &mut [Draft],
-    ) -> Result<(), AllocError>
-        requires { length drafts.old ≡ length self.old.present.links }
-        ensures ok { OnOk result (self.new.present ≡ (requested_all moment self.old.present).area) }
-        ensures drafts { OnOk result (drafts.new
-            ≡ drafted (requested_all moment self.old.present).sends
-            self.old.present.links drafts.old) }
-        ensures settled { self.new.settled ≡ self.old.settled }
-        ensures router { self.new.router ≡ self.old.router }
-    {
-        request_all(alloc, moment, &mut self.links, &self.database, drafts)
     }
 
     /// Makes the changes so far final. It wants no memory.

@@ -7,9 +7,10 @@ mod cases;
 mod flood;
 mod link;
 mod receiving;
-mod requests;
 mod rows;
+mod steps;
 
 pub use area::Area;
 pub use cases::Case;
 pub use link::Link;
+pub use steps::{LinkChange, LinkStep};

@@ -13,6 +13,10 @@ ghost use Rattle.adjacency.specs.Steps.{named};
 ghost use Rattle.received.specs.Links.{acknowledge_later};
 ghost use Rattle.flooding.specs.Links.{unused, with_neighbor};
 
+mod acknowledgments;
+mod hellos;
+mod timers;
+
 use adjacency::{Draft, Interface, Place, Saved, State};
 use keyed_map::KeyedMap;
 use lsa::Header;

@@ -1,0 +1,88 @@
+//! What is done on each link of an area.
+ghost use Rattle.std.specs.Prelude.{◌≡◌, OnOk, length, map};
+ghost use Rattle.std.specs.FinMap as finite;
+ghost use Rattle.lsdb.specs.Copies.{mark_sent};
+ghost use Rattle.received.specs.Links.{change_link};
+ghost use Rattle.flooding.specs.Drafted.{drafted};
+ghost use Rattle.flooding.specs.Links.{without_neighbor};
+ghost use Rattle.flooding.specs.Steps.{sends_of};
+
+use super::Area;
+use crate::steps::{LinkChange, LinkStep, change_links, step_links, take_link_down};
+use adjacency::Draft;
+use std::alloc::{AllocError, Global};
+use words::{Key, Second};
+
+impl Area {
+    /// Changes each link. It wants no memory.
+    pub fn change_links<C: LinkChange>(&mut self, change: &C)
+        ensures { self.new ≡ record self.old {
+          present = record self.old.present {
+            links = map (C.after change.now) self.old.present.links;
+          };
+        } }
+    {
+        change_links(change, &mut self.links);
+    }
+
+    /// The neighbor on the link of this number is Down. It wants no memory. Where there is no such
+    /// link nothing happens.
+    pub fn take_down(&mut self, number: usize)
+        ensures { self.new ≡ record self.old {
+          present = record self.old.present {
+            links = change_link number without_neighbor self.old.present.links;
+          };
+        } }
+    {
+        take_link_down(number, &mut self.links);
+    }
+
+    /// Each link takes the step; what it sends goes into the draft of its interface.
+    ///
+    /// `AllocError` comes where memory was refused; the area is to be rolled back then, and the
+    /// drafts are of no use.
+    pub fn step_links<S: LinkStep>(
+        &mut self,
+        alloc: Global,
+        step: &S,
+        drafts: &mut [Draft],
+    ) -> Result<(), AllocError>
+        requires { length drafts.old ≡ length self.old.present.links }
+        ensures ok { OnOk result (self.new.present ≡ record self.old.present {
+          links = map (S.after step.now self.old.present.database) self.old.present.links;
+        }) }
+        ensures drafts { OnOk result (drafts.new
+            ≡ drafted (sends_of (S.sends step.now self.old.present.database) self.old.present.links)
+            self.old.present.links drafts.old) }
+        ensures settled { self.new.settled ≡ self.old.settled }
+        ensures router { self.new.router ≡ self.old.router }
+    {
+        step_links(alloc, step, &self.database, &mut self.links, drafts)
+    }
+
+    /// An Update took the copy of this key along at this moment. Without a copy nothing happens.
+    ///
+    /// `AllocError` comes where memory was refused; the area is to be rolled back then.
+    pub fn mark_sent(&mut self, moment: Second, key: &Key) -> Result<(), AllocError>
+        ensures ok { OnOk result (self.new.present ≡ record self.old.present {
+          database = mark_sent moment key.now self.old.present.database;
+        }) }
+        ensures settled { self.new.settled ≡ self.old.settled }
+        ensures router { self.new.router ≡ self.old.router }
+    {
+        self.database.mark_sent(moment, key)
+    }
+
+    /// The copy of this key leaves the database, if there is one.
+    ///
+    /// `AllocError` comes where memory was refused; the area is to be rolled back then.
+    pub fn remove(&mut self, key: &Key) -> Result<(), AllocError>
+        ensures ok { OnOk result (self.new.present ≡ record self.old.present {
+          database = finite.remove self.old.present.database key.now;
+        }) }
+        ensures settled { self.new.settled ≡ self.old.settled }
+        ensures router { self.new.router ≡ self.old.router }
+    {
+        self.database.remove(key)
+    }
+}

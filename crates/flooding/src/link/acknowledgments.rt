@@ -1,0 +1,74 @@
+//! Delayed acknowledgments that are sent (RFC 2328, section 13.5).
+ghost use Rattle.std.specs.Prelude.{◌≡◌, ℕ, OnOk, [], map};
+ghost use Rattle.std.specs.List.{cons_option, filter_map, fold};
+ghost use Rattle.std.specs.FinMap as finite;
+ghost use Rattle.adjacency.specs.Contents.{Acknowledges};
+ghost use Rattle.adjacency.specs.Drafts.{drafting};
+
+use super::Link;
+use adjacency::Draft;
+use keyed_map::KeyedMap;
+use lsa::Header;
+use std::alloc::{AllocError, Global};
+use words::Key;
+
+// An Acknowledgment names what stands under the key, if anything does.
+fn draft_header(
+    key: &Key,
+    headers: &KeyedMap<Header>,
+    draft: &mut Draft,
+) -> Result<(), AllocError>
+    ensures { OnOk result ((delay : ℕ) → draft.new ≡ drafting delay
+        (map Acknowledges (cons_option (finite.get headers.now.present key.now) [])) draft.old) }
+{
+    let Some(header) = headers.get(key) else {
+        return Ok(());
+    };
+    draft.acknowledge(*header)
+}
+
+// An Acknowledgment names what stands under these keys.
+fn draft_headers(
+    keys: &[Key],
+    headers: &KeyedMap<Header>,
+    draft: &mut Draft,
+) -> Result<(), AllocError>
+    ensures { OnOk result ((delay : ℕ) → draft.new ≡ drafting delay
+        (map Acknowledges (filter_map (finite.get headers.now.present) keys.now)) draft.old) }
+{
+    for i in 0..keys.len() {
+        draft_header(&keys[i], headers, draft)?;
+    }
+    Ok(())
+}
+
+// What stands under these keys leaves.
+fn remove_headers(keys: &[Key], headers: &mut KeyedMap<Header>) -> Result<(), AllocError>
+    ensures ok { OnOk result (headers.new.present
+        ≡ fold finite.remove headers.old.present keys.now) }
+    ensures settled { headers.new.settled ≡ headers.old.settled }
+{
+    for i in 0..keys.len() {
+        headers.remove(&keys[i])?;
+    }
+    Ok(())
+}
+
+impl Link {
+    /// The delayed acknowledgments go into the draft, in the order of their keys, and none is left
+    /// (RFC 2328, section 13.5).
+    ///
+    /// `AllocError` comes where memory was refused; the link is to be rolled back then.
+    pub fn acknowledge(&mut self, alloc: Global, draft: &mut Draft) -> Result<(), AllocError>
+        ensures ok { OnOk result (self.new.present
+            ≡ record self.old.present { acknowledgments = finite.empty }) }
+        ensures draft { OnOk result ((delay : ℕ) → draft.new ≡ drafting delay
+            (map Acknowledges (finite.values self.old.present.acknowledgments)) draft.old) }
+        ensures settled { self.new.settled ≡ self.old.settled }
+    {
+        let count = self.acknowledgments.len();
+        let keys = self.acknowledgments.first(alloc, count)?;
+        draft_headers(&keys, &self.acknowledgments, draft)?;
+        remove_headers(&keys, &mut self.acknowledgments)
+    }
+}

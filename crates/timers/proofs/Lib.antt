@@ -1,0 +1,6 @@
+pub mod Stepped
+pub mod AnyLink
+pub mod RunOut
+pub mod Requested
+pub mod Greeted
+pub mod Aged

@@ -1,0 +1,8 @@
+-- The routers that a Hello names.
+use Rattle.std.specs.Prelude.{List, [], ◌∷◌, Option, None, Some}
+use Rattle.words.specs.Numbers.{RouterNumber}
+use Rattle.adjacency.specs.declared.state.State.{State}
+
+abbrev pub routers_of : Option (RouterNumber × State) → List RouterNumber
+routers_of None = []
+routers_of (Some e) = e.0 ∷ []

@@ -1,0 +1,58 @@
+//! What runs out, and the end of Loading: without sends and without memory.
+ghost use Rattle.std.specs.Prelude.{◌≡◌, map};
+ghost use Rattle.received.specs.Outcomes.{on_links};
+ghost use Rattle.flooding.specs.Links.{start};
+ghost use Rattle.events.specs.Endings.{link_loading_done};
+ghost use Rattle.events.specs.Ticks.{run_out};
+
+use flooding::{Area, Link, LinkChange};
+use words::Second;
+
+#[derive(Drop)]
+struct RunOut {
+    moment: Second,
+}
+
+impl LinkChange for RunOut {
+    ghost use Rattle.events.specs.Ticks.{run_out};
+
+    ghost after = { λ a link. run_out a.moment link };
+
+    fn change(&self, link: &mut Link) {
+        link.run_out(self.moment);
+    }
+}
+
+#[derive(Drop)]
+struct EndLoading;
+
+impl LinkChange for EndLoading {
+    ghost use Rattle.events.specs.Endings.{link_loading_done};
+
+    ghost after = { λ a link. link_loading_done link };
+
+    fn change(&self, link: &mut Link) {
+        link.end_loading();
+    }
+}
+
+/// What runs out at a Tick: a neighbor that wasn't heard for RouterDeadInterval is Down (RFC 2328,
+/// section 10.3, InactivityTimer), and RouterDeadInterval after the exchange was done the last
+/// Description is given up (section 10.8). It wants no memory.
+pub fn run_out(area: &mut Area, moment: Second)
+    ensures { area.new ≡ record area.old {
+      present = (on_links (map (run_out moment)) (start area.old.present)).area;
+    } }
+{
+    area.change_links(&RunOut { moment });
+}
+
+/// LoadingDone (RFC 2328, section 10.3): each neighbor in Loading with nothing left to request
+/// becomes Full. It wants no memory.
+pub fn end_loading(area: &mut Area)
+    ensures { area.new ≡ record area.old {
+      present = (on_links (map link_loading_done) (start area.old.present)).area;
+    } }
+{
+    area.change_links(&EndLoading);
+}

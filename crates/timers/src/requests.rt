@@ -1,0 +1,59 @@
+//! What is requested next of each neighbor (RFC 2328, section 10.9).
+ghost use Rattle.std.specs.Prelude.{◌≡◌, OnOk, length};
+ghost use Rattle.flooding.specs.Drafted.{drafted};
+ghost use Rattle.flooding.specs.Links.{start};
+ghost use Rattle.events.specs.Endings.{request_all};
+
+use adjacency::Draft;
+use flooding::{Area, Link, LinkStep};
+use lsdb::Lsdb;
+use std::alloc::{AllocError, Global};
+use words::Second;
+
+#[derive(Drop)]
+struct NextRequest {
+    moment: Second,
+}
+
+impl LinkStep for NextRequest {
+    ghost use Rattle.adjacency.specs.Contents.{sent_on, step_on};
+    ghost use Rattle.adjacency.specs.Requests.{request_next};
+    ghost use Rattle.flooding.specs.Links.{with_neighbor};
+
+    ghost after = { λ a database link. with_neighbor (step_on (request_next a.moment) link.neighbor) link };
+
+    ghost sends = { λ a database link. sent_on (request_next a.moment) link.neighbor };
+
+    fn take(
+        &self,
+        alloc: Global,
+        _database: &Lsdb,
+        link: &mut Link,
+        draft: &mut Draft,
+    ) -> Result<(), AllocError> {
+        link.request(alloc, self.moment, draft)
+    }
+}
+
+/// Requests what is next of each neighbor of which nothing is outstanding (RFC 2328, section 10.9):
+/// a Request for the first keys of its request list into the draft of its interface.
+///
+/// `AllocError` comes where memory was refused; the area is to be rolled back then, and the drafts
+/// are of no use.
+pub fn request_all(
+    area: &mut Area,
+    alloc: Global,
+    moment: Second,
+    drafts: &mut [Draft],
+) -> Result<(), AllocError>
+    requires { length drafts.old ≡ length area.old.present.links }
+    ensures ok { OnOk result (area.new.present
+        ≡ (request_all moment (start area.old.present)).area) }
+    ensures drafts { OnOk result (drafts.new
+        ≡ drafted (request_all moment (start area.old.present)).sends
+        area.old.present.links drafts.old) }
+    ensures settled { area.new.settled ≡ area.old.settled }
+    ensures router { area.new.router ≡ area.old.router }
+{
+    area.step_links(alloc, &NextRequest { moment }, drafts)
+}
