@@ -7,7 +7,7 @@ use Rattle.words.specs.declared.key.Key.{Key}
 use Rattle.lsdb.specs.Headers.{Header}
 use Rattle.lsdb.specs.Keys.{ByKey}
 use Rattle.adjacency.specs.Contents.{Acknowledges, Content}
-use Rattle.adjacency.specs.Drafts.{Drafted, adds, drafting}
+use Rattle.adjacency.specs.Drafts.{Drafted, drafting}
 use Rattle.adjacency.proofs.Floods.{drafting-none}
 use Rattle.adjacency.proofs.Lists.{left_none}
 use Rattle.adjacency.proofs.Maps.{IfThere, OfEntry, entries_in}

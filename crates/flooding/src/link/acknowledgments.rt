@@ -13,11 +13,7 @@ use std::alloc::{AllocError, Global};
 use words::Key;
 
 // An Acknowledgment names what stands under the key, if anything does.
-fn draft_header(
-    key: &Key,
-    headers: &KeyedMap<Header>,
-    draft: &mut Draft,
-) -> Result<(), AllocError>
+fn draft_header(key: &Key, headers: &KeyedMap<Header>, draft: &mut Draft) -> Result<(), AllocError>
     ensures { OnOk result ((delay : ℕ) → draft.new ≡ drafting delay
         (map Acknowledges (cons_option (finite.get headers.now.present key.now) [])) draft.old) }
 {

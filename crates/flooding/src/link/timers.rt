@@ -28,8 +28,8 @@ impl Link {
     pub fn run_out(&mut self, moment: Second)
         ensures { self.new ≡ record self.old {
           present = with_neighbor
-            (run_out moment self.old.present.interface.dead_interval self.old.present.neighbor)
-            self.old.present;
+              (run_out moment self.old.present.interface.dead_interval self.old.present.neighbor)
+              self.old.present;
         } }
     {
         self.place.run_out(moment, self.interface.dead_interval);
@@ -39,8 +39,8 @@ impl Link {
     pub fn end_loading(&mut self)
         ensures { self.new ≡ record self.old {
           present = with_neighbor
-            (step_on (λ n. no_sends (loading_done n)) self.old.present.neighbor)
-            self.old.present;
+              (step_on (λ n. no_sends (loading_done n)) self.old.present.neighbor)
+              self.old.present;
         } }
     {
         self.place.end_loading();
@@ -80,6 +80,7 @@ impl Link {
     {
         let interval = self.interface.retransmit_interval;
         let delay = self.interface.delay;
-        self.place.send_again(alloc, moment, interval, database, delay, draft)
+        self.place
+            .send_again(alloc, moment, interval, database, delay, draft)
     }
 }

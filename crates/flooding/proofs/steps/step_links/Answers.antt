@@ -1,4 +1,4 @@
-use Rattle.std.proofs.Common.{◌+◌, false, map, get_or, refl, ap, ◌∙◌, arith}
+use Rattle.std.proofs.Common.{false, map, refl, ◌∙◌, arith}
 use Rattle.flooding.specs.Drafted.{drafted}
 use Rattle.flooding.specs.Links.{present, settled}
 use Rattle.flooding.specs.Steps.{sends_of}

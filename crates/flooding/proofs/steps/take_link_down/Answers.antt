@@ -1,4 +1,4 @@
-use Rattle.std.proofs.Common.{◌-◌, map, sym, ap, ◌∙◌, arith}
+use Rattle.std.proofs.Common.{◌-◌, map, sym, ap, arith}
 use Rattle.std.proofs.lemmas.List.{length-map}
 use Rattle.flooding.specs.Links.{present, settled, without_neighbor}
 use Rattle.flooding.proofs.Kept.{shows_kept}

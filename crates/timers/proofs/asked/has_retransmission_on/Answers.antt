@@ -1,4 +1,4 @@
-use Rattle.std.proofs.Common.{map, sym, ap, ◌∙◌, arith}
+use Rattle.std.proofs.Common.{sym, ap, ◌∙◌, arith}
 use Rattle.received.specs.Links.{has_retransmission}
 use Rattle.flooding.specs.Links.{present}
 use Rattle.timers.proofs.AnyLink.{any_begin, any_end, any_here, any_next, retransmits_is}

@@ -1,4 +1,4 @@
-use Rattle.std.proofs.Common.{[], ◌+◌, get_or, map, sym, ap, ◌∙◌, arith}
+use Rattle.std.proofs.Common.{[], ◌+◌, map, sym, ap, ◌∙◌, arith}
 use Rattle.std.specs.List.{cons_option, filter_map}
 use Rattle.std.specs.FinMap as finite
 use Rattle.adjacency.specs.Contents.{Acknowledges}
