@@ -9,11 +9,10 @@ use Rattle.lsdb.specs.Copies.{has_just_aged_out, install_originated, is_aged_out
 use Rattle.lsdb.specs.Headers.{Lsa, lsa_aged}
 use Rattle.adjacency.specs.Kept.{Kept}
 use Rattle.adjacency.specs.Neighbors.{Neighbor}
-use Rattle.adjacency.specs.Requests.{request_next}
 use Rattle.adjacency.specs.declared.interface.Interface.{Interface}
 use Rattle.received.specs.Flooding.{flood}
 use Rattle.received.specs.Links.{Area, Link}
-use Rattle.received.specs.Outcomes.{Outcome, Stepping, each_neighbor, on_database}
+use Rattle.received.specs.Outcomes.{Outcome, on_database}
 
 abbrev pub present : Kept Link → Link
 present l = l.present
