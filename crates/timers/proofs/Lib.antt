@@ -4,3 +4,4 @@ pub mod RunOut
 pub mod Requested
 pub mod Greeted
 pub mod Aged
+pub mod Again

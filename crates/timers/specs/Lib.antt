@@ -1,2 +1,3 @@
 pub mod Aging
 pub mod Greetings
+pub mod Marks

@@ -1,5 +1,5 @@
 //! What a Tick and the end of each event do over all links and the database (RFC 2328, sections
-//! 9.5, 10.3, 10.8, 10.9, 13.5 and 14).
+//! 9.5, 10.3, 10.8, 10.9, 13.5, 13.6 and 14).
 #![tactic(auto)]
 
 mod acknowledgments;
@@ -8,6 +8,7 @@ mod asked;
 mod expiry;
 mod hellos;
 mod requests;
+mod retransmissions;
 
 pub use acknowledgments::acknowledge_all;
 pub use aging::remove_aged;
@@ -15,3 +16,4 @@ pub use asked::{any_exchange_or_loading, any_has_retransmission};
 pub use expiry::{end_loading, run_out};
 pub use hellos::send_hellos;
 pub use requests::request_all;
+pub use retransmissions::send_all_again;

@@ -1,0 +1,113 @@
+//! What a Tick sends again (RFC 2328, sections 10.8, 10.9 and 13.6).
+ghost use Rattle.std.specs.Prelude.{◌≡◌, IfOk, OnOk, drop, length, map};
+ghost use Rattle.flooding.specs.Drafted.{drafted};
+ghost use Rattle.flooding.specs.Links.{start};
+ghost use Rattle.events.specs.Ticks.{send_all_again};
+ghost use Rattle.timers.specs.Marks.{key_of_update, keys_behind, mark_each, update_count};
+
+use adjacency::{Draft, Update};
+use flooding::{Area, Link, LinkStep};
+use lsdb::Lsdb;
+use std::alloc::{AllocError, Global};
+use words::Second;
+
+#[derive(Drop)]
+struct Again {
+    moment: Second,
+}
+
+impl LinkStep for Again {
+    ghost use Rattle.timers.specs.Marks.{after_again, sent_again};
+
+    ghost after = { λ a database link. after_again a.moment database link };
+
+    ghost sends = { λ a database link. sent_again a.moment database link };
+
+    fn take(
+        &self,
+        alloc: Global,
+        database: &Lsdb,
+        link: &mut Link,
+        draft: &mut Draft,
+    ) -> Result<(), AllocError> {
+        link.send_again(alloc, self.moment, database, draft)
+    }
+}
+
+// How many Updates each draft has.
+fn update_counts(alloc: Global, drafts: &[Draft]) -> Result<Vec<usize>, AllocError>
+    ensures { IfOk result (λ counts. counts.items ≡ map update_count drafts.now) }
+{
+    let mut counts = Vec::new(alloc);
+    for i in 0..drafts.len() {
+        counts.push(drafts[i].updates().len())?;
+    }
+    Ok(counts)
+}
+
+// The copies that Updates behind the first so many take along count as sent.
+fn mark_behind(
+    area: &mut Area,
+    moment: Second,
+    count: usize,
+    updates: &[Update],
+) -> Result<(), AllocError>
+    ensures ok { OnOk result (area.new.present ≡ record area.old.present {
+      database = mark_each moment area.old.present.database
+          (map key_of_update (drop count updates.now));
+    }) }
+    ensures settled { area.new.settled ≡ area.old.settled }
+    ensures router { area.new.router ≡ area.old.router }
+{
+    for i in count..updates.len() {
+        area.mark_sent(moment, &updates[i].key)?;
+    }
+    Ok(())
+}
+
+// The copies that Updates behind the first so many of each draft take along count as sent.
+fn mark_all(
+    area: &mut Area,
+    moment: Second,
+    counts: &[usize],
+    drafts: &[Draft],
+) -> Result<(), AllocError>
+    requires { length counts.now ≡ length drafts.now }
+    ensures ok { OnOk result (area.new.present ≡ record area.old.present {
+      database = mark_each moment area.old.present.database (keys_behind counts.now drafts.now);
+    }) }
+    ensures settled { area.new.settled ≡ area.old.settled }
+    ensures router { area.new.router ≡ area.old.router }
+{
+    for i in 0..drafts.len() {
+        mark_behind(area, moment, counts[i], drafts[i].updates())?;
+    }
+    Ok(())
+}
+
+/// What a Tick sends again where RxmtInterval has passed since it was sent: the Description of
+/// ExStart and the master's of Exchange, what is still requested, and the LSAs of each
+/// retransmission list that have room in one Update (RFC 2328, sections 10.8, 10.9 and 13.6), into
+/// the draft of each interface. What an Update takes along counts as sent.
+///
+/// `AllocError` comes where memory was refused; the area is to be rolled back then, and the drafts
+/// are of no use.
+pub fn send_all_again(
+    area: &mut Area,
+    alloc: Global,
+    moment: Second,
+    drafts: &mut [Draft],
+) -> Result<(), AllocError>
+    requires { length drafts.old ≡ length area.old.present.links }
+    ensures ok { OnOk result (area.new.present
+        ≡ (send_all_again moment (start area.old.present)).area) }
+    ensures drafts { OnOk result (drafts.new
+        ≡ drafted (send_all_again moment (start area.old.present)).sends
+        area.old.present.links drafts.old) }
+    ensures settled { area.new.settled ≡ area.old.settled }
+    ensures router { area.new.router ≡ area.old.router }
+{
+    let counts = update_counts(alloc, drafts)?;
+    area.step_links(alloc, &Again { moment }, drafts)?;
+    mark_all(area, moment, &counts, drafts)
+}
