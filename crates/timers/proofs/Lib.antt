@@ -5,3 +5,4 @@ pub mod Requested
 pub mod Greeted
 pub mod Aged
 pub mod Again
+pub mod OfAge

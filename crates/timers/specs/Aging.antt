@@ -1,10 +1,14 @@
--- Copies that leave the database once every neighbor has acknowledged them.
-use Rattle.std.specs.Prelude.{if◌then◌else◌, List}
+-- Copies that have come to MaxAge are flooded, and leave the database once every neighbor has
+-- acknowledged them.
+use Rattle.std.specs.Prelude.{if◌then◌else◌, List, [], ◌∷◌, ◌++◌}
 use Rattle.std.specs.List.{fold}
 use Rattle.std.specs.FinMap as finite
+use Rattle.words.specs.Numbers.{Moment}
 use Rattle.words.specs.declared.key.Key.{Key}
 use Rattle.lsdb.specs.Copies.{Database}
-use Rattle.received.specs.Links.{Link, any_has_retransmission}
+use Rattle.received.specs.Links.{Area, Link, any_has_retransmission}
+use Rattle.received.specs.Outcomes.{Outcome}
+use Rattle.flooding.specs.Links.{come_of_age, start}
 
 abbrev pub without_acknowledged : List Link → Database → Key → Database
 without_acknowledged links db key =
@@ -12,3 +16,15 @@ without_acknowledged links db key =
 
 abbrev pub without_each : List Link → Database → List Key → Database
 without_each links db keys = fold (without_acknowledged links) db keys
+
+-- what was sent, and what was sent after it
+abbrev pub followed : Outcome → Outcome → Outcome
+followed p q = record { area = q.area; sends = p.sends ++ q.sends }
+
+-- the copies of these keys that have come to MaxAge since the moment before are flooded, one after
+-- the other
+abbrev pub each_come_of_age : (before : Moment) → (moment : Moment) → List Key → Area → Outcome
+each_come_of_age before moment [] a = start a
+each_come_of_age before moment (key ∷ keys) a =
+    followed (come_of_age before moment key a)
+    (each_come_of_age before moment keys (come_of_age before moment key a).area)

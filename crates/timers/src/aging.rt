@@ -1,10 +1,12 @@
 //! Copies that have come to MaxAge (RFC 2328, section 14).
-ghost use Rattle.std.specs.Prelude.{◌≡◌, OnOk};
+ghost use Rattle.std.specs.Prelude.{◌≡◌, OnOk, length};
+ghost use Rattle.flooding.specs.Drafted.{drafted};
 ghost use Rattle.flooding.specs.Links.{start};
-ghost use Rattle.events.specs.Endings.{remove_aged};
-ghost use Rattle.timers.specs.Aging.{without_acknowledged, without_each};
+ghost use Rattle.events.specs.Endings.{remove_aged, with_ages};
+ghost use Rattle.timers.specs.Aging.{each_come_of_age, without_acknowledged, without_each};
 
 use crate::asked::{any_exchange_or_loading, any_has_retransmission};
+use adjacency::Draft;
 use flooding::Area;
 use std::alloc::{AllocError, Global};
 use words::{Key, Second};
@@ -56,4 +58,55 @@ pub fn remove_aged(area: &mut Area, alloc: Global, moment: Second) -> Result<(),
     }
     let keys = area.database().aged_keys(alloc, moment)?;
     remove_each(area, &keys)
+}
+
+// The copies of these keys that have come to MaxAge since the moment before are flooded, one after
+// the other.
+fn each_come_of_age(
+    area: &mut Area,
+    alloc: Global,
+    before: Second,
+    moment: Second,
+    keys: &[Key],
+    drafts: &mut [Draft],
+) -> Result<(), AllocError>
+    requires { length drafts.old ≡ length area.old.present.links }
+    ensures ok { OnOk result (area.new.present
+        ≡ (each_come_of_age before moment keys.now area.old.present).area) }
+    ensures drafts { OnOk result (drafts.new
+        ≡ drafted (each_come_of_age before moment keys.now area.old.present).sends
+        area.old.present.links drafts.old) }
+    ensures settled { area.new.settled ≡ area.old.settled }
+    ensures router { area.new.router ≡ area.old.router }
+{
+    for i in 0..keys.len() {
+        area.come_of_age(alloc, before, moment, &keys[i], drafts)?;
+    }
+    Ok(())
+}
+
+/// Each copy that has come to MaxAge since the moment before is flooded as if from nobody
+/// (RFC 2328, section 14), in the order of their keys, into the draft of each interface.
+///
+/// It looks at each copy only where one may have come of age since the database last looked, as
+/// `Lsdb::aged_keys` says. `AllocError` comes where memory was refused; the area is to be rolled
+/// back then, and the drafts are of no use.
+pub fn with_ages(
+    area: &mut Area,
+    alloc: Global,
+    before: Second,
+    moment: Second,
+    drafts: &mut [Draft],
+) -> Result<(), AllocError>
+    requires { length drafts.old ≡ length area.old.present.links }
+    ensures ok { OnOk result (area.new.present
+        ≡ (with_ages before moment (start area.old.present)).area) }
+    ensures drafts { OnOk result (drafts.new
+        ≡ drafted (with_ages before moment (start area.old.present)).sends
+        area.old.present.links drafts.old) }
+    ensures settled { area.new.settled ≡ area.old.settled }
+    ensures router { area.new.router ≡ area.old.router }
+{
+    let aged = area.database().aged_keys(alloc, moment)?;
+    each_come_of_age(area, alloc, before, moment, &aged, drafts)
 }

@@ -11,7 +11,7 @@ mod requests;
 mod retransmissions;
 
 pub use acknowledgments::acknowledge_all;
-pub use aging::remove_aged;
+pub use aging::{remove_aged, with_ages};
 pub use asked::{any_exchange_or_loading, any_has_retransmission};
 pub use expiry::{end_loading, run_out};
 pub use hellos::send_hellos;

@@ -1,0 +1,29 @@
+use Rattle.std.proofs.Common.{ap, ◌∙◌}
+use Rattle.keyed_map.proofs.Helds.{on_ok}
+use Rattle.lsdb.specs.Copies.{aged_keys}
+use Rattle.received.specs.Links.{Area}
+use Rattle.flooding.specs.Drafted.{drafted}
+use Rattle.timers.specs.Aging.{each_come_of_age}
+use Rattle.timers.proofs.OfAge.{ages_are}
+use Rattle.timers.proofs.aging.with_ages.Goals as goal
+
+pub returns-clause-ok : goal.returns-clause-ok
+returns-clause-ok c =
+    let b = c.args.before in
+    let m = c.args.moment in
+    let a : Area = c.args.area.now.present in
+    let keys = c.deref.ensures.value ∙ c.in_ok-aged.ensures ∙ ap (λ d. aged_keys m d.present) c.database.ensures in
+    on_ok c.each_come_of_age.result
+    (λ is. is ∙ ap (λ ks. (each_come_of_age b m ks a).area) keys ∙ ap (λ o. o.area) (ages_are b m a))
+    c.each_come_of_age.ensures.ok
+
+pub returns-clause-drafts : goal.returns-clause-drafts
+returns-clause-drafts c =
+    let b = c.args.before in
+    let m = c.args.moment in
+    let a : Area = c.args.area.now.present in
+    let ds = c.args.drafts.now in
+    let keys = c.deref.ensures.value ∙ c.in_ok-aged.ensures ∙ ap (λ d. aged_keys m d.present) c.database.ensures in
+    on_ok c.each_come_of_age.result
+    (λ is. is ∙ ap (λ ks. drafted (each_come_of_age b m ks a).sends a.links ds) keys ∙ ap (λ o. drafted o.sends a.links ds) (ages_are b m a))
+    c.each_come_of_age.ensures.drafts
