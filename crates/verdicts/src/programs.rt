@@ -95,7 +95,7 @@ fn a_walk_over_the_counters_needs_its_mask_and_its_shift(rt: HostRuntime) -> Res
 }
 
 /// The sum of the numbers up to n, counted down, with this rank at the entry and this least number at the loop.
-fn sum_to(alloc: Global, n: u32, rank: u32, least: u32) -> Result<String, Fail> {
+pub(crate) fn sum_to(alloc: Global, n: u32, rank: u32, least: u32) -> Result<String, Fail> {
     Ok(format!(in alloc;
         "hook price\nrank {rank}\nr1 = {n}\nr0 = 0\nL:\nr0 += r1\nr1 += -1\nif r1 != 0 goto L\nexit\nstate L rank 0 r1 * 1\nwith r0 {NUMBER}\nwith r1 number {least} {n} 0 0\n"
     )?)

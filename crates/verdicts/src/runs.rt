@@ -5,13 +5,14 @@ ghost use Rattle.isa.specs.Hooks.{hook_number};
 ghost use Rattle.machine.specs.Memory.{number_of};
 ghost use Rattle.maps.specs.Words.{IsOf, fresh};
 
-use crate::programs::verified;
+use crate::programs::{sum_to, verified};
 use asm::assemble;
-use interp::{Run, run};
+use interp::run;
 use isa::Hook;
 use machine::Input;
 use maps::{MapsError, Seat, Shared};
 use std::alloc::Global;
+use std::process::Abort;
 use std::test::Fail;
 
 fn table(alloc: Global, count: usize) -> Result<(Shared, Vec<Seat>), MapsError>
@@ -37,11 +38,11 @@ fn context_of(hook: Hook) -> [u8; 64]
     context
 }
 
-#[test]
-fn an_accepted_program_answers_within_its_bound(rt: HostRuntime) -> Result<(), Fail> {
-    let alloc = rt.alloc();
-    let object = assemble(alloc, SUM)?;
-    let accepted = verified(&rt, alloc, &object)?.map_err(|_| "refused")?;
+/// The bound of the program of the text, what it answers on a context of zeros, and the instructions
+/// that it takes.
+fn outcome(rt: &impl Abort, alloc: Global, text: &str) -> Result<(u64, u64, u64), Fail> {
+    let object = assemble(alloc, text)?;
+    let accepted = verified(rt, alloc, &object)?.map_err(|_| "refused")?;
     let input = Input {
         context: context_of(accepted.hook()),
         packet: &[],
@@ -50,18 +51,24 @@ fn an_accepted_program_answers_within_its_bound(rt: HostRuntime) -> Result<(), F
     let (words, mut seats) = table(alloc, 1)?;
     let mut seat = seats.pop().ok_or("no seat")?;
     let ended = run(&accepted, &input, &words, &mut seat);
-    assert!(rt;
-        ended
-            == Run {
-                answer: 55,
-                used: 33
-            }
-    );
-    assert!(rt; ended.used <= accepted.bound());
-    Ok(())
+    Ok((accepted.bound(), ended.answer, ended.used))
 }
 
-// The numbers from 10 down to 1, added.
-const SUM: &str =
-    "hook price\nrank 10\nr1 = 10\nr0 = 0\nL:\nr0 += r1\nr1 += -1\nif r1 != 0 goto L\nexit\n\
-    state L rank 0 r1 * 1\nwith r0 number 0 18446744073709551615 0 0\nwith r1 number 1 10 0 0\n";
+/// What the countdown from n comes to: its bound, the sum of the numbers up to n, and three
+/// instructions for each number and three more.
+fn sum_of(n: u64) -> (u64, u64, u64) {
+    let sum = n.wrapping_mul(n.wrapping_add(1)) / 2;
+    let used = n.wrapping_mul(3).wrapping_add(3);
+    (used.wrapping_mul(2), sum, used)
+}
+
+#[test]
+fn a_countdown_from_each_number_adds_them_up(rt: HostRuntime) -> Result<(), Fail> {
+    let alloc = rt.alloc();
+    for n in 1..1001u32 {
+        let text = sum_to(alloc, n, n, 1)?;
+        let seen = outcome(&rt, alloc, &text)?;
+        assert_eq!(rt; seen, sum_of(u64::from(n)));
+    }
+    Ok(())
+}
