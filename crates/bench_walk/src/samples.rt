@@ -1,0 +1,160 @@
+//! The areas that are measured with.
+use anyhow::{Result, anyhow};
+use lsa::{Lsa, read, seal};
+use lsdb::Lsdb;
+use routes::Root;
+use std::alloc::{AllocError, Global};
+use words::{Address, RouterId, Second, Sequence, put_u8, put_u16, put_u32};
+
+/// When every LSA came in, and when walks are made.
+pub fn moment() -> Second {
+    Second::new(1)
+}
+
+/// Routers in a circle, each with a link to those so many places before and behind it and a stub network, and external destinations that
+/// those but the first announce in turn. A step of 0 is left out: with the steps 1 and 0 it is a ring, with 1 and the root of the count a grid.
+#[derive(Clone, Copy)]
+pub struct Shape {
+    pub name: &'static str,
+    pub routers: u32,
+    pub steps: [u32; 2],
+    pub externals: u32,
+    /// Whether each external has a forwarding address, in the stub network of the router that announces it.
+    pub forwards: bool,
+}
+
+// The Router ID of a router by its place.
+fn id_of(place: u32) -> u32 {
+    place.wrapping_add(1)
+}
+
+// The address of the interface of this number, from 0 to 3.
+fn address_of(place: u32, interface: u32) -> u32 {
+    place
+        .wrapping_mul(4)
+        .wrapping_add(interface)
+        .wrapping_add(0x0a00_0000)
+}
+
+// The stub network of a router.
+fn network_of(place: u32) -> u32 {
+    place.wrapping_mul(256).wrapping_add(0x1400_0000)
+}
+
+fn put_header(
+    out: &mut Vec<u8>,
+    ls_type: u8,
+    id: u32,
+    by: u32,
+    length: u16,
+) -> Result<(), AllocError> {
+    put_u16(out, 1)?;
+    put_u8(out, 2)?;
+    put_u8(out, ls_type)?;
+    put_u32(out, id)?;
+    put_u32(out, by)?;
+    put_u32(out, 0x8000_0001)?;
+    put_u16(out, 0)?;
+    put_u16(out, length)
+}
+
+fn put_link(
+    out: &mut Vec<u8>,
+    kind: u8,
+    id: u32,
+    data: u32,
+    metric: u16,
+) -> Result<(), AllocError> {
+    put_u32(out, id)?;
+    put_u32(out, data)?;
+    put_u8(out, kind)?;
+    put_u8(out, 0)?;
+    put_u16(out, metric)
+}
+
+fn sealed(alloc: Global, mut bytes: Vec<u8>) -> Result<Lsa> {
+    if bytes.len() < 20 || bytes.len() > 65535 {
+        return Err(anyhow!("an LSA of {} bytes", bytes.len()));
+    }
+    seal(&mut bytes);
+    match read(alloc, &bytes) {
+        Ok(lsa) => Ok(lsa),
+        Err(error) => Err(anyhow!("refusal {} of an LSA", error.number())),
+    }
+}
+
+// The links to the routers one step before and behind.
+fn put_both(
+    out: &mut Vec<u8>,
+    shape: Shape,
+    place: u32,
+    step: u32,
+    interface: u32,
+) -> Result<(), AllocError> {
+    let count = shape.routers.max(1);
+    let before = place.wrapping_add(count).wrapping_sub(step) % count;
+    let behind = place.wrapping_add(step) % count;
+    let next = interface.wrapping_add(1);
+    let metric = 1 + (step % 100) as u16;
+    put_link(out, 1, id_of(before), address_of(place, interface), metric)?;
+    put_link(out, 1, id_of(behind), address_of(place, next), metric)
+}
+
+fn router(alloc: Global, shape: Shape, place: u32) -> Result<Lsa> {
+    let [first, second] = shape.steps;
+    let links = if second == 0 { 3 } else { 5 };
+    let mut bytes = Vec::new(alloc);
+    put_header(&mut bytes, 1, id_of(place), id_of(place), 24 + 12 * links)?;
+    put_u16(&mut bytes, 0x0200)?;
+    put_u16(&mut bytes, links)?;
+    put_both(&mut bytes, shape, place, first, 0)?;
+    if second > 0 {
+        put_both(&mut bytes, shape, place, second, 2)?;
+    }
+    put_link(&mut bytes, 3, network_of(place), 0xffff_ff00, 1)?;
+    sealed(alloc, bytes)
+}
+
+fn external(alloc: Global, shape: Shape, number: u32) -> Result<Lsa> {
+    let network = number.wrapping_mul(256).wrapping_add(0x6400_0000);
+    let mut bytes = Vec::new(alloc);
+    let others = shape.routers.saturating_sub(1).max(1);
+    let place = (number % others).wrapping_add(1);
+    let forwarding = if shape.forwards {
+        network_of(place).wrapping_add(1)
+    } else {
+        0
+    };
+    put_header(&mut bytes, 5, network, id_of(place), 36)?;
+    put_u32(&mut bytes, 0xffff_ff00)?;
+    put_u32(&mut bytes, 0x8000_0014)?;
+    put_u32(&mut bytes, forwarding)?;
+    put_u32(&mut bytes, 0)?;
+    sealed(alloc, bytes)
+}
+
+/// The database of the shape.
+pub fn database(alloc: Global, shape: Shape) -> Result<Lsdb> {
+    let mut db = Lsdb::new(alloc, RouterId::new(id_of(0)));
+    for place in 0..shape.routers {
+        db.install_flooded(moment(), router(alloc, shape, place)?)?;
+        db.settle();
+    }
+    for number in 0..shape.externals {
+        db.install_flooded(moment(), external(alloc, shape, number)?)?;
+        db.settle();
+    }
+    Ok(db)
+}
+
+/// The first router.
+pub fn root(alloc: Global) -> Result<Root, AllocError> {
+    let mut addresses = Vec::new(alloc);
+    for interface in 0..4 {
+        addresses.push(Address::new(address_of(0, interface)))?;
+    }
+    Ok(Root {
+        router: RouterId::new(id_of(0)),
+        addresses: Sequence::from_vec(addresses),
+    })
+}
