@@ -17,7 +17,7 @@ use std::sync::Wait;
 use std::thread::Threads;
 
 const USAGE: &str =
-    "usage: bench run | decode | encode | asm | objects | maps | texts | database | hooks";
+    "usage: bench run | decode | encode | asm | objects | maps | texts | database | hooks | walk | verify";
 
 /// Prints the figures of this name. False where no figures have it.
 fn measure<R: Clock + Print + AllocGlobal + Threads + Wait + Copy + Send + 'static>(
@@ -34,6 +34,8 @@ fn measure<R: Clock + Print + AllocGlobal + Threads + Wait + Copy + Send + 'stat
         "texts" => texts_speed::print(rt)?,
         "database" => bench_database::print(rt)?,
         "hooks" => bench_hooks::print(*rt)?,
+        "walk" => bench_walk::print(rt)?,
+        "verify" => bench_verify::print(rt)?,
         _ => return Ok(false),
     }
     Ok(true)
