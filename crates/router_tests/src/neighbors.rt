@@ -1,25 +1,72 @@
-//! A neighbor by its calls: what it becomes, what is sent to it, and that a refusal is taken back.
+//! A neighbor by its calls: conversations as tables of what comes and what is seen of it. A refusal is taken back, and the event played again.
 mod descriptions;
+mod hellos;
+mod inactivity;
+mod repetitions;
+mod requests;
+mod retransmissions;
 
 use adjacency::{Draft, Place, State};
+use lsa::{Body, ExternalLsa, Header, Lsa, NetworkLsa};
 use lsdb::Lsdb;
 use packet::Description;
 use std::alloc::{AllocError, Global};
 use std::test::Fail;
-use words::{Key, RouterId, Second, Sequence};
+use words::{Address, ExternalType, Key, LinkStateId, RouterId, Second, Sequence, SequenceNumber};
+
+// A Description: its fields, with the headers of the neighbor's LSAs of one type and of the numbers from `first` on below `end`.
+#[derive(Clone, Copy)]
+struct Coming {
+    mtu: u16,
+    options: u8,
+    init: bool,
+    more: bool,
+    master: bool,
+    sequence: u32,
+    ls_type: u8,
+    first: u32,
+    end: u32,
+}
 
 // What comes from the neighbor, or is due.
-#[derive(Drop)]
+#[derive(Clone, Copy)]
 enum Happening {
     // A Hello, which names this router or doesn't.
     Hello(bool),
-    Request(Sequence<Key>),
     // A Database Description, to the router of this Router ID.
-    Description(RouterId, Description),
+    Description(RouterId, Coming),
+    // A Link State Request for this router's external of this number.
+    Request(u32),
+    // The neighbor's externals from the first number on below the second are installed and flooded: they came from it, or from elsewhere.
+    Externals(bool, u32, u32),
+    // A network-LSA of so many routers is installed and flooded; it came from elsewhere.
+    Network(u32),
+    // An Acknowledgment of the neighbor's external of this number.
+    Acknowledgment(u32),
+    // The neighbor itself floods its external of this number, which is to be acknowledged.
+    ImpliedAcknowledgment(u32),
+    NextRequest,
     // A Tick at an interface with RouterDeadInterval 40, RxmtInterval 5 and InfTransDelay 1.
     Tick,
     Silence,
 }
+
+// A Description that is sent: its sequence number, how many headers it has, and whether more follow.
+type Sent = (u32, usize, bool);
+
+// What is seen of an event: the neighbor's state unless it is Down, how many Descriptions are sent and the first two, how many keys the one Request has, and how many LSAs are sent.
+#[derive(Clone, Copy)]
+struct Seen {
+    state: Option<State>,
+    descriptions: usize,
+    first: Option<Sent>,
+    second: Option<Sent>,
+    keys: usize,
+    lsas: usize,
+}
+
+// At this moment, this happens, and this is to be seen.
+type Row = (u64, Happening, Seen);
 
 fn own() -> RouterId {
     RouterId::new(0x0101_0101)
@@ -29,27 +76,336 @@ fn peer() -> RouterId {
     RouterId::new(0x0202_0202)
 }
 
-fn happens(
+// A router that is the neighbor's master, as 1.1.1.1 is its slave.
+fn larger() -> RouterId {
+    RouterId::new(0x0303_0303)
+}
+
+// ---- what is seen
+
+fn down() -> Seen {
+    Seen {
+        state: None,
+        descriptions: 0,
+        first: None,
+        second: None,
+        keys: 0,
+        lsas: 0,
+    }
+}
+
+// Nothing is sent.
+fn rests(state: State) -> Seen {
+    Seen {
+        state: Some(state),
+        ..down()
+    }
+}
+
+fn answers(state: State, sequence: u32, count: usize, more: bool) -> Seen {
+    Seen {
+        descriptions: 1,
+        first: Some((sequence, count, more)),
+        ..rests(state)
+    }
+}
+
+fn asks(keys: usize) -> Seen {
+    Seen {
+        keys,
+        ..rests(State::Loading)
+    }
+}
+
+fn sends(lsas: usize) -> Seen {
+    Seen {
+        lsas,
+        ..rests(State::Full)
+    }
+}
+
+fn as_sent(description: &Description) -> Sent {
+    let count = description.headers.as_slice().len();
+    (description.sequence, count, description.more)
+}
+
+fn first_two(sent: &[Description]) -> (Option<Sent>, Option<Sent>) {
+    match sent {
+        [] => (None, None),
+        [only] => (Some(as_sent(only)), None),
+        [first, second, ..] => (Some(as_sent(first)), Some(as_sent(second))),
+    }
+}
+
+fn keys_of(sent: &[Sequence<Key>]) -> usize {
+    match sent {
+        [only] => only.as_slice().len(),
+        _ => 0,
+    }
+}
+
+fn state_of(place: &Place) -> Option<State> {
+    match place.neighbor() {
+        Some((_router, state)) => Some(state),
+        None => None,
+    }
+}
+
+fn observed(place: &Place, sent: &Draft) -> Seen {
+    let (first, second) = first_two(sent.descriptions());
+    Seen {
+        state: state_of(place),
+        descriptions: sent.descriptions().len(),
+        first,
+        second,
+        keys: keys_of(sent.requests()),
+        lsas: sent.updates().len(),
+    }
+}
+
+fn describes_alike(seen: &Seen, expected: &Seen) -> bool {
+    seen.descriptions == expected.descriptions
+        && seen.first == expected.first
+        && seen.second == expected.second
+}
+
+fn is_alike(seen: &Seen, expected: &Seen) -> bool {
+    seen.state == expected.state
+        && describes_alike(seen, expected)
+        && seen.keys == expected.keys
+        && seen.lsas == expected.lsas
+}
+
+// ---- LSAs and Descriptions
+
+fn header(ls_type: u8, router: RouterId, number: u32) -> Header {
+    Header {
+        age: 1,
+        options: 2,
+        ls_type,
+        link_state_id: LinkStateId::new(number),
+        advertising_router: router,
+        sequence: SequenceNumber::INITIAL,
+        checksum: 0,
+        length: 36,
+    }
+}
+
+// An LSA of 36 bytes.
+fn external(alloc: Global, router: RouterId, number: u32) -> Result<Lsa, AllocError> {
+    let body = Body::External(ExternalLsa {
+        mask: Address::new(0xffff_ff00),
+        kind: ExternalType::Type2,
+        metric: 20,
+        forwarding: Address::UNSPECIFIED,
+        tag: 0,
+        tos: Sequence::from_vec(Vec::new(alloc)),
+    });
+    Lsa::new(alloc, header(5, router, number), body)
+}
+
+// A network-LSA of 24 bytes and 4 for each router.
+fn network(alloc: Global, routers: u32) -> Result<Lsa, AllocError> {
+    let mut attached = Vec::new(alloc);
+    for number in 0..routers {
+        attached.push(RouterId::new(number))?;
+    }
+    let body = Body::Network(NetworkLsa {
+        mask: Address::new(0xffff_ff00),
+        attached: Sequence::from_vec(attached),
+    });
+    Lsa::new(alloc, header(2, peer(), 0), body)
+}
+
+// So many externals of this router, from 0 on.
+fn filled(alloc: Global, count: u32) -> Result<Lsdb, AllocError> {
+    let mut database = Lsdb::new(alloc, own());
+    for number in 0..count {
+        let lsa = external(alloc, own(), number)?;
+        database.install_originated(Second::new(0), lsa)?;
+    }
+    database.settle();
+    Ok(database)
+}
+
+fn opening(sequence: u32) -> Coming {
+    Coming {
+        mtu: 1500,
+        options: 2,
+        init: true,
+        more: true,
+        master: true,
+        sequence,
+        ls_type: 5,
+        first: 0,
+        end: 0,
+    }
+}
+
+fn from_master(sequence: u32, more: bool) -> Coming {
+    Coming {
+        init: false,
+        more,
+        ..opening(sequence)
+    }
+}
+
+fn from_slave(sequence: u32, more: bool) -> Coming {
+    Coming {
+        master: false,
+        ..from_master(sequence, more)
+    }
+}
+
+fn with_headers(coming: Coming, first: u32, end: u32) -> Coming {
+    Coming {
+        first,
+        end,
+        ..coming
+    }
+}
+
+fn told(alloc: Global, coming: &Coming) -> Result<Description, AllocError> {
+    let mut headers = Vec::new(alloc);
+    for number in coming.first..coming.end {
+        headers.push(header(coming.ls_type, peer(), number))?;
+    }
+    Ok(Description {
+        mtu: coming.mtu,
+        options: coming.options,
+        init: coming.init,
+        more: coming.more,
+        master: coming.master,
+        sequence: coming.sequence,
+        headers: Sequence::from_vec(headers),
+    })
+}
+
+// ---- what happens
+
+fn floods(
+    place: &mut Place,
+    database: &mut Lsdb,
+    alloc: Global,
+    moment: Second,
+    from: bool,
+    lsa: Lsa,
+    draft: &mut Draft,
+) -> Result<(), AllocError> {
+    let key = lsa.header().key();
+    database.install_flooded(moment, lsa)?;
+    let Some(copy) = database.get(&key) else {
+        return Ok(());
+    };
+    place.flood(alloc, moment, from, &copy, 1, draft)?;
+    Ok(())
+}
+
+fn floods_externals(
+    place: &mut Place,
+    database: &mut Lsdb,
+    alloc: Global,
+    moment: Second,
+    from: bool,
+    numbers: (u32, u32),
+    draft: &mut Draft,
+) -> Result<(), AllocError> {
+    let (first, end) = numbers;
+    for number in first..end {
+        let lsa = external(alloc, peer(), number)?;
+        floods(place, database, alloc, moment, from, lsa, draft)?;
+    }
+    Ok(())
+}
+
+fn is_asked(
     place: &mut Place,
     database: &Lsdb,
+    alloc: Global,
+    moment: Second,
+    number: u32,
+    draft: &mut Draft,
+) -> Result<(), AllocError> {
+    let keys = [header(5, own(), number).key()];
+    place.answer(alloc, moment, 1, database, &keys, draft)
+}
+
+fn is_described(
+    place: &mut Place,
+    database: &Lsdb,
+    alloc: Global,
+    moment: Second,
+    router: RouterId,
+    coming: &Coming,
+    draft: &mut Draft,
+) -> Result<(), AllocError> {
+    let description = told(alloc, coming)?;
+    place.description(alloc, router, moment, database, &description, draft)
+}
+
+fn is_acknowledged(
+    place: &mut Place,
+    alloc: Global,
+    moment: Second,
+    number: u32,
+) -> Result<(), AllocError> {
+    let lsa = external(alloc, peer(), number)?;
+    let headers = [lsa.header()];
+    place.ack(moment, &headers)
+}
+
+fn is_taken_off(
+    place: &mut Place,
+    alloc: Global,
+    moment: Second,
+    number: u32,
+) -> Result<(), AllocError> {
+    let lsa = external(alloc, peer(), number)?;
+    let header = lsa.header();
+    if place.has_retransmission(&header.key()) && place.has_instance(moment, &header) {
+        return place.take_off(&header);
+    }
+    Ok(())
+}
+
+fn ticks(
+    place: &mut Place,
+    database: &Lsdb,
+    alloc: Global,
+    moment: Second,
+    draft: &mut Draft,
+) -> Result<(), AllocError> {
+    place.run_out(moment, 40);
+    place.send_again(alloc, moment, 5, database, 1, draft)?;
+    place.end_loading();
+    Ok(())
+}
+
+fn happens(
+    place: &mut Place,
+    database: &mut Lsdb,
     alloc: Global,
     moment: Second,
     happening: &Happening,
     draft: &mut Draft,
 ) -> Result<(), AllocError> {
-    match happening {
-        Happening::Hello(names) => place.hello(alloc, moment, peer(), *names, draft),
-        Happening::Request(keys) => {
-            place.answer(alloc, moment, 1, database, keys.as_slice(), draft)
+    match *happening {
+        Happening::Hello(names) => place.hello(alloc, moment, peer(), names, draft),
+        Happening::Description(router, coming) => {
+            is_described(place, database, alloc, moment, router, &coming, draft)
         }
-        Happening::Description(own, description) => {
-            place.description(alloc, *own, moment, database, description, draft)
+        Happening::Request(number) => is_asked(place, database, alloc, moment, number, draft),
+        Happening::Externals(from, first, end) => {
+            floods_externals(place, database, alloc, moment, from, (first, end), draft)
         }
-        Happening::Tick => {
-            place.run_out(moment, 40);
-            place.end_loading();
-            place.send_again(alloc, moment, 5, database, 1, draft)
+        Happening::Network(routers) => {
+            let lsa = network(alloc, routers)?;
+            floods(place, database, alloc, moment, false, lsa, draft)
         }
+        Happening::Acknowledgment(number) => is_acknowledged(place, alloc, moment, number),
+        Happening::ImpliedAcknowledgment(number) => is_taken_off(place, alloc, moment, number),
+        Happening::NextRequest => place.request(alloc, moment, draft),
+        Happening::Tick => ticks(place, database, alloc, moment, draft),
         Happening::Silence => {
             place.go_down();
             Ok(())
@@ -57,34 +413,104 @@ fn happens(
     }
 }
 
-// What is sent in an event. An allocation may be refused once, as a run of the tests with a refusal makes it: then the place is as it was.
+// What is sent in an event. An allocation may be refused once, as a run of the tests with a refusal makes it: then the place and the database are as they were.
 fn played(
     place: &mut Place,
-    database: &Lsdb,
+    database: &mut Lsdb,
     alloc: Global,
-    moment: u64,
+    moment: Second,
     happening: &Happening,
 ) -> Result<Draft, Fail> {
-    let before = place.neighbor();
-    let moment = Second::new(moment);
+    let before = (place.neighbor(), database.len());
     let mut draft = Draft::new(alloc);
     let answer = happens(place, database, alloc, moment, happening, &mut draft);
     if answer.is_err() {
         place.roll_back();
-        if place.neighbor() != before {
-            return Err(Fail::new("a refusal changed the neighbor"));
+        database.roll_back();
+        if (place.neighbor(), database.len()) != before {
+            return Err(Fail::new("a refusal changed what was there"));
         }
         draft = Draft::new(alloc);
         happens(place, database, alloc, moment, happening, &mut draft)?;
     }
     place.settle();
+    database.settle();
     Ok(draft)
 }
 
-// Of the one Description that is sent, the sequence number, how many headers it has, and whether more follow.
-fn described(sent: &Draft) -> Option<(u32, usize, bool)> {
-    match sent.descriptions() {
-        [only] => Some((only.sequence, only.headers.as_slice().len(), only.more)),
-        _ => None,
+fn comes(place: &mut Place, database: &mut Lsdb, alloc: Global, row: &Row) -> Result<(), Fail> {
+    let (moment, happening, expected) = *row;
+    let sent = played(place, database, alloc, Second::new(moment), &happening)?;
+    let seen = observed(place, &sent);
+    if is_alike(&seen, &expected) {
+        return Ok(());
     }
+    Err(Fail::new("another answer"))
+}
+
+fn all_come(
+    place: &mut Place,
+    database: &mut Lsdb,
+    alloc: Global,
+    rows: &[Row],
+) -> Result<(), Fail> {
+    for row in rows {
+        comes(place, database, alloc, row)?;
+    }
+    Ok(())
+}
+
+// ---- conversations
+
+// A conversation from Down on, of a router with so many externals.
+fn converse(alloc: Global, count: u32, rows: &[Row]) -> Result<(), Fail> {
+    let mut database = filled(alloc, count)?;
+    let mut place = Place::down();
+    all_come(&mut place, &mut database, alloc, rows)
+}
+
+// The attempt of the number 0.
+fn begins() -> Row {
+    (
+        0,
+        Happening::Hello(true),
+        answers(State::ExStart, 0, 0, true),
+    )
+}
+
+// To 1.1.1.1, the slave.
+fn as_slave(moment: u64, coming: Coming, seen: Seen) -> Row {
+    (moment, Happening::Description(own(), coming), seen)
+}
+
+// To 3.3.3.3, the master.
+fn as_master(moment: u64, coming: Coming, seen: Seen) -> Row {
+    (moment, Happening::Description(larger(), coming), seen)
+}
+
+// The exchange of a slave without LSAs, which wants so many of the neighbor's externals: 408 in one Description, and what is left in another.
+fn exchange(wanted: u32) -> [Row; 4] {
+    let first = wanted.min(408);
+    let next = with_headers(from_master(101, true), 0, first);
+    let last = with_headers(from_master(102, false), first, wanted);
+    let state = if wanted == 0 {
+        State::Full
+    } else {
+        State::Loading
+    };
+    [
+        begins(),
+        as_slave(1, opening(100), answers(State::Exchange, 100, 0, false)),
+        as_slave(1, next, answers(State::Exchange, 101, 0, false)),
+        as_slave(2, last, answers(state, 102, 0, false)),
+    ]
+}
+
+// What comes after the exchange, which is done at 2.
+fn goes_on(alloc: Global, wanted: u32, rows: &[Row]) -> Result<(), Fail> {
+    let mut database = Lsdb::new(alloc, own());
+    let mut place = Place::down();
+    let exchange = exchange(wanted);
+    all_come(&mut place, &mut database, alloc, &exchange)?;
+    all_come(&mut place, &mut database, alloc, rows)
 }

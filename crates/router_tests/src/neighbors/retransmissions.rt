@@ -1,0 +1,55 @@
+//! LSAs that are sent again until they are acknowledged (RFC 2328, section 13.6).
+use super::*;
+
+fn until_acknowledged() -> [Row; 7] {
+    [
+        (3, Happening::Externals(false, 7, 8), sends(1)),
+        (7, Happening::Tick, sends(0)),
+        (8, Happening::Tick, sends(1)),
+        (12, Happening::Tick, sends(0)),
+        (13, Happening::Tick, sends(1)),
+        (14, Happening::Acknowledgment(7), sends(0)),
+        (18, Happening::Tick, sends(0)),
+    ]
+}
+
+#[test]
+fn an_lsa_is_sent_again_until_it_is_acknowledged(rt: HostRuntime) -> Result<(), Fail> {
+    let rows = until_acknowledged();
+    goes_on(rt.alloc(), 0, &rows)
+}
+
+fn implied() -> [Row; 3] {
+    [
+        (3, Happening::Externals(false, 7, 8), sends(1)),
+        (4, Happening::ImpliedAcknowledgment(7), sends(0)),
+        (8, Happening::Tick, sends(0)),
+    ]
+}
+
+#[test]
+fn an_implied_acknowledgment_ends_it(rt: HostRuntime) -> Result<(), Fail> {
+    let rows = implied();
+    goes_on(rt.alloc(), 0, &rows)
+}
+
+// A network-LSA of so many routers, and 226 externals, of 8,136 bytes.
+fn sent_again(routers: u32, count: usize) -> [Row; 3] {
+    [
+        (3, Happening::Network(routers), sends(1)),
+        (3, Happening::Externals(false, 0, 226), sends(226)),
+        (8, Happening::Tick, sends(count)),
+    ]
+}
+
+#[test]
+fn an_update_has_up_to_8192_bytes(rt: HostRuntime) -> Result<(), Fail> {
+    let rows = sent_again(1, 227);
+    goes_on(rt.alloc(), 0, &rows)
+}
+
+#[test]
+fn what_has_no_room_in_an_update_waits(rt: HostRuntime) -> Result<(), Fail> {
+    let rows = sent_again(2, 226);
+    goes_on(rt.alloc(), 0, &rows)
+}
