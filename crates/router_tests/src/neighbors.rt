@@ -1,4 +1,7 @@
 //! A neighbor by its calls: conversations as tables of what comes and what is seen of it. A refusal is taken back, and the event played again.
+ghost use Rattle.std.specs.Prelude.{◌≤◌, ◌≢◌};
+ghost use Rattle.lsa.specs.Text.{max_age, reserved_sequence};
+
 mod descriptions;
 mod hellos;
 mod inactivity;
@@ -7,7 +10,7 @@ mod requests;
 mod retransmissions;
 
 use adjacency::{Draft, Place, State};
-use lsa::{Body, ExternalLsa, Header, Lsa, NetworkLsa};
+use lsa::{Body, ExternalLsa, Header, Lsa, RouterLsa, SummaryLsa};
 use lsdb::Lsdb;
 use packet::Description;
 use std::alloc::{AllocError, Global};
@@ -39,8 +42,9 @@ enum Happening {
     Request(u32),
     // The neighbor's externals from the first number on below the second are installed and flooded: they came from it, or from elsewhere.
     Externals(bool, u32, u32),
-    // A network-LSA of so many routers is installed and flooded; it came from elsewhere.
-    Network(u32),
+    // A router-LSA, or a summary-LSA, of this number is installed and flooded; it came from elsewhere.
+    RouterLsa(u32),
+    Summary(u32),
     // An Acknowledgment of the neighbor's external of this number.
     Acknowledgment(u32),
     // The neighbor itself floods its external of this number, which is to be acknowledged.
@@ -178,7 +182,10 @@ fn is_alike(seen: &Seen, expected: &Seen) -> bool {
 
 // ---- LSAs and Descriptions
 
-fn header(ls_type: u8, router: RouterId, number: u32) -> Header {
+fn header(ls_type: u8, router: RouterId, number: u32) -> Header
+    ensures age { result.age ≤ max_age }
+    ensures sequence { result.sequence ≢ reserved_sequence }
+{
     Header {
         age: 1,
         options: 2,
@@ -204,17 +211,23 @@ fn external(alloc: Global, router: RouterId, number: u32) -> Result<Lsa, AllocEr
     Lsa::new(alloc, header(5, router, number), body)
 }
 
-// A network-LSA of 24 bytes and 4 for each router.
-fn network(alloc: Global, routers: u32) -> Result<Lsa, AllocError> {
-    let mut attached = Vec::new(alloc);
-    for number in 0..routers {
-        attached.push(RouterId::new(number))?;
-    }
-    let body = Body::Network(NetworkLsa {
-        mask: Address::new(0xffff_ff00),
-        attached: Sequence::from_vec(attached),
+// A router-LSA of 24 bytes.
+fn router_lsa(alloc: Global, number: u32) -> Result<Lsa, AllocError> {
+    let body = Body::Router(RouterLsa {
+        flags: 0,
+        links: Sequence::from_vec(Vec::new(alloc)),
     });
-    Lsa::new(alloc, header(2, peer(), 0), body)
+    Lsa::new(alloc, header(1, peer(), number), body)
+}
+
+// A summary-LSA of 28 bytes.
+fn summary(alloc: Global, number: u32) -> Result<Lsa, AllocError> {
+    let body = Body::NetworkSummary(SummaryLsa {
+        mask: Address::new(0xffff_ff00),
+        metric: 20,
+        tos: Sequence::from_vec(Vec::new(alloc)),
+    });
+    Lsa::new(alloc, header(3, peer(), number), body)
 }
 
 // So many externals of this router, from 0 on.
@@ -398,8 +411,12 @@ fn happens(
         Happening::Externals(from, first, end) => {
             floods_externals(place, database, alloc, moment, from, (first, end), draft)
         }
-        Happening::Network(routers) => {
-            let lsa = network(alloc, routers)?;
+        Happening::RouterLsa(number) => {
+            let lsa = router_lsa(alloc, number)?;
+            floods(place, database, alloc, moment, false, lsa, draft)
+        }
+        Happening::Summary(number) => {
+            let lsa = summary(alloc, number)?;
             floods(place, database, alloc, moment, false, lsa, draft)
         }
         Happening::Acknowledgment(number) => is_acknowledged(place, alloc, moment, number),

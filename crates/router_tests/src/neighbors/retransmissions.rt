@@ -33,23 +33,35 @@ fn an_implied_acknowledgment_ends_it(rt: HostRuntime) -> Result<(), Fail> {
     goes_on(rt.alloc(), 0, &rows)
 }
 
-// A network-LSA of so many routers, and 226 externals, of 8,136 bytes.
-fn sent_again(routers: u32, count: usize) -> [Row; 3] {
+// LSAs of 28 and of 226 times 36 bytes: with the packet's header and the count 8,192 bytes.
+fn that_fit() -> [Row; 3] {
     [
-        (3, Happening::Network(routers), sends(1)),
+        (3, Happening::Summary(0), sends(1)),
         (3, Happening::Externals(false, 0, 226), sends(226)),
-        (8, Happening::Tick, sends(count)),
+        (8, Happening::Tick, sends(227)),
     ]
 }
 
 #[test]
 fn an_update_has_up_to_8192_bytes(rt: HostRuntime) -> Result<(), Fail> {
-    let rows = sent_again(1, 227);
+    let rows = that_fit();
     goes_on(rt.alloc(), 0, &rows)
+}
+
+// LSAs of twice 24, twice 28 and 224 times 36 bytes: 4 bytes more.
+fn of_4_bytes_more() -> [Row; 6] {
+    [
+        (3, Happening::RouterLsa(0), sends(1)),
+        (3, Happening::RouterLsa(1), sends(1)),
+        (3, Happening::Summary(0), sends(1)),
+        (3, Happening::Summary(1), sends(1)),
+        (3, Happening::Externals(false, 0, 224), sends(224)),
+        (8, Happening::Tick, sends(227)),
+    ]
 }
 
 #[test]
 fn what_has_no_room_in_an_update_waits(rt: HostRuntime) -> Result<(), Fail> {
-    let rows = sent_again(2, 226);
+    let rows = of_4_bytes_more();
     goes_on(rt.alloc(), 0, &rows)
 }
