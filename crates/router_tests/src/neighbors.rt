@@ -479,9 +479,12 @@ fn all_come(
 
 // ---- conversations
 
-// A conversation from Down on, of a router with so many externals.
+// A conversation from Down on, of a router with so many externals. What is refused while they are made is made again.
 fn converse(alloc: Global, count: u32, rows: &[Row]) -> Result<(), Fail> {
-    let mut database = filled(alloc, count)?;
+    let mut database = match filled(alloc, count) {
+        Ok(database) => database,
+        Err(_) => filled(alloc, count)?,
+    };
     let mut place = Place::down();
     all_come(&mut place, &mut database, alloc, rows)
 }
