@@ -204,8 +204,7 @@ module _ (moment : ℕ) (sender : Option ℕ) (lsa : Lsa) (old new : Database)
   flooded_to number link n h =
       let rest : AllIn (IsOfCopy new) (finite.remove n.retransmissions (lsa_key lsa)) = released n.retransmissions h.1 in
       let entered : AllIn (IsOfCopy new) (finite.insert (finite.remove n.retransmissions (lsa_key lsa)) (lsa_key lsa) (record { header = lsa.header; at = moment })) =
-      inserted_in (IsOfCopy new) (finite.remove n.retransmissions (lsa_key lsa)) (lsa_key lsa) (record { header = lsa.header; at = moment }) rest adds in
-      (
+      inserted_in (IsOfCopy new) (finite.remove n.retransmissions (lsa_key lsa)) (lsa_key lsa) (record { header = lsa.header; at = moment }) rest adds in (
         flood_to_kept Sound sound_kept moment sender lsa number link n h.0,
         chosen (λ (s : Step). AllIn (IsOfCopy new) s.neighbor.retransmissions) (is_exchange_or_later n.state)
             (cond (gets moment sender number lsa n) (got n) (not_got n)) (no_sends n)
@@ -413,8 +412,7 @@ module _ (moment : ℕ) (a : Area) where
   stays_there : (q : Key) (x : ListEntry) → any_has_retransmission q a.links ≡ true → IsOfCopy a.database q x → IsOfCopy left q x
   stays_there q x is of_copy =
       let kept : stays moment a q ≡ true =
-      ap (stays_as moment (any_has_retransmission q a.links)) of_copy.1 ∙ or_true (not (is_aged_out moment of_copy.0)) (any_has_retransmission q a.links) is in
-      (
+      ap (stays_as moment (any_has_retransmission q a.links)) of_copy.1 ∙ or_true (not (is_aged_out moment of_copy.0)) (any_has_retransmission q a.links) is in (
         of_copy.0,
         finite.get-retain_keys a.database (stays moment a) q (λ y e. ap (stays moment a) (sym (keys_exact q y e)))
             ∙ ap (λ b. cond b (finite.get a.database q) None) kept ∙ of_copy.1,
