@@ -11,6 +11,7 @@ ghost use Rattle.adjacency.specs.Neighbors.{fresh, is_exchange_or_loading, is_ex
 ghost use Rattle.adjacency.specs.Requests.{without_request};
 ghost use Rattle.adjacency.specs.Retransmissions.{acknowledged, after_acknowledgment, is_entry, add_retransmission, remove_retransmission};
 
+mod copying;
 mod descriptions;
 mod negotiation;
 mod requests;

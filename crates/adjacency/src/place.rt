@@ -91,6 +91,24 @@ impl Place {
         }
     }
 
+    /// The same place, with nothing to be taken back. The only error is that an allocation was
+    /// refused.
+    pub fn copy(&self, alloc: Global) -> Result<Self, AllocError>
+        ensures present { IfOk result (λ made. made.present ≡ self.now.present) }
+        ensures settled { IfOk result (λ made. made.settled ≡ self.now.present) }
+    {
+        match &self.neighbor {
+            None => Ok(Place::down()),
+            Some(neighbor) => {
+                let neighbor = neighbor.copy(alloc)?;
+                Ok(Place {
+                    neighbor: Some(neighbor),
+                    before: None,
+                })
+            }
+        }
+    }
+
     /// The neighbor's Router ID and its state, unless it is Down.
     pub fn neighbor(&self) -> Option<(RouterId, State)>
         ensures { result ≡ named self.now.present }

@@ -7,6 +7,7 @@ ghost use Rattle.flooding.specs.Drafted.{drafted};
 ghost use Rattle.flooding.specs.Links.{area_of, come_of_age, flooded_key, flushed, originated};
 ghost use Rattle.flooding.specs.Links.{present, settled, start};
 
+mod copying;
 mod steps;
 
 use crate::cases::Case;

@@ -14,6 +14,7 @@ ghost use Rattle.received.specs.Links.{acknowledge_later};
 ghost use Rattle.flooding.specs.Links.{unused, with_neighbor};
 
 mod acknowledgments;
+mod copying;
 mod hellos;
 mod timers;
 

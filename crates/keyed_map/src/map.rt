@@ -127,6 +127,23 @@ impl<X: Copied> KeyedMap<X> {
     }
 }
 
+impl<X: Copy + Drop> KeyedMap<X> {
+    /// The same map of `Copy` values, with nothing to be taken back.
+    pub fn copied(&self, alloc: Global) -> Result<Self, AllocError>
+        ensures present { IfOk result (λ made. made.present ≡ self.now.present) }
+        ensures settled { IfOk result (λ made. made.settled ≡ made.present) }
+    {
+        let mut made = KeyedMap::new(alloc);
+        for (key, slot) in self.slots.iter() {
+            if let Slot::Holds(x) = slot {
+                made.insert(*key, *x)?;
+                made.settle();
+            }
+        }
+        Ok(made)
+    }
+}
+
 impl<X: Drop> KeyedMap<X> {
     /// An empty map. It wants no memory.
     pub fn new(alloc: Global) -> Self

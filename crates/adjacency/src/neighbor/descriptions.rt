@@ -39,7 +39,7 @@ use words::{Key, Second, Sequence};
 const MOST_HEADERS_DESCRIBED: usize = 408;
 
 // The same Description once more.
-fn copy(description: &Description) -> Result<Description, AllocError>
+pub fn copy(description: &Description) -> Result<Description, AllocError>
     ensures { IfOk result (λ made. made ≡ description.now) }
 {
     let headers = description.headers.copy()?;

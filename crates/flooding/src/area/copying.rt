@@ -1,0 +1,30 @@
+//! Links and database once more.
+ghost use Rattle.std.specs.Prelude.{◌≡◌, IfOk, map};
+ghost use Rattle.flooding.specs.Links.{present, settled};
+
+use super::Area;
+use crate::link::Link;
+use std::alloc::{AllocError, Global};
+
+fn copy_links(alloc: Global, links: &[Link]) -> Result<Vec<Link>, AllocError>
+    ensures present { IfOk result (λ made. map present made.items ≡ map present links.now) }
+    ensures settled { IfOk result (λ made. map settled made.items ≡ map present links.now) }
+{
+    let mut made = Vec::new(alloc);
+    for i in 0..links.len() {
+        made.push(links[i].copy(alloc)?)?;
+    }
+    Ok(made)
+}
+
+impl Area {
+    /// The same links and the same database, with nothing to be taken back. The only error is that
+    /// an allocation was refused.
+    pub fn copy(&self, alloc: Global) -> Result<Self, AllocError>
+        ensures { IfOk result (λ made. made ≡ record self.now { settled = self.now.present }) }
+    {
+        let links = copy_links(alloc, &self.links)?;
+        let database = self.database.copy(alloc)?;
+        Ok(Area { links, database })
+    }
+}
