@@ -16,6 +16,7 @@ ghost use Rattle.flooding.specs.Links.{unused, with_neighbor};
 mod acknowledgments;
 mod copying;
 mod hellos;
+mod packets;
 mod timers;
 
 use adjacency::{Draft, Interface, Place, Saved, State};
