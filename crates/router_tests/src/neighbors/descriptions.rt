@@ -44,6 +44,28 @@ fn the_master_goes_on_until_neither_has_more(rt: HostRuntime) -> Result<(), Fail
     converse(rt.alloc(), 409, &rows)
 }
 
+// 2.2.2.2 describes a router-LSA that 1.1.1.1 lacks; its Description comes twice.
+fn with_a_router_lsa() -> [Row; 6] {
+    let described = Coming {
+        ls_type: 1,
+        ..with_headers(from_master(8, false), 0, 1)
+    };
+    [
+        begins(),
+        as_slave(1, opening(7), answers(State::Exchange, 7, 1, false)),
+        as_slave(2, described, answers(State::Loading, 8, 0, false)),
+        (2, Happening::NextRequest, asks(1)),
+        as_slave(2, described, answers(State::Loading, 8, 0, false)),
+        as_slave(2, from_master(10, false), answers(State::ExStart, 1, 0, true)),
+    ]
+}
+
+#[test]
+fn what_is_described_is_requested_once(rt: HostRuntime) -> Result<(), Fail> {
+    let rows = with_a_router_lsa();
+    converse(rt.alloc(), 1, &rows)
+}
+
 // The exchange of two routers without LSAs.
 fn to_be_full_as_slave() -> [Row; 3] {
     let last = from_master(8, false);
