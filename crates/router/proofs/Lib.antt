@@ -1,0 +1,3 @@
+pub mod Drafts
+pub mod Making
+pub mod Areas
