@@ -30,16 +30,16 @@ appends_neighbors moment f o = refl
 pub appends_sending : (moment : ℕ) (more : Area → List Send) → Appends (λ o. sending moment (more o.area) o)
 appends_sending moment more o = refl
 
-pub appends_then : {F G : Outcome → Outcome} → Appends F → Appends G → Appends (λ o. G (F o))
-appends_then {F} {G} first second o =
+pub appends_then : (F G : Outcome → Outcome) → Appends F → Appends G → Appends (λ o. G (F o))
+appends_then F G first second o =
     let p : Outcome = F (start o.area) in
     let q : Outcome = G (start p.area) in
     ap G (first o) ∙ second (followed o p)
     ∙ (λ i. record { area = q.area; sends = append_assoc o.sends p.sends q.sends i })
     ∙ ap (followed o) (sym (second p))
 
-pub appends_if : {F G : Outcome → Outcome} (test : Area → Bool) → Appends F → Appends G → Appends (λ o. cond (test o.area) (F o) (G o))
-appends_if {F} {G} test first second o = by_answer (test o.area)
+pub appends_if : (F G : Outcome → Outcome) (test : Area → Bool) → Appends F → Appends G → Appends (λ o. cond (test o.area) (F o) (G o))
+appends_if F G test first second o = by_answer (test o.area)
   where
     by_answer : (b : Bool) → cond b (F o) (G o) ≡ followed o (cond b (F (start o.area)) (G (start o.area)))
     by_answer true = first o
@@ -52,13 +52,13 @@ appends_maybe F (Some x) by none some appends o = some x o ∙ appends x o ∙ a
 
 -- ---- the interfaces stay
 
-pub keeps_then : {F G : Outcome → Outcome} → Appends G → KeepsInterfaces F → KeepsInterfaces G → KeepsInterfaces (λ o. G (F o))
-keeps_then {F} {G} appends first second a =
+pub keeps_then : (F G : Outcome → Outcome) → Appends G → KeepsInterfaces F → KeepsInterfaces G → KeepsInterfaces (λ o. G (F o))
+keeps_then F G appends first second a =
     let p : Outcome = F (start a) in
     ap (λ (o : Outcome). interfaces_of o.area.links) (appends p) ∙ second p.area ∙ first a
 
-pub keeps_if : {F G : Outcome → Outcome} (test : Area → Bool) → KeepsInterfaces F → KeepsInterfaces G → KeepsInterfaces (λ o. cond (test o.area) (F o) (G o))
-keeps_if {F} {G} test first second a = by_answer (test a)
+pub keeps_if : (F G : Outcome → Outcome) (test : Area → Bool) → KeepsInterfaces F → KeepsInterfaces G → KeepsInterfaces (λ o. cond (test o.area) (F o) (G o))
+keeps_if F G test first second a = by_answer (test a)
   where
     by_answer : (b : Bool) → interfaces_of (cond b (F (start a)) (G (start a))).area.links ≡ interfaces_of a.links
     by_answer true = first a

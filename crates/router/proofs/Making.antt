@@ -38,19 +38,19 @@ makes_same {f} {g} {old} {new} {before} {after} agree a = record {
   part = λ p first is. subst (λ q. IsMaking q first new after) (agree p (sym is.router)) (a.part p first is);
 }
 
-pub makes_if_true : {f g : EventState → EventState} {old new : Router} {before after : List Drafted} (test : Router → Bool) → test old ≡ true
+pub makes_if_true : (f g : EventState → EventState) {old new : Router} {before after : List Drafted} (test : Router → Bool) → test old ≡ true
     → Makes f old new before after → Makes (λ p. cond (test p.router) (f p) (g p)) old new before after
-makes_if_true {f} {g} {old} {new} {before} {after} test holds a = makes_same (λ p is. ap (λ b. cond b (f p) (g p)) (sym (ap test is ∙ holds))) a
+makes_if_true f g {old} {new} {before} {after} test holds a = makes_same (λ p is. ap (λ b. cond b (f p) (g p)) (sym (ap test is ∙ holds))) a
 
-pub makes_if_false : {f g : EventState → EventState} {old new : Router} {before after : List Drafted} (test : Router → Bool) → test old ≡ false
+pub makes_if_false : (f g : EventState → EventState) {old new : Router} {before after : List Drafted} (test : Router → Bool) → test old ≡ false
     → Makes g old new before after → Makes (λ p. cond (test p.router) (f p) (g p)) old new before after
-makes_if_false {f} {g} {old} {new} {before} {after} test fails a = makes_same (λ p is. ap (λ b. cond b (f p) (g p)) (sym (ap test is ∙ fails))) a
+makes_if_false f g {old} {new} {before} {after} test fails a = makes_same (λ p is. ap (λ b. cond b (f p) (g p)) (sym (ap test is ∙ fails))) a
 
 -- what the code answered on the router that the definition tests
-pub makes_by_test : {f g : EventState → EventState} {old new : Router} {before after : List Drafted} (test : Router → Bool) (b : Bool) → test old ≡ b
+pub makes_by_test : (f g : EventState → EventState) {old new : Router} {before after : List Drafted} (test : Router → Bool) (b : Bool) → test old ≡ b
     → Makes (cond b f g) old new before after → Makes (λ p. cond (test p.router) (f p) (g p)) old new before after
-makes_by_test test true is a = makes_if_true test is a
-makes_by_test test false is a = makes_if_false test is a
+makes_by_test f g test true is a = makes_if_true f g test is a
+makes_by_test f g test false is a = makes_if_false f g test is a
 
 -- ---- the same values by other names
 
@@ -64,9 +64,9 @@ module _ {X : Type 0} (step : EventState → X → EventState) where
   abbrev pub each : List X → EventState → EventState
   each xs p = fold step p xs
 
-  pub makes_first : {x : X} {xs : List X} {old middle new : Router} {before between after : List Drafted}
+  pub makes_first : (x : X) (xs : List X) {old middle new : Router} {before between after : List Drafted}
       → Makes (λ p. step p x) old middle before between → Makes (each xs) middle new between after → Makes (each (x ∷ xs)) old new before after
-  makes_first a b = makes_then a b
+  makes_first x xs a b = makes_then a b
 
   fold_append : (xs ys : List X) (p : EventState) → fold step p (xs ++ ys) ≡ fold step (fold step p xs) ys
   fold_append [] ys p = refl

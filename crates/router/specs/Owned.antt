@@ -8,8 +8,8 @@ use Rattle.lsdb.specs.Keys.{ByKey}
 use Rattle.events.specs.Originations.{external_key}
 
 -- a destination stands under the key of its own AS-external-LSA, with a metric of 24 bits
-pub record IsOwn (id : RouterNumber) (key : Key) (e : External) : Type 0 where
-  pub key : key ≡ external_key id e.prefix
+pub record IsOwn (id : RouterNumber) (k : Key) (e : External) : Type 0 where
+  pub key : k ≡ external_key id e.prefix
   pub metric : e.metric < 2 ^ 24
 
 abbrev pub AreOwn : RouterNumber → ByKey External → Type 0

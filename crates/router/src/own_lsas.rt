@@ -29,7 +29,7 @@ impl Router {
         ensures drafts { OnOk result (length drafts.new ≡ length self.new.present.area.links) }
         ensures settled { self.new.settled ≡ self.old.settled }
     {
-        Err(AllocError)
+        self.area.originate(alloc, moment, lsa, drafts)
     }
 
     /// Premature aging (RFC 2328, section 14.1): a copy of this key that is younger than MaxAge gets that
@@ -51,6 +51,6 @@ impl Router {
         ensures drafts { OnOk result (length drafts.new ≡ length self.new.present.area.links) }
         ensures settled { self.new.settled ≡ self.old.settled }
     {
-        Err(AllocError)
+        self.area.flush(alloc, moment, key, drafts)
     }
 }

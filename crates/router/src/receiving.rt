@@ -36,6 +36,6 @@ impl Router {
         ensures drafts { OnOk result (length drafts.new ≡ length self.new.present.area.links) }
         ensures settled { self.new.settled ≡ self.old.settled }
     {
-        Err(AllocError)
+        self.area.receive(alloc, moment, number, lsa, drafts)
     }
 }

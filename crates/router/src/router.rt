@@ -2,8 +2,7 @@
 ghost use Rattle.std.specs.Prelude.{◌≡◌, ◌≤◌, [], length, map, IfOk};
 ghost use Rattle.std.specs.FinMap as finite;
 ghost use Rattle.std.specs.FinSet as set;
-ghost use Rattle.adjacency.specs.Views.{keys_of};
-ghost use Rattle.events.specs.Routers.{fresh_link, with_links};
+ghost use Rattle.events.specs.Routers.{with_links};
 ghost use Rattle.flooding.specs.Links.{present, settled};
 ghost use Rattle.router.specs.Owned.{AreOwn};
 
@@ -31,14 +30,17 @@ pub struct Router {
 }
 
 impl Model for Router {
-    ghost use Rattle.std.specs.Prelude.{ℕ};
+    ghost use Rattle.std.specs.Prelude.{◌≡◌, ◌≤◌, ℕ, length};
     ghost use Rattle.std.specs.Coded.{codes};
+    ghost use Rattle.std.specs.FinMap as finite;
     ghost use Rattle.words.specs.declared.route.External.{External as Destination};
     ghost use Rattle.lsdb.specs.Copies.{DatabaseCopy};
     ghost use Rattle.lsdb.specs.Keys.{coded_key, key_cmp};
     ghost use Rattle.adjacency.specs.Codes.{coded_headers, coded_kept, coded_keys, coded_lists};
     ghost use Rattle.adjacency.specs.Kept.{Kept};
+    ghost use Rattle.adjacency.specs.Views.{keys_of};
     ghost use Rattle.events.specs.Routers.{Router as Shown};
+    ghost use Rattle.router.specs.Owned.{AreOwn};
 
     ghost Value = { Kept Shown };
 
@@ -183,6 +185,7 @@ impl Router {
     pub fn settle(&mut self)
         ensures { self.new ≡ record { present = self.old.present; settled = self.old.present } }
     {
+        let _links = self.area.links();
         self.area.settle();
         self.announced.settle();
         self.waiting.settle();

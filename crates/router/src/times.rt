@@ -34,7 +34,7 @@ impl Router {
         ensures drafts { OnOk result (length drafts.new ≡ length self.new.present.area.links) }
         ensures settled { self.new.settled ≡ self.old.settled }
     {
-        Err(AllocError)
+        timers::with_ages(&mut self.area, alloc, before, moment, drafts)
     }
 
     /// What is next is requested of each neighbor of which nothing is outstanding (RFC 2328, section 10.9).
@@ -54,7 +54,7 @@ impl Router {
         ensures drafts { OnOk result (length drafts.new ≡ length self.new.present.area.links) }
         ensures settled { self.new.settled ≡ self.old.settled }
     {
-        Err(AllocError)
+        timers::request_all(&mut self.area, alloc, moment, drafts)
     }
 
     /// What a Tick sends again where RxmtInterval has passed (RFC 2328, sections 10.8, 10.9 and 13.6).
@@ -74,7 +74,7 @@ impl Router {
         ensures drafts { OnOk result (length drafts.new ≡ length self.new.present.area.links) }
         ensures settled { self.new.settled ≡ self.old.settled }
     {
-        Err(AllocError)
+        timers::send_all_again(&mut self.area, alloc, moment, drafts)
     }
 
     /// Each link's delayed acknowledgments are sent (RFC 2328, section 13.5).
@@ -94,7 +94,7 @@ impl Router {
         ensures drafts { OnOk result (length drafts.new ≡ length self.new.present.area.links) }
         ensures settled { self.new.settled ≡ self.old.settled }
     {
-        Err(AllocError)
+        timers::acknowledge_all(&mut self.area, alloc, moment, drafts)
     }
 
     /// A Hello is sent at each interface at which none was sent for HelloInterval (RFC 2328, section 9.5).
@@ -114,7 +114,7 @@ impl Router {
         ensures drafts { OnOk result (length drafts.new ≡ length self.new.present.area.links) }
         ensures settled { self.new.settled ≡ self.old.settled }
     {
-        Err(AllocError)
+        timers::send_hellos(&mut self.area, alloc, moment, drafts)
     }
 
     /// Copies at MaxAge that are on no retransmission list leave the database, unless some neighbor is in
@@ -135,7 +135,8 @@ impl Router {
         ensures drafts { OnOk result (length drafts.new ≡ length self.new.present.area.links) }
         ensures settled { self.new.settled ≡ self.old.settled }
     {
-        Err(AllocError)
+        let _drafts = drafts;
+        timers::remove_aged(&mut self.area, alloc, moment)
     }
 
     /// What runs out at a Tick: a neighbor that wasn't heard for RouterDeadInterval is Down, and a last
