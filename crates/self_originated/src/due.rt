@@ -1,12 +1,49 @@
 //! The own LSAs that a Tick originates.
-ghost use Rattle.std.specs.Prelude.{◌≡◌, IfOk, OnOk, length};
-ghost use Rattle.events.specs.Originations.{due_keys, originate_due};
+ghost use Rattle.std.specs.Prelude.{◌≡◌, ◌++◌, [], ◌∷◌, IfOk, OnOk, if◌then◌else◌, length};
+ghost use Rattle.events.specs.Originations.{due_keys, is_due, is_stale, originate_due};
 ghost use Rattle.router.specs.Making.{Makes};
 
+use crate::origination::originate_or_wait;
+use crate::wanted::router_key;
 use adjacency::Draft;
+use lsdb::DatabaseCopy;
 use router::Router;
 use std::alloc::{AllocError, Global};
 use words::{Key, Second};
+
+// LSRefreshTime: an own LSA of so many seconds is originated again.
+const LS_REFRESH_TIME: u16 = 1800;
+
+fn is_stale(moment: Second, copy: Option<DatabaseCopy<'_>>) -> bool
+    ensures { result ≡ is_stale moment copy.entry }
+{
+    let Some(copy) = copy else {
+        return true;
+    };
+    LS_REFRESH_TIME <= copy.age(moment)
+}
+
+fn is_due(router: &Router, moment: Second, key: &Key) -> bool
+    ensures { result ≡ is_due moment router.now.present key.now }
+{
+    router.is_waiting(key) || is_stale(moment, router.area().database().get(key))
+}
+
+fn put_due(
+    router: &Router,
+    moment: Second,
+    key: Key,
+    due: &mut Vec<Key>,
+) -> Result<(), AllocError>
+    ensures { OnOk result (due.new.items ≡ due.old.items
+        ++ (if is_due moment router.now.present key then key ∷ [] else [])) }
+{
+    let is_due = is_due(router, moment, &key);
+    if is_due {
+        due.push(key)?;
+    }
+    Ok(())
+}
 
 /// The keys of the own LSAs that are wanted and due at this moment, in their order: each waits for a
 /// Tick, has left the database, or is of LSRefreshTime, 1800 seconds, or more (RFC 2328, section
@@ -16,7 +53,12 @@ use words::{Key, Second};
 pub fn due_keys(router: &Router, alloc: Global, moment: Second) -> Result<Vec<Key>, AllocError>
     ensures { IfOk result (λ keys. keys.items ≡ due_keys moment router.now.present) }
 {
-    Err(AllocError)
+    let mut due = Vec::new(alloc);
+    put_due(router, moment, router_key(router.id()), &mut due)?;
+    for key in router.announced().keys() {
+        put_due(router, moment, key, &mut due)?;
+    }
+    Ok(due)
 }
 
 /// New instances of the own LSAs of these keys, one after the other, as `originate_or_wait` says.
@@ -36,5 +78,8 @@ pub fn originate_due(
     ensures drafts { OnOk result (length drafts.new ≡ length router.new.present.area.links) }
     ensures settled { router.new.settled ≡ router.old.settled }
 {
-    Err(AllocError)
+    for key in keys {
+        originate_or_wait(router, alloc, moment, key, drafts)?;
+    }
+    Ok(())
 }

@@ -4,6 +4,7 @@
 
 mod due;
 mod origination;
+mod wanted;
 
 pub use due::{due_keys, originate_due};
 pub use origination::{originate_anyway, originate_or_wait, receive_self_originated};
