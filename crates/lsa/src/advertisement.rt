@@ -1,5 +1,5 @@
 //! LSAs as values whose text is right.
-ghost use Rattle.std.specs.Prelude.{◌≡◌, ◌≢◌, ◌≤◌, ◌⊎◌, length, IfOk};
+ghost use Rattle.std.specs.Prelude.{◌≡◌, ◌≢◌, ◌≤◌, ◌⊎◌, ◌++◌, length, IfOk, OnOk};
 ghost use Rattle.lsa.specs.Text.{IsBody, LsaText, Parts, body_text, max_age, reserved_sequence, text};
 ghost use Rattle.lsa.specs.Origination.{aged, sealed_lsa};
 ghost use Rattle.lsa.specs.Outcome.{Reads};
@@ -92,6 +92,13 @@ impl Lsa {
         ensures { result ≡ self.now.header }
     {
         self.header
+    }
+
+    /// Puts the text of what it says behind these bytes. The only error is that an allocation was refused.
+    pub fn put_body(&self, out: &mut Vec<u8>) -> Result<(), AllocError>
+        ensures { OnOk result (out.new.items ≡ out.old.items ++ body_text self.now.body) }
+    {
+        put_body(out, &self.body)
     }
 
     /// What it says.

@@ -1,3 +1,4 @@
 pub mod Instances
 pub mod Links
 pub mod Decided
+pub mod Described

@@ -1,11 +1,14 @@
 -- An interface in the router-LSA, by its neighbor's Router ID, if that is Full.
-use Rattle.std.specs.Prelude.{if◌then◌else◌, List, [], ◌∷◌, Option, None, Some}
+use Rattle.std.specs.Prelude.{if◌then◌else◌, List, [], ◌∷◌, ◌++◌, map, Option, None, Some}
 use Rattle.words.specs.Numbers.{RouterNumber}
+use Rattle.lsa.specs.declared.body.Body.{Body}
+use Rattle.lsa.specs.declared.body.Body.TheVariants as body
 use Rattle.lsa.specs.declared.body.Link.{Link as RouterLink}
 use Rattle.lsa.specs.declared.body.LinkKind.TheVariants.{PointToPoint}
-use Rattle.adjacency.specs.Neighbors.{is_full}
+use Rattle.adjacency.specs.Neighbors.{Neighbor, is_full}
 use Rattle.adjacency.specs.declared.interface.Interface.{Interface}
 use Rattle.adjacency.specs.declared.state.State.{State}
+use Rattle.received.specs.Links.{Link}
 use Rattle.events.specs.Originations.{stub}
 
 abbrev pub full_router : Option (RouterNumber × State) → Option RouterNumber
@@ -21,3 +24,25 @@ described i (Some router) = record {
   metric = i.cost;
   tos = [];
 } ∷ stub i ∷ []
+
+-- ---- all interfaces: which neighbors are Full is what the router-LSA says beside the configuration
+
+abbrev pub interfaces : List Link → List Interface
+interfaces links = map (λ (link : Link). link.interface) links
+
+abbrev pub full_router_on : Option Neighbor → Option RouterNumber
+full_router_on None = None
+full_router_on (Some n) = if is_full n.state then Some n.router else None
+
+-- interface n at place n - 1
+abbrev pub full_routers : List Link → List (Option RouterNumber)
+full_routers links = map (λ (link : Link). full_router_on link.neighbor) links
+
+-- of these interfaces, with these neighbors Full
+abbrev pub described_links : List Interface → List (Option RouterNumber) → List RouterLink
+described_links [] fs = []
+described_links (i ∷ is) [] = []
+described_links (i ∷ is) (f ∷ fs) = described i f ++ described_links is fs
+
+abbrev pub described_body : List Interface → List (Option RouterNumber) → Body
+described_body is fs = body.Router (record { flags = 2; links = described_links is fs })

@@ -1,6 +1,7 @@
 //! The router's own LSAs (RFC 2328, section 12.4): what they are to say, and their next instances.
 #![tactic(auto)]
 
+mod described;
 mod external;
 mod instance;
 pub mod laws;
@@ -8,6 +9,7 @@ mod origination;
 mod router;
 mod sequence;
 
+pub use described::{full_routers, links_differ, tells};
 pub use external::external_instance;
 pub use origination::{Origination, interval_is_over, originate_external, originate_router};
 pub use router::router_instance;

@@ -25,8 +25,8 @@ pub fn router_key(own: RouterId) -> Key
     }
 }
 
-// The neighbor's Router ID, if it is Full.
-fn full_router(neighbor: Option<(RouterId, State)>) -> Option<RouterId>
+/// The neighbor's Router ID, if it is Full.
+pub fn full_router(neighbor: Option<(RouterId, State)>) -> Option<RouterId>
     ensures { result ≡ full_router neighbor }
 {
     let Some((router, state)) = neighbor else {
@@ -74,8 +74,8 @@ fn stub(alloc: Global, interface: &Interface) -> RouterLink
     }
 }
 
-// The link to the neighbor, if it is Full, and then the one to the subnet.
-fn put_described(
+/// The link to the neighbor, if it is Full, and then the one to the subnet.
+pub fn put_described(
     alloc: Global,
     links: &mut Vec<RouterLink>,
     interface: &Interface,

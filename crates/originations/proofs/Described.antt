@@ -1,0 +1,111 @@
+-- The router-LSA by which neighbors are Full.
+use Rattle.std.proofs.Common.{◌≡◌, ◌≤◌, ◌<◌, ℕ, ◌+◌, Bool, true, false, cond, not, List, [], ◌∷◌, ◌++◌, map, length, get_or, drop, Option, None, Some, refl, sym, ap, ◌∙◌, arith, append_assoc, subst}
+use Rattle.std.specs.List.{flat_map}
+use Rattle.std.specs.FinMap as finite
+use Rattle.std.proofs.lemmas.List.{get_or-map, length-map}
+use Rattle.lsa.specs.Ranges.{BodyFits}
+use Rattle.lsa.specs.Text.{body_text}
+use Rattle.lsa.specs.declared.body.Body.{Body}
+use Rattle.lsa.specs.declared.body.Body.TheVariants as body
+use Rattle.lsa.specs.declared.body.LinkKind.TheVariants.{PointToPoint}
+use Rattle.lsa.specs.declared.body.Link.{Link as RouterLink}
+use Rattle.adjacency.specs.Kept.{Kept}
+use Rattle.adjacency.specs.Neighbors.{Neighbor, fresh, is_full}
+use Rattle.adjacency.specs.declared.interface.Interface.{Interface}
+use Rattle.adjacency.specs.declared.state.State.TheVariants.{Full}
+use Rattle.received.specs.Links.{Link}
+use Rattle.events.specs.Endings.{links_differ, same_body}
+use Rattle.events.specs.Originations.{links_of, point_to_point, router_body, stub}
+use Rattle.flooding.specs.Links.{present}
+use Rattle.flooding.proofs.Updates.{drop_end, drop_next}
+use Rattle.originations.specs.Described.{described, described_body, described_links, full_router_on, full_routers, interfaces}
+use Rattle.originations.proofs.Links.{router_fits, router_size}
+
+-- ---- the links of all interfaces
+
+abbrev body_of : List RouterLink → Body
+body_of rs = body.Router (record { flags = 2; links = rs })
+
+one_described : (l : Link) → described l.interface (full_router_on l.neighbor) ≡ links_of l
+one_described l = by_neighbor l.neighbor
+  where
+    by_neighbor : (o : Option Neighbor) → described l.interface (full_router_on o) ≡ point_to_point l.interface o ++ stub l.interface ∷ []
+    by_neighbor None = refl
+    by_neighbor (Some n) = by_state (is_full n.state)
+      where
+        by_state : (b : Bool) → described l.interface (cond b (Some n.router) None)
+            ≡ cond b (record { link_id = n.router; link_data = l.interface.address; kind = PointToPoint; metric = l.interface.cost; tos = [] } ∷ []) [] ++ stub l.interface ∷ []
+        by_state true = refl
+        by_state false = refl
+
+pub described_all : (ls : List Link) → described_links (interfaces ls) (full_routers ls) ≡ flat_map links_of ls
+described_all [] = refl
+described_all (l ∷ ls) = λ i. one_described l i ++ described_all ls i
+
+pub body_now : (ls : List Link) → described_body (interfaces ls) (full_routers ls) ≡ router_body ls
+body_now ls = ap body_of (described_all ls)
+
+pub body_then : (old : List Link) (is : List Interface) (fs : List (Option ℕ)) → interfaces old ≡ is → full_routers old ≡ fs → described_body is fs ≡ router_body old
+body_then old is fs same full = (λ i. described_body (sym same i) (sym full i)) ∙ body_now old
+
+-- ---- there is room
+
+full_neighbor : Option ℕ → Option Neighbor
+full_neighbor None = None
+full_neighbor (Some router) = Some (record (fresh router None 0) { state = Full })
+
+link_with : Interface → Option ℕ → Link
+link_with i f = record { interface = i; neighbor = full_neighbor f; acknowledgments = finite.empty; last_hello_sent = None }
+
+links_with : List Interface → List (Option ℕ) → List (Kept Link)
+links_with [] fs = []
+links_with (i ∷ is) [] = []
+links_with (i ∷ is) (f ∷ fs) = record { present = link_with i f; settled = link_with i f } ∷ links_with is fs
+
+one_with : (i : Interface) (f : Option ℕ) → described i f ≡ links_of (link_with i f)
+one_with i None = refl
+one_with i (Some router) = refl
+
+all_with : (is : List Interface) (fs : List (Option ℕ)) → described_links is fs ≡ flat_map links_of (map present (links_with is fs))
+all_with [] fs = refl
+all_with (i ∷ is) [] = refl
+all_with (i ∷ is) (f ∷ fs) = λ k. one_with i f k ++ all_with is fs k
+
+few_with : (is : List Interface) (fs : List (Option ℕ)) → length (links_with is fs) ≤ length is
+few_with [] fs = omega arith
+few_with (i ∷ is) [] = omega arith
+few_with (i ∷ is) (f ∷ fs) = omega (arith, few_with is fs)
+
+says_with : (is : List Interface) (fs : List (Option ℕ)) → described_body is fs ≡ router_body (map present (links_with is fs))
+says_with is fs = ap body_of (all_with is fs)
+
+pub described_fits : (is : List Interface) (fs : List (Option ℕ)) (says : Body) → says ≡ described_body is fs → length is ≤ 63 → BodyFits says
+described_fits is fs says are few = router_fits (links_with is fs) says (are ∙ says_with is fs) (omega (arith, few_with is fs, few))
+
+pub described_size : (is : List Interface) (fs : List (Option ℕ)) (says : Body) → says ≡ described_body is fs → length is ≤ 63 → length (body_text says) ≤ 65515
+described_size is fs says are few = router_size (links_with is fs) says (are ∙ says_with is fs) (omega (arith, few_with is fs, few))
+
+-- ---- one interface after the other
+
+pub described_next : (is : List Interface) (fs : List (Option ℕ)) (n : ℕ) (i : Interface) (f : Option ℕ) (said longer whole : List RouterLink)
+    → n < length is → length fs ≡ length is → i ≡ get_or is n i → f ≡ get_or fs n f → longer ≡ said ++ described i f
+    → said ++ described_links (drop n is) (drop n fs) ≡ whole → longer ++ described_links (drop (n + 1) is) (drop (n + 1) fs) ≡ whole
+described_next is fs n i f said longer whole lt same here full put so_far =
+    ap (λ ls. ls ++ described_links (drop (n + 1) is) (drop (n + 1) fs)) put
+    ∙ append_assoc said (described i f) (described_links (drop (n + 1) is) (drop (n + 1) fs))
+    ∙ ap (λ ls. said ++ ls) (λ k. described (here k) (full k) ++ described_links (drop (n + 1) is) (drop (n + 1) fs))
+    ∙ ap (λ ls. said ++ ls) (sym (λ k. described_links (drop_next n is i lt k) (drop_next n fs f (omega (arith, lt, same)) k)))
+    ∙ so_far
+
+append_nothing : {A : Type 0} (xs : List A) → xs ++ [] ≡ xs
+append_nothing [] = refl
+append_nothing (x ∷ xs) = ap (λ zs. x ∷ zs) (append_nothing xs)
+
+pub described_end : (is : List Interface) (fs : List (Option ℕ)) (n : ℕ) (said whole : List RouterLink) → length is ≤ n
+    → said ++ described_links (drop n is) (drop n fs) ≡ whole → said ≡ whole
+described_end is fs n said whole end so_far = sym (append_nothing said) ∙ ap (λ js. said ++ described_links js (drop n fs)) (sym (drop_end n is end)) ∙ so_far
+
+-- ---- whether it says something else
+
+pub differ_by_texts : (a b old now : Body) (differ same : Bool) → a ≡ old → b ≡ now → same ≡ same_body a b → differ ≡ not same → differ ≡ not (same_body old now)
+differ_by_texts a b old now differ same left right is turned = turned ∙ ap not is ∙ (λ i. not (same_body (left i) (right i)))

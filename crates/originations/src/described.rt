@@ -1,0 +1,187 @@
+//! What the router-LSA said when other neighbors were Full, and whether it says something else now
+//! (RFC 2328, section 12.4.1).
+ghost use Rattle.std.specs.Prelude.{◌≡◌, ◌≤◌, List, length, map, IfOk, IsTrue};
+ghost use Rattle.lsa.specs.Ranges.{BodyFits};
+ghost use Rattle.lsa.specs.Text.{body_text};
+ghost use Rattle.received.specs.Links.{Link as OnLink};
+ghost use Rattle.events.specs.Endings.{copy_has_body, links_differ, same_body};
+ghost use Rattle.events.specs.Originations.{router_body};
+ghost use Rattle.flooding.specs.Links.{present};
+ghost use Rattle.originations.specs.Described.{
+  described_body,
+  full_router,
+  full_routers,
+  interfaces,
+};
+
+use crate::router::{full_router, put_described};
+use flooding::Link;
+use lsa::{Body, Header, Lsa, RouterLsa};
+use lsdb::DatabaseCopy;
+use std::alloc::{AllocError, Global};
+use std::cmp::Ordering;
+use words::{LinkStateId, RouterId, Sequence, SequenceNumber};
+
+/// The Router IDs of the neighbors that are Full, interface n at place n - 1, None where there is
+/// none: what the router-LSA rests on beside the configuration.
+///
+/// The only error is that an allocation was refused.
+pub fn full_routers(alloc: Global, links: &[Link]) -> Result<Vec<Option<RouterId>>, AllocError>
+    ensures { IfOk result (λ full. full.items ≡ full_routers (map present links.now)) }
+{
+    let mut full = Vec::new(alloc);
+    for i in 0..links.len() {
+        full.push(full_router(links[i].neighbor()))?;
+    }
+    Ok(full)
+}
+
+// What the router-LSA of these interfaces says where these neighbors are Full.
+fn described_body(
+    alloc: Global,
+    links: &[Link],
+    full: &[Option<RouterId>],
+) -> Result<Body, AllocError>
+    requires { length full.now ≡ length links.now }
+    ensures { IfOk result (λ says. says
+        ≡ described_body (interfaces (map present links.now)) full.now) }
+{
+    let mut said = Vec::new(alloc);
+    for i in 0..links.len() {
+        let interface = links[i].interface();
+        put_described(alloc, &mut said, &interface, full[i])?;
+    }
+    Ok(Body::Router(RouterLsa {
+        flags: 2,
+        links: Sequence::from_vec(said),
+    }))
+}
+
+// Some LSA that says this.
+fn saying(alloc: Global, says: Body) -> Result<Lsa, AllocError>
+    requires fits { BodyFits says }
+    requires size { length (body_text says) ≤ 65515 }
+    ensures { IfOk result (λ lsa. lsa.body ≡ says) }
+{
+    let header = Header {
+        age: 0,
+        options: 2,
+        ls_type: 0,
+        link_state_id: LinkStateId::new(0),
+        advertising_router: RouterId::new(0),
+        sequence: SequenceNumber::INITIAL,
+        checksum: 0,
+        length: 0,
+    };
+    Lsa::new(alloc, header, says)
+}
+
+// The router-LSA of these interfaces where these neighbors are Full.
+fn described_lsa(
+    alloc: Global,
+    links: &[Link],
+    full: &[Option<RouterId>],
+) -> Result<Lsa, AllocError>
+    requires few { length links.now ≤ 63 }
+    requires each { length full.now ≡ length links.now }
+    ensures { IfOk result (λ lsa. lsa.body
+        ≡ described_body (interfaces (map present links.now)) full.now) }
+{
+    let says = described_body(alloc, links, full)?;
+    saying(alloc, says)
+}
+
+// The text of what an LSA says.
+fn said(alloc: Global, lsa: &Lsa) -> Result<Vec<u8>, AllocError>
+    ensures { IfOk result (λ text. text.items ≡ body_text lsa.now.body) }
+{
+    let mut text = Vec::new(alloc);
+    lsa.put_body(&mut text)?;
+    Ok(text)
+}
+
+// Tells whether both say the same.
+fn same_body(alloc: Global, a: &Lsa, b: &Lsa) -> Result<bool, AllocError>
+    ensures { IfOk result (λ same. same ≡ same_body a.now.body b.now.body) }
+{
+    let left = said(alloc, a)?;
+    let right = said(alloc, b)?;
+    Ok(left.as_slice().cmp(right.as_slice()) == Ordering::Equal)
+}
+
+fn same_full(a: &[Option<RouterId>], b: &[Option<RouterId>]) -> bool
+    ensures { IsTrue result → a.now ≡ b.now }
+{
+    a == b
+}
+
+// As `links_differ`, by the texts of both.
+fn texts_differ(
+    alloc: Global,
+    links: &[Link],
+    before: &[Option<RouterId>],
+    now: &[Option<RouterId>],
+) -> Result<bool, AllocError>
+    requires few { length links.now ≤ 63 }
+    requires before { length before.now ≡ length links.now }
+    requires now { now.now ≡ full_routers (map present links.now) }
+    ensures { IfOk result (λ differ. (old : List OnLink)
+        → interfaces old ≡ interfaces (map present links.now) → full_routers old ≡ before.now
+        → differ ≡ links_differ old (map present links.now)) }
+{
+    let old = described_lsa(alloc, links, before)?;
+    let new = described_lsa(alloc, links, now)?;
+    let same = same_body(alloc, &old, &new)?;
+    Ok(!same)
+}
+
+/// Tells whether the content of the router-LSA differs from what it was for links of the same
+/// interfaces, of which just the neighbors `before` were Full, interface n at place n - 1. Where
+/// the same are Full now, that takes no look at texts.
+///
+/// The only error is that an allocation was refused.
+pub fn links_differ(
+    alloc: Global,
+    links: &[Link],
+    before: &[Option<RouterId>],
+) -> Result<bool, AllocError>
+    requires few { length links.now ≤ 63 }
+    requires before { length before.now ≡ length links.now }
+    ensures { IfOk result (λ differ. (old : List OnLink)
+        → interfaces old ≡ interfaces (map present links.now) → full_routers old ≡ before.now
+        → differ ≡ links_differ old (map present links.now)) }
+{
+    let now = full_routers(alloc, links)?;
+    if same_full(before, &now) {
+        return Ok(false);
+    }
+    texts_differ(alloc, links, before, &now)
+}
+
+fn lsa_says(alloc: Global, links: &[Link], lsa: &Lsa) -> Result<bool, AllocError>
+    requires few { length links.now ≤ 63 }
+    ensures { IfOk result (λ says. says
+        ≡ same_body lsa.now.body (router_body (map present links.now))) }
+{
+    let now = full_routers(alloc, links)?;
+    let present = described_lsa(alloc, links, &now)?;
+    same_body(alloc, lsa, &present)
+}
+
+/// Tells whether there is a copy, and it says what the router-LSA of these links is to say.
+///
+/// The only error is that an allocation was refused.
+pub fn tells(
+    alloc: Global,
+    links: &[Link],
+    copy: Option<DatabaseCopy<'_>>,
+) -> Result<bool, AllocError>
+    requires few { length links.now ≤ 63 }
+    ensures { IfOk result (λ tells. tells
+        ≡ copy_has_body (router_body (map present links.now)) copy.entry) }
+{
+    match copy {
+        None => Ok(false),
+        Some(copy) => lsa_says(alloc, links, copy.lsa),
+    }
+}
