@@ -1,9 +1,36 @@
--- What each link sends by itself.
-use Rattle.std.specs.Prelude.{ℕ, List}
-use Rattle.std.specs.List.{enumerate_from, flat_map}
+-- What each link sends by itself, and what one link does by itself.
+use Rattle.std.specs.Prelude.{ℕ, List, [], map, Option, None, Some}
+use Rattle.std.specs.List.{enumerate_from, flat_map, fold}
+use Rattle.words.specs.Numbers.{InterfaceNumber, Moment}
+use Rattle.words.specs.declared.key.Key.{Key}
+use Rattle.lsdb.specs.Copies.{Database, mark_sent}
 use Rattle.adjacency.specs.Contents.{Content}
-use Rattle.received.specs.Links.{Link}
-use Rattle.received.specs.Outcomes.{Send, numbered}
+use Rattle.adjacency.specs.declared.draft.Update.{Update}
+use Rattle.received.specs.Links.{Link, change_link, link_at}
+use Rattle.received.specs.Outcomes.{Outcome, Send, numbered, on_links, sending}
 
 abbrev pub sends_of : (Link → List Content) → List Link → List Send
 sends_of f links = flat_map (λ (e : ℕ × Link). numbered e.0 (f e.1)) (enumerate_from 1 links)
+
+-- what the link that is there sends, if one is
+abbrev pub sent_by : (Link → List Content) → Option Link → List Content
+sent_by f None = []
+sent_by f (Some link) = f link
+
+-- the link of this number alone takes a step, with the database as it was before, and what Updates
+-- take along counts as sent
+abbrev pub one_link : Moment → InterfaceNumber → (after : Database → Link → Link)
+    → (sends : Database → Link → List Content) → Outcome → Outcome
+one_link moment number after sends o =
+    let db : Database = o.area.database in
+    sending moment (numbered number (sent_by (sends db) (link_at number o.area.links)))
+    (on_links (change_link number (after db)) o)
+
+-- ---- marks
+
+abbrev pub key_of_update : Update → Key
+key_of_update u = u.key
+
+-- the copies of these keys count as sent
+abbrev pub mark_each : Moment → Database → List Key → Database
+mark_each moment db keys = fold (λ (d : Database) (key : Key). mark_sent moment key d) db keys

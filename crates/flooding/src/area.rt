@@ -265,6 +265,16 @@ impl Area {
         self.database.settle();
     }
 
+    /// As `settle`, and the database looks at each copy if one may have come of age by this moment,
+    /// as `Lsdb::settle_at` says. Where memory for what it finds is refused it looks again the next
+    /// time.
+    pub fn settle_at(&mut self, alloc: Global, moment: Second)
+        ensures { self.new ≡ record self.old { settled = self.old.present } }
+    {
+        settle_links(&mut self.links);
+        self.database.settle_at(alloc, moment);
+    }
+
     /// Takes all changes back that were made since it was last settled. It wants no memory.
     pub fn roll_back(&mut self)
         ensures { self.new ≡ record self.old { present = self.old.settled } }

@@ -15,6 +15,7 @@ ghost use Rattle.flooding.specs.Links.{unused, with_neighbor};
 
 mod acknowledgments;
 mod hellos;
+mod packets;
 mod timers;
 
 use adjacency::{Draft, Interface, Place, Saved, State};

@@ -1,14 +1,15 @@
 //! What is done on each link, and what each link sends.
-ghost use Rattle.std.specs.Prelude.{◌≡◌, OnOk, length, map};
+ghost use Rattle.std.specs.Prelude.{◌≡◌, ◌≤◌, OnOk, drop, length, map};
 ghost use Rattle.received.specs.Links.{change_link};
 ghost use Rattle.flooding.specs.Drafted.{drafted};
-ghost use Rattle.flooding.specs.Links.{present, settled, without_neighbor};
-ghost use Rattle.flooding.specs.Steps.{sends_of};
+ghost use Rattle.flooding.specs.Links.{area_of, present, settled, start, without_neighbor};
+ghost use Rattle.flooding.specs.Steps.{key_of_update, mark_each, one_link, sends_of};
 
 use crate::link::Link;
-use adjacency::Draft;
+use adjacency::{Draft, Update};
 use lsdb::Lsdb;
 use std::alloc::{AllocError, Global};
+use words::Second;
 
 /// A change of a link that sends nothing and wants no memory.
 pub trait LinkChange {
@@ -77,6 +78,54 @@ pub fn step_links<S: LinkStep>(
         step.take(alloc, database, &mut links[i], &mut drafts[i])?;
     }
     Ok(())
+}
+
+// The copies that Updates behind the first so many take along count as sent.
+fn mark_behind(
+    moment: Second,
+    count: usize,
+    updates: &[Update],
+    database: &mut Lsdb,
+) -> Result<(), AllocError>
+    ensures ok { OnOk result (database.new.present
+        ≡ mark_each moment database.old.present (map key_of_update (drop count updates.now))) }
+    ensures settled { database.new.settled ≡ database.old.settled }
+    ensures router { database.new.router ≡ database.old.router }
+{
+    for i in count..updates.len() {
+        database.mark_sent(moment, &updates[i].key)?;
+    }
+    Ok(())
+}
+
+// The link of this number takes the step; what it sends goes into the draft of its interface, and
+// what Updates take along counts as sent.
+pub fn step_link<S: LinkStep>(
+    alloc: Global,
+    moment: Second,
+    number: usize,
+    step: &S,
+    links: &mut [Link],
+    database: &mut Lsdb,
+    drafts: &mut [Draft],
+) -> Result<(), AllocError>
+    requires first { 1 ≤ number }
+    requires last { number ≤ length links.old }
+    requires drafts { length drafts.old ≡ length links.old }
+    ensures ok { OnOk result (area_of links.new database.new.present
+        ≡ (one_link moment number (S.after step.now) (S.sends step.now)
+        (start (area_of links.old database.old.present))).area) }
+    ensures drafts { OnOk result (drafts.new
+        ≡ drafted (one_link moment number (S.after step.now) (S.sends step.now)
+        (start (area_of links.old database.old.present))).sends (map present links.old) drafts.old) }
+    ensures links { map settled links.new ≡ map settled links.old }
+    ensures settled { database.new.settled ≡ database.old.settled }
+    ensures router { database.new.router ≡ database.old.router }
+{
+    let i = number - 1;
+    let count = drafts[i].updates().len();
+    step.take(alloc, database, &mut links[i], &mut drafts[i])?;
+    mark_behind(moment, count, drafts[i].updates(), database)
 }
 
 // The neighbor on the link of this number is Down, if there is such a link.

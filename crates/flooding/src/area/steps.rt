@@ -1,14 +1,14 @@
 //! What is done on each link of an area.
-ghost use Rattle.std.specs.Prelude.{◌≡◌, OnOk, length, map};
+ghost use Rattle.std.specs.Prelude.{◌≡◌, ◌≤◌, OnOk, length, map};
 ghost use Rattle.std.specs.FinMap as finite;
 ghost use Rattle.lsdb.specs.Copies.{mark_sent};
 ghost use Rattle.received.specs.Links.{change_link};
 ghost use Rattle.flooding.specs.Drafted.{drafted};
-ghost use Rattle.flooding.specs.Links.{without_neighbor};
-ghost use Rattle.flooding.specs.Steps.{sends_of};
+ghost use Rattle.flooding.specs.Links.{start, without_neighbor};
+ghost use Rattle.flooding.specs.Steps.{one_link, sends_of};
 
 use super::Area;
-use crate::steps::{LinkChange, LinkStep, change_links, step_links, take_link_down};
+use crate::steps::{LinkChange, LinkStep, change_links, step_link, step_links, take_link_down};
 use adjacency::Draft;
 use std::alloc::{AllocError, Global};
 use words::{Key, Second};
@@ -58,6 +58,42 @@ impl Area {
         ensures router { self.new.router ≡ self.old.router }
     {
         step_links(alloc, step, &self.database, &mut self.links, drafts)
+    }
+
+    /// The link of this number takes the step; what it sends goes into the draft of its interface, and
+    /// each copy that an Update takes along counts as sent at this moment.
+    ///
+    /// `AllocError` comes where memory was refused; the area is to be rolled back then, and the
+    /// drafts are of no use.
+    pub fn step_link<S: LinkStep>(
+        &mut self,
+        alloc: Global,
+        moment: Second,
+        number: usize,
+        step: &S,
+        drafts: &mut [Draft],
+    ) -> Result<(), AllocError>
+        requires first { 1 ≤ number }
+        requires last { number ≤ length self.old.present.links }
+        requires drafts { length drafts.old ≡ length self.old.present.links }
+        ensures ok { OnOk result (self.new.present
+            ≡ (one_link moment number (S.after step.now) (S.sends step.now)
+            (start self.old.present)).area) }
+        ensures drafts { OnOk result (drafts.new
+            ≡ drafted (one_link moment number (S.after step.now) (S.sends step.now)
+            (start self.old.present)).sends self.old.present.links drafts.old) }
+        ensures settled { self.new.settled ≡ self.old.settled }
+        ensures router { self.new.router ≡ self.old.router }
+    {
+        step_link(
+            alloc,
+            moment,
+            number,
+            step,
+            &mut self.links,
+            &mut self.database,
+            drafts,
+        )
     }
 
     /// An Update took the copy of this key along at this moment. Without a copy nothing happens.

@@ -1,0 +1,10 @@
+use Rattle.std.proofs.Common.{◌≡◌, drop, map}
+use Rattle.flooding.specs.Steps.{key_of_update, mark_each}
+use Rattle.flooding.proofs.steps.mark_behind.Given as goal
+
+abbrev pub invariant-loop-i : goal.invariant-loop-i
+invariant-loop-i l = record {
+  marks : mark_each l.moment l.database.present (map key_of_update (drop l.i l.updates)) ≡ mark_each l.moment l.fn.database.present (map key_of_update (drop l.count l.updates));
+  settled : l.database.settled ≡ l.fn.database.settled;
+  router : l.database.router ≡ l.fn.database.router;
+}
