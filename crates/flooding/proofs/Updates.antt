@@ -1,8 +1,7 @@
 -- The marks of what is sent are those of the keys that the draft has got.
 use Rattle.std.proofs.Common.{◌≡◌, ℕ, zero, suc, ◌+◌, ◌<◌, ◌≤◌, List, [], ◌∷◌, ◌++◌, drop, length, map, get_or, refl, sym, ap, ◌∙◌, arith, append_assoc}
 use Rattle.std.specs.List.{slice_get}
-use Rattle.std.specs.Prelude.{None, Some}
-use Rattle.words.specs.declared.key.Key.{Key}
+use Rattle.std.specs.Prelude.{Some}
 use Rattle.lsdb.specs.Copies.{Database, mark_sent}
 use Rattle.lsdb.specs.Headers.{lsa_key}
 use Rattle.adjacency.specs.Contents.{Acknowledges, Content, Describes, Requests, SendsHello, Updates}

@@ -123,9 +123,10 @@ pub fn step_link<S: LinkStep>(
     ensures router { database.new.router ≡ database.old.router }
 {
     let i = number - 1;
-    let count = drafts[i].updates().len();
-    step.take(alloc, database, &mut links[i], &mut drafts[i])?;
-    mark_behind(moment, count, drafts[i].updates(), database)
+    let draft = &mut drafts[i];
+    let count = draft.updates().len();
+    step.take(alloc, database, &mut links[i], draft)?;
+    mark_behind(moment, count, draft.updates(), database)
 }
 
 // The neighbor on the link of this number is Down, if there is such a link.

@@ -92,7 +92,8 @@ impl Link {
         ensures settled { self.new.settled ≡ self.old.settled }
     {
         let delay = self.interface.delay;
-        self.place.answer(alloc, moment, delay, database, keys, draft)
+        self.place
+            .answer(alloc, moment, delay, database, keys, draft)
     }
 
     /// An Acknowledgment of these instances came from the neighbor (RFC 2328, section 13.7). It does what
