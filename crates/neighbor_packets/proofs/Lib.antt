@@ -1,0 +1,4 @@
+pub mod OneLink
+pub mod Heard
+pub mod Answered
+pub mod Silent

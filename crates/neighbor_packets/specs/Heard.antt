@@ -1,0 +1,39 @@
+-- What a Hello makes of the link that it came in at, and what is sent there.
+use Rattle.std.specs.Prelude.{Bool, true, not, ◌&&◌, ◌==◌, bit_and, if◌then◌else◌, List, [], Option, None, Some}
+use Rattle.words.specs.Numbers.{Moment, RouterNumber}
+use Rattle.packet.specs.declared.model.Hello.{Hello}
+use Rattle.adjacency.specs.Adjacencies.{after_hello, two_way_received}
+use Rattle.adjacency.specs.Contents.{Content, Step}
+use Rattle.adjacency.specs.declared.interface.Interface.{Interface}
+use Rattle.adjacency.specs.declared.state.State.{State}
+use Rattle.received.specs.Links.{Link}
+use Rattle.events.specs.Hellos.{accepts, names}
+use Rattle.flooding.specs.Links.{with_neighbor}
+
+-- HelloInterval, RouterDeadInterval and the E bit are those of the interface
+abbrev pub agrees_on : Interface → Hello → Bool
+agrees_on interface h =
+    h.hello_interval == interface.hello_interval
+    && h.dead_interval == interface.dead_interval
+    && not (bit_and h.options 2 == 0)
+
+-- another router is heard only where the neighbor is Down
+abbrev pub may_be_named : Option (RouterNumber × State) → RouterNumber → Bool
+may_be_named None from = true
+may_be_named (Some named) from = named.0 == from
+
+-- what an accepted Hello makes of the neighbor
+abbrev pub heard : (own : RouterNumber) → Moment → (from : RouterNumber) → Hello → Link → Step
+heard own moment from h link =
+    after_hello two_way_received moment from (names own h) link.neighbor
+
+abbrev pub after_heard : (own : RouterNumber) → Moment → (from : RouterNumber) → Hello → Link
+    → Link
+after_heard own moment from h link =
+    if accepts own from h link
+    then with_neighbor (Some (heard own moment from h link).neighbor) link else link
+
+abbrev pub sent_heard : (own : RouterNumber) → Moment → (from : RouterNumber) → Hello → Link
+    → List Content
+sent_heard own moment from h link =
+    if accepts own from h link then (heard own moment from h link).sends else []

@@ -1,0 +1,151 @@
+//! Received Hellos (RFC 2328, section 10.5).
+ghost use Rattle.std.specs.Prelude.{◌≡◌, ◌≤◌, ◌==◌, OnOk, length};
+ghost use Rattle.std.specs.List.{list_any};
+ghost use Rattle.adjacency.specs.Adjacencies.{two_way_received};
+ghost use Rattle.events.specs.Hellos.{accepts, agrees, is_foreign, may_be, names};
+ghost use Rattle.events.specs.Packets.{after_hello};
+ghost use Rattle.flooding.specs.Drafted.{drafted};
+ghost use Rattle.flooding.specs.Links.{start};
+ghost use Rattle.neighbor_packets.specs.Heard.{agrees_on, may_be_named};
+
+use adjacency::{Draft, Interface, State};
+use flooding::{Area, Link, LinkStep};
+use lsdb::Lsdb;
+use packet::Hello;
+use std::alloc::{AllocError, Global};
+use words::{RouterId, Second};
+
+fn is_foreign(own: RouterId, from: RouterId) -> bool
+    ensures { result ≡ is_foreign own from }
+{
+    from.number() != 0 && from.number() != own.number()
+}
+
+fn agrees_on(interface: &Interface, hello: &Hello) -> bool
+    ensures { result ≡ agrees_on interface.now hello.now }
+{
+    hello.hello_interval == interface.hello_interval
+        && hello.dead_interval == interface.dead_interval
+        && hello.options & 2 != 0
+}
+
+fn agrees(link: &Link, hello: &Hello) -> bool
+    ensures { result ≡ agrees link.now.present hello.now }
+{
+    let interface = link.interface();
+    agrees_on(&interface, hello)
+}
+
+fn may_be_named(neighbor: Option<(RouterId, State)>, from: RouterId) -> bool
+    ensures { result ≡ may_be_named neighbor from }
+{
+    match neighbor {
+        None => true,
+        Some((router, _state)) => router.number() == from.number(),
+    }
+}
+
+// Another router is heard only where the neighbor is Down.
+fn may_be(link: &Link, from: RouterId) -> bool
+    ensures { result ≡ may_be link.now.present.neighbor from }
+{
+    let neighbor = link.neighbor();
+    may_be_named(neighbor, from)
+}
+
+fn accepts(own: RouterId, from: RouterId, hello: &Hello, link: &Link) -> bool
+    ensures { result ≡ accepts own from hello.now link.now.present }
+{
+    let foreign = is_foreign(own, from);
+    let agreed = agrees(link, hello);
+    let may_be = may_be(link, from);
+    foreign && (agreed && may_be)
+}
+
+fn is_among(own: RouterId, routers: &[RouterId]) -> bool
+    ensures { result ≡ list_any (λ router. router == own) routers.now }
+{
+    for router in routers {
+        if router.number() == own.number() {
+            return true;
+        }
+    }
+    false
+}
+
+// Tells whether the Hello names this router.
+fn names(own: RouterId, hello: &Hello) -> bool
+    ensures { result ≡ names own hello.now }
+{
+    is_among(own, hello.neighbors.as_slice())
+}
+
+#[derive(Drop)]
+struct Hearing<'a> {
+    own: RouterId,
+    moment: Second,
+    from: RouterId,
+    hello: &'a Hello,
+}
+
+impl<'a> LinkStep for Hearing<'a> {
+    ghost use Rattle.neighbor_packets.specs.Heard.{after_heard, sent_heard};
+
+    ghost after = { λ a database link. after_heard a.own a.moment a.from a.hello.now link };
+
+    ghost sends = { λ a database link. sent_heard a.own a.moment a.from a.hello.now link };
+
+    fn take(
+        &self,
+        alloc: Global,
+        _database: &Lsdb,
+        link: &mut Link,
+        draft: &mut Draft,
+    ) -> Result<(), AllocError> {
+        let accepted = accepts(self.own, self.from, self.hello, link);
+        if accepted {
+            let named = names(self.own, self.hello);
+            return link.hello(alloc, self.moment, self.from, named, draft);
+        }
+        Ok(())
+    }
+}
+
+/// A Hello of the router `from` came in at the interface of this number, to the router `own` (RFC
+/// 2328, section 10.5). It is discarded where it is of no router or of this one, where it and the
+/// interface differ in HelloInterval, RouterDeadInterval or the E bit, and where another neighbor is
+/// heard there. Else the inactivity timer starts again, Down becomes Init, and 2-WayReceived or
+/// 1-WayReceived follows, by whether it names this router.
+///
+/// `AllocError` comes where memory was refused; the area is to be rolled back then, and the drafts
+/// are of no use.
+pub fn hear(
+    area: &mut Area,
+    alloc: Global,
+    own: RouterId,
+    moment: Second,
+    number: usize,
+    from: RouterId,
+    hello: &Hello,
+    drafts: &mut [Draft],
+) -> Result<(), AllocError>
+    requires first { 1 ≤ number }
+    requires last { number ≤ length area.old.present.links }
+    requires drafts { length drafts.old ≡ length area.old.present.links }
+    ensures ok { OnOk result (area.new.present
+        ≡ (after_hello two_way_received own moment number from hello.now
+        (start area.old.present)).area) }
+    ensures drafts { OnOk result (drafts.new
+        ≡ drafted (after_hello two_way_received own moment number from hello.now
+        (start area.old.present)).sends area.old.present.links drafts.old) }
+    ensures settled { area.new.settled ≡ area.old.settled }
+    ensures router { area.new.router ≡ area.old.router }
+{
+    let hearing = Hearing {
+        own,
+        moment,
+        from,
+        hello,
+    };
+    area.step_link(alloc, moment, number, &hearing, drafts)
+}
