@@ -1,0 +1,6 @@
+pub mod Drafts
+pub mod Making
+pub mod Areas
+pub mod Leaves
+pub mod Forgotten
+pub mod Announced
