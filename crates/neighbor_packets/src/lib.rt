@@ -10,5 +10,5 @@ mod requests;
 
 pub use acknowledgments::acknowledged;
 pub use descriptions::describe;
-pub use hellos::hear;
+pub use hellos::{hear, is_foreign};
 pub use requests::answer;

@@ -4,3 +4,5 @@ pub mod Areas
 pub mod Leaves
 pub mod Forgotten
 pub mod Announced
+pub mod Answered
+pub mod Conversed
