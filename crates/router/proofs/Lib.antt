@@ -5,4 +5,5 @@ pub mod Leaves
 pub mod Forgotten
 pub mod Announced
 pub mod Answered
+pub mod Edited
 pub mod Conversed
