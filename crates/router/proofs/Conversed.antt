@@ -1,6 +1,6 @@
 -- What packets of a neighbor make of links and database: what is sent comes after what was sent before,
 -- and the interfaces stay.
-use Rattle.std.proofs.Common.{◌≡◌, ℕ, Bool, true, false, cond, List, length, map, refl, ap}
+use Rattle.std.proofs.Common.{◌≡◌, ℕ, Bool, true, false, cond, List, map, refl}
 use Rattle.std.specs.Prelude.{Option, None, Some}
 use Rattle.std.specs.List.{list_all}
 use Rattle.words.specs.declared.key.Key.{Key}
