@@ -6,3 +6,4 @@ pub mod Forgotten
 pub mod Announced
 pub mod Answered
 pub mod Edited
+pub mod Conversed

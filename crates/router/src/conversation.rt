@@ -1,20 +1,23 @@
 //! What packets of a neighbor make of the conversation with it (RFC 2328, sections 10.5 to 10.7 and
 //! 13.7).
-ghost use Rattle.std.specs.Prelude.{◌≡◌, ◌≤◌, OnOk, length};
+ghost use Rattle.std.specs.Prelude.{◌≡◌, ◌≤◌, OnOk, length, true};
 ghost use Rattle.adjacency.specs.Adjacencies.{two_way_received};
+ghost use Rattle.received.specs.Links.{neighbor_at};
 ghost use Rattle.events.specs.EventState.{on_area};
-ghost use Rattle.events.specs.Packets.{acknowledged_by, after_hello, describe_to, requested_from};
+ghost use Rattle.events.specs.Packets.{acknowledged_by, after_hello, describe_to, is_in_exchange};
+ghost use Rattle.events.specs.Packets.{requested_from};
 ghost use Rattle.router.specs.Making.{Makes};
 
 use crate::router::Router;
 use adjacency::Draft;
 use lsa::Header;
+use neighbor_packets::{acknowledged, answer, describe, hear};
 use packet::{Description, Hello};
 use std::alloc::{AllocError, Global};
 use words::{Key, RouterId, Second};
 
 impl Router {
-    /// A Hello of this router came in at the interface of this number (RFC 2328, section 10.5). It is
+    /// A Hello of the router `from` came in at the interface of this number (RFC 2328, section 10.5). It is
     /// discarded where the interface and it differ in HelloInterval, RouterDeadInterval or the E bit, and
     /// where another neighbor is heard there.
     ///
@@ -39,7 +42,16 @@ impl Router {
         ensures drafts { OnOk result (length drafts.new ≡ length self.new.present.area.links) }
         ensures settled { self.new.settled ≡ self.old.settled }
     {
-        Err(AllocError)
+        hear(
+            &mut self.area,
+            alloc,
+            self.id,
+            moment,
+            number,
+            from,
+            hello,
+            drafts,
+        )
     }
 
     /// A Database Description came from the neighbor at the interface of this number (RFC 2328, section
@@ -65,7 +77,15 @@ impl Router {
         ensures drafts { OnOk result (length drafts.new ≡ length self.new.present.area.links) }
         ensures settled { self.new.settled ≡ self.old.settled }
     {
-        Err(AllocError)
+        describe(
+            &mut self.area,
+            alloc,
+            self.id,
+            moment,
+            number,
+            description,
+            drafts,
+        )
     }
 
     /// A Link State Request for these keys came from the neighbor at the interface of this number, which is
@@ -84,6 +104,8 @@ impl Router {
     ) -> Result<(), AllocError>
         requires first { 1 ≤ number }
         requires last { number ≤ length self.old.present.area.links }
+        requires exchange { is_in_exchange
+            (neighbor_at number self.old.present.area.links) ≡ true }
         requires drafts { length drafts.old ≡ length self.old.present.area.links }
         ensures makes { OnOk result (Makes
             (on_area (requested_from moment number keys.now))
@@ -91,7 +113,7 @@ impl Router {
         ensures drafts { OnOk result (length drafts.new ≡ length self.new.present.area.links) }
         ensures settled { self.new.settled ≡ self.old.settled }
     {
-        Err(AllocError)
+        answer(&mut self.area, alloc, moment, number, keys, drafts)
     }
 
     /// An Acknowledgment of these instances came from the neighbor at the interface of this number (RFC
@@ -116,6 +138,6 @@ impl Router {
         ensures drafts { OnOk result (length drafts.new ≡ length self.new.present.area.links) }
         ensures settled { self.new.settled ≡ self.old.settled }
     {
-        Err(AllocError)
+        acknowledged(&mut self.area, alloc, moment, number, headers, drafts)
     }
 }
