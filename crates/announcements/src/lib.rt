@@ -68,7 +68,7 @@ fn same_external(a: &External, b: &External) -> bool
 }
 
 fn is_announced_as(external: &External, announced: Option<&External>) -> bool
-    ensures { result ≡ is_announced_as external.now (option_copied announced) }
+    ensures { result ≡ is_announced_as external.now (option_copied announced.entry) }
 {
     let Some(announced) = announced else {
         return false;
@@ -77,7 +77,7 @@ fn is_announced_as(external: &External, announced: Option<&External>) -> bool
 }
 
 fn is_for(prefix: Prefix, announced: Option<&External>) -> bool
-    ensures { result ≡ is_for prefix (option_copied announced) }
+    ensures { result ≡ is_for prefix (option_copied announced.entry) }
 {
     let Some(announced) = announced else {
         return false;
@@ -91,7 +91,7 @@ fn answered(external: External, tag: u64, price: u32) -> External
 {
     External {
         metric: price,
-        tag: tag as u32,
+        tag: (tag % 0x1_0000_0000) as u32,
         ..external
     }
 }

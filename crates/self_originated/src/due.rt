@@ -29,12 +29,7 @@ fn is_due(router: &Router, moment: Second, key: &Key) -> bool
     router.is_waiting(key) || is_stale(moment, router.area().database().get(key))
 }
 
-fn put_due(
-    router: &Router,
-    moment: Second,
-    key: Key,
-    due: &mut Vec<Key>,
-) -> Result<(), AllocError>
+fn put_due(router: &Router, moment: Second, key: Key, due: &mut Vec<Key>) -> Result<(), AllocError>
     ensures { OnOk result (due.new.items ≡ due.old.items
         ++ (if is_due moment router.now.present key then key ∷ [] else [])) }
 {
