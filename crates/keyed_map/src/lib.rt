@@ -7,5 +7,5 @@ mod map;
 mod slot;
 
 pub use keys_in_order::KeysInOrder;
-pub use map::{Copied, KeyTest, KeyedMap};
+pub use map::{ChangeTest, Copied, KeyTest, KeyedMap};
 pub use slot::{Edit, Slot};

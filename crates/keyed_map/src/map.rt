@@ -1,8 +1,10 @@
-ghost use Rattle.std.specs.Prelude.{◌≡◌, ◌==◌, IfOk, OnOk, OnErr, take, option_copied};
+ghost use Rattle.std.specs.Prelude.{◌≡◌, ◌==◌, IfOk, OnOk, OnErr, IsTrue, Option, take, option_copied};
 ghost use Rattle.std.specs.FinMap as map;
+ghost use Rattle.words.specs.declared.key.Key.{Key as KeyValue};
 ghost use Rattle.keyed_map.specs.Keys.{key_cmp};
 ghost use Rattle.keyed_map.specs.Slots.{Fits, counted, holds, keys_from, keys_where, live};
 ghost use Rattle.keyed_map.specs.Slots.{put_live, slots_of, undo};
+ghost use Rattle.keyed_map.specs.Changes.{held_before};
 
 use crate::keys_in_order::KeysInOrder;
 use crate::slot::{Edit, Slot};
@@ -93,6 +95,17 @@ fn forget<X: Drop>(slots: &mut BTreeMap<Key, Slot<X>>, key: Key)
     }
 }
 
+// What stood there before an edit.
+fn held_before<X>(before: &Option<Slot<X>>) -> Option<&X>
+    ensures { option_copied result ≡ held_before before.now }
+{
+    match before {
+        Some(Slot::Holds(x)) => Some(x),
+        Some(Slot::Gone) => None,
+        None => None,
+    }
+}
+
 /// A value that can be copied where there is memory.
 pub trait Copied: Drop + Sized {
     fn copy(&self, alloc: Global) -> Result<Self, AllocError>
@@ -108,6 +121,18 @@ pub trait KeyTest<X> {
 
     fn accepts(&self, key: &Key, x: &X) -> bool
         ensures { result ≡ accepts self.now key.now x.now };
+}
+
+/// A test of what stood at a key and of what stands there now.
+pub trait ChangeTest<X> {
+    ghost use Rattle.std.specs.Prelude.{Option, IsTrue};
+    ghost use Rattle.words.specs.declared.key.Key.{Key};
+
+    ghost same: { Self → Key → Option X → Option X → Type 0 };
+
+    fn is_same(&self, key: &Key, before: Option<&X>, now: Option<&X>) -> bool
+        ensures { IsTrue result
+            → same self.now key.now (option_copied before.entry) (option_copied now.entry) };
 }
 
 impl<X: Copied> KeyedMap<X> {
@@ -247,6 +272,22 @@ impl<X: Drop> KeyedMap<X> {
             }
         }
         Ok(keys)
+    }
+
+    /// Tells whether each key holds the same, by the test, as when the map was last settled. It looks
+    /// at the keys that were edited since, and wants no memory.
+    pub fn keeps<T: ChangeTest<X>>(&self, test: &T) -> bool
+        requires { (key : KeyValue) (o : Option X) → T.same test.now key o o }
+        ensures { IsTrue result → (key : KeyValue)
+            → T.same test.now key (map.get self.now.settled key) (map.get self.now.present key) }
+    {
+        for edit in &self.edits {
+            let now = self.get(&edit.key);
+            if !test.is_same(&edit.key, held_before(&edit.before), now) {
+                return false;
+            }
+        }
+        true
     }
 
     // Writes a slot, and notes what stood there.

@@ -1,5 +1,5 @@
 //! The database itself.
-ghost use Rattle.std.specs.Prelude.{◌≡◌, take, IfOk, OnOk};
+ghost use Rattle.std.specs.Prelude.{◌≡◌, ◌↔◌, take, IfOk, IsTrue, OnOk, option_copied};
 ghost use Rattle.std.specs.FinMap as finite;
 ghost use Rattle.lsdb.specs.Copies.{
   age_out,
@@ -9,6 +9,8 @@ ghost use Rattle.lsdb.specs.Copies.{
   mark_sent,
   put_copy,
 };
+ghost use Rattle.lsdb.specs.Changes.{IsSameAge, IsSameLsa, IsUpTo};
+ghost use Rattle.words.specs.declared.key.Key.{Key as KeyValue};
 ghost use Rattle.lsdb.specs.Limits.{exceeds, has_room, own_externals};
 
 use crate::ages::{Ages, foresee};
@@ -17,7 +19,7 @@ use crate::limits::{MOST_LSAS, MOST_OWN_EXTERNALS, is_own_external, recount};
 use crate::order::{MAX_AGE, age_at};
 use crate::stored::StoredLsa;
 use crate::times::Times;
-use keyed_map::{KeyTest, KeyedMap, KeysInOrder};
+use keyed_map::{ChangeTest, KeyTest, KeyedMap, KeysInOrder};
 use lsa::Lsa;
 use std::alloc::{AllocError, Global};
 use std::marker::Model;
@@ -102,6 +104,60 @@ impl<'a> KeyTest<()> for AgedAndThere<'a> {
                 age_at(times.age, times.stored, self.moment) == MAX_AGE && self.lsas.contains(key)
             }
         }
+    }
+}
+
+// Whether LSAs of the types up to this one, or of all types, are unedited.
+#[derive(Drop)]
+struct UneditedLsas {
+    last_type: Option<u32>,
+}
+
+impl ChangeTest<StoredLsa> for UneditedLsas {
+    ghost use Rattle.std.specs.Prelude.{◌≡◌};
+    ghost use Rattle.lsdb.specs.Changes.{IsUpTo};
+
+    ghost same = { λ a key before now. IsUpTo a.last_type key → before ≡ now };
+
+    fn is_same(&self, key: &Key, _before: Option<&StoredLsa>, _now: Option<&StoredLsa>) -> bool {
+        !is_up_to(self.last_type, key)
+    }
+}
+
+// Whether the ages of the types up to this one, or of all types, are what they were.
+#[derive(Drop)]
+struct SameAges {
+    last_type: Option<u32>,
+}
+
+impl ChangeTest<Times> for SameAges {
+    ghost use Rattle.lsdb.specs.Changes.{IsSameAge, IsUpTo};
+
+    ghost same = { λ a key before now. IsUpTo a.last_type key → IsSameAge before now };
+
+    fn is_same(&self, key: &Key, before: Option<&Times>, now: Option<&Times>) -> bool {
+        !is_up_to(self.last_type, key) || is_same_age(before, now)
+    }
+}
+
+fn is_up_to(last_type: Option<u32>, key: &Key) -> bool
+    ensures { IsTrue result ↔ IsUpTo last_type key.now }
+{
+    match last_type {
+        None => true,
+        Some(last) => key.ls_type <= last,
+    }
+}
+
+fn is_same_age(before: Option<&Times>, now: Option<&Times>) -> bool
+    ensures { IsTrue result → IsSameAge (option_copied before.entry) (option_copied now.entry) }
+{
+    match before {
+        None => now.is_none(),
+        Some(old) => match now {
+            None => false,
+            Some(new) => old.age == new.age && old.stored.count() == new.stored.count(),
+        },
     }
 }
 
@@ -220,6 +276,17 @@ impl Lsdb {
             moment,
         };
         self.lsas.keys_where(alloc, &aged_out)
+    }
+
+    /// Tells whether each copy of a type up to this one, or of any type where there is none, has the
+    /// LSA and the age that it had when the database was last settled: none was installed, removed or
+    /// aged out since. It looks at the edits since then, and wants no memory. That a copy was sent
+    /// doesn't count.
+    pub fn keeps(&self, last_type: Option<u32>) -> bool
+        ensures { IsTrue result → (key : KeyValue) → IsUpTo last_type key
+            → IsSameLsa (finite.get self.now.settled key) (finite.get self.now.present key) }
+    {
+        self.lsas.keeps(&UneditedLsas { last_type }) && self.times.keeps(&SameAges { last_type })
     }
 
     // The LSA takes the place of its copy; `installed` tells whether flooding brought it.

@@ -1,0 +1,4 @@
+pub mod Ordered
+pub mod Halving
+pub mod Adjacent
+pub mod LetIn

@@ -1,0 +1,18 @@
+-- What answers let in of a list of routes, and what of it they leave unanswered.
+use Rattle.std.specs.Prelude.{List, ◌↔◌}
+use Rattle.std.specs.List.{AllPairs, Contains}
+use Rattle.words.specs.declared.route.Route.{Route}
+use Rattle.routes.specs.Routes.{IsBefore}
+use Rattle.routes.specs.Tables.{Answers, IsAnswered, IsLetIn}
+
+abbrev pub Ascend : List Route → Type 0
+Ascend routes = AllPairs (λ (a : Route) (b : Route). IsBefore a.prefix b.prefix) routes
+
+-- exactly the routes that are let in, in the order of all
+pub record AreLetIn (answers : Answers) (routes part : List Route) : Type 0 where
+  pub each : (r : Route) → Contains part r ↔ (Contains routes r × IsLetIn answers r)
+  pub ascending : Ascend routes → Ascend part
+
+-- some route isn't answered
+abbrev pub LacksAnswers : Answers → List Route → Type 0
+LacksAnswers answers routes = (r : Route) × Contains routes r × (IsAnswered answers r → ⊥)

@@ -1,0 +1,90 @@
+//! The table and whether it is stale.
+ghost use Rattle.std.specs.Prelude.{◌↔◌, IfOk, IsTrue};
+ghost use Rattle.std.specs.List.Sorted.{IsSorted};
+ghost use Rattle.routes.specs.Candidates.{AreCandidates};
+ghost use Rattle.routes.specs.Said.{Said};
+ghost use Rattle.routes.specs.Tables.{IsStale, IsTable};
+ghost use Rattle.routes.specs.declared.root.Root.{Root};
+ghost use Rattle.tables.specs.Orders.{answer_cmp};
+ghost use Rattle.tables.specs.Parts.{AreLetIn, LacksAnswers};
+
+use crate::lookups::{is_answered, is_let_in};
+use crate::order::{are_in_order, in_order};
+use std::alloc::{AllocError, Global};
+use words::Route;
+
+/// The routing table (RFC 2328, section 11): exactly the candidates whose equal route was answered with 0, in the order of their prefixes. The
+/// answers are those of the program that the operator asks of each route; 0 lets it in.
+///
+/// Each candidate is looked up by halving. Answers in the order of their routes, as those to all candidates in turn are, serve as they stand,
+/// others as a copy that is put in order.
+///
+/// # Errors
+/// Where memory for the table or that copy is refused.
+pub fn table(
+    alloc: Global,
+    candidates: &[Route],
+    answers: &[(Route, u64)],
+) -> Result<Vec<Route>, AllocError>
+    ensures { IfOk result (λ table. (said : Said) (root : Root)
+        → AreCandidates said root candidates.now → IsTable said root answers.now table.items) }
+{
+    if are_in_order(answers) {
+        let table = let_in(alloc, candidates, answers)?;
+        return Ok(table);
+    }
+    let ordered = in_order(alloc, answers)?;
+    let table = let_in(alloc, candidates, &ordered)?;
+    Ok(table)
+}
+
+/// Tells whether some candidate's equal route has no answer at all, so that the program is to be asked again. The time is that of [`table`].
+///
+/// # Errors
+/// Where the answers don't stand in the order of their routes, and memory for a copy of them is refused.
+pub fn is_stale(
+    alloc: Global,
+    candidates: &[Route],
+    answers: &[(Route, u64)],
+) -> Result<bool, AllocError>
+    ensures { IfOk result (λ stale. (said : Said) (root : Root)
+        → AreCandidates said root candidates.now
+        → (IsTrue stale ↔ IsStale said root answers.now)) }
+{
+    if are_in_order(answers) {
+        return Ok(lack_answers(candidates, answers));
+    }
+    let ordered = in_order(alloc, answers)?;
+    Ok(lack_answers(candidates, &ordered))
+}
+
+// The routes that are let in.
+fn let_in(
+    alloc: Global,
+    routes: &[Route],
+    answers: &[(Route, u64)],
+) -> Result<Vec<Route>, AllocError>
+    requires { IsSorted answer_cmp answers.now }
+    ensures { IfOk result (λ part. AreLetIn answers.now routes.now part.items) }
+{
+    let mut part = Vec::new(alloc);
+    for route in routes {
+        if is_let_in(answers, route) {
+            part.push(*route)?;
+        }
+    }
+    Ok(part)
+}
+
+// Whether some route isn't answered.
+fn lack_answers(routes: &[Route], answers: &[(Route, u64)]) -> bool
+    requires { IsSorted answer_cmp answers.now }
+    ensures { IsTrue result ↔ LacksAnswers answers.now routes.now }
+{
+    for route in routes {
+        if !is_answered(answers, route) {
+            return true;
+        }
+    }
+    false
+}
