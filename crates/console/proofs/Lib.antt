@@ -1,0 +1,5 @@
+pub mod Decimals
+pub mod Numbers
+pub mod Addresses
+pub mod Seen
+pub mod Pieces

@@ -1,0 +1,10 @@
+-- The words of a line.
+use Rattle.std.specs.Prelude.{ℕ, List, ◌==◌}
+use Rattle.std.specs.List.{slice_split}
+
+abbrev pub Word : Type 0
+Word = List ℕ
+
+-- The words of a line are what stands between its spaces (32): two spaces in a row, or one at an end, have an empty word beside them.
+abbrev pub words_in : List ℕ → List Word
+words_in line = slice_split (λ byte. byte == 32) line
