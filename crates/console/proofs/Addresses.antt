@@ -1,9 +1,9 @@
 -- Addresses and prefixes as texts.
-use Rattle.std.proofs.Common.{◌≡◌, ◌≢◌, ℕ, ◌+◌, ◌-◌, ◌/◌, ◌%◌, ◌<◌, ◌≤◌, ◌^◌, zero, suc, List, [], ◌∷◌, ◌++◌, length, get_or, refl, sym, ap, ◌∙◌, subst, arith, append_assoc, length-append, lit<, ⊎_elim, ◌↔◌, Option, Some, None}
+use Rattle.std.proofs.Common.{◌≡◌, ◌≢◌, ℕ, ◌-◌, ◌/◌, ◌%◌, ◌<◌, ◌≤◌, ◌^◌, zero, suc, List, [], ◌∷◌, ◌++◌, length, get_or, refl, sym, ap, ◌∙◌, subst, arith, append_assoc, length-append, lit<, ⊎_elim, ◌↔◌, Option, Some, None}
 use Rattle.std.specs.Prelude.{decimal, MatchOption}
 use Rattle.std.specs.Net.Addr.{ipv4_octets, ipv4_bits}
 use Rattle.std.specs.Net.Grammar.{IsDotted, IsIpv4Text}
-use Rattle.std.specs.Net.Text.{dotted_text, ipv4_text}
+use Rattle.std.specs.Net.Text.{ipv4_text}
 use Rattle.std.specs.Int.{w32, to_be_bytes, from_be_bytes}
 use Rattle.std.specs.declared.net.ipv4_addr.Ipv4Addr.{Ipv4Addr}
 use Rattle.std.proofs.lemmas.Nat.{be_bytes_4}
@@ -12,7 +12,6 @@ use Rattle.std.proofs.lemmas.List.{get_or_append_left, get_or-append_right}
 use Rattle.std.proofs.lemmas.Fmt.{digits_decimal, decimal_injective}
 use Rattle.std.proofs.lemmas.Str.Parse.{not_in_digits}
 use Rattle.std.proofs.lemmas.Str.Pattern.{IsSplitOnceResult, split_after, split_parts}
-use Rattle.std.specs.Int.{IsInRange}
 use denote.Ref.{Bor}
 use Rattle.words.specs.Prefixes.{Network, IsNetwork}
 use Rattle.words.specs.Text.{dotted, prefix_text}
@@ -144,7 +143,7 @@ pub place_spelled : (w : List ℕ) (r : Option (Bor (List ℕ) × Bor (List ℕ)
     → w ≡ prefix_text (record { address = a; length = l })
 place_spelled w r x h some a l e f =
     let parts : (w ≡ x.0.now ++ (47 ∷ x.1.now)) × ((i : ℕ) → i < length x.0.now → get_or x.0.now i 0 ≢ 47) =
-        subst (λ (q : Option (Bor (List ℕ) × Bor (List ℕ))). MatchOption q ((i : ℕ) → i < length w → get_or w i 0 ≢ 47) (λ x. (w ≡ x.0.now ++ (47 ∷ x.1.now)) × ((i : ℕ) → i < length x.0.now → get_or x.0.now i 0 ≢ 47))) some (split_parts 47 w r h (lit< tt)) in
+    subst (λ (q : Option (Bor (List ℕ) × Bor (List ℕ))). MatchOption q ((i : ℕ) → i < length w → get_or w i 0 ≢ 47) (λ x. (w ≡ x.0.now ++ (47 ∷ x.1.now)) × ((i : ℕ) → i < length x.0.now → get_or x.0.now i 0 ≢ 47))) some (split_parts 47 w r h (lit< tt)) in
     parts.0 ∙ ap (λ (t : List ℕ). t ++ (47 ∷ x.1.now)) e ∙ ap (λ (t : List ℕ). dotted a ++ (47 ∷ t)) f ∙ sym (slash_text (record { address = a; length = l }))
 
 -- a text is of one place

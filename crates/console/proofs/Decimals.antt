@@ -1,11 +1,11 @@
 -- Decimal numbers without a leading zero.
-use Rattle.std.proofs.Common.{◌≡◌, ◌≢◌, ℕ, ◌<◌, ◌≤◌, ◌^◌, List, [], ◌∷◌, length, get_or, Bool, true, false, ◌&&◌, not, eqb, refl, sym, ap, ◌∙◌, subst, arith, Ok, Err, Result}
+use Rattle.std.proofs.Common.{◌≡◌, ◌≢◌, ℕ, ◌<◌, ◌^◌, List, length, get_or, Bool, true, false, ◌&&◌, not, eqb, refl, sym, ap, ◌∙◌, subst, arith, Ok, Err, Result}
 use Rattle.std.specs.Prelude.{decimal, ◌==◌, slice_index}
 use Rattle.std.specs.Str.{all_ascii_digits}
 use Rattle.std.specs.Str.Parse.{digits_value, ParsesUnsigned}
 use Rattle.std.specs.Result.{OkIff}
 use Rattle.std.proofs.lemmas.Bool.{ne_eqb}
-use Rattle.std.proofs.lemmas.Fmt.{digits_decimal, digits_value-decimal, decimal_nonempty, decimal_digit, first_decimal, decimal-digits_value, parse-decimal, decimal_injective}
+use Rattle.std.proofs.lemmas.Fmt.{digits_decimal, decimal_digit, first_decimal, decimal-digits_value, parse-decimal, decimal_injective}
 use Rattle.std.proofs.lemmas.Str.Parse.{IsNumeralModel, numerals_by_value, tells_all_ascii_digits, parse_digits}
 
 pub own : IsNumeralModel (λ ds. all_ascii_digits ds ≡ true) (digits_value 10)
@@ -44,7 +44,7 @@ pub spelled : {E : Type 0} (w : List ℕ) (r : Result ℕ E) (n : ℕ) → all_a
 spelled {E} w r n digits plain h e =
     let read : Result ℕ E = Ok n in
     let parsed : OkIff read ((0 < length w) × (digits_value 10 w < 2 ^ 64)) (digits_value 10 w) =
-        subst (λ (q : Result ℕ E). OkIff q ((0 < length w) × (digits_value 10 w < 2 ^ 64)) (digits_value 10 w)) e (parse_digits own 64 w r h digits) in
+    subst (λ (q : Result ℕ E). OkIff q ((0 < length w) × (digits_value 10 w < 2 ^ 64)) (digits_value 10 w)) e (parse_digits own 64 w r h digits) in
     (sym (decimal-digits_value own w digits parsed.0.0 (one_digit w plain) parsed.0.1) ∙ ap decimal (sym parsed.1), omega (arith, parsed.0.1, parsed.1))
 
 -- a number that is spelled is read

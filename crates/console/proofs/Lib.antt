@@ -3,3 +3,4 @@ pub mod Numbers
 pub mod Addresses
 pub mod Seen
 pub mod Pieces
+pub mod Lines

@@ -1,7 +1,7 @@
 -- Numbers with commas between them.
-use Rattle.std.proofs.Common.{◌≡◌, ℕ, zero, suc, ◌+◌, add-one, add-zero, arith, subst, List, [], ◌∷◌, ◌++◌, Bool, true, false, refl, ap, ◌∙◌, sym, append_assoc, if◌then◌else◌}
-use Rattle.std.specs.Prelude.{decimal, filter, map}
-use Rattle.std.specs.List.{join_with_byte, range_with_len}
+use Rattle.std.proofs.Common.{◌≡◌, ℕ, zero, suc, ◌+◌, add-one, arith, List, [], ◌∷◌, ◌++◌, Bool, true, false, refl, ap, ◌∙◌, sym, append_assoc, if◌then◌else◌}
+use Rattle.std.specs.Prelude.{decimal, filter}
+use Rattle.std.specs.List.{range_with_len}
 use Rattle.words.specs.Interfaces.{has_interface}
 use Rattle.console.specs.Answers.{interfaces_below, numbers_text}
 
@@ -26,9 +26,9 @@ filter_more p (y ∷ ys) x = elim (p y) as (λ b. p y ≡ b → filter p (y ∷ 
   | false ↦ λ q. rw q (filter_more p ys x)
 ] refl
   where
-  behind : (y : ℕ) (b : Bool) (kept : List ℕ) (x : ℕ) (all : List ℕ) → all ≡ (if b then kept ++ x ∷ [] else kept) → y ∷ all ≡ (if b then (y ∷ kept) ++ x ∷ [] else y ∷ kept)
-  behind y true kept x all e = ap (λ rest. y ∷ rest) e
-  behind y false kept x all e = ap (λ rest. y ∷ rest) e
+    behind : (y : ℕ) (b : Bool) (kept : List ℕ) (x : ℕ) (all : List ℕ) → all ≡ (if b then kept ++ x ∷ [] else kept) → y ∷ all ≡ (if b then (y ∷ kept) ++ x ∷ [] else y ∷ kept)
+    behind y true kept x all e = ap (λ rest. y ∷ rest) e
+    behind y false kept x all e = ap (λ rest. y ∷ rest) e
 
 range_more : (a n j : ℕ) → a + n ≡ j → range_with_len a (suc n) ≡ range_with_len a n ++ j ∷ []
 range_more a zero j e = ap (λ k. k ∷ []) (let same : a ≡ j = omega arith in same)
@@ -49,11 +49,12 @@ pub written_more : (n hops : ℕ) (old mid new : List ℕ) (first : Bool) → ha
     → first ≡ is_empty (interfaces_below n hops) → new ≡ mid ++ (if first then decimal n else 44 ∷ decimal n)
     → (new ≡ old ++ numbers_text (interfaces_below (n + 1) hops)) × (false ≡ is_empty (interfaces_below (n + 1) hops))
 written_more n hops old mid new first has e empty f =
-    let more : interfaces_below (n + 1) hops ≡ interfaces_below n hops ++ n ∷ [] = rw (interfaces_more n hops, has) refl in
-    ( f ∙ ap (λ (b : Bool). mid ++ (if b then decimal n else 44 ∷ decimal n)) empty ∙ ap (λ (m : List ℕ). m ++ next_text (interfaces_below n hops) n) e
-      ∙ append_assoc old (numbers_text (interfaces_below n hops)) (next_text (interfaces_below n hops) n)
-      ∙ ap (λ (t : List ℕ). old ++ t) (sym (numbers_more (interfaces_below n hops) n)) ∙ ap (λ (t : List ℕ). old ++ numbers_text t) (sym more)
-    , sym (ap is_empty more ∙ empty_more (interfaces_below n hops) n))
+    let more : interfaces_below (n + 1) hops ≡ interfaces_below n hops ++ n ∷ [] = rw (interfaces_more n hops, has) refl in (
+      f ∙ ap (λ (b : Bool). mid ++ (if b then decimal n else 44 ∷ decimal n)) empty ∙ ap (λ (m : List ℕ). m ++ next_text (interfaces_below n hops) n) e
+          ∙ append_assoc old (numbers_text (interfaces_below n hops)) (next_text (interfaces_below n hops) n)
+          ∙ ap (λ (t : List ℕ). old ++ t) (sym (numbers_more (interfaces_below n hops) n)) ∙ ap (λ (t : List ℕ). old ++ numbers_text t) (sym more),
+      sym (ap is_empty more ∙ empty_more (interfaces_below n hops) n),
+    )
 
 pub written_same : (n hops : ℕ) (old mid : List ℕ) (first : Bool) → has_interface hops n ≡ false → mid ≡ old ++ numbers_text (interfaces_below n hops)
     → first ≡ is_empty (interfaces_below n hops)

@@ -1,5 +1,5 @@
 -- The words of a slice that was taken apart.
-use Rattle.std.proofs.Common.{◌≡◌, ℕ, zero, suc, List, [], ◌∷◌, length, get_or, Option, Some, None, sym, ap, ◌∙◌, subst, arith, refl}
+use Rattle.std.proofs.Common.{◌≡◌, ◌<◌, ℕ, zero, suc, List, [], ◌∷◌, length, get_or, Option, sym, ap, ◌∙◌, subst, arith, refl}
 use Rattle.std.specs.Prelude.{MatchOption}
 use denote.Ref.{Bor}
 use Rattle.console.specs.Words.{Word}
@@ -29,3 +29,15 @@ seen (w ∷ ws) d (suc k) e =
 pub as_seen : {A : Type 0} (r : Option A) (Asks : List Word → A → Type 0) (words parts : List Word) → words ≡ parts → MatchOption r ((x : A) → Asks parts x → ⊥) (Asks parts)
     → MatchOption r ((x : A) → Asks words x → ⊥) (Asks words)
 as_seen {A} r Asks words parts e h = subst (λ (ws : List Word). MatchOption r ((x : A) → Asks ws x → ⊥) (Asks ws)) (sym e) h
+
+pub view_at : (ws : List (Bor Word)) (d : Bor Word) (k : ℕ) → k < length ws → (get_or ws k d).now ≡ get_or (views ws) k []
+view_at [] d k lt = absurd (omega arith)
+view_at (w ∷ ws) d zero lt = refl
+view_at (w ∷ ws) d (suc k) lt = view_at ws d k (omega arith)
+
+-- the word at a place, where all of them are known
+pub word_at : (ws : List (Bor Word)) (d : Bor Word) (k : ℕ) (words : List Word) → k < length ws → views ws ≡ words → (get_or ws k d).now ≡ get_or words k []
+word_at ws d k words lt e = view_at ws d k lt ∙ ap (λ (ls : List Word). get_or ls k []) e
+
+pub both : {A : Type 0} {x y : A} {xs ys : List A} → x ≡ y → xs ≡ ys → x ∷ xs ≡ y ∷ ys
+both {A} {x} {y} {xs} {ys} e f = ap (λ (z : A). z ∷ xs) e ∙ ap (λ (zs : List A). y ∷ zs) f

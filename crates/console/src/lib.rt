@@ -9,4 +9,4 @@ mod reading;
 
 pub use answers::{counters_text, neighbors_text, table_text, totals_text};
 pub use command::{Command, read_command};
-pub use configuration::{ConfiguredInterface};
+pub use configuration::{ConfigurationError, Configured, ConfiguredInterface, read_configuration};

@@ -1,4 +1,3 @@
-use Rattle.std.proofs.Common.{rules}
 use Rattle.console.specs.Answers.{hops_text}
 use Rattle.console.proofs.answers.push_hops.Goals as goal
 

@@ -1,4 +1,3 @@
-use Rattle.std.proofs.Common.{◌≡◌, true, false}
 use Rattle.console.proofs.Numbers.{written_more, written_same}
 use Rattle.console.proofs.answers.push_hops_below.Goals as goal
 use Rattle.console.proofs.answers.push_hops_below.Goals.{then-contains+in_ok-push_number, else-contains}

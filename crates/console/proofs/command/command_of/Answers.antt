@@ -1,4 +1,4 @@
-use Rattle.std.proofs.Common.{◌≡◌, arith}
+use Rattle.std.proofs.Common.{arith}
 use Rattle.console.specs.Commands.{Asks}
 use Rattle.console.proofs.Seen.{as_seen, none, seen}
 use Rattle.console.proofs.command.command_of.Goals as goal

@@ -1,4 +1,4 @@
-use Rattle.std.proofs.Common.{◌≡◌, ◌∙◌, arith}
+use Rattle.std.proofs.Common.{◌∙◌, arith}
 use Rattle.console.proofs.Addresses.{address_spelled, address_unread}
 use Rattle.console.proofs.reading.read_address.Goals as goal
 

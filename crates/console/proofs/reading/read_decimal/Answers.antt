@@ -1,4 +1,3 @@
-use Rattle.std.proofs.Common.{◌≡◌, true, false}
 use Rattle.console.proofs.Decimals.{not_digits, with_leading_zero, spelled, unread}
 use Rattle.console.proofs.reading.read_decimal.Goals as goal
 

@@ -1,4 +1,4 @@
-use Rattle.std.proofs.Common.{◌≡◌, ◌<◌, ◌^◌, arith}
+use Rattle.std.proofs.Common.{◌<◌, ◌^◌, arith}
 use Rattle.console.proofs.Decimals.{one_number}
 use Rattle.console.proofs.reading.read_within.Goals as goal
 
