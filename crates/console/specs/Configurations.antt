@@ -1,4 +1,5 @@
--- The text of a configuration: a line for the router, then one for each interface (RFC 2328, appendices C.1 and C.3).
+-- The text of a configuration: a line for the router, then one for each interface (RFC 2328,
+-- appendices C.1 and C.3).
 use Rattle.std.specs.Prelude.{◌≡◌, ℕ, ◌+◌, ◌<◌, ◌≤◌, ◌^◌, ◌==◌, true, false, List, [], ◌∷◌, codes, decimal, length, map, slice_get, Some, take, ◌⊎◌, if◌then◌else◌}
 use Rattle.std.specs.List.{list_any, slice_split}
 use Rattle.words.specs.Constants.{most_interfaces}
@@ -51,7 +52,8 @@ pub record IsInterface (c : ConfiguredInterface) : Type 0 where
   pub peer : IsPort c.peer
 
 -- the line says the interface of this number
-pub record SaysInterface (number : InterfaceNumber) (line : Line) (c : ConfiguredInterface) : Type 0 where
+pub record SaysInterface (number : InterfaceNumber) (line : Line) (c : ConfiguredInterface)
+    : Type 0 where
   pub written : words_in line ≡ interface_words number c
   pub lawful : IsInterface c
 
@@ -89,8 +91,8 @@ pub record AreInterfaces (lines : List Line) (cs : List ConfiguredInterface) : T
   pub few : length cs ≤ most_interfaces
   pub apart : AreApart cs
 
--- Of the lines behind the router's, the one at this index is the first that is wrong: those before it say interfaces, and it says none that
--- may follow them.
+-- Of the lines behind the router's, the one at this index is the first that is wrong: those before
+-- it say interfaces, and it says none that may follow them.
 pub record IsFirstWrong (lines : List Line) (index : ℕ) : Type 0 where
   pub before : List ConfiguredInterface
   pub said : SayInterfaces 1 (take index lines) before
@@ -100,7 +102,8 @@ pub record IsFirstWrong (lines : List Line) (index : ℕ) : Type 0 where
   pub there : slice_get lines index ≡ Some line
   pub wrong : (c : ConfiguredInterface) → SaysInterface (index + 1) line c → MayFollow before c → ⊥
 
--- The number of the first line that is wrong, where the router's line is 1; or, where there is no interface, of the line that is missing.
+-- The number of the first line that is wrong, where the router's line is 1; or, where there is no
+-- interface, of the line that is missing.
 abbrev pub RefusesInterfaces : List Line → (number : ℕ) → Type 0
 RefusesInterfaces lines number =
     ((lines ≡ []) × (number ≡ 2)) ⊎ ((index : ℕ) × (number ≡ index + 2) × IsFirstWrong lines index)

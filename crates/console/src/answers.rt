@@ -55,7 +55,8 @@ fn push_hops(text: &mut String, hops: Hops) -> Result<(), AllocError>
 
 /// Adds what a route's line has before its interfaces.
 fn push_route_text(text: &mut String, route: &Route) -> Result<(), AllocError>
-    ensures { OnOk result (string_bytes text.new ≡ string_bytes text.old ++ route_text route.now) }
+    ensures { OnOk result (string_bytes text.new
+        ≡ string_bytes text.old ++ route_text route.now) }
 {
     let prefix = route.prefix;
     let kind = kind_name(route.kind);
@@ -66,7 +67,8 @@ fn push_route_text(text: &mut String, route: &Route) -> Result<(), AllocError>
 /// Adds the line of a route.
 #[tactic(auto, using(crate::proofs::Pieces::three_pieces))]
 fn push_route(text: &mut String, route: &Route) -> Result<(), AllocError>
-    ensures { OnOk result (string_bytes text.new ≡ string_bytes text.old ++ route_line route.now) }
+    ensures { OnOk result (string_bytes text.new
+        ≡ string_bytes text.old ++ route_line route.now) }
 {
     push_route_text(text, route)?;
     push_hops(text, route.hops)?;
@@ -75,7 +77,8 @@ fn push_route(text: &mut String, route: &Route) -> Result<(), AllocError>
 
 /// Adds the lines of routes.
 fn push_routes(text: &mut String, routes: &[Route]) -> Result<(), AllocError>
-    ensures { OnOk result (string_bytes text.new ≡ string_bytes text.old ++ route_lines routes.now) }
+    ensures { OnOk result (string_bytes text.new
+        ≡ string_bytes text.old ++ route_lines routes.now) }
 {
     for route in routes {
         push_route(text, route)?;
@@ -154,7 +157,8 @@ pub fn neighbors_text(
 
 /// Adds the line of a counter, if it is above 0.
 fn push_counter(text: &mut String, index: usize, sum: u64) -> Result<(), AllocError>
-    ensures { OnOk result (string_bytes text.new ≡ string_bytes text.old ++ counter_line index sum) }
+    ensures { OnOk result (string_bytes text.new
+        ≡ string_bytes text.old ++ counter_line index sum) }
 {
     if sum > 0 {
         writeln!(text, "counter {index} {sum}")?;
@@ -164,7 +168,8 @@ fn push_counter(text: &mut String, index: usize, sum: u64) -> Result<(), AllocEr
 
 /// Adds the lines of counters.
 fn push_counters(text: &mut String, sums: &[u64]) -> Result<(), AllocError>
-    ensures { OnOk result (string_bytes text.new ≡ string_bytes text.old ++ counter_lines 0 sums.now) }
+    ensures { OnOk result (string_bytes text.new
+        ≡ string_bytes text.old ++ counter_lines 0 sums.now) }
 {
     for (index, sum) in sums.iter().enumerate() {
         push_counter(text, index, *sum)?;

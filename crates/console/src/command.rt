@@ -101,7 +101,8 @@ fn two<'a>(a: &str, b: &'a str) -> Option<Command<'a>>
 /// The type of an external metric.
 fn read_type(word: &str) -> Option<ExternalType>
     ensures { MatchOption result
-        ((kind : ExternalType) → word.now ≡ type_word kind → ⊥) (λ kind. word.now ≡ type_word kind) }
+        ((kind : ExternalType) → word.now ≡ type_word kind → ⊥)
+        (λ kind. word.now ≡ type_word kind) }
 {
     if is_text(word, "1") {
         return Some(ExternalType::Type1);

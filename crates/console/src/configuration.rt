@@ -66,8 +66,10 @@ impl<T: Drop> From<AllocFailed<T>> for ConfigurationError {
 /// The number of a setting that two words are: its name and, in decimal, a number from `least` to `most`.
 fn read_setting(words: (&str, &str), name: &str, least: u64, most: u64) -> Option<u64>
     ensures { MatchOption result
-        ((n : ℕ) → least ≤ n → n ≤ most → words.entry.0.now ≡ name.now → words.entry.1.now ≡ decimal n → ⊥)
-        (λ n. (words.entry.0.now ≡ name.now) × (words.entry.1.now ≡ decimal n) × (least ≤ n) × (n ≤ most)) }
+        ((n : ℕ) → least ≤ n → n ≤ most → words.entry.0.now ≡ name.now
+        → words.entry.1.now ≡ decimal n → ⊥)
+        (λ n. (words.entry.0.now ≡ name.now) × (words.entry.1.now ≡ decimal n) × (least ≤ n)
+        × (n ≤ most)) }
 {
     if !is_text(words.0, name) {
         return None;
