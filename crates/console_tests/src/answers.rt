@@ -58,8 +58,14 @@ fn a_neighbor_that_is_down_has_no_line(rt: HostRuntime) -> Result<(), Fail> {
 fn counters_of_zero_have_no_line(rt: HostRuntime) -> Result<(), Fail> {
     let sums = [0, 18_446_744_073_709_551_615, 0, 7];
     let text = counters_text(rt.alloc(), &sums)?;
-    assert_eq!(rt; text.as_str(), "counter 1 18446744073709551615\ncounter 3 7\nend\n");
+    assert_eq!(rt;
+        text.as_str(),
+        "counter 1 18446744073709551615\ncounter 3 7\nend\n"
+    );
     let text = totals_text(rt.alloc(), &sums)?;
-    assert_eq!(rt; text.as_str(), "counter 1 18446744073709551615\ncounter 3 7\n");
+    assert_eq!(rt;
+        text.as_str(),
+        "counter 1 18446744073709551615\ncounter 3 7\n"
+    );
     Ok(())
 }

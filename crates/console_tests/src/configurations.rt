@@ -6,7 +6,8 @@ use std::process::Abort;
 use std::test::Fail;
 use words::{Address, RouterId};
 
-const FIRST: &str = "router 1.1.1.1\ninterface 1 10.0.1.1/24 cost 10 hello 10 dead 40 rxmt 5 delay 1 port 7001 peer 7002\n";
+const FIRST: &str =
+    "router 1.1.1.1\ninterface 1 10.0.1.1/24 cost 10 hello 10 dead 40 rxmt 5 delay 1 port 7001 peer 7002\n";
 
 const REST: &str = "cost 10 hello 10 dead 40 rxmt 5 delay 1 port 7001 peer 7002\n";
 
@@ -46,7 +47,8 @@ fn one_interface_is_read(rt: HostRuntime) -> Result<(), Fail> {
 
 #[test]
 fn the_last_line_feed_may_be_left_out(rt: HostRuntime) -> Result<(), Fail> {
-    let text = "router 255.255.255.255\ninterface 1 0.0.0.0/0 cost 65535 hello 65535 dead 4294967295 rxmt 65535 delay 3600 port 65535 peer 1\ninterface 2 10.0.2.1/32 cost 1 hello 1 dead 1 rxmt 1 delay 1 port 7003 peer 7004";
+    let text =
+        "router 255.255.255.255\ninterface 1 0.0.0.0/0 cost 65535 hello 65535 dead 4294967295 rxmt 65535 delay 3600 port 65535 peer 1\ninterface 2 10.0.2.1/32 cost 1 hello 1 dead 1 rxmt 1 delay 1 port 7003 peer 7004";
     let configured = read_configuration(rt.alloc(), text)?;
     assert_eq!(rt; configured.router, RouterId::new(0xffff_ffff));
     assert_eq!(rt; configured.interfaces.as_slice().len(), 2);
@@ -79,11 +81,26 @@ fn the_line_of_an_interface_is_refused(rt: HostRuntime) -> Result<(), Fail> {
     let tail = "cost 10 hello 10 dead 40 rxmt 5 delay 1 port 7001 peer 7002";
     let alloc = rt.alloc();
     is_first_interface_refused(&rt, "")?;
-    is_first_interface_refused(&rt, format!(in alloc; "interface 2 10.0.1.1/24 {tail}")?.as_str())?;
-    is_first_interface_refused(&rt, format!(in alloc; "interface 01 10.0.1.1/24 {tail}")?.as_str())?;
-    is_first_interface_refused(&rt, format!(in alloc; "interface 1 10.0.1.1/33 {tail}")?.as_str())?;
-    is_first_interface_refused(&rt, format!(in alloc; "interface 1 10.0.1.1 {tail}")?.as_str())?;
-    is_first_interface_refused(&rt, format!(in alloc; "interface 1 10.0.1.1/24 {tail} ")?.as_str())?;
+    is_first_interface_refused(
+        &rt,
+        format!(in alloc; "interface 2 10.0.1.1/24 {tail}")?.as_str(),
+    )?;
+    is_first_interface_refused(
+        &rt,
+        format!(in alloc; "interface 01 10.0.1.1/24 {tail}")?.as_str(),
+    )?;
+    is_first_interface_refused(
+        &rt,
+        format!(in alloc; "interface 1 10.0.1.1/33 {tail}")?.as_str(),
+    )?;
+    is_first_interface_refused(
+        &rt,
+        format!(in alloc; "interface 1 10.0.1.1 {tail}")?.as_str(),
+    )?;
+    is_first_interface_refused(
+        &rt,
+        format!(in alloc; "interface 1 10.0.1.1/24 {tail} ")?.as_str(),
+    )?;
     Ok(())
 }
 
