@@ -1,0 +1,88 @@
+-- What the console answers: lines, each with a line feed (10) at its end.
+use Rattle.std.specs.Prelude.{ℕ, ◌+◌, List, [], ◌∷◌, ◌++◌, Option, None, Some, codes, decimal, filter, map, if◌then◌else◌, nat_lt}
+use Rattle.std.specs.List.{join_with_byte, range_with_len}
+use Rattle.words.specs.Interfaces.{has_interface}
+use Rattle.words.specs.Numbers.{InterfaceNumber, RouterNumber}
+use Rattle.words.specs.Text.{dotted, prefix_text}
+use Rattle.words.specs.declared.route.Route.{Route}
+use Rattle.words.specs.declared.route.RouteKind.{RouteKind}
+use Rattle.words.specs.declared.route.RouteKind.TheVariants.{Intra, Inter, External1, External2}
+use Rattle.adjacency.specs.declared.state.State.{State}
+use Rattle.adjacency.specs.declared.state.State.TheVariants.{Init, ExStart, Exchange, Loading, Full}
+
+-- ---- the routing table
+
+abbrev pub kind_name : RouteKind → List ℕ
+kind_name Intra = codes "intra"
+kind_name Inter = codes "inter"
+kind_name External1 = codes "ext1"
+kind_name External2 = codes "ext2"
+
+-- the interfaces of a set that are below this number, ascending
+abbrev pub interfaces_below : (end : ℕ) (hops : ℕ) → List ℕ
+interfaces_below end hops = filter (has_interface hops) (range_with_len 0 end)
+
+-- numbers in decimal, with commas (44) between them
+abbrev pub numbers_text : List ℕ → List ℕ
+numbers_text numbers = join_with_byte 44 (map decimal numbers)
+
+-- the interfaces of a set, of which there are 64
+unfoldable pub hops_text : ℕ → List ℕ
+hops_text hops = numbers_text (interfaces_below 64 hops)
+
+-- one route: its destination, its kind, its cost and where it leaves by
+abbrev pub route_text : Route → List ℕ
+route_text r =
+    prefix_text r.prefix ++ (codes " " ++ (kind_name r.kind ++ (codes " " ++ (decimal r.cost
+    ++ codes " via "))))
+
+abbrev pub route_line : Route → List ℕ
+route_line r = route_text r ++ (hops_text r.hops ++ 10 ∷ [])
+
+abbrev pub route_lines : List Route → List ℕ
+route_lines [] = []
+route_lines (route ∷ routes) = route_line route ++ route_lines routes
+
+abbrev pub table_text : List Route → List ℕ
+table_text routes = route_lines routes ++ codes "end\n"
+
+-- ---- the neighbors
+
+abbrev pub state_name : State → List ℕ
+state_name Init = codes "Init"
+state_name ExStart = codes "ExStart"
+state_name Exchange = codes "Exchange"
+state_name Loading = codes "Loading"
+state_name Full = codes "Full"
+
+-- the neighbor of this interface, by its Router ID and its state; one that is Down has no line
+abbrev pub neighbor_line : InterfaceNumber → Option (RouterNumber × State) → List ℕ
+neighbor_line interface None = []
+neighbor_line interface (Some (router, state)) =
+    codes "neighbor " ++ (decimal interface ++ (codes " " ++ (dotted router ++ (codes " "
+    ++ (state_name state ++ 10 ∷ [])))))
+
+abbrev pub neighbor_lines : InterfaceNumber → List (Option (RouterNumber × State)) → List ℕ
+neighbor_lines interface [] = []
+neighbor_lines interface (neighbor ∷ neighbors) =
+    neighbor_line interface neighbor ++ neighbor_lines (interface + 1) neighbors
+
+-- those of all interfaces, of which the first is 1
+abbrev pub neighbors_text : List (Option (RouterNumber × State)) → List ℕ
+neighbors_text neighbors = neighbor_lines 1 neighbors ++ codes "end\n"
+
+-- ---- the counters
+
+-- a counter that is above 0
+abbrev pub counter_line : (index : ℕ) (sum : ℕ) → List ℕ
+counter_line index sum =
+    if nat_lt 0 sum
+    then codes "counter " ++ (decimal index ++ (codes " " ++ (decimal sum ++ 10 ∷ [])))
+    else []
+
+abbrev pub counter_lines : (index : ℕ) → List ℕ → List ℕ
+counter_lines index [] = []
+counter_lines index (sum ∷ sums) = counter_line index sum ++ counter_lines (index + 1) sums
+
+abbrev pub counters_text : List ℕ → List ℕ
+counters_text sums = counter_lines 0 sums ++ codes "end\n"

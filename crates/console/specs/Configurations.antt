@@ -1,0 +1,144 @@
+-- The text of a configuration: a line for the router, then one for each interface (RFC 2328,
+-- appendices C.1 and C.3).
+use Rattle.std.specs.Prelude.{◌≡◌, ℕ, ◌+◌, ◌<◌, ◌≤◌, ◌^◌, ◌==◌, true, false, List, [], ◌∷◌, codes, decimal, length, map, slice_get, Some, take, ◌⊎◌, if◌then◌else◌}
+use Rattle.std.specs.List.{list_any, slice_split}
+use Rattle.words.specs.Constants.{most_interfaces}
+use Rattle.words.specs.Numbers.{InterfaceNumber, RouterNumber}
+use Rattle.words.specs.Text.{dotted, prefix_text}
+use Rattle.adjacency.specs.declared.interface.Interface.{Interface}
+use Rattle.events.specs.Routers.{are_distinct}
+use Rattle.console.specs.declared.configuration.Configured.{Configured}
+use Rattle.console.specs.declared.configuration.ConfiguredInterface.{ConfiguredInterface}
+use Rattle.console.specs.Words.{Word, words_in}
+
+abbrev pub Line : Type 0
+Line = List ℕ
+
+-- the words of each line
+abbrev pub router_words : RouterNumber → List Word
+router_words router = codes "router" ∷ dotted router ∷ []
+
+abbrev pub interface_words : InterfaceNumber → ConfiguredInterface → List Word
+interface_words number c =
+    codes "interface" ∷ decimal number
+    ∷ prefix_text (record { address = c.interface.address; length = c.interface.length })
+    ∷ codes "cost" ∷ decimal c.interface.cost
+    ∷ codes "hello" ∷ decimal c.interface.hello_interval
+    ∷ codes "dead" ∷ decimal c.interface.dead_interval
+    ∷ codes "rxmt" ∷ decimal c.interface.retransmit_interval
+    ∷ codes "delay" ∷ decimal c.interface.delay
+    ∷ codes "port" ∷ decimal c.port
+    ∷ codes "peer" ∷ decimal c.peer ∷ []
+
+-- a Router ID that a router may have
+abbrev pub IsRouter : RouterNumber → Type 0
+IsRouter router = (1 ≤ router) × (router < 2 ^ 32)
+
+-- a UDP port that a datagram can come from and go to
+abbrev pub IsPort : ℕ → Type 0
+IsPort port = (1 ≤ port) × (port < 2 ^ 16)
+
+-- an interface whose numbers are lawful and fit the fields that packets have for them
+pub record IsInterface (c : ConfiguredInterface) : Type 0 where
+  pub address : c.interface.address < 2 ^ 32
+  pub length : c.interface.length ≤ 32
+  pub cost : (1 ≤ c.interface.cost) × (c.interface.cost < 2 ^ 16)
+  pub hello_interval : (1 ≤ c.interface.hello_interval) × (c.interface.hello_interval < 2 ^ 16)
+  pub dead_interval : (1 ≤ c.interface.dead_interval) × (c.interface.dead_interval < 2 ^ 32)
+  pub retransmit_interval :
+      (1 ≤ c.interface.retransmit_interval) × (c.interface.retransmit_interval < 2 ^ 16)
+  pub delay : (1 ≤ c.interface.delay) × (c.interface.delay ≤ 3600)
+  pub port : IsPort c.port
+  pub peer : IsPort c.peer
+
+-- the line says the interface of this number
+pub record SaysInterface (number : InterfaceNumber) (line : Line) (c : ConfiguredInterface)
+    : Type 0 where
+  pub written : words_in line ≡ interface_words number c
+  pub lawful : IsInterface c
+
+-- the line says the router
+pub record SaysRouter (line : Line) (router : RouterNumber) : Type 0 where
+  pub written : words_in line ≡ router_words router
+  pub lawful : IsRouter router
+
+-- ---- all lines
+
+-- each line says one of these interfaces, from this number on
+abbrev pub SayInterfaces : InterfaceNumber → List Line → List ConfiguredInterface → Type 0
+SayInterfaces number [] [] = Unit {0}
+SayInterfaces number [] (c ∷ cs) = ⊥
+SayInterfaces number (line ∷ lines) [] = ⊥
+SayInterfaces number (line ∷ lines) (c ∷ cs) =
+    SaysInterface number line c × SayInterfaces (number + 1) lines cs
+
+abbrev pub interface_of : ConfiguredInterface → Interface
+interface_of c = c.interface
+
+-- no two have one address
+abbrev pub AreApart : List ConfiguredInterface → Type 0
+AreApart cs = are_distinct (map interface_of cs) ≡ true
+
+-- the interface may stand behind these: there are not too many, and none of them has its address
+pub record MayFollow (before : List ConfiguredInterface) (c : ConfiguredInterface) : Type 0 where
+  pub room : length before < most_interfaces
+  pub apart : list_any (λ other. other.interface.address == c.interface.address) before ≡ false
+
+-- the lines behind the router's say these interfaces, at least one
+pub record AreInterfaces (lines : List Line) (cs : List ConfiguredInterface) : Type 0 where
+  pub said : SayInterfaces 1 lines cs
+  pub some : 1 ≤ length cs
+  pub few : length cs ≤ most_interfaces
+  pub apart : AreApart cs
+
+-- Of the lines behind the router's, the one at this index is the first that is wrong: those before
+-- it say interfaces, and it says none that may follow them.
+pub record IsFirstWrong (lines : List Line) (index : ℕ) : Type 0 where
+  pub before : List ConfiguredInterface
+  pub said : SayInterfaces 1 (take index lines) before
+  pub few : length before ≤ most_interfaces
+  pub apart : AreApart before
+  pub line : Line
+  pub there : slice_get lines index ≡ Some line
+  pub wrong : (c : ConfiguredInterface) → SaysInterface (index + 1) line c → MayFollow before c → ⊥
+
+-- The number of the first line that is wrong, where the router's line is 1; or, where there is no
+-- interface, of the line that is missing.
+abbrev pub RefusesInterfaces : List Line → (number : ℕ) → Type 0
+RefusesInterfaces lines number =
+    ((lines ≡ []) × (number ≡ 2)) ⊎ ((index : ℕ) × (number ≡ index + 2) × IsFirstWrong lines index)
+
+-- what the lines of a configuration say
+pub record AreLines (lines : List Line) (c : Configured) : Type 0 where
+  pub first : Line
+  pub others : List Line
+  pub all : lines ≡ first ∷ others
+  pub router : SaysRouter first c.router
+  pub interfaces : AreInterfaces others c.interfaces
+
+-- and which line is the first that is wrong or missing
+abbrev pub RefusesLines : List Line → (number : ℕ) → Type 0
+RefusesLines [] number = number ≡ 1
+RefusesLines (first ∷ others) number =
+    ((number ≡ 1) × ((router : RouterNumber) → SaysRouter first router → ⊥))
+    ⊎ ((router : RouterNumber) × SaysRouter first router × RefusesInterfaces others number)
+
+-- ---- the text
+
+-- a line feed (10) at the very end of a text ends its last line
+abbrev pub without_last_feed : List ℕ → List ℕ
+without_last_feed [] = []
+without_last_feed (byte ∷ []) = if byte == 10 then [] else byte ∷ []
+without_last_feed (byte ∷ next ∷ rest) = byte ∷ without_last_feed (next ∷ rest)
+
+-- the lines of a text stand between its line feeds
+abbrev pub lines_in : List ℕ → List Line
+lines_in text = slice_split (λ byte. byte == 10) (without_last_feed text)
+
+-- the text says the configuration
+abbrev pub Says : List ℕ → Configured → Type 0
+Says text c = AreLines (lines_in text) c
+
+-- the line of this number is the first that is wrong or missing
+abbrev pub Refuses : List ℕ → (number : ℕ) → Type 0
+Refuses text number = RefusesLines (lines_in text) number

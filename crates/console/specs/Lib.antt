@@ -1,0 +1,5 @@
+pub mod Answers
+pub mod Commands
+pub mod Configurations
+pub mod Views
+pub mod Words

@@ -1,0 +1,330 @@
+//! The text of a configuration.
+ghost use Rattle.std.specs.Prelude.{◌≡◌, ◌≢◌, ℕ, ◌+◌, ◌≤◌, ◌<◌, ◌^◌, [], ◌∷◌, List, ◌==◌, Err, IfOk, MatchOption, decimal, codes, length};
+ghost use Rattle.std.specs.List.{list_any};
+ghost use Rattle.console.specs.Configurations.{interface_words, router_words, without_last_feed, lines_in, AreInterfaces, AreLines, IsInterface, IsRouter, MayFollow, Refuses, RefusesInterfaces, RefusesLines, Says, SaysInterface, SaysRouter};
+ghost use Rattle.console.specs.Views.{views};
+ghost use Rattle.words.specs.Prefixes.{Network};
+ghost use Rattle.words.specs.Text.{dotted, prefix_text};
+ghost use Rattle.console.specs.declared.configuration.ConfiguredInterface.{ConfiguredInterface};
+
+use crate::reading::{is_text, read_address, read_place, read_within, words_of};
+use adjacency::Interface;
+use std::alloc::{AllocError, AllocFailed, Global};
+use thiserror::Error;
+use words::{Address, RouterId, Sequence};
+
+/// An interface as a line of a configuration says it.
+#[derive(Clone, Copy, Debug, PartialEq, Eq)]
+pub struct ConfiguredInterface {
+    /// Where it stands and how it speaks.
+    pub interface: Interface,
+    /// The UDP port of 127.0.0.1 that its packets come to.
+    pub port: u16,
+    /// The UDP port of 127.0.0.1 that its packets go to.
+    pub peer: u16,
+}
+
+/// A router's configuration as a text says it.
+#[derive(Debug, Drop)]
+pub struct Configured {
+    pub router: RouterId,
+    /// The interfaces 1, 2, .., no two of one address: at least one, at most 63.
+    pub interfaces: Sequence<ConfiguredInterface>,
+}
+
+/// Why a text says no configuration. The text is the line that is printed.
+#[derive(Debug, Drop, PartialEq, Eq, Error)]
+pub enum ConfigurationError {
+    /// The first line that is wrong, counted from 1, or the one behind the last where none is wrong but an interface is missing.
+    #[error("config refusal line {0}")]
+    Line(u64),
+    /// Memory was refused.
+    #[error("out of memory")]
+    Memory,
+}
+
+impl From<AllocError> for ConfigurationError {
+    ghost use Rattle.console.specs.declared.configuration.ConfigurationError.TheVariants.{Memory};
+
+    ghost from_gives = { λ _ error. error ≡ Memory };
+
+    fn from(_error: AllocError) -> ConfigurationError {
+        ConfigurationError::Memory
+    }
+}
+
+impl<T: Drop> From<AllocFailed<T>> for ConfigurationError {
+    ghost use Rattle.console.specs.declared.configuration.ConfigurationError.TheVariants.{Memory};
+
+    ghost from_gives = { λ _ error. error ≡ Memory };
+
+    fn from(_error: AllocFailed<T>) -> ConfigurationError {
+        ConfigurationError::Memory
+    }
+}
+
+/// The number of a setting that two words are: its name and, in decimal, a number from `least` to `most`.
+fn read_setting(words: (&str, &str), name: &str, least: u64, most: u64) -> Option<u64>
+    ensures { MatchOption result
+        ((n : ℕ) → least ≤ n → n ≤ most → words.entry.0.now ≡ name.now
+        → words.entry.1.now ≡ decimal n → ⊥)
+        (λ n. (words.entry.0.now ≡ name.now) × (words.entry.1.now ≡ decimal n) × (least ≤ n)
+        × (n ≤ most)) }
+{
+    if !is_text(words.0, name) {
+        return None;
+    }
+    read_within(words.1, least, most)
+}
+
+/// The Router ID that the word spells, which isn't 0.0.0.0.
+fn read_router_id(word: &str) -> Option<RouterId>
+    ensures { MatchOption result
+        ((r : ℕ) → IsRouter r → word.now ≢ dotted r) (λ r. (word.now ≡ dotted r) × IsRouter r) }
+{
+    let Some(id) = read_address(word) else {
+        return None;
+    };
+    if id.bits() == 0 {
+        return None;
+    }
+    Some(RouterId::new(id.bits()))
+}
+
+/// The router that the words of the first line say.
+fn router_of(words: &[&str]) -> Option<RouterId>
+    ensures { MatchOption result
+        ((r : ℕ) → IsRouter r → views words.now ≢ router_words r)
+        (λ r. (views words.now ≡ router_words r) × IsRouter r) }
+{
+    let [name, id] = *words else {
+        return None;
+    };
+    if !is_text(name, "router") {
+        return None;
+    }
+    read_router_id(id)
+}
+
+/// What the two words behind `interface` say: the interface's number and where it stands.
+fn read_where(number: u64, name: &str, at: &str, place: &str) -> Option<(Address, u8)>
+    ensures { MatchOption result
+        ((n : Network) → n.address < 2 ^ 32 → n.length ≤ 32 → name.now ≡ codes "interface"
+        → at.now ≡ decimal number → place.now ≢ prefix_text n)
+        (λ p. (name.now ≡ codes "interface") × (at.now ≡ decimal number)
+        × (place.now ≡ prefix_text (record { address = p.0; length = p.1 })) × (p.0 < 2 ^ 32)
+        × (p.1 ≤ 32)) }
+{
+    if !is_text(name, "interface") {
+        return None;
+    }
+    match read_within(at, number, number) {
+        Some(_) => read_place(place),
+        None => None,
+    }
+}
+
+/// The interface that the words of a line say, where it is the one of this number.
+fn interface_of(number: u64, words: &[&str]) -> Option<ConfiguredInterface>
+    ensures { MatchOption result
+        ((c : ConfiguredInterface) → IsInterface c → views words.now ≢ interface_words number c)
+        (λ c. (views words.now ≡ interface_words number c) × IsInterface c) }
+{
+    let [
+        name,
+        at,
+        place,
+        cost,
+        c,
+        hello,
+        h,
+        dead,
+        d,
+        rxmt,
+        r,
+        delay,
+        t,
+        port,
+        p,
+        peer,
+        q,
+    ] = *words
+    else {
+        return None;
+    };
+    let Some((address, length)) = read_where(number, name, at, place) else {
+        return None;
+    };
+    let Some(cost) = read_setting((cost, c), "cost", 1, 65_535) else {
+        return None;
+    };
+    let Some(hello_interval) = read_setting((hello, h), "hello", 1, 65_535) else {
+        return None;
+    };
+    let Some(dead_interval) = read_setting((dead, d), "dead", 1, 4_294_967_295) else {
+        return None;
+    };
+    let Some(retransmit_interval) = read_setting((rxmt, r), "rxmt", 1, 65_535) else {
+        return None;
+    };
+    let Some(delay) = read_setting((delay, t), "delay", 1, 3_600) else {
+        return None;
+    };
+    let Some(port) = read_setting((port, p), "port", 1, 65_535) else {
+        return None;
+    };
+    let Some(peer) = read_setting((peer, q), "peer", 1, 65_535) else {
+        return None;
+    };
+    Some(ConfiguredInterface {
+        interface: Interface {
+            address,
+            length,
+            cost: cost as u16,
+            hello_interval: hello_interval as u16,
+            dead_interval: dead_interval as u32,
+            retransmit_interval: retransmit_interval as u16,
+            delay: delay as u16,
+        },
+        port: port as u16,
+        peer: peer as u16,
+    })
+}
+
+/// The router that a line says.
+fn read_router(alloc: Global, line: &str) -> Result<Option<RouterId>, AllocError>
+    ensures { IfOk result (λ found. MatchOption found
+        ((r : ℕ) → SaysRouter line.now r → ⊥) (SaysRouter line.now)) }
+{
+    let words = words_of(alloc, line)?;
+    Ok(router_of(&words))
+}
+
+/// The interface of this number that a line says.
+fn read_interface(
+    alloc: Global,
+    number: u64,
+    line: &str,
+) -> Result<Option<ConfiguredInterface>, AllocError>
+    ensures { IfOk result (λ found. MatchOption found
+        ((c : ConfiguredInterface) → SaysInterface number line.now c → ⊥)
+        (SaysInterface number line.now)) }
+{
+    let words = words_of(alloc, line)?;
+    Ok(interface_of(number, &words))
+}
+
+/// Whether one of these has the interface's address.
+fn is_taken(before: &[ConfiguredInterface], found: &ConfiguredInterface) -> bool
+    ensures { result
+        ≡ list_any (λ other. other.interface.address == found.now.interface.address) before.now }
+{
+    let address = found.interface.address.bits();
+    before
+        .iter()
+        .any(|other| other.interface.address.bits() == address)
+}
+
+/// The interface that a line says behind the lines of these, if it may follow them.
+fn next_interface(
+    alloc: Global,
+    line: &str,
+    before: &[ConfiguredInterface],
+) -> Result<Option<ConfiguredInterface>, AllocError>
+    ensures { IfOk result (λ found. MatchOption found
+        ((c : ConfiguredInterface) → SaysInterface (length before.now + 1) line.now c
+        → MayFollow before.now c → ⊥)
+        (λ c. SaysInterface (length before.now + 1) line.now c × MayFollow before.now c)) }
+{
+    if before.len() >= 63 {
+        return Ok(None);
+    }
+    match read_interface(alloc, before.len() as u64 + 1, line)? {
+        Some(found) => {
+            if is_taken(before, &found) {
+                return Ok(None);
+            }
+            Ok(Some(found))
+        }
+        None => Ok(None),
+    }
+}
+
+/// The interfaces that the lines behind the router's say.
+fn interfaces_of(
+    alloc: Global,
+    lines: &[&str],
+) -> Result<Vec<ConfiguredInterface>, ConfigurationError>
+    ensures said { IfOk result (λ interfaces. AreInterfaces (views lines.now) interfaces.items) }
+    ensures refused { (number : ℕ) → result ≡ Err (ConfigurationError.Line number)
+        → RefusesInterfaces (views lines.now) number }
+{
+    let mut interfaces = Vec::new(alloc);
+    for line in lines {
+        match next_interface(alloc, line, &interfaces)? {
+            Some(interface) => interfaces.push(interface)?,
+            None => return Err(ConfigurationError::Line(interfaces.len() as u64 + 2)),
+        }
+    }
+    if interfaces.is_empty() {
+        return Err(ConfigurationError::Line(2));
+    }
+    Ok(interfaces)
+}
+
+/// The configuration that lines say.
+fn configured_of(alloc: Global, lines: &[&str]) -> Result<Configured, ConfigurationError>
+    ensures said { IfOk result (AreLines (views lines.now)) }
+    ensures refused { (number : ℕ) → result ≡ Err (ConfigurationError.Line number)
+        → RefusesLines (views lines.now) number }
+{
+    let [first, others @ ..] = lines else {
+        return Err(ConfigurationError::Line(1));
+    };
+    let Some(router) = read_router(alloc, first)? else {
+        return Err(ConfigurationError::Line(1));
+    };
+    let interfaces = interfaces_of(alloc, others)?;
+    Ok(Configured {
+        router,
+        interfaces: Sequence::from_vec(interfaces),
+    })
+}
+
+fn without_last_feed(text: &str) -> &str
+    ensures { result.now ≡ without_last_feed text.now }
+{
+    match text.strip_suffix('\n') {
+        Some(front) => front,
+        None => text,
+    }
+}
+
+fn lines_of<'a>(alloc: Global, text: &'a str) -> Result<Vec<&'a str>, AllocError>
+    ensures { IfOk result (λ lines. views lines.items ≡ lines_in text.now) }
+{
+    let front = without_last_feed(text);
+    front.split('\n').collect(alloc)
+}
+
+/// The configuration that a text says: the line `router A.B.C.D`, then for each interface, N = 1, 2, .., the line
+/// `interface N A.B.C.D/L cost C hello H dead D rxmt R delay T port P peer Q`.
+///
+/// The words of a line have one space between them and nothing else beside them: no space before, behind or twice, no comment, no carriage
+/// return. Numbers are decimal, with neither a sign nor a leading zero, and so are the four parts of an address. A line feed ends each
+/// line; behind the last it may be left out. There is no empty line.
+///
+/// The Router ID isn't 0.0.0.0. Addresses are distinct, their host bits may be set, and a length is at most 32. Cost, HelloInterval and
+/// RxmtInterval are 1 to 65,535, RouterDeadInterval is 1 to 4,294,967,295, InfTransDelay 1 to 3,600 (RFC 2328, appendix C.3), the two UDP
+/// ports of 127.0.0.1 are 1 to 65,535. There are 1 to 63 interfaces.
+///
+/// An error names the first line that isn't like this, or is one too many, or has an address again; or the line behind the last, where an
+/// interface is missing. It is `Memory` where memory was refused.
+pub fn read_configuration(alloc: Global, text: &str) -> Result<Configured, ConfigurationError>
+    ensures said { IfOk result (Says text.now) }
+    ensures refused { (number : ℕ) → result ≡ Err (ConfigurationError.Line number)
+        → Refuses text.now number }
+{
+    let lines = lines_of(alloc, text)?;
+    configured_of(alloc, &lines)
+}

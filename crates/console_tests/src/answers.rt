@@ -1,0 +1,71 @@
+//! Lines of the console's answers.
+use adjacency::State;
+use console::{counters_text, neighbors_text, table_text, totals_text};
+use std::test::Fail;
+use words::{Address, Hops, Prefix, Route, RouteKind, RouterId};
+
+fn route(bits: u32, kind: RouteKind, cost: u32, hops: Hops) -> Option<Route> {
+    let prefix = Prefix::new(Address::new(bits), 24)?;
+    Some(Route {
+        prefix,
+        kind,
+        cost,
+        distance: 17,
+        hops,
+        tag: 7,
+    })
+}
+
+#[test]
+fn a_table_has_a_line_for_each_route(rt: HostRuntime) -> Result<(), Fail> {
+    let near = route(0x0a00_0100, RouteKind::Intra, 10, Hops::only(0)).ok_or("a length of 24")?;
+    let both = Hops::only(2).join(Hops::only(1)).join(Hops::only(63));
+    let far = route(0x0a00_0200, RouteKind::Inter, 15, both).ok_or("a length of 24")?;
+    let one = route(0xc633_6400, RouteKind::External1, 30, Hops::only(1)).ok_or("a length of 24")?;
+    let two = route(0xcb00_7100, RouteKind::External2, 20, Hops::only(1)).ok_or("a length of 24")?;
+    let text = table_text(rt.alloc(), &[near, far, one, two])?;
+    assert_eq!(rt;
+        text.as_str(),
+        "10.0.1.0/24 intra 10 via 0\n10.0.2.0/24 inter 15 via 1,2,63\n198.51.100.0/24 ext1 30 via 1\n203.0.113.0/24 ext2 20 via 1\nend\n"
+    );
+    let none = table_text(rt.alloc(), &[])?;
+    assert_eq!(rt; none.as_str(), "end\n");
+    Ok(())
+}
+
+#[test]
+fn a_neighbor_that_is_down_has_no_line(rt: HostRuntime) -> Result<(), Fail> {
+    let two = RouterId::new(0x0202_0202);
+    let text = neighbors_text(
+        rt.alloc(),
+        &[
+            None,
+            Some((two, State::Init)),
+            Some((two, State::ExStart)),
+            Some((two, State::Exchange)),
+            Some((two, State::Loading)),
+            Some((two, State::Full)),
+        ],
+    )?;
+    assert_eq!(rt;
+        text.as_str(),
+        "neighbor 2 2.2.2.2 Init\nneighbor 3 2.2.2.2 ExStart\nneighbor 4 2.2.2.2 Exchange\nneighbor 5 2.2.2.2 Loading\nneighbor 6 2.2.2.2 Full\nend\n"
+    );
+    Ok(())
+}
+
+#[test]
+fn counters_of_zero_have_no_line(rt: HostRuntime) -> Result<(), Fail> {
+    let sums = [0, 18_446_744_073_709_551_615, 0, 7];
+    let text = counters_text(rt.alloc(), &sums)?;
+    assert_eq!(rt;
+        text.as_str(),
+        "counter 1 18446744073709551615\ncounter 3 7\nend\n"
+    );
+    let text = totals_text(rt.alloc(), &sums)?;
+    assert_eq!(rt;
+        text.as_str(),
+        "counter 1 18446744073709551615\ncounter 3 7\n"
+    );
+    Ok(())
+}
