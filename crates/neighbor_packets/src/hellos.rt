@@ -15,13 +15,9 @@ use packet::Hello;
 use std::alloc::{AllocError, Global};
 use words::{RouterId, Second};
 
-<<<<<<< HEAD
-fn is_foreign(own: RouterId, from: RouterId) -> bool
-=======
 /// Tells whether a packet of the router `from` may be of a neighbor: it is of some router, and not of
 /// this one, `own` (RFC 2328, section 8.2).
 pub fn is_foreign(own: RouterId, from: RouterId) -> bool
->>>>>>> 403f1291950df7310891d491d6ebced49462e643
     ensures { result ≡ is_foreign own from }
 {
     from.number() != 0 && from.number() != own.number()

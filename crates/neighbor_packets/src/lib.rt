@@ -10,9 +10,5 @@ mod requests;
 
 pub use acknowledgments::acknowledged;
 pub use descriptions::describe;
-<<<<<<< HEAD
-pub use hellos::hear;
-=======
 pub use hellos::{hear, is_foreign};
->>>>>>> 403f1291950df7310891d491d6ebced49462e643
 pub use requests::answer;
