@@ -1,5 +1,5 @@
 -- What is announced stands under its own keys, after each edit.
-use Rattle.std.proofs.Common.{◌≡◌, ◌<◌, ◌^◌, T, Bool, true, false, cond, not, ◌&&◌, Option, None, Some, refl, sym, ap, subst, ◌∙◌}
+use Rattle.std.proofs.Common.{◌≡◌, T, Bool, true, false, cond, not, ◌&&◌, Option, None, Some, refl, sym, ap, subst, ◌∙◌}
 use mathlib.Core.Bool.{false≢true}
 use Rattle.std.specs.Prelude.{is_some}
 use Rattle.std.specs.FinMap as finite
@@ -14,7 +14,6 @@ use Rattle.lsdb.specs.Keys.{ByKey, key_cmp}
 use Rattle.lsdb.proofs.Keys.{keys_exact, keys_total}
 use Rattle.adjacency.specs.Views.{keys_of}
 use Rattle.adjacency.proofs.Neighbors.{contains_key_of}
-use Rattle.events.specs.Originations.{external_key}
 use Rattle.router.specs.Owned.{AreOwn, IsOwn}
 
 equal : (r : Ordering) → is_eq r ≡ true → r ≡ Equal

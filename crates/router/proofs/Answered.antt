@@ -1,10 +1,10 @@
 -- What a call on links and database answers, as a part of an event: `shown` is the router from its fields.
-use Rattle.std.proofs.Common.{◌≡◌, ℕ, suc, ◌+◌, List, [], ◌∷◌, length, map, Result, Ok, Err, OnOk, IfOk, refl, sym, ap, ◌∙◌, arith}
+use Rattle.std.proofs.Common.{◌≡◌, ℕ, suc, ◌+◌, List, [], ◌∷◌, length, Result, Ok, Err, OnOk, IfOk, refl, sym, ap, ◌∙◌, arith}
 use Rattle.std.proofs.lemmas.List.{length-map}
 use Rattle.adjacency.specs.Drafts.{Drafted}
 use Rattle.received.specs.Links.{Area, Link}
 use Rattle.received.specs.Outcomes.{Outcome, Send}
-use Rattle.events.specs.EventState.{EventState, on_area}
+use Rattle.events.specs.EventState.{on_area}
 use Rattle.events.specs.Routers.{Router}
 use Rattle.flooding.specs.Drafted.{drafted, drafted_from}
 use Rattle.flooding.specs.Links.{start}

@@ -5,7 +5,7 @@ use Rattle.std.specs.FinSet as set
 use Rattle.words.specs.declared.key.Key.{Key}
 use Rattle.words.specs.declared.route.External.{External}
 use Rattle.lsdb.specs.Keys.{ByKey, KeySet}
-use Rattle.events.specs.Commands.{announce, unannounce}
+use Rattle.events.specs.Commands.{unannounce}
 use Rattle.events.specs.Originations.{as_originated, forget_originations, is_recent, wait}
 use Rattle.events.specs.Routers.{Router}
 

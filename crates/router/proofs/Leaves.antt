@@ -14,7 +14,7 @@ use Rattle.adjacency.specs.Requests.{request_next}
 use Rattle.adjacency.specs.Retransmissions.{remove_retransmission}
 use Rattle.received.specs.Cases.{Case}
 use Rattle.received.specs.Flooding.{flood_to}
-use Rattle.received.specs.Links.{Area, Link, acknowledge_later, any_exchange_or_loading, change_link}
+use Rattle.received.specs.Links.{Area, acknowledge_later, any_exchange_or_loading, change_link}
 use Rattle.received.specs.Outcomes.{Outcome, on_database, on_links, only_at, stepped}
 use Rattle.received.specs.Updates.{after_case, copy_of, send_copy}
 use Rattle.events.specs.Commands.{taken_down}
