@@ -11,8 +11,9 @@ invariant_of-result c =
     let count : length c.in_ok-area.area.settled.links ≡ length c.self.inside.area.settled.links =
     ap (λ a. length a.settled.links) c.in_ok-area.ensures
     ∙ ap length (sym c.links-links.ensures.present) ∙ length-map links present
-    ∙ sym (length-map links settled) ∙ ap length c.links-links.ensures.settled in
-    (ap (λ a. a.router) c.in_ok-area.ensures ∙ c.self.invariant.0,
-    omega (arith, count, c.self.invariant.1),
-    subst (AreOwn id) (sym c.in_ok-announced.ensures.present) c.self.invariant.2,
-    subst (AreOwn id) (sym (c.in_ok-announced.ensures.settled ∙ c.in_ok-announced.ensures.present)) c.self.invariant.2)
+    ∙ sym (length-map links settled) ∙ ap length c.links-links.ensures.settled in (
+      ap (λ a. a.router) c.in_ok-area.ensures ∙ c.self.invariant.0,
+      omega (arith, count, c.self.invariant.1),
+      subst (AreOwn id) (sym c.in_ok-announced.ensures.present) c.self.invariant.2,
+      subst (AreOwn id) (sym (c.in_ok-announced.ensures.settled ∙ c.in_ok-announced.ensures.present)) c.self.invariant.2,
+    )
