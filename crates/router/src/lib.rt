@@ -6,6 +6,7 @@
 #![tactic(auto)]
 
 mod conversation;
+mod copying;
 mod destinations;
 mod own_lsas;
 mod receiving;

@@ -194,6 +194,21 @@ impl Router {
         self.moment.settle();
     }
 
+    /// As `settle`, and the database looks at each copy if one may have come of age by this moment,
+    /// so that the next event needn't. Where memory for what it finds is refused it looks again the
+    /// next time.
+    pub fn settle_at(&mut self, alloc: Global, moment: Second)
+        ensures { self.new ≡ record { present = self.old.present; settled = self.old.present } }
+    {
+        let _links = self.area.links();
+        self.area.settle_at(alloc, moment);
+        self.announced.settle();
+        self.waiting.settle();
+        self.originated.settle();
+        self.answers.settle();
+        self.moment.settle();
+    }
+
     /// Takes all changes back that were made since it was last settled. It wants no memory.
     pub fn roll_back(&mut self)
         ensures { self.new ≡ record { present = self.old.settled; settled = self.old.settled } }
