@@ -1,5 +1,5 @@
 -- What is found of an own LSA, and what is done then.
-use Rattle.std.proofs.Common.{◌≡◌, ℕ, Bool, true, false, cond, List, Option, None, Some, refl, sym, ap, ◌∙◌}
+use Rattle.std.proofs.Common.{◌≡◌, ℕ, Bool, true, false, cond, List, Option, None, Some, sym, ap, ◌∙◌}
 use Rattle.std.specs.FinMap as finite
 use Rattle.words.specs.declared.key.Key.{Key}
 use Rattle.words.specs.declared.route.External.{External}

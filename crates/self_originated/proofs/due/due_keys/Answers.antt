@@ -1,4 +1,4 @@
-use Rattle.std.proofs.Common.{◌≡◌, [], ◌∷◌, ◌++◌, cond, ap, sym, ◌∙◌, append-nil}
+use Rattle.std.proofs.Common.{[], ◌∷◌, ◌++◌, cond, ap, sym, ◌∙◌, append-nil}
 use Rattle.std.specs.FinMap as finite
 use Rattle.std.specs.List.{filter}
 use Rattle.events.specs.Originations.{is_due, router_key}
