@@ -1,6 +1,6 @@
-pub mod Quiet
-pub mod Greetings
-pub mod HelloPath
-pub mod Links
 pub mod Distinct
-pub mod Whole
+pub mod Early
+pub mod Refusing
+pub mod Happening
+pub mod Drafting
+pub mod Made

@@ -1,4 +1,4 @@
-pub mod HelloPath
-pub mod Bare
-pub mod Laws
-pub mod Seen
+pub mod Occurrences
+pub mod Early
+pub mod Parts
+pub mod Drafts

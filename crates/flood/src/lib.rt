@@ -1,14 +1,21 @@
-//! The router as a machine over events (RFC 2328): moments and bytes in, bytes out, nothing else.
+//! The router as a machine over events (RFC 2328): moments, bytes and answers in, bytes out, nothing
+//! else.
 //!
-//! [`Core`] takes one [`Event`] after the other, each with its moment, and answers what is to be sent. So far it runs the Hello protocol
-//! alone (sections 9.5, 10.3 and 10.5): a neighbor is Down or in Init, and there are no LSAs.
+//! [`Core`] takes one [`Event`] after the other, each with its moment, and answers what is to be
+//! sent. An event that is refused leaves it as it was.
 #![tactic(auto)]
 
-mod hello;
-pub mod laws;
-mod link;
+mod clash;
+mod event;
+mod making;
+mod part;
 mod profile;
-mod router;
+mod router_core;
+mod sending;
+mod start;
+mod taking;
 
-pub use events::{Config, ConfigError, CoreError, Event, Interface, Out, State};
-pub use router::Core;
+pub use adjacency::{Interface, State};
+pub use event::Event;
+pub use events::{Config, ConfigError, CoreError, Out};
+pub use router_core::Core;

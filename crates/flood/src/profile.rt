@@ -1,13 +1,10 @@
 //! Which configurations a router takes, and its links at the start.
-ghost use Rattle.std.specs.Prelude.{◌≡◌, ◌==◌, IfOk, map};
+ghost use Rattle.std.specs.Prelude.{◌≡◌, ◌==◌};
 ghost use Rattle.std.specs.List.{list_all, list_any};
 ghost use Rattle.events.specs.Routers.{are_distinct, in_profile, is_lawful};
-ghost use Rattle.flood.specs.Seen.{fresh};
 
-use crate::link::Link;
 use adjacency::Interface;
 use events::Config;
-use std::alloc::{AllocError, Global};
 use words::Address;
 
 fn is_lawful(i: Interface) -> bool
@@ -59,18 +56,4 @@ pub fn in_profile(config: &Config) -> bool
         && interfaces.len() <= 63
         && all_lawful(interfaces)
         && are_distinct(interfaces)
-}
-
-/// The links at the start, one for each interface.
-pub fn links_of(alloc: Global, interfaces: &[Interface]) -> Result<Vec<Link>, AllocError>
-    ensures { IfOk result (λ links. links.items ≡ map fresh interfaces.now) }
-{
-    interfaces
-        .iter()
-        .map(|i| Link {
-            interface: *i,
-            neighbor: None,
-            last_hello_sent: None,
-        })
-        .collect(alloc)
 }

@@ -21,7 +21,7 @@ use Rattle.lsdb.specs.Copies.{Database, DatabaseCopy, age_out, has_just_aged_out
 use Rattle.lsdb.specs.Headers.{Lsa, lsa_aged, lsa_key}
 use Rattle.lsdb.specs.Keys.{ByKey, key_cmp, same_key}
 use Rattle.lsdb.proofs.Keys.{keys_exact, keys_total}
-use Rattle.lsdb.proofs.Owned.{count_keys, count_most, count_put}
+use Rattle.lsdb.proofs.Owned.{count_empty, count_keys, count_most, count_put}
 use Rattle.adjacency.specs.Adjacencies as adjacencies
 use Rattle.adjacency.specs.Contents.{Content, Step, no_sends}
 use Rattle.adjacency.specs.Descriptions.{after_description}
@@ -36,9 +36,9 @@ use Rattle.events.specs.declared.model.Out.{Out}
 use Rattle.events.specs.Endings.{end_event, stays, with_age}
 use Rattle.events.specs.declared.model.Config.{Config}
 use Rattle.events.specs.Events.{Happens, Run, Step as RunStep, initial, whole}
-use Rattle.events.specs.EventState.{flood_from_nobody}
+use Rattle.events.specs.EventState.{EventState, flood_from_nobody}
 use Rattle.events.specs.Hellos.{accepts, names}
-use Rattle.events.specs.Originations.{announced_body, external_key, has_room, is_own_external, new_instance, own_externals, router_body, router_key, wanted_body}
+use Rattle.events.specs.Originations.{announced_body, external_key, has_room, is_own_external, new_instance, originate_or_wait, own_externals, router_body, router_key, wanted_body}
 use Rattle.events.specs.Packets.{hear, heard_on, requested_lsas, with_neighbor}
 use Rattle.events.specs.Refusals.{exceeds}
 use Rattle.events.specs.Routers.{Occurrence, Router, unannounced}
@@ -322,6 +322,25 @@ kept old moment event outs new externals may happens fine =
     (record { area = is_within old fine; announced = (refl, externals) }) in
     subst (λ (r : Router). exceeds r ≡ false) (sym happens.router) (is_not_past old.id (end_event old moment happens.after).router end.announced.0 end.area)
 
+-- ---- the start
+
+none_announced : AreExternal finite.empty
+none_announced key e at = let no : None ≡ Some e = sym (finite.get-empty key_cmp key) ∙ at in absurd cc
+
+empty_within : (id : RouterNumber) → IsWithin id finite.empty
+empty_within id = record {
+  all = omega (arith, finite.len-empty key_cmp DatabaseCopy);
+  externals = omega (arith, count_empty DatabaseCopy (is_own_external id));
+}
+
+start : (c : Config) → exceeds (initial c) ≡ false
+start c =
+    let begun : EventState = record { router = unannounced c; sends = [] } in
+    let end : OfEvent (within c.router) (originate_or_wait c.start (router_key c.router) begun) =
+    originate_or_wait_kept (within c.router) whole (parts_within c.router) c.start (router_key c.router) begun tt
+    (record { area = empty_within c.router; announced = (refl, none_announced) }) in
+    is_not_past c.router (initial c) end.announced.0 end.area
+
 -- ---- what is announced, in every run
 
 abbrev external : Invariant
@@ -389,10 +408,7 @@ after_event old moment event outs new happens h =
 first : (c : Config) → AnnouncesExternals (initial c)
 first c =
     (originate_or_wait_kept external whole parts_external c.start (router_key c.router) (record { router = unannounced c; sends = [] }) tt
-    (record { area = tt; announced = none_external })).announced
-  where
-    none_external : AreExternal finite.empty
-    none_external key e at = let no : None ≡ Some e = sym (finite.get-empty key_cmp key) ∙ at in absurd cc
+    (record { area = tt; announced = none_announced })).announced
 
 after_run : (steps : List RunStep) (old new : Router) → Run old steps new → AnnouncesExternals old → AnnouncesExternals new
 after_run [] old new same h = subst AnnouncesExternals (sym same) h
@@ -400,6 +416,7 @@ after_run (s ∷ steps) old new run h = after_run steps run.0 new run.2 (after_e
 
 pub others_stay_within_limits : OthersStayWithinLimits
 others_stay_within_limits = record {
+  start = start;
   first = first;
   event = after_event;
   run = λ c steps new run. after_run steps (initial c) new run (first c);

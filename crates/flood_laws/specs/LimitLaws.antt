@@ -23,9 +23,10 @@ abbrev pub AnnouncesExternals : Router → Type 0
 AnnouncesExternals r =
     (key : Key) (e : External) → finite.get r.announced key ≡ Some e → key.ls_type ≡ 5
 
--- every other event leaves a router within its limits that was within them, and is never refused
--- for want of room
+-- a router begins within its limits; every other event leaves a router within them that was, and is
+-- never refused for want of room
 pub record OthersStayWithinLimits : Type 0 where
+  pub start : (c : Config) → exceeds (initial c) ≡ false
   -- at the start, after each event, and so in every run
   pub first : (c : Config) → AnnouncesExternals (initial c)
   pub event : (old : Router) (moment : ℕ) (event : Occurrence) (outs : List Out) (new : Router)

@@ -36,7 +36,7 @@ pub fn retransmissions_are_of_the_database()
     ensures { RetransmissionsAreOfTheDatabase }
 {}
 
-/// A Tick, a Withdraw, an Install and a LinkDown leave a router within its limits, 16,384 LSAs and 4,096 own externals, that was within
+/// A router begins within its limits. A Tick, a Withdraw, an Install and a LinkDown leave a router within them, 16,384 LSAs and 4,096 own externals, that was within
 /// them, and are never refused for want of room: what they originate looks for room first. Only a Packet and a Redistribute may be.
 pub fn others_stay_within_limits()
     ensures { OthersStayWithinLimits }

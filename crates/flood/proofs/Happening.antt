@@ -1,0 +1,54 @@
+-- What an event makes, in the words of the rules.
+use Rattle.std.proofs.Common.{◌≡◌, ℕ, true, false, List, None, refl, sym, ap, ◌∙◌, subst}
+use Rattle.std.specs.List.{AllByRecursion}
+use Rattle.adjacency.specs.Rooms.{HasRoom}
+use Rattle.received.specs.Outcomes.{Send}
+use Rattle.event_rooms.specs.RoomLaws.{IsRoomy}
+use Rattle.event_rooms.proofs.Roomy.{every_packet_has_room}
+use Rattle.events.specs.declared.model.Out.{Out}
+use Rattle.events.specs.Endings.{start_event}
+use Rattle.events.specs.Events.{Happens, whole}
+use Rattle.events.specs.EventState.{EventState}
+use Rattle.events.specs.Packing.{outs_of}
+use Rattle.events.specs.Refusals.{WouldExceed, exceeds, first_refusal}
+use Rattle.events.specs.Routers.{Occurrence, Router}
+use Rattle.events.proofs.Outcomes.{determined}
+use Rattle.flood.specs.declared.part.Part.{Part}
+use Rattle.flood.specs.Parts.{IsMade, IsPartOf, after_part, made}
+
+module _ (old : Router) (moment : ℕ) (event : Occurrence) (p : Part) (is : IsPartOf event p) where
+  -- what is made happens
+  pub made_happens : (outs : List Out) (new : Router) → IsMade old moment p outs new → Happens old moment event outs new
+  made_happens outs new made = record {
+    after = after_part p moment (start_event moment old);
+    own = is.own moment (start_event moment old);
+    router = made.router;
+    sent = made.outs;
+  }
+
+  makes : Happens old moment event (outs_of old.id old.area.links (made old moment p).sends) (made old moment p).router
+  makes = made_happens _ _ (record { router = refl; outs = refl })
+
+  -- all that is sent has room
+  pub made_has_room : IsRoomy old → AllByRecursion (λ (s : Send). HasRoom s.content) (made old moment p).sends
+  made_has_room roomy = every_packet_has_room.sends old moment event _ _ makes roomy
+
+  pub made_exceeds : first_refusal old moment event ≡ None → exceeds (made old moment p).router ≡ true → WouldExceed old moment event
+  made_exceeds lawful too_much = record {
+    lawful = lawful;
+    outs = outs_of old.id old.area.links (made old moment p).sends;
+    new = (made old moment p).router;
+    happens = makes;
+    too_much = too_much;
+  }
+
+  -- an event has one outcome
+  pub made_stays_within : exceeds (made old moment p).router ≡ false → WouldExceed old moment event → ⊥
+  made_stays_within fine would =
+      let same : would.new ≡ (made old moment p).router = (determined whole old moment event _ _ _ _ would.happens makes).1 in
+      let no : true ≡ false = sym would.too_much ∙ ap exceeds same ∙ fine in
+      absurd cc
+
+-- what an event leaves has room for all that the next one sends
+pub stays_roomy : (old : Router) (moment : ℕ) (event : Occurrence) (outs : List Out) (new : Router) → Happens old moment event outs new → IsRoomy old → IsRoomy new
+stays_roomy old moment event outs new happens roomy = (every_packet_has_room.event old moment event outs new happens roomy).0

@@ -1,0 +1,36 @@
+-- Which refusal an event meets once its own part is read.
+use Rattle.std.proofs.Common.{◌≡◌, ℕ, true, false, None, Some, ◌∙◌, subst, sym}
+use Rattle.std.specs.Prelude.{Ok, Err}
+use Rattle.events.specs.declared.model.CoreError.{CoreError}
+use Rattle.events.specs.declared.model.CoreError.TheVariants as error
+use Rattle.events.specs.Refusals.{Answers, MayRunOut, first_refusal}
+use Rattle.events.specs.Routers.{Occurrence, Router}
+use Rattle.flood.specs.declared.part.Part.{Part}
+use Rattle.flood.specs.Early.{early_refusal}
+use Rattle.flood.specs.Parts.{IsPartOf, Tells, TellsLimit, late_refusal, made}
+use Rattle.flood.proofs.Early.{first_is_late, may_run_out, never_full}
+use Rattle.flood.proofs.Happening.{made_exceeds, made_stays_within}
+
+module _ (X Y : Type 0) (old : Router) (moment : ℕ) (event : Occurrence) (none : early_refusal old moment event ≡ None) where
+  -- the own part can't be read
+  pub unread_answers : (x : CoreError) → Tells {X = X} (late_refusal old event) (Err x) → Answers {X = Y} old moment event (Err x)
+  unread_answers error.Memory tells = may_run_out old moment event none
+  unread_answers (error.BadPacket f) tells = first_is_late old moment event none ∙ tells
+  unread_answers error.NoInterface tells = first_is_late old moment event none ∙ tells
+  unread_answers error.Clash tells = first_is_late old moment event none ∙ tells
+  unread_answers error.ClockBack tells = first_is_late old moment event none ∙ tells
+  unread_answers error.Full tells = absurd (never_full old event tells)
+
+  module _ (p : Part) (is : IsPartOf event p) (read : late_refusal old event ≡ None) where
+    -- a limit would be passed, or memory ran out
+    pub limit_answers : (x : CoreError) → TellsLimit {X = X} (made old moment p).router (Err x) → Answers {X = Y} old moment event (Err x)
+    limit_answers error.Memory tells = may_run_out old moment event none
+    limit_answers (error.BadPacket f) tells = absurd tells
+    limit_answers error.NoInterface tells = absurd tells
+    limit_answers error.Clash tells = absurd tells
+    limit_answers error.ClockBack tells = absurd tells
+    limit_answers error.Full tells = made_exceeds old moment event p is (first_is_late old moment event none ∙ read) tells
+
+    -- the event is taken
+    pub taken_answers : (x : X) (y : Y) → TellsLimit (made old moment p).router (Ok x) → Answers old moment event (Ok y)
+    taken_answers x y tells = (first_is_late old moment event none ∙ read, made_stays_within old moment event p is tells)

@@ -1,0 +1,23 @@
+-- The drafts of an event, one for each interface.
+use Rattle.std.specs.Prelude.{ℕ, ◌+◌, List, [], ◌∷◌, map}
+use Rattle.adjacency.specs.Drafts.{Drafted}
+use Rattle.received.specs.Links.{Link}
+use Rattle.received.specs.Outcomes.{Send}
+use Rattle.outs.specs.Drafts.{IsDraftAt, nothing_drafted}
+
+-- nothing was sent yet at any of these links
+abbrev pub nothing_at : List Link → List Drafted
+nothing_at links = map (λ (link : Link). nothing_drafted) links
+
+-- what is sent at each link is in its draft; the first link has this number
+abbrev pub AreDraftsFrom : ℕ → List Link → List Send → List Drafted → Type 0
+AreDraftsFrom n [] sends [] = Unit {0}
+AreDraftsFrom n [] sends (d ∷ ds) = ⊥
+AreDraftsFrom n (link ∷ links) sends [] = ⊥
+AreDraftsFrom n (link ∷ links) sends (d ∷ ds) =
+    IsDraftAt n link sends d × AreDraftsFrom (n + 1) links sends ds
+
+-- interface n is at place n - 1
+pub record AreDrafts (links : List Link) (sends : List Send) (drafts : List Drafted)
+    : Type 0 where
+  pub from : AreDraftsFrom 1 links sends drafts

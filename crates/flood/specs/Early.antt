@@ -1,0 +1,21 @@
+-- When an event is refused before anything needs memory: for its moment, or for its interface.
+use Rattle.std.specs.Prelude.{if◌then◌else◌, Option, None, Some}
+use Rattle.words.specs.Numbers.{Moment}
+use Rattle.events.specs.declared.model.CoreError.{CoreError}
+use Rattle.events.specs.declared.model.CoreError.TheVariants as error
+use Rattle.events.specs.Refusals.{is_clock_back, no_interface}
+use Rattle.events.specs.Routers.{Occurrence, Router}
+
+-- for the interface of a packet, or of a link that is down
+abbrev pub early_refusal_of : Router → Occurrence → Option CoreError
+early_refusal_of old (Occurrence.Packet number bytes) = no_interface number old None
+early_refusal_of old Occurrence.Tick = None
+early_refusal_of old (Occurrence.Redistribute tagged tag priced price) = None
+early_refusal_of old (Occurrence.Withdraw prefix) = None
+early_refusal_of old (Occurrence.Install answers) = None
+early_refusal_of old (Occurrence.LinkDown number) = no_interface number old None
+
+-- for the moment, and then for the interface
+abbrev pub early_refusal : Router → Moment → Occurrence → Option CoreError
+early_refusal old moment event =
+    if is_clock_back moment old then Some error.ClockBack else early_refusal_of old event

@@ -1,0 +1,20 @@
+-- What an event is to the router's rules, and how many bytes it holds.
+use Rattle.std.specs.Prelude.{ℕ, ◌^◌, ◌*◌, ◌-◌, List, length, map, min}
+use Rattle.words.specs.declared.route.Route.{Route}
+use Rattle.hooks.specs.Questions.{RouteAnswer}
+use Rattle.events.specs.Routers.{Occurrence}
+use Rattle.flood.specs.declared.event.Event.{Event}
+use Rattle.flood.specs.declared.event.Event.TheVariants as event
+
+-- the routes that an Install was asked for, each with the word that answers
+abbrev pub words_of : List RouteAnswer → List (Route × ℕ)
+words_of answers = map (λ (a : RouteAnswer). (a.route, a.word)) answers
+
+abbrev pub occurrence_of : Event → Occurrence
+occurrence_of (event.Packet number bytes) = Occurrence.Packet number bytes
+occurrence_of event.Tick = Occurrence.Tick
+occurrence_of (event.Redistribute tag price) =
+    Occurrence.Redistribute tag.external tag.word price.external price.word
+occurrence_of (event.Withdraw prefix) = Occurrence.Withdraw prefix
+occurrence_of (event.Install answers) = Occurrence.Install (words_of answers)
+occurrence_of (event.LinkDown number) = Occurrence.LinkDown number

@@ -1,0 +1,94 @@
+-- The own part of an event as the code has it, once bytes are read and answers are seen to agree.
+use Rattle.std.specs.Prelude.{◌≡◌, ℕ, ◌≤◌, true, false, List, [], Option, None, Some, Result, Ok, Err, if◌then◌else◌}
+use Rattle.words.specs.Numbers.{Moment}
+use Rattle.packet.specs.Reading.{fault_of}
+use Rattle.adjacency.specs.Adjacencies.{two_way_received}
+use Rattle.events.specs.declared.model.CoreError.{CoreError}
+use Rattle.events.specs.declared.model.CoreError.TheVariants as error
+use Rattle.events.specs.declared.model.Out.{Out}
+use Rattle.events.specs.Commands.{after_install, after_link_down, after_redistribute, after_withdraw}
+use Rattle.events.specs.Endings.{end_event, with_ages}
+use Rattle.events.specs.Events.{OwnPart, whole}
+use Rattle.events.specs.EventState.{EventState, on_area}
+use Rattle.events.specs.Originations.{due_keys}
+use Rattle.events.specs.Packets.{after_packet}
+use Rattle.events.specs.Packing.{outs_of}
+use Rattle.events.specs.Refusals.{bad_packet, clashes, exceeds}
+use Rattle.events.specs.Routers.{Occurrence, Router}
+use Rattle.events.specs.Ticks.{after_tick}
+use Rattle.flood.specs.declared.part.Part.{Part}
+use Rattle.flood.specs.declared.part.Part.TheVariants as part
+
+-- ---- what it makes
+
+abbrev pub after_part : Part → Moment → EventState → EventState
+after_part (part.Packet number packet) moment p =
+    after_packet two_way_received moment number packet p
+after_part part.Tick moment p = after_tick due_keys moment p
+after_part (part.Redistribute external tag price) moment p =
+    after_redistribute moment external tag price p
+after_part (part.Withdraw prefix) moment p = after_withdraw moment prefix p
+after_part (part.Install answers) moment p = after_install answers p
+after_part (part.LinkDown number) moment p = after_link_down number p
+
+-- it is the own part of this event
+pub record IsPartOf (event : Occurrence) (p : Part) : Type 0 where
+  pub own : (moment : Moment) (before : EventState)
+      → OwnPart whole moment event before (after_part p moment before)
+
+-- a packet came in at one of so many interfaces
+abbrev pub HasInterface : Part → ℕ → Type 0
+HasInterface (part.Packet number packet) count = (1 ≤ number) × (number ≤ count)
+HasInterface part.Tick count = Unit {0}
+HasInterface (part.Redistribute external tag price) count = Unit {0}
+HasInterface (part.Withdraw prefix) count = Unit {0}
+HasInterface (part.Install answers) count = Unit {0}
+HasInterface (part.LinkDown number) count = Unit {0}
+
+-- ---- the whole event
+
+-- ages, the own part, and the end; `old` is the router before the event
+abbrev pub after_event : Router → Moment → Part → EventState → EventState
+after_event old moment p before =
+    end_event old moment (after_part p moment (on_area (with_ages old.moment moment) before))
+
+-- nothing was sent yet
+abbrev pub made : Router → Moment → Part → EventState
+made old moment p = after_event old moment p (record { router = old; sends = [] })
+
+-- the event sends these and leaves new
+pub record IsMade (old : Router) (moment : Moment) (p : Part) (sent : List Out) (new : Router)
+    : Type 0 where
+  pub router : new ≡ (made old moment p).router
+  pub outs : sent ≡ outs_of old.id old.area.links (made old moment p).sends
+
+-- ---- refusals that need the bytes, or the answers
+
+abbrev pub late_refusal : Router → Occurrence → Option CoreError
+late_refusal old (Occurrence.Packet number bytes) = bad_packet (fault_of bytes)
+late_refusal old Occurrence.Tick = None
+late_refusal old (Occurrence.Redistribute tagged tag priced price) =
+    if clashes old tagged priced then Some error.Clash else None
+late_refusal old (Occurrence.Withdraw prefix) = None
+late_refusal old (Occurrence.Install answers) = None
+late_refusal old (Occurrence.LinkDown number) = None
+
+-- an answer gives the refusal that stands, or tells that memory was refused
+abbrev pub Tells : {X : Type 0} → Option CoreError → Result X CoreError → Type 0
+Tells refusal (Ok x) = refusal ≡ None
+Tells refusal (Err error.Memory) = Unit {0}
+Tells refusal (Err (error.BadPacket f)) = refusal ≡ Some (error.BadPacket f)
+Tells refusal (Err error.NoInterface) = refusal ≡ Some error.NoInterface
+Tells refusal (Err error.Clash) = refusal ≡ Some error.Clash
+Tells refusal (Err error.ClockBack) = refusal ≡ Some error.ClockBack
+Tells refusal (Err error.Full) = refusal ≡ Some error.Full
+
+-- `Full` just where what the event leaves passes a limit; else memory was refused
+abbrev pub TellsLimit : {X : Type 0} → Router → Result X CoreError → Type 0
+TellsLimit new (Ok x) = exceeds new ≡ false
+TellsLimit new (Err error.Full) = exceeds new ≡ true
+TellsLimit new (Err error.Memory) = Unit {0}
+TellsLimit new (Err (error.BadPacket f)) = ⊥
+TellsLimit new (Err error.NoInterface) = ⊥
+TellsLimit new (Err error.Clash) = ⊥
+TellsLimit new (Err error.ClockBack) = ⊥

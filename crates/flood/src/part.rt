@@ -1,0 +1,96 @@
+//! The own part of an event, once its bytes are read and its answers are seen to agree.
+ghost use Rattle.std.specs.Prelude.{◌≡◌, ◌≤◌, ℕ, IfOk, None, length};
+ghost use Rattle.events.specs.Refusals.{bad_packet};
+ghost use Rattle.events.specs.Routers.{Occurrence};
+ghost use Rattle.packet.specs.Reading.{fault_of};
+ghost use Rattle.flood.specs.Early.{early_refusal_of};
+ghost use Rattle.flood.specs.Occurrences.{occurrence_of, words_of};
+ghost use Rattle.flood.specs.Parts.{HasInterface, IsPartOf, Tells, late_refusal};
+
+use crate::clash::clashes;
+use crate::event::Event;
+use events::CoreError;
+use hooks::{PriceAnswer, TagAnswer, VetoAnswer};
+use packet::{Packet, read};
+use router::Router;
+use std::alloc::{AllocError, Global};
+use words::{External, Prefix, Route, Sequence};
+
+/// What an event asks of the router.
+#[derive(Drop)]
+pub enum Part {
+    /// This packet came in at the interface of this number.
+    Packet(usize, Packet),
+    /// Time has passed.
+    Tick,
+    /// A destination is to be announced, with the words on its tag and its metric.
+    Redistribute(External, u64, u64),
+    /// A destination is to be announced no longer.
+    Withdraw(Prefix),
+    /// The routes that were offered, each with the word that answers.
+    Install(Sequence<(Route, u64)>),
+    /// The interface of this number went down.
+    LinkDown(usize),
+}
+
+fn read_packet(alloc: Global, number: u16, bytes: &[u8]) -> Result<Part, CoreError>
+    ensures part { IfOk result (λ part. IsPartOf (Occurrence.Packet number bytes.now) part) }
+    ensures interface { IfOk result (λ part. (count : ℕ)
+        → 1 ≤ number → number ≤ count → HasInterface part count) }
+    ensures tells { Tells (bad_packet (fault_of bytes.now)) result }
+{
+    let packet = read(alloc, bytes)?;
+    Ok(Part::Packet(usize::from(number), packet))
+}
+
+// The two answers are on one destination, whose Link State ID no other announced prefix has.
+fn read_answers(router: &Router, tag: &TagAnswer, price: &PriceAnswer) -> Result<Part, CoreError>
+    ensures part { IfOk result (λ part. IsPartOf (Occurrence.Redistribute
+        tag.now.external tag.now.word price.now.external price.now.word) part) }
+    ensures interface { IfOk result (λ part. (count : ℕ) → HasInterface part count) }
+    ensures tells { Tells (late_refusal router.now.present (Occurrence.Redistribute
+        tag.now.external tag.now.word price.now.external price.now.word)) result }
+{
+    if clashes(router, tag.external(), price.external()) {
+        return Err(CoreError::Clash);
+    }
+    Ok(Part::Redistribute(price.external(), tag.word(), price.word()))
+}
+
+fn words_of(alloc: Global, answers: &[VetoAnswer]) -> Result<Vec<(Route, u64)>, AllocError>
+    ensures { IfOk result (λ words. words.items ≡ words_of answers.now) }
+{
+    answers
+        .iter()
+        .map(|answer| (answer.route(), answer.word()))
+        .collect(alloc)
+}
+
+fn read_vetoes(alloc: Global, answers: &[VetoAnswer]) -> Result<Part, AllocError>
+    ensures { IfOk result (λ part. part ≡ Part.Install (words_of answers.now)) }
+{
+    let words = words_of(alloc, answers)?;
+    Ok(Part::Install(Sequence::from_vec(words)))
+}
+
+/// The own part of an event at a router that refuses neither its moment nor its interface.
+///
+/// Refused: `BadPacket` where the bytes are no packet's text, `Clash` where the two answers of a
+/// `Redistribute` are on different destinations or the Link State ID is that of another announced
+/// prefix, `Memory` where an allocation was refused.
+pub fn read_part(router: &Router, alloc: Global, event: &Event) -> Result<Part, CoreError>
+    requires { early_refusal_of router.now.present (occurrence_of event.now) ≡ None }
+    ensures part { IfOk result (λ part. IsPartOf (occurrence_of event.now) part) }
+    ensures interface { IfOk result (λ part. HasInterface part
+        (length router.now.present.area.links)) }
+    ensures tells { Tells (late_refusal router.now.present (occurrence_of event.now)) result }
+{
+    match event {
+        Event::Packet(number, bytes) => read_packet(alloc, *number, bytes.as_slice()),
+        Event::Tick => Ok(Part::Tick),
+        Event::Redistribute(tag, price) => read_answers(router, tag, price),
+        Event::Withdraw(prefix) => Ok(Part::Withdraw(*prefix)),
+        Event::Install(answers) => Ok(read_vetoes(alloc, answers.as_slice())?),
+        Event::LinkDown(number) => Ok(Part::LinkDown(usize::from(*number))),
+    }
+}

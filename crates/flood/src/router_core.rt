@@ -1,0 +1,179 @@
+//! The router: it takes events one by one, and answers what it sends.
+ghost use Rattle.std.specs.Prelude.{◌≡◌, ◌↔◌, IfOk, IsErrOf, OnErr, false, length};
+ghost use Rattle.std.specs.FinMap as finite;
+ghost use Rattle.events.specs.Commands.{is_for};
+ghost use Rattle.events.specs.Events.{Happens, initial};
+ghost use Rattle.events.specs.Originations.{external_key};
+ghost use Rattle.events.specs.Refusals.{Answers};
+ghost use Rattle.events.specs.Routers.{in_profile, shown_at};
+ghost use Rattle.flood.specs.Early.{early_refusal};
+ghost use Rattle.flood.specs.Occurrences.{occurrence_of};
+
+use crate::clash::is_announced;
+use crate::event::Event;
+use crate::profile::in_profile;
+use crate::start::begin;
+use crate::taking::{refuses, take};
+use adjacency::State;
+use events::{Config, ConfigError, CoreError, Out};
+use lsdb::Lsdb;
+use router::Router;
+use std::alloc::{AllocError, Global};
+use std::marker::Model;
+use words::{Prefix, RouterId, Second};
+
+/// A router as one value. It has no clock, no socket and no lock: moments, bytes and answers are
+/// handed to it.
+#[derive(Drop)]
+pub struct Core {
+    alloc: Global,
+    router: Router,
+}
+
+impl Model for Core {
+    ghost use Rattle.std.specs.Prelude.{◌≡◌, ℕ, false};
+    ghost use Rattle.std.specs.Coded.{codes};
+    ghost use Rattle.std.specs.FinMap as finite;
+    ghost use Rattle.words.specs.declared.route.External.{External};
+    ghost use Rattle.lsdb.specs.Copies.{DatabaseCopy};
+    ghost use Rattle.lsdb.specs.Keys.{coded_key, key_cmp};
+    ghost use Rattle.adjacency.specs.Codes.{coded_headers, coded_keys, coded_lists};
+    ghost use Rattle.event_rooms.specs.RoomLaws.{IsRoomy};
+    ghost use Rattle.events.specs.Refusals.{exceeds};
+    ghost use Rattle.events.specs.Routers.{Router as Shown};
+
+    ghost Value = { Shown };
+
+    ghost coded = { Prim.hlevel (
+      codes,
+      coded_lists,
+      coded_keys,
+      coded_headers,
+      finite.code {X = DatabaseCopy} {R = key_cmp} coded_key (Prim.hlevel codes),
+      finite.code {X = External} {R = key_cmp} coded_key (Prim.hlevel codes),
+      finite.code {X = ℕ} {R = key_cmp} coded_key (Prim.hlevel codes),
+    ) };
+
+    ghost view = { λ a. a.router.present };
+
+    // Between events nothing is to be taken back, all that may be sent has room in packets, and no
+    // limit is passed.
+    ghost invariant = { λ a.
+        (a.router.settled ≡ a.router.present)
+        × IsRoomy a.router.present
+        × (exceeds a.router.present ≡ false) };
+}
+
+impl Core {
+    /// A router that has heard of nobody and describes its links in its router-LSA (RFC 2328, section
+    /// 12.4.1). The start counts as the moment of a last event.
+    ///
+    /// `Interface` is answered exactly where the configuration is outside of what [`Config`] allows,
+    /// `Memory` only where an allocation was refused.
+    pub fn new(alloc: Global, config: &Config) -> Result<Core, ConfigError>
+        ensures ok { IfOk result (λ core. core ≡ initial config.now) }
+        ensures profile { IsErrOf result ConfigError.Interface ↔ (in_profile config.now ≡ false) }
+    {
+        if !in_profile(config) {
+            return Err(ConfigError::Interface);
+        }
+        let mut router = begin(alloc, config)?;
+        router.settle();
+        Ok(Core { alloc, router })
+    }
+
+    /// One event at a moment: what it makes of the router, and what is to be sent, in the order in
+    /// which it is to be sent.
+    ///
+    /// Refused, in this order: `ClockBack` where the moment is before that of the last event or isn't
+    /// below 2^62, `NoInterface` where the interface of a packet or of a link that is down doesn't
+    /// exist, `BadPacket` where the bytes are no packet's text, `Clash` where the two answers of a
+    /// `Redistribute` are on different destinations or the Link State ID is that of another announced
+    /// prefix, `Full` where the database would hold more than 16,384 LSAs, or more than 4,096 own
+    /// external ones. `Memory` comes where an allocation was refused, and neither the clock nor the
+    /// interface is. A refusal leaves the router as it was.
+    pub fn step(&mut self, moment: Second, event: &Event) -> Result<Vec<Out>, CoreError>
+        ensures ok { IfOk result (λ outs. Happens self.old moment (occurrence_of event.now)
+            outs.items self.new) }
+        // Which refusal it is; none stands where the event is taken.
+        ensures refused { Answers self.old moment (occurrence_of event.now) result }
+        ensures err { OnErr result (self.new ≡ self.old) }
+    {
+        match take(&mut self.router, self.alloc, moment, event) {
+            Ok(outs) => {
+                self.router.settle();
+                Ok(outs)
+            }
+            Err(error) => {
+                self.router.roll_back();
+                Err(error)
+            }
+        }
+    }
+
+    /// The refusal that an event meets before anything needs memory: `ClockBack` for its moment, or
+    /// `NoInterface` for its interface. Other refusals are told by `step` alone.
+    pub fn refuses(&self, moment: Second, event: &Event) -> Option<CoreError>
+        ensures { result ≡ early_refusal self.now moment (occurrence_of event.now) }
+    {
+        refuses(&self.router, moment, event)
+    }
+
+    /// The same router once more. The only error is that an allocation was refused.
+    pub fn copy(&self) -> Result<Core, AllocError>
+        ensures { IfOk result (λ copy. copy ≡ self.now) }
+    {
+        Err(AllocError)
+    }
+
+    /// The own Router ID.
+    pub fn router(&self) -> RouterId
+        ensures { result ≡ self.now.id }
+    {
+        self.router.id()
+    }
+
+    /// The moment of the last event, or of the start where there was none.
+    pub fn moment(&self) -> Second
+        ensures { result ≡ self.now.moment }
+    {
+        self.router.moment()
+    }
+
+    /// How many interfaces there are, at most 63; their numbers start at 1.
+    pub fn interface_count(&self) -> usize
+        ensures { result ≡ length self.now.area.links }
+    {
+        self.router.area().links().len()
+    }
+
+    /// The link state database.
+    pub fn database(&self) -> &Lsdb
+        ensures { result.now ≡ record {
+          router = self.now.id;
+          present = self.now.area.database;
+          settled = self.now.area.database;
+        } }
+    {
+        self.router.area().database()
+    }
+
+    /// The neighbor at the interface of this number and its state, or None where it is Down or there
+    /// is no such interface.
+    pub fn neighbor(&self, number: u16) -> Option<(RouterId, State)>
+        ensures { result ≡ shown_at self.now number }
+    {
+        let place = usize::from(number).checked_sub(1)?;
+        let link = self.router.area().links().get(place)?;
+        link.neighbor()
+    }
+
+    /// Tells whether the external destination of this prefix is announced, or is to be as soon as an
+    /// LSA of it may go out.
+    pub fn wants(&self, prefix: Prefix) -> bool
+        ensures { result ≡ is_for prefix
+            (finite.get self.now.announced (external_key self.now.id prefix)) }
+    {
+        is_announced(&self.router, prefix)
+    }
+}

@@ -1,0 +1,51 @@
+//! From the drafts of an event to what is sent.
+ghost use Rattle.std.specs.Prelude.{◌≡◌, ◌≤◌, List, IfOk, length, map};
+ghost use Rattle.received.specs.Links.{Link as LinkOfArea};
+ghost use Rattle.received.specs.Outcomes.{Send};
+ghost use Rattle.events.specs.Packing.{outs_of};
+ghost use Rattle.outs.specs.Drafts.{nothing_drafted};
+ghost use Rattle.flood.specs.Drafts.{AreDrafts, nothing_at};
+
+use adjacency::Draft;
+use events::Out;
+use flooding::Link;
+use outs::put_outs;
+use router::Router;
+use std::alloc::{AllocError, Global};
+use words::RouterId;
+
+fn drafts_at(alloc: Global, links: &[Link]) -> Result<Vec<Draft>, AllocError>
+    ensures { IfOk result (λ drafts. drafts.items ≡ map (λ link. nothing_drafted) links.now) }
+{
+    links.iter().map(|_| Draft::new(alloc)).collect(alloc)
+}
+
+/// A draft for each link of the router, into which nothing was sent yet.
+///
+/// The only error is that an allocation was refused.
+pub fn drafts_for(router: &Router, alloc: Global) -> Result<Vec<Draft>, AllocError>
+    ensures { IfOk result (λ drafts. drafts.items
+        ≡ nothing_at router.now.present.area.links) }
+{
+    drafts_at(alloc, router.area().links())
+}
+
+/// The packets of all interfaces, in the order of their numbers.
+///
+/// The only error is that an allocation was refused.
+pub fn outs(alloc: Global, own: RouterId, drafts: Vec<Draft>) -> Result<Vec<Out>, AllocError>
+    // They are those of what an event sends, each thing of which has room in a packet.
+    requires drafts { (links : List LinkOfArea) × (sends : List Send)
+        × AreDrafts links sends drafts.items }
+    requires few { length drafts.items ≤ 63 }
+    ensures { (links : List LinkOfArea) (sends : List Send) → AreDrafts links sends drafts.items
+        → IfOk result (λ outs. outs.items ≡ outs_of own links sends) }
+{
+    let mut outs = Vec::new(alloc);
+    let mut number = 1;
+    for draft in drafts {
+        put_outs(alloc, &mut outs, own, number, draft)?;
+        number += 1;
+    }
+    Ok(outs)
+}

@@ -1,0 +1,56 @@
+//! A router at its start.
+ghost use Rattle.std.specs.Prelude.{◌≡◌, IfOk, length, map, true};
+ghost use Rattle.events.specs.Events.{initial};
+ghost use Rattle.events.specs.Originations.{router_key};
+ghost use Rattle.events.specs.Routers.{fresh_link, in_profile};
+ghost use Rattle.flooding.specs.Links.{present};
+
+use crate::sending::drafts_for;
+use adjacency::Interface;
+use events::Config;
+use flooding::Link;
+use router::Router;
+use self_originated::originate_or_wait;
+use std::alloc::{AllocError, Global};
+use words::{Key, LinkStateId, RouterId};
+
+// A link for each interface, on which nothing was heard or sent.
+fn links_of(alloc: Global, interfaces: &[Interface]) -> Result<Vec<Link>, AllocError>
+    ensures { IfOk result (λ links. map present links.items ≡ map fresh_link interfaces.now) }
+{
+    interfaces
+        .iter()
+        .map(|i| Link::new(alloc, *i))
+        .collect(alloc)
+}
+
+// The key of the own router-LSA.
+fn router_key(own: RouterId) -> Key
+    ensures { result ≡ router_key own }
+{
+    Key {
+        ls_type: 1,
+        link_state_id: LinkStateId::new(own.number()),
+        advertising_router: own,
+    }
+}
+
+/// A router that has heard of nobody and has originated its router-LSA (RFC 2328, section 12.4.1).
+///
+/// The only error is that an allocation was refused.
+pub fn begin(alloc: Global, config: &Config) -> Result<Router, AllocError>
+    requires { in_profile config.now ≡ true }
+    ensures { IfOk result (λ router. router.present ≡ initial config.now) }
+{
+    let links = links_of(alloc, config.interfaces.as_slice())?;
+    let mut router = Router::new(alloc, config.router, links, config.start);
+    let mut drafts = drafts_for(&router, alloc)?;
+    originate_or_wait(
+        &mut router,
+        alloc,
+        config.start,
+        &router_key(config.router),
+        &mut drafts,
+    )?;
+    Ok(router)
+}
