@@ -1,0 +1,19 @@
+-- A walk that is kept (RFC 2328, section 16.1).
+use Rattle.std.specs.Prelude.{ℕ}
+use Rattle.offers.specs.Ways.{AreNear, AreWays}
+use Rattle.routes.specs.Said.{Said}
+use Rattle.routes.specs.declared.root.Root.{Root}
+use Rattle.shortest_paths.specs.Reached.{NodeWays, way_in}
+
+pub record KeptWalk : Type 0 where
+  -- where it began
+  pub root : Root
+  -- where it led
+  pub reached : NodeWays
+  -- how many walks were made
+  pub walks : ℕ
+
+-- it is the walk of what the LSAs say: the way to each node, or none, by the links that count
+pub record IsWalkOf (said : Said) (kept : KeptWalk) : Type 0 where
+  pub ways : AreWays said kept.root (way_in kept.reached)
+  pub near : AreNear (way_in kept.reached)

@@ -1,0 +1,24 @@
+-- What may be kept from one event to the next (RFC 2328, section 16).
+use Rattle.std.specs.Prelude.{◌≡◌, List, None, Some, ◌↔◌}
+use Rattle.kept_routes.specs.Kept.{IsWalkOf, KeptWalk}
+use Rattle.kept_routes.specs.Sameness.{SayTheSame}
+use Rattle.routes.specs.Candidates.{AreCandidates}
+use Rattle.routes.specs.Said.{Said}
+use Rattle.routes.specs.Tables.{Answers, IsStale, IsTable}
+use Rattle.routes.specs.declared.root.Root.{Root}
+use Rattle.words.specs.declared.route.Route.{Route}
+
+-- a walk is kept for as long as the router-LSAs and network-LSAs say the same, whatever others say
+abbrev pub WalksAreKept : Type 0
+WalksAreKept =
+    (old new : Said) (kept : KeptWalk) → SayTheSame (Some 2) old new → IsWalkOf old kept
+    → IsWalkOf new kept
+
+-- as long as all LSAs say the same, candidates and table stay, and nothing becomes stale
+pub record RoutesAreKept : Type 0 where
+  pub candidates : (old new : Said) (root : Root) (routes : List Route) → SayTheSame None old new
+      → AreCandidates old root routes → AreCandidates new root routes
+  pub table : (old new : Said) (root : Root) (answers : Answers) (table : List Route)
+      → SayTheSame None old new → IsTable old root answers table → IsTable new root answers table
+  pub stale : (old new : Said) (root : Root) (answers : Answers) → SayTheSame None old new
+      → IsStale old root answers ↔ IsStale new root answers

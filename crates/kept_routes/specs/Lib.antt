@@ -1,0 +1,4 @@
+pub mod Kept
+pub mod Ages
+pub mod Sameness
+pub mod Laws

@@ -1,0 +1,9 @@
+//! A walk that is kept while the LSAs of types 1 and 2 say the same, and whether LSAs say the same after an event (RFC 2328, section 16).
+#![tactic(auto)]
+
+pub mod laws;
+mod sameness;
+mod walks;
+
+pub use sameness::say_the_same;
+pub use walks::Routes;

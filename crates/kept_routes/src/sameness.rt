@@ -1,0 +1,74 @@
+//! Whether LSAs say the same after an event.
+ghost use Rattle.std.specs.Prelude.{◌≡◌, ◌≤◌, ◌↔◌, IfOk, IsTrue};
+ghost use Rattle.std.specs.FinMap as finite;
+ghost use Rattle.std.specs.List.{Contains};
+ghost use Rattle.lsdb.specs.Changes.{IsUpTo};
+ghost use Rattle.lsdb.specs.Copies.{DatabaseCopy as CopyValue, is_aged_out};
+ghost use Rattle.routes.specs.Said.{said_at};
+ghost use Rattle.words.specs.declared.key.Key.{Key as KeyValue};
+ghost use Rattle.kept_routes.specs.Ages.{AreOld, IsOld};
+ghost use Rattle.kept_routes.specs.Sameness.{SayTheSame};
+
+use lsdb::Lsdb;
+use std::alloc::{AllocError, Global};
+use words::{Key, Second};
+
+/// Tells whether the LSAs of the types up to this one, or of all types where there is none, say at the moment what those of the settled database
+/// said at the moment before.
+///
+/// They do where the event left each of them with its LSA and its age, and none came to MaxAge in the time between; that one was sent doesn't
+/// count. The time is that of the event's edits and of `Lsdb::aged_keys`.
+///
+/// # Errors
+/// Where memory for the keys of the LSAs at MaxAge is refused.
+pub fn say_the_same(
+    alloc: Global,
+    db: &Lsdb,
+    last_type: Option<u32>,
+    before: Second,
+    moment: Second,
+) -> Result<bool, AllocError>
+    requires { before ≤ moment }
+    ensures { IfOk result (λ same. IsTrue same → SayTheSame last_type
+        (said_at before db.now.settled) (said_at moment db.now.present)) }
+{
+    if !db.keeps(last_type) {
+        return Ok(false);
+    }
+    let keys = db.aged_keys(alloc, moment)?;
+    Ok(are_old(db, last_type, before, &keys))
+}
+
+// Whether the copies of these keys had MaxAge at the moment already, those of the types up to this one.
+fn are_old(db: &Lsdb, last_type: Option<u32>, moment: Second, keys: &[Key]) -> bool
+    ensures { IsTrue result → AreOld last_type moment db.now.present keys.now }
+{
+    for key in keys {
+        if !is_old(db, last_type, moment, key) {
+            return false;
+        }
+    }
+    true
+}
+
+// Whether the copy of this key had MaxAge at the moment already, if it is of a type up to this one.
+fn is_old(db: &Lsdb, last_type: Option<u32>, moment: Second, key: &Key) -> bool
+    ensures { IsTrue result → IsOld last_type moment db.now.present key.now }
+{
+    if !is_up_to(last_type, key) {
+        return true;
+    }
+    match db.get(key) {
+        None => true,
+        Some(copy) => copy.is_aged_out(moment),
+    }
+}
+
+fn is_up_to(last_type: Option<u32>, key: &Key) -> bool
+    ensures { IsTrue result ↔ IsUpTo last_type key.now }
+{
+    match last_type {
+        None => true,
+        Some(last) => key.ls_type <= last,
+    }
+}

@@ -1,0 +1,132 @@
+//! The walk of a database, kept.
+ghost use Rattle.std.specs.Prelude.{◌≡◌, ◌+◌, ◌≤◌, min, length, IfOk, OnOk, OnErr};
+ghost use Rattle.std.specs.FinMap as finite;
+ghost use Rattle.std.specs.List.{Contains};
+ghost use Rattle.words.specs.declared.route.Route.{Route as RouteValue};
+ghost use Rattle.routes.specs.Candidates.{AreCandidates, Offers};
+ghost use Rattle.routes.specs.Said.{said_at};
+ghost use Rattle.routes.specs.declared.offer.Offer.{Offer};
+ghost use Rattle.kept_routes.specs.Kept.{IsWalkOf};
+
+use candidate_laws::every_offer_has_a_candidate;
+use candidates::routes_of;
+use lsdb::Lsdb;
+use routes::Root;
+use shortest_paths::{Reached, walk};
+use std::alloc::{AllocError, Global};
+use std::marker::Model;
+use words::{Route, Second};
+
+/// The walk of a database from its root, kept to calculate candidates from without walking again. It serves for as long as the LSAs of types 1
+/// and 2 say what they said (RFC 2328, section 16.1): `laws::walks_are_kept`.
+#[derive(Drop)]
+pub struct Routes {
+    root: Root,
+    reached: Reached,
+    walks: u64,
+}
+
+impl Model for Routes {
+    ghost use Rattle.kept_routes.specs.Kept.{KeptWalk};
+
+    ghost Value = { KeptWalk };
+
+    ghost view = { λ a. record { root = a.root; reached = a.reached; walks = a.walks } };
+}
+
+// The same root once more.
+fn copy_of(root: &Root) -> Result<Root, AllocError>
+    ensures { IfOk result (λ copy. copy ≡ root.now) }
+{
+    let addresses = root.addresses.copy()?;
+    Ok(Root {
+        router: root.router,
+        addresses,
+    })
+}
+
+impl Routes {
+    /// The first walk of a database from its root, at a moment. The database has at most 16,384 LSAs, the root at most 63 interfaces.
+    ///
+    /// # Errors
+    /// Where memory for the walk is refused.
+    pub fn new(alloc: Global, db: &Lsdb, root: &Root, moment: Second) -> Result<Routes, AllocError>
+        requires interfaces { length root.now.addresses ≤ 63 }
+        requires size { finite.len db.now.present ≤ 16384 }
+        ensures walk { IfOk result (λ kept. IsWalkOf (said_at moment db.now.present) kept) }
+        ensures root { IfOk result (λ kept. kept.root ≡ root.now) }
+        ensures walks { IfOk result (λ kept. kept.walks ≡ 1) }
+    {
+        let own = copy_of(root)?;
+        let reached = walk(alloc, db, root, moment)?;
+        Ok(Routes {
+            root: own,
+            reached,
+            walks: 1,
+        })
+    }
+
+    /// Walks again, at a moment, in place of the walk that was kept.
+    ///
+    /// # Errors
+    /// Where memory for the walk is refused; the walk that was kept stays then.
+    pub fn walk(
+        &mut self,
+        alloc: Global,
+        db: &Lsdb,
+        root: &Root,
+        moment: Second,
+    ) -> Result<(), AllocError>
+        requires interfaces { length root.now.addresses ≤ 63 }
+        requires size { finite.len db.now.present ≤ 16384 }
+        ensures walk { OnOk result (IsWalkOf (said_at moment db.now.present) self.new) }
+        ensures root { OnOk result (self.new.root ≡ root.now) }
+        ensures walks { OnOk result (self.new.walks
+            ≡ min (self.old.walks + 1) 18446744073709551615) }
+        ensures err { OnErr result (self.new ≡ self.old) }
+    {
+        let own = copy_of(root)?;
+        let reached = walk(alloc, db, root, moment)?;
+        self.root = own;
+        self.reached = reached;
+        self.walks = self.walks.saturating_add(1);
+        Ok(())
+    }
+
+    /// The candidates of a database whose walk is kept, at a moment: for each prefix that anything offers one route, in the order of the
+    /// prefixes (RFC 2328, section 16).
+    ///
+    /// # Errors
+    /// Where memory for the offers or the routes is refused.
+    pub fn candidates(
+        &self,
+        alloc: Global,
+        db: &Lsdb,
+        moment: Second,
+    ) -> Result<Vec<Route>, AllocError>
+        requires { IsWalkOf (said_at moment db.now.present) self.now }
+        ensures candidates { IfOk result (λ routes.
+            AreCandidates (said_at moment db.now.present) self.now.root routes.items) }
+        ensures every { IfOk result (λ routes. (o : Offer)
+            → Offers (said_at moment db.now.present) self.now.root o
+            → (r : RouteValue) × Contains routes.items r × (r.prefix ≡ o.prefix)) }
+    {
+        let routes = routes_of(alloc, db, &self.root, moment, &self.reached)?;
+        every_offer_has_a_candidate();
+        Ok(routes)
+    }
+
+    /// How many walks were made; it stays at its greatest value.
+    pub fn walks(&self) -> u64
+        ensures { result ≡ self.now.walks }
+    {
+        self.walks
+    }
+
+    /// The router from which it walked.
+    pub fn root(&self) -> &Root
+        ensures { result.now ≡ self.now.root }
+    {
+        &self.root
+    }
+}
