@@ -1,4 +1,4 @@
 pub mod Instances
 pub mod Links
 pub mod Decided
-pub mod Described
+pub mod FullNeighbors

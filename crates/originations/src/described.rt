@@ -73,7 +73,8 @@ fn saying(alloc: Global, says: Body) -> Result<Lsa, AllocError>
         checksum: 0,
         length: 0,
     };
-    Lsa::new(alloc, header, says)
+    let lsa = Lsa::new(alloc, header, says)?;
+    Ok(lsa)
 }
 
 // The router-LSA of these interfaces where these neighbors are Full.
@@ -109,10 +110,32 @@ fn same_body(alloc: Global, a: &Lsa, b: &Lsa) -> Result<bool, AllocError>
     Ok(left.as_slice().cmp(right.as_slice()) == Ordering::Equal)
 }
 
+fn same_router(a: Option<RouterId>, b: Option<RouterId>) -> bool
+    ensures { IsTrue result → a ≡ b }
+{
+    match a {
+        None => match b {
+            None => true,
+            Some(_b) => false,
+        },
+        Some(a) => match b {
+            None => false,
+            Some(b) => a.number() == b.number(),
+        },
+    }
+}
+
 fn same_full(a: &[Option<RouterId>], b: &[Option<RouterId>]) -> bool
+    requires { length a.now ≡ length b.now }
     ensures { IsTrue result → a.now ≡ b.now }
 {
-    a == b
+    for i in 0..a.len() {
+        let same = same_router(a[i], b[i]);
+        if !same {
+            return false;
+        }
+    }
+    true
 }
 
 // As `links_differ`, by the texts of both.
@@ -165,7 +188,8 @@ fn lsa_says(alloc: Global, links: &[Link], lsa: &Lsa) -> Result<bool, AllocError
 {
     let now = full_routers(alloc, links)?;
     let present = described_lsa(alloc, links, &now)?;
-    same_body(alloc, lsa, &present)
+    let same = same_body(alloc, lsa, &present)?;
+    Ok(same)
 }
 
 /// Tells whether there is a copy, and it says what the router-LSA of these links is to say.

@@ -1,10 +1,15 @@
 -- The router-LSA by which neighbors are Full.
-use Rattle.std.proofs.Common.{◌≡◌, ◌≤◌, ◌<◌, ℕ, ◌+◌, Bool, true, false, cond, not, List, [], ◌∷◌, ◌++◌, map, length, get_or, drop, Option, None, Some, refl, sym, ap, ◌∙◌, arith, append_assoc, subst}
+use Rattle.std.proofs.Common.{◌≡◌, ◌≤◌, ◌<◌, ℕ, ◌+◌, Bool, true, false, cond, not, List, [], ◌∷◌, ◌++◌, map, length, get_or, drop, take, Option, None, Some, refl, sym, ap, ◌∙◌, arith, append_assoc, subst}
 use Rattle.std.specs.List.{flat_map}
+use Rattle.std.specs.Cmp.Lexicographic.{slice_cmp}
+use Rattle.std.specs.Ordering.{is_eq, nat_cmp}
+use Rattle.std.proofs.lemmas.Map.Text.{is_eq-slice_cmp}
+use Rattle.std.proofs.lemmas.Slice.Eq.{bytes_eq-Decides}
 use Rattle.std.specs.FinMap as finite
-use Rattle.std.proofs.lemmas.List.{get_or-map, length-map}
+use Rattle.std.proofs.lemmas.List.{get_or-map, length-map, take_all, take_more}
 use Rattle.lsa.specs.Ranges.{BodyFits}
-use Rattle.lsa.specs.Text.{body_text}
+use Rattle.lsa.specs.Origination.{sealed_lsa}
+use Rattle.lsa.specs.Text.{Parts, body_text}
 use Rattle.lsa.specs.declared.body.Body.{Body}
 use Rattle.lsa.specs.declared.body.Body.TheVariants as body
 use Rattle.lsa.specs.declared.body.LinkKind.TheVariants.{PointToPoint}
@@ -50,14 +55,14 @@ body_then old is fs same full = (λ i. described_body (sym same i) (sym full i))
 
 -- ---- there is room
 
-full_neighbor : Option ℕ → Option Neighbor
+abbrev full_neighbor : Option ℕ → Option Neighbor
 full_neighbor None = None
 full_neighbor (Some router) = Some (record (fresh router None 0) { state = Full })
 
-link_with : Interface → Option ℕ → Link
+abbrev link_with : Interface → Option ℕ → Link
 link_with i f = record { interface = i; neighbor = full_neighbor f; acknowledgments = finite.empty; last_hello_sent = None }
 
-links_with : List Interface → List (Option ℕ) → List (Kept Link)
+abbrev links_with : List Interface → List (Option ℕ) → List (Kept Link)
 links_with [] fs = []
 links_with (i ∷ is) [] = []
 links_with (i ∷ is) (f ∷ fs) = record { present = link_with i f; settled = link_with i f } ∷ links_with is fs
@@ -105,7 +110,45 @@ pub described_end : (is : List Interface) (fs : List (Option ℕ)) (n : ℕ) (sa
     → said ++ described_links (drop n is) (drop n fs) ≡ whole → said ≡ whole
 described_end is fs n said whole end so_far = sym (append_nothing said) ∙ ap (λ js. said ++ described_links js (drop n fs)) (sym (drop_end n is end)) ∙ so_far
 
+-- ---- what the code reads at a place
+
+pub interface_here : (links : List (Kept Link)) (i : ℕ) (link : Kept Link) (x : Interface) → i < length links → x ≡ link.present.interface → link ≡ get_or links i link
+    → x ≡ get_or (interfaces (map present links)) i x
+interface_here links i link x lt is read =
+    is
+    ∙ ap (λ (k : Kept Link). k.present.interface) read
+    ∙ ap (λ (l : Link). l.interface) (sym (get_or-map present links i link link.present lt))
+    ∙ sym (get_or-map (λ (l : Link). l.interface) (map present links) i link.present x (omega (arith, lt, length-map links present)))
+
+pub count_of : (links : List (Kept Link)) → length (interfaces (map present links)) ≡ length links
+count_of links = length-map (map present links) (λ (l : Link). l.interface) ∙ length-map links present
+
+pub sealed_body : (lsa : Parts) → (sealed_lsa lsa).body ≡ lsa.body
+unfolding sealed_lsa
+sealed_body lsa = refl
+
+-- ---- lists that are compared item by item
+
+pub same_so_far : {A : Type 0} (xs ys : List A) (i : ℕ) (x y : A) → i < length xs → length xs ≡ length ys → x ≡ get_or xs i x → y ≡ get_or ys i y → x ≡ y
+    → take i xs ≡ take i ys → take (i + 1) xs ≡ take (i + 1) ys
+same_so_far xs ys i x y lt all here there same so_far =
+    take_more xs i x lt ∙ (λ k. so_far k ++ (sym here ∙ same ∙ there) k ∷ []) ∙ sym (take_more ys i y (omega (arith, lt, all)))
+
+pub same_all : {A : Type 0} (xs ys : List A) (i : ℕ) → length xs ≤ i → length xs ≡ length ys → take i xs ≡ take i ys → xs ≡ ys
+same_all xs ys i end all so_far = sym (take_all i xs end) ∙ so_far ∙ take_all i ys (omega (arith, end, all))
+
 -- ---- whether it says something else
 
-pub differ_by_texts : (a b old now : Body) (differ same : Bool) → a ≡ old → b ≡ now → same ≡ same_body a b → differ ≡ not same → differ ≡ not (same_body old now)
-differ_by_texts a b old now differ same left right is turned = turned ∙ ap not is ∙ (λ i. not (same_body (left i) (right i)))
+text_itself : (xs : List ℕ) → is_eq (slice_cmp nat_cmp xs xs) ≡ true
+text_itself xs = is_eq-slice_cmp xs xs ∙ (bytes_eq-Decides xs xs).1 refl
+
+-- links with the same Full neighbors say the same
+pub none_differ : (old ls : List Link) → interfaces old ≡ interfaces ls → full_routers old ≡ full_routers ls → false ≡ links_differ old ls
+none_differ old ls same full =
+    let says : router_body old ≡ router_body ls = sym (body_then old (interfaces ls) (full_routers ls) same full) ∙ body_now ls in
+    sym (ap not (ap (λ b. same_body b (router_body ls)) says ∙ text_itself (body_text (router_body ls))))
+
+pub differ_by_texts : (old ls : List Link) (before : List (Option ℕ)) (a b : Body) (same : Bool) → interfaces old ≡ interfaces ls → full_routers old ≡ before
+    → a ≡ described_body (interfaces ls) before → b ≡ described_body (interfaces ls) (full_routers ls) → same ≡ same_body a b → not same ≡ links_differ old ls
+differ_by_texts old ls before a b same alike full left right is =
+    ap not (is ∙ (λ i. same_body ((left ∙ body_then old (interfaces ls) before alike full) i) ((right ∙ body_now ls) i)))

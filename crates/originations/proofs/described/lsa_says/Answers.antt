@@ -1,0 +1,12 @@
+use Rattle.std.proofs.Common.{ap, map, ◌∙◌}
+use Rattle.events.specs.Endings.{same_body}
+use Rattle.flooding.specs.Links.{present}
+use Rattle.originations.specs.Described.{described_body, interfaces}
+use Rattle.originations.proofs.FullNeighbors.{body_now}
+use Rattle.originations.proofs.described.lsa_says.Goals as goal
+
+pub returns : goal.returns
+returns c =
+    let links = map present c.args.links.now in
+    c.in_ok-same.ensures
+    ∙ ap (same_body c.args.lsa.now.body) (c.in_ok-present.ensures ∙ ap (described_body (interfaces links)) (c.deref.ensures.value ∙ c.in_ok-now.ensures) ∙ body_now links)
