@@ -1,1 +1,2 @@
 pub mod Full
+pub mod Parts
