@@ -8,7 +8,7 @@ use std::test::Fail;
 #[test]
 fn each_is_accepted_with_its_bound(rt: HostRuntime) -> Result<(), Fail> {
     for (text, bound) in [
-        (COUNT_BURSTS, 25),
+        (COUNT_BURSTS, 22),
         (COUNT_TYPES, 6),
         (FALLING_METRIC, 9),
         (NO_LONG_PREFIXES, 5),
