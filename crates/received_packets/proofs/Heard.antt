@@ -1,0 +1,45 @@
+-- A packet by the Router ID and the state of the neighbor at its interface.
+use Rattle.std.proofs.Common.{◌≡◌, ℕ, Bool, true, false, cond, List, refl, sym, ap, ◌∙◌}
+use Rattle.std.specs.Prelude.{Option, None, Some}
+use Rattle.packet.specs.declared.model.Body.{Body}
+use Rattle.packet.specs.declared.model.Packet.{Packet}
+use Rattle.adjacency.specs.Adjacencies.{two_way_received}
+use Rattle.adjacency.specs.Drafts.{Drafted}
+use Rattle.adjacency.specs.Neighbors.{Neighbor}
+use Rattle.adjacency.specs.Steps.{named}
+use Rattle.received.specs.Links.{neighbor_at}
+use Rattle.events.specs.EventState.{EventState}
+use Rattle.events.specs.Packets.{after_packet, from_neighbor, is_heard, is_in_exchange}
+use Rattle.events.specs.Routers.{Router}
+use Rattle.router.specs.Making.{Makes}
+use Rattle.router.proofs.Making.{makes_if_false, makes_if_true, makes_nothing, makes_same}
+use Rattle.received_packets.specs.Received.{is_heard_named, is_in_exchange_named}
+
+pub exchange_named : (o : Option Neighbor) → is_in_exchange_named (named o) ≡ is_in_exchange o
+exchange_named None = refl
+exchange_named (Some n) = refl
+
+pub heard_named : (own : ℕ) (packet : Packet) (o : Option Neighbor) → is_heard_named own packet (named o) ≡ is_heard own packet o
+heard_named own packet None = refl
+heard_named own packet (Some n) = refl
+
+module _ (moment number : ℕ) (packet : Packet) where
+  abbrev pub is_heard_at : Router → Bool
+  is_heard_at r = is_heard r.id packet (neighbor_at number r.area.links)
+
+  abbrev pub heard : EventState → EventState
+  heard p = from_neighbor two_way_received moment number packet.router (is_in_exchange (neighbor_at number p.router.area.links)) packet.body p
+
+  abbrev pub discarded : EventState → EventState
+  discarded p = p
+
+  pub is_discarded : (r : Router) (ds : List Drafted) → is_heard_at r ≡ false → Makes (after_packet two_way_received moment number packet) r r ds ds
+  is_discarded r ds fails = makes_if_false heard discarded is_heard_at fails (makes_nothing r ds)
+
+  pub is_taken : {old new : Router} {before after : List Drafted} (b : Bool) → is_heard_at old ≡ true → is_in_exchange (neighbor_at number old.area.links) ≡ b
+      → Makes (from_neighbor two_way_received moment number packet.router b packet.body) old new before after → Makes (after_packet two_way_received moment number packet) old new before after
+  is_taken b holds exchanges a =
+      makes_if_true heard discarded is_heard_at holds
+      (makes_same
+      (λ p here. ap (λ c. from_neighbor two_way_received moment number packet.router c packet.body p) (sym (ap (λ (r : Router). is_in_exchange (neighbor_at number r.area.links)) here ∙ exchanges)))
+      a)
