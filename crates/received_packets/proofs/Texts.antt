@@ -1,5 +1,5 @@
 -- The LSAs of an Update, one after the other.
-use Rattle.std.proofs.Common.{◌≡◌, ℕ, ◌+◌, ◌≤◌, Bool, true, false, cond, List, [], ◌∷◌, drop, length, Ok, Err, refl, sym, ap, subst, ◌∙◌, arith}
+use Rattle.std.proofs.Common.{◌≡◌, ℕ, ◌+◌, ◌≤◌, Bool, true, false, cond, List, ◌∷◌, drop, length, Ok, Err, refl, sym, ap, subst, ◌∙◌}
 use Rattle.std.specs.Prelude.{Option, None, Some}
 use mathlib.Core.Bool.{false≢true}
 use Rattle.lsa.specs.declared.fault.Fault.{Fault}
@@ -58,15 +58,17 @@ module _ (moment : ℕ) (lsa : Lsa) (p : EventState) where
   left_alone Case.SentJustNow is = refl
   left_alone Case.Older is = refl
 
-module _ (moment number : ℕ) (lsa : Lsa) (c : Case) {old middle new : Router} {before between after : List Drafted} where
-  pub lsa_settled : is_newer c ≡ true → Makes (on_area (after_case c moment number lsa)) old middle before between → Makes (receive_self_originated moment lsa) middle new between after
-      → Makes (after_lsa c moment number lsa) old new before after
+module _ (moment number : ℕ) (lsa : Lsa) (c : Case) where
+  pub lsa_settled : {old middle new : Router} {before between after : List Drafted} → is_newer c ≡ true → Makes (on_area (after_case c moment number lsa)) old middle before between
+      → Makes (receive_self_originated moment lsa) middle new between after → Makes (after_lsa c moment number lsa) old new before after
   lsa_settled is a b = makes_same (λ p _. settled_self moment lsa (on_area (after_case c moment number lsa) p) c is) (makes_then a b)
 
-  pub lsa_left_alone : is_newer c ≡ false → Makes (on_area (after_case c moment number lsa)) old new before after → Makes (after_lsa c moment number lsa) old new before after
+  pub lsa_left_alone : {old new : Router} {before after : List Drafted} → is_newer c ≡ false → Makes (on_area (after_case c moment number lsa)) old new before after
+      → Makes (after_lsa c moment number lsa) old new before after
   lsa_left_alone is a = makes_same (λ p _. left_alone moment lsa (on_area (after_case c moment number lsa) p) c is) a
 
-  pub text_read : c ≡ case_at moment number lsa old.area → Makes (after_lsa c moment number lsa) old new before after → Makes (after_unread moment number (Some lsa)) old new before after
+  pub text_read : {old new : Router} {before after : List Drafted} → c ≡ case_at moment number lsa old.area → Makes (after_lsa c moment number lsa) old new before after
+      → Makes (after_unread moment number (Some lsa)) old new before after
   text_read is a =
       makes_same (λ p here. ap (λ (k : Case). after_lsa k moment number lsa p) (is ∙ ap (λ (r : Router). case_at moment number lsa r.area) (sym here))) a
 
