@@ -1,14 +1,12 @@
 -- What is asked of a packet and of the LSAs of an Update.
-use Rattle.std.specs.Prelude.{Bool, true, false, ◌&&◌, ◌||◌, ◌==◌, [], Option, None, Some}
+use Rattle.std.specs.Prelude.{Bool, true, false, ◌==◌, [], Option, None, Some}
 use Rattle.words.specs.Numbers.{InterfaceNumber, Moment, RouterNumber}
 use Rattle.lsdb.specs.Headers.{Lsa}
-use Rattle.packet.specs.declared.model.Packet.{Packet}
 use Rattle.adjacency.specs.Neighbors.{is_exchange_or_later}
 use Rattle.adjacency.specs.declared.state.State.{State}
 use Rattle.received.specs.Cases.{Case}
 use Rattle.received.specs.Updates.{goes_on}
-use Rattle.events.specs.Hellos.{is_foreign}
-use Rattle.events.specs.Packets.{case_in, is_hello}
+use Rattle.events.specs.Packets.{case_in}
 use Rattle.events.specs.Routers.{Router}
 
 -- ---- by the neighbor's Router ID and state
@@ -20,10 +18,6 @@ is_in_exchange_named (Some named) = is_exchange_or_later named.1
 abbrev pub is_from_named : (from : RouterNumber) → Option (RouterNumber × State) → Bool
 is_from_named from None = false
 is_from_named from (Some named) = named.0 == from
-
-abbrev pub is_heard_named : (own : RouterNumber) → Packet → Option (RouterNumber × State) → Bool
-is_heard_named own packet neighbor =
-    is_foreign own packet.router && (is_hello packet.body || is_from_named packet.router neighbor)
 
 -- ---- LSAs of an Update
 

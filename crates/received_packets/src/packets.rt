@@ -4,10 +4,10 @@ ghost use Rattle.adjacency.specs.Adjacencies.{two_way_received};
 ghost use Rattle.adjacency.specs.Neighbors.{is_exchange_or_later};
 ghost use Rattle.adjacency.specs.Steps.{named};
 ghost use Rattle.received.specs.Links.{neighbor_at};
-ghost use Rattle.events.specs.Packets.{after_packet, from_neighbor, is_hello, is_in_exchange};
+ghost use Rattle.events.specs.Packets.{after_packet, from_neighbor, is_from, is_heard, is_hello};
+ghost use Rattle.events.specs.Packets.{is_in_exchange};
 ghost use Rattle.router.specs.Making.{Makes};
-ghost use Rattle.received_packets.specs.Received.{is_from_named, is_heard_named};
-ghost use Rattle.received_packets.specs.Received.{is_in_exchange_named};
+ghost use Rattle.received_packets.specs.Received.{is_from_named, is_in_exchange_named};
 
 use crate::updates::receive_lsas;
 use adjacency::{Draft, State};
@@ -41,7 +41,7 @@ fn is_exchange_or_later(state: State) -> bool
     }
 }
 
-fn is_in_exchange(neighbor: Option<(RouterId, State)>) -> bool
+fn is_in_exchange_named(neighbor: Option<(RouterId, State)>) -> bool
     ensures { result ≡ is_in_exchange_named neighbor }
 {
     match neighbor {
@@ -50,23 +50,13 @@ fn is_in_exchange(neighbor: Option<(RouterId, State)>) -> bool
     }
 }
 
-fn is_from(from: RouterId, neighbor: Option<(RouterId, State)>) -> bool
+fn is_from_named(from: RouterId, neighbor: Option<(RouterId, State)>) -> bool
     ensures { result ≡ is_from_named from neighbor }
 {
     match neighbor {
         None => false,
         Some((router, _state)) => router.number() == from.number(),
     }
-}
-
-// Tells whether the packet is of another router, and a Hello or from the interface's neighbor.
-fn is_heard(own: RouterId, packet: &Packet, neighbor: Option<(RouterId, State)>) -> bool
-    ensures { result ≡ is_heard_named own packet.now neighbor }
-{
-    let foreign = is_foreign(own, packet.router);
-    let hello = is_hello(&packet.body);
-    let from_neighbor = is_from(packet.router, neighbor);
-    foreign && (hello || from_neighbor)
 }
 
 // The neighbor at the interface of this number, unless it is Down.
@@ -76,7 +66,43 @@ fn neighbor_at(router: &Router, number: usize) -> Option<(RouterId, State)>
     ensures { result ≡ named (neighbor_at number router.now.present.area.links) }
 {
     let links = router.area().links();
-    links[number - 1].neighbor()
+    let i = number - 1;
+    links[i].neighbor()
+}
+
+// Tells whether the neighbor at the interface of this number is in Exchange or later.
+fn is_in_exchange(router: &Router, number: usize) -> bool
+    requires first { 1 ≤ number }
+    requires last { number ≤ length router.now.present.area.links }
+    ensures { result ≡ is_in_exchange (neighbor_at number router.now.present.area.links) }
+{
+    let neighbor = neighbor_at(router, number);
+    is_in_exchange_named(neighbor)
+}
+
+// Tells whether this is the Router ID of the neighbor at the interface of this number.
+fn is_from(from: RouterId, router: &Router, number: usize) -> bool
+    requires first { 1 ≤ number }
+    requires last { number ≤ length router.now.present.area.links }
+    ensures { result ≡ is_from from (neighbor_at number router.now.present.area.links) }
+{
+    let neighbor = neighbor_at(router, number);
+    is_from_named(from, neighbor)
+}
+
+// Tells whether the packet is of another router, and a Hello or from the interface's neighbor.
+fn is_heard(packet: &Packet, router: &Router, number: usize) -> bool
+    requires first { 1 ≤ number }
+    requires last { number ≤ length router.now.present.area.links }
+    ensures { result ≡ is_heard router.now.present.id packet.now
+        (neighbor_at number router.now.present.area.links) }
+{
+    let own = router.id();
+    let from = packet.router;
+    let foreign = is_foreign(own, from);
+    let hello = is_hello(&packet.body);
+    let from_neighbor = is_from(from, router, number);
+    foreign && (hello || from_neighbor)
 }
 
 // What a packet says that is heard, where the neighbor is in Exchange or later.
@@ -168,15 +194,13 @@ pub fn receive_packet(
     ensures drafts { OnOk result (length drafts.new ≡ length router.new.present.area.links) }
     ensures settled { router.new.settled ≡ router.old.settled }
 {
-    let neighbor = neighbor_at(router, number);
-    let own = router.id();
-    let heard = is_heard(own, packet, neighbor);
+    let heard = is_heard(packet, router, number);
     if !heard {
         return Ok(());
     }
     let from = packet.router;
     let body = &packet.body;
-    let exchanging = is_in_exchange(neighbor);
+    let exchanging = is_in_exchange(router, number);
     if exchanging {
         return from_neighbor_in_exchange(router, alloc, moment, number, from, body, drafts);
     }
