@@ -31,6 +31,7 @@ module _ (old : Router) (moment : ℕ) (event : Occurrence) (p : Part) (is : IsP
 
   -- all that is sent has room
   pub made_has_room : IsRoomy old → AllByRecursion (λ (s : Send). HasRoom s.content) (made old moment p).sends
+  unfolding makes made_happens
   made_has_room roomy = every_packet_has_room.sends old moment event _ _ makes roomy
 
   pub made_exceeds : first_refusal old moment event ≡ None → exceeds (made old moment p).router ≡ true → WouldExceed old moment event

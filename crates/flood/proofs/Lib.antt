@@ -4,3 +4,4 @@ pub mod Refusing
 pub mod Happening
 pub mod Drafting
 pub mod Made
+pub mod Starting

@@ -32,7 +32,7 @@ made_of_parts old aged parted new settled moment before p d0 d1 d2 d3 at is ages
     (subst (λ (r : Router). Makes (end_event r moment) parted new d2 d3) is end)
 
 module _ (old new : Router) (moment : ℕ) (p : Part) (before after : List Drafted) (m : Makes (after_event old moment p) old new before after)
-  (none : before ≡ nothing_at old.area.links) where
+    (none : before ≡ nothing_at old.area.links) where
   abbrev begun : EventState
   begun = record { router = old; sends = [] }
 

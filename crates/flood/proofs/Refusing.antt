@@ -1,6 +1,6 @@
 -- Which refusal an event meets once its own part is read.
 use Rattle.std.proofs.Common.{◌≡◌, ℕ, true, false, None, Some, ◌∙◌, subst, sym}
-use Rattle.std.specs.Prelude.{Ok, Err}
+use Rattle.std.specs.Prelude.{Result, Ok, Err}
 use Rattle.events.specs.declared.model.CoreError.{CoreError}
 use Rattle.events.specs.declared.model.CoreError.TheVariants as error
 use Rattle.events.specs.Refusals.{Answers, MayRunOut, first_refusal}
@@ -34,3 +34,8 @@ module _ (X Y : Type 0) (old : Router) (moment : ℕ) (event : Occurrence) (none
     -- the event is taken
     pub taken_answers : (x : X) (y : Y) → TellsLimit (made old moment p).router (Ok x) → Answers old moment event (Ok y)
     taken_answers x y tells = (first_is_late old moment event none ∙ read, made_stays_within old moment event p is tells)
+
+pub event_answers : (X : Type 0) (old : Router) (moment : ℕ) (event : Occurrence) → early_refusal old moment event ≡ None → (p : Part) → IsPartOf event p
+    → late_refusal old event ≡ None → (r : Result X CoreError) → TellsLimit (made old moment p).router r → Answers old moment event r
+event_answers X old moment event none p is read (Ok x) tells = taken_answers X X old moment event none p is read x x tells
+event_answers X old moment event none p is read (Err e) tells = limit_answers X X old moment event none p is read e tells

@@ -2,3 +2,4 @@ pub mod Occurrences
 pub mod Early
 pub mod Parts
 pub mod Drafts
+pub mod Starts

@@ -2,8 +2,8 @@
 ghost use Rattle.std.specs.Prelude.{◌≡◌, IfOk, length, map, true};
 ghost use Rattle.events.specs.Events.{initial};
 ghost use Rattle.events.specs.Originations.{router_key};
-ghost use Rattle.events.specs.Routers.{fresh_link, in_profile};
-ghost use Rattle.flooding.specs.Links.{present};
+ghost use Rattle.events.specs.Routers.{in_profile};
+ghost use Rattle.flood.specs.Starts.{fresh_kept};
 
 use crate::sending::drafts_for;
 use adjacency::Interface;
@@ -16,7 +16,7 @@ use words::{Key, LinkStateId, RouterId};
 
 // A link for each interface, on which nothing was heard or sent.
 fn links_of(alloc: Global, interfaces: &[Interface]) -> Result<Vec<Link>, AllocError>
-    ensures { IfOk result (λ links. map present links.items ≡ map fresh_link interfaces.now) }
+    ensures { IfOk result (λ links. links.items ≡ map fresh_kept interfaces.now) }
 {
     interfaces
         .iter()

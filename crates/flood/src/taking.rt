@@ -66,12 +66,13 @@ fn make(
     ensures limit { TellsLimit (made router.old.present moment part).router result }
     ensures settled { router.new.settled ≡ router.old.settled }
 {
+    let own = router.id();
     let mut drafts = drafts_for(router, alloc)?;
     make_event(router, alloc, moment, part, &mut drafts)?;
     if router.area().database().exceeds() {
         return Err(CoreError::Full);
     }
-    let outs = outs(alloc, router.id(), drafts)?;
+    let outs = outs(alloc, own, drafts)?;
     Ok(outs)
 }
 

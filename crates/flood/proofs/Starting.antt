@@ -1,0 +1,40 @@
+-- What a configuration in the profile gives at the start.
+use Rattle.std.proofs.Common.{◌≡◌, ◌≤◌, Bool, true, false, ◌&&◌, length, List, map, [], ◌∷◌, refl, sym, ap, ◌∙◌, arith}
+use Rattle.std.proofs.lemmas.Bool.{leb-true}
+use Rattle.std.proofs.lemmas.List.{length-map}
+use Rattle.adjacency.specs.Drafts.{Drafted}
+use Rattle.adjacency.specs.Kept.{Kept}
+use Rattle.adjacency.specs.declared.interface.Interface.{Interface}
+use Rattle.received.specs.Links.{Link}
+use Rattle.events.specs.declared.model.Config.{Config}
+use Rattle.events.specs.EventState.{EventState}
+use Rattle.events.specs.Routers.{Router, fresh_link, in_profile}
+use Rattle.flooding.specs.Links.{present}
+use Rattle.router.specs.Making.{Makes}
+use Rattle.router.proofs.Making.{making_starts}
+use Rattle.flood.specs.Starts.{fresh_kept}
+
+and_parts : (a b : Bool) → (a && b) ≡ true → (a ≡ true) × (b ≡ true)
+and_parts true b e = (refl, e)
+and_parts false b e = absurd cc
+
+pub few_interfaces : (c : Config) → in_profile c ≡ true → length c.interfaces ≤ 63
+few_interfaces c e =
+    let a = and_parts _ _ e in
+    let b = and_parts _ _ a.0 in
+    let d = and_parts _ _ b.0 in
+    leb-true (length c.interfaces) 63 d.1
+
+pub few_links : (c : Config) (links : List (Kept Link)) → in_profile c ≡ true → map present links ≡ map fresh_link c.interfaces → length links ≤ 63
+few_links c links e same =
+    let count : length links ≡ length c.interfaces = sym (length-map links present) ∙ ap length same ∙ length-map c.interfaces fresh_link in
+    omega (arith, count, few_interfaces c e)
+
+pub fresh_links : (xs : List Interface) → map present (map fresh_kept xs) ≡ map fresh_link xs
+fresh_links [] = refl
+fresh_links (x ∷ xs) = ap (λ ls. fresh_link x ∷ ls) (fresh_links xs)
+
+-- a part that is done first
+pub started : (f : EventState → EventState) (old new : Router) (before after : List Drafted) → Makes f old new before after
+    → new ≡ (f (record { router = old; sends = [] })).router
+started f old new before after m = (m.part (record { router = old; sends = [] }) before (making_starts old before)).router

@@ -1,0 +1,21 @@
+use Rattle.std.proofs.Common.{◌≡◌, None, sym, ◌∙◌}
+use Rattle.events.specs.Refusals.{Answers}
+use Rattle.flood.specs.Early.{early_refusal}
+use Rattle.flood.specs.Occurrences.{occurrence_of}
+use Rattle.flood.proofs.Happening.{made_happens}
+use Rattle.flood.proofs.Made.{if_ok}
+use Rattle.flood.proofs.Refusing.{event_answers}
+use Rattle.flood.proofs.taking.take.Goals as goal
+
+pub returns-clause-ok : goal.returns-clause-ok
+returns-clause-ok c =
+    if_ok c.make.result
+    (λ outs is. made_happens c.args.router.now.present c.args.moment (occurrence_of c.args.event.now) c.in_ok-part.part c.in_ok-part.ensures.part outs.items c.make.new.router.present is)
+    c.make.ensures.made
+
+pub returns-clause-refused : goal.returns-clause-refused
+returns-clause-refused c =
+    let asked = c.refuses.ensures in
+    let went = c.in_default.is in
+    let none : early_refusal c.args.router.now.present c.args.moment (occurrence_of c.args.event.now) ≡ None = sym asked ∙ went in
+    event_answers _ c.args.router.now.present c.args.moment (occurrence_of c.args.event.now) none c.in_ok-part.part c.in_ok-part.ensures.part c.in_ok-part.ensures.tells c.make.result c.make.ensures.limit

@@ -1,0 +1,9 @@
+-- Links at the start.
+use Rattle.adjacency.specs.Kept.{Kept}
+use Rattle.adjacency.specs.declared.interface.Interface.{Interface}
+use Rattle.received.specs.Links.{Link}
+use Rattle.events.specs.Routers.{fresh_link}
+
+-- a link on which nothing was heard or sent, and that was never another one
+abbrev pub fresh_kept : Interface → Kept Link
+fresh_kept i = record { present = fresh_link i; settled = fresh_link i }
