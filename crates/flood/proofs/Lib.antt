@@ -5,3 +5,4 @@ pub mod Happening
 pub mod Drafting
 pub mod Made
 pub mod Starting
+pub mod Offering

@@ -3,3 +3,4 @@ pub mod Early
 pub mod Parts
 pub mod Drafts
 pub mod Starts
+pub mod Offers

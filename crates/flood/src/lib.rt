@@ -16,6 +16,7 @@ mod start;
 mod taking;
 
 pub use adjacency::{Interface, State};
+pub use area_routes::Offered;
 pub use event::Event;
 pub use events::{Config, ConfigError, CoreError, Out};
 pub use router_core::Core;

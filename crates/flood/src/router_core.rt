@@ -1,5 +1,5 @@
 //! The router: it takes events one by one, and answers what it sends.
-ghost use Rattle.std.specs.Prelude.{◌≡◌, ◌↔◌, IfOk, IsErrOf, OnErr, false, length};
+ghost use Rattle.std.specs.Prelude.{◌≡◌, ◌↔◌, IfOk, IsErrOf, OnErr, false, length, IsTrue};
 ghost use Rattle.std.specs.FinMap as finite;
 ghost use Rattle.events.specs.Commands.{is_for};
 ghost use Rattle.events.specs.Events.{Happens, initial};
@@ -7,6 +7,7 @@ ghost use Rattle.events.specs.Originations.{external_key};
 ghost use Rattle.events.specs.Refusals.{Answers};
 ghost use Rattle.events.specs.Routers.{in_profile, shown_at};
 ghost use Rattle.flood.specs.Early.{early_refusal};
+ghost use Rattle.flood.specs.Offers.{AreCandidatesNow, IsOffered, IsStaleNow, IsTableNow};
 ghost use Rattle.flood.specs.Occurrences.{occurrence_of};
 
 use crate::clash::is_announced;
@@ -15,12 +16,13 @@ use crate::profile::in_profile;
 use crate::start::begin;
 use crate::taking::{refuses, take};
 use adjacency::State;
+use area_routes::{Offered, candidates_of, is_stale_at, offered_at, table_of};
 use events::{Config, ConfigError, CoreError, Out};
 use lsdb::Lsdb;
 use router::Router;
 use std::alloc::{AllocError, Global};
 use std::marker::Model;
-use words::{Prefix, RouterId, Second};
+use words::{Prefix, Route, RouterId, Second};
 
 /// A router as one value. It has no clock, no socket and no lock: moments, bytes and answers are
 /// handed to it.
@@ -98,7 +100,7 @@ impl Core {
     {
         match take(&mut self.router, self.alloc, moment, event) {
             Ok(outs) => {
-                self.router.settle();
+                self.router.settle_at(self.alloc, moment);
                 Ok(outs)
             }
             Err(error) => {
@@ -120,7 +122,11 @@ impl Core {
     pub fn copy(&self) -> Result<Core, AllocError>
         ensures { IfOk result (λ copy. copy ≡ self.now) }
     {
-        Err(AllocError)
+        let router = self.router.copy(self.alloc)?;
+        Ok(Core {
+            alloc: self.alloc,
+            router,
+        })
     }
 
     /// The own Router ID.
@@ -163,6 +169,73 @@ impl Core {
         let place = usize::from(number).checked_sub(1)?;
         let link = self.router.area().links().get(place)?;
         link.neighbor()
+    }
+
+    /// The candidates for the routing table at the moment of the last event (RFC 2328, section 16).
+    ///
+    /// # Errors
+    /// Where memory for the walk, the offers or the routes is refused.
+    pub fn candidates(&self) -> Result<Vec<Route>, AllocError>
+        ensures { IfOk result (λ routes. AreCandidatesNow self.now routes.items) }
+    {
+        let router = &self.router;
+        let made = candidates_of(self.alloc, router.id(), router.area(), router.moment())?;
+        Ok(made)
+    }
+
+    /// The routing table: the candidates that the answers of the last Install let in.
+    ///
+    /// # Errors
+    /// Where memory for the candidates or the table is refused.
+    pub fn rows(&self) -> Result<Vec<Route>, AllocError>
+        ensures { IfOk result (λ table. IsTableNow self.now table.items) }
+    {
+        let router = &self.router;
+        let made = table_of(
+            self.alloc,
+            router.id(),
+            router.area(),
+            router.moment(),
+            router.answers(),
+        )?;
+        Ok(made)
+    }
+
+    /// The candidates, and the rows of the table as programs see them, of one walk.
+    ///
+    /// # Errors
+    /// Where memory for the candidates, the table or the rows is refused.
+    pub fn offered(&self) -> Result<Offered, AllocError>
+        ensures { IfOk result (λ o. IsOffered self.now o.candidates.items o.rows.items) }
+    {
+        let router = &self.router;
+        let made = offered_at(
+            self.alloc,
+            router.id(),
+            router.area(),
+            router.moment(),
+            router.answers(),
+        )?;
+        Ok(made)
+    }
+
+    /// Tells whether some candidate stands in none of the answers of the last Install, so that they are
+    /// to be asked for again.
+    ///
+    /// # Errors
+    /// Where memory for the candidates, or for answers in order, is refused.
+    pub fn stale(&self) -> Result<bool, AllocError>
+        ensures { IfOk result (λ b. IsTrue b ↔ IsStaleNow self.now) }
+    {
+        let router = &self.router;
+        let made = is_stale_at(
+            self.alloc,
+            router.id(),
+            router.area(),
+            router.moment(),
+            router.answers(),
+        )?;
+        Ok(made)
     }
 
     /// Tells whether the external destination of this prefix is announced, or is to be as soon as an

@@ -1,0 +1,21 @@
+-- The addresses of a router's links.
+use Rattle.std.proofs.Common.{◌≡◌, ℕ, ◌≤◌, List, [], ◌∷◌, length, map, refl, sym, ◌∙◌, ap, arith}
+use Rattle.std.proofs.lemmas.List.{length-map}
+use Rattle.adjacency.specs.Kept.{Kept}
+use Rattle.received.specs.Links.{Link}
+use Rattle.flooding.specs.Links.{present}
+use Rattle.routes.specs.declared.root.Root.{Root}
+use Rattle.area_routes.specs.Offers.{root_by}
+
+addresses_are : (links : List (Kept Link)) → map (λ (l : Kept Link). (present l).interface.address) links ≡ map (λ (l : Link). l.interface.address) (map present links)
+addresses_are [] = refl
+addresses_are (l ∷ links) = ap (λ rest. l.present.interface.address ∷ rest) (addresses_are links)
+
+pub root_is : (router : ℕ) (kept : List (Kept Link)) (links : List Link) (addresses : List ℕ) → map present kept ≡ links → addresses ≡ map (λ (l : Kept Link). (present l).interface.address) kept
+    → ◌≡◌ {A = Root} (record { router = router; addresses = addresses }) (root_by router links)
+root_is router kept links addresses shown is =
+    let same = is ∙ addresses_are kept ∙ ap (map (λ (l : Link). l.interface.address)) shown in
+    λ i. record { router = router; addresses = same i }
+
+pub few_addresses : (router : ℕ) (links : List Link) (root : Root) → root ≡ root_by router links → length links ≤ 63 → length root.addresses ≤ 63
+few_addresses router links root is few = omega (arith, few, ap (λ (r : Root). length r.addresses) is, length-map links (λ (l : Link). l.interface.address))

@@ -1,0 +1,20 @@
+use Rattle.std.proofs.Common.{◌∙◌, ap, subst, sym}
+use Rattle.std.specs.Prelude.{List}
+use Rattle.words.specs.declared.route.Route.{Route}
+use Rattle.area_routes.specs.Offers.{AreCandidatesOf, root_by}
+use Rattle.routes.specs.Said.{said_at}
+use Rattle.tables.specs.Rows.{rows_of}
+use Rattle.area_routes.proofs.offered_at.Goals as goal
+
+pub returns : goal.returns
+returns c =
+    let area = c.args.area.now.present in
+    let said = said_at c.args.moment area.database in
+    let root = root_by c.args.router area.links in
+    let are = subst (λ (xs : List Route). AreCandidatesOf c.args.router area c.args.moment xs) (sym c.deref.ensures.value) c.in_ok-candidates.ensures in
+    record {
+      are_candidates = c.in_ok-candidates.ensures;
+      table = c.in_ok-table.table.items;
+      is_table = c.in_ok-table.ensures said root are;
+      are_rows = c.in_ok-rows.ensures ∙ ap rows_of c.deref-2.ensures.value;
+    }

@@ -1,0 +1,41 @@
+-- What the links and the database of a router offer at a moment: candidates, and rows of its table.
+use Rattle.std.specs.Prelude.{◌≡◌, ℕ, List, map}
+use Rattle.words.specs.Numbers.{Moment, RouterNumber}
+use Rattle.words.specs.declared.route.Route.{Route}
+use Rattle.words.specs.declared.route.TableRow.{TableRow}
+use Rattle.received.specs.Links.{Area, Link}
+use Rattle.routes.specs.Candidates.{AreCandidates}
+use Rattle.routes.specs.Said.{Said, said_at}
+use Rattle.routes.specs.Tables.{Answers, IsStale, IsTable}
+use Rattle.routes.specs.declared.root.Root.{Root}
+use Rattle.tables.specs.Rows.{rows_of}
+
+-- where the router's walks begin
+abbrev pub root_by : RouterNumber → List Link → Root
+root_by router links = record {
+  router = router;
+  addresses = map (λ (link : Link). link.interface.address) links;
+}
+
+-- its candidates
+abbrev pub AreCandidatesOf : RouterNumber → Area → Moment → List Route → Type 0
+AreCandidatesOf router area moment candidates =
+    AreCandidates (said_at moment area.database) (root_by router area.links) candidates
+
+-- its table, of these answers
+abbrev pub IsTableOf : RouterNumber → Area → Moment → Answers → List Route → Type 0
+IsTableOf router area moment answers table =
+    IsTable (said_at moment area.database) (root_by router area.links) answers table
+
+-- its candidates, and beside them the rows of its table
+pub record AreOffered (router : RouterNumber) (area : Area) (moment : Moment) (answers : Answers)
+    (candidates : List Route) (rows : List TableRow) : Type 0 where
+  pub are_candidates : AreCandidatesOf router area moment candidates
+  pub table : List Route
+  pub is_table : IsTableOf router area moment answers table
+  pub are_rows : rows ≡ rows_of table
+
+-- some candidate stands in none of the answers
+abbrev pub IsStaleOf : RouterNumber → Area → Moment → Answers → Type 0
+IsStaleOf router area moment answers =
+    IsStale (said_at moment area.database) (root_by router area.links) answers

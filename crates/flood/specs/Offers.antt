@@ -1,0 +1,22 @@
+-- What a router offers at the moment of its last event: its candidates, and the rows of its table.
+use Rattle.std.specs.Prelude.{List}
+use Rattle.words.specs.declared.route.Route.{Route}
+use Rattle.words.specs.declared.route.TableRow.{TableRow}
+use Rattle.events.specs.Routers.{Router}
+use Rattle.area_routes.specs.Offers.{AreCandidatesOf, AreOffered, IsStaleOf, IsTableOf}
+
+-- its candidates at the moment of its last event
+abbrev pub AreCandidatesNow : Router → List Route → Type 0
+AreCandidatesNow r candidates = AreCandidatesOf r.id r.area r.moment candidates
+
+-- its table
+abbrev pub IsTableNow : Router → List Route → Type 0
+IsTableNow r table = IsTableOf r.id r.area r.moment r.answers table
+
+-- its candidates, and beside them the rows of its table
+abbrev pub IsOffered : Router → List Route → List TableRow → Type 0
+IsOffered r candidates rows = AreOffered r.id r.area r.moment r.answers candidates rows
+
+-- a candidate stands in none of the answers of the last Install
+abbrev pub IsStaleNow : Router → Type 0
+IsStaleNow r = IsStaleOf r.id r.area r.moment r.answers
