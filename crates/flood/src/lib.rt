@@ -7,6 +7,7 @@
 
 mod clash;
 mod event;
+pub mod laws;
 mod making;
 mod part;
 mod profile;

@@ -33,7 +33,7 @@ pub struct Core {
 }
 
 impl Model for Core {
-    ghost use Rattle.std.specs.Prelude.{◌≡◌, ℕ};
+    ghost use Rattle.std.specs.Prelude.{◌≡◌, ℕ, false};
     ghost use Rattle.std.specs.Coded.{codes};
     ghost use Rattle.std.specs.FinMap as finite;
     ghost use Rattle.words.specs.declared.route.External.{External};
@@ -41,6 +41,7 @@ impl Model for Core {
     ghost use Rattle.lsdb.specs.Keys.{coded_key, key_cmp};
     ghost use Rattle.adjacency.specs.Codes.{coded_headers, coded_keys, coded_lists};
     ghost use Rattle.event_rooms.specs.RoomLaws.{IsRoomy};
+    ghost use Rattle.events.specs.Refusals.{exceeds};
     ghost use Rattle.events.specs.Routers.{Router as Shown};
 
     ghost Value = { Shown };
@@ -57,10 +58,12 @@ impl Model for Core {
 
     ghost view = { λ a. a.router.present };
 
-    // Between events nothing is to be taken back, and all that may be sent has room in packets.
+    // Between events nothing is to be taken back, all that may be sent has room in packets, and no
+    // limit is passed.
     ghost invariant = { λ a.
         (a.router.settled ≡ a.router.present)
-        × IsRoomy a.router.present };
+        × IsRoomy a.router.present
+        × (exceeds a.router.present ≡ false) };
 }
 
 impl Core {

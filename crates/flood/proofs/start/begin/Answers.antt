@@ -7,9 +7,11 @@ use Rattle.flood.proofs.Starting.{few_links, fresh_links, started}
 use Rattle.flood.proofs.start.begin.Goals as goal
 
 pub new-router-requires : goal.new-router-requires
-new-router-requires c =
-    few_links c.args.config.now c.in_ok-links.links.items c.requires
-    (ap (λ ls. map present ls) c.in_ok-links.ensures ∙ ap (λ is. map present (map fresh_kept is)) c.as_slice.ensures ∙ fresh_links c.args.config.now.interfaces)
+new-router-requires c = record {
+  few =
+      few_links c.args.config.now c.in_ok-links.links.items c.requires
+      (ap (λ ls. map present ls) c.in_ok-links.ensures ∙ ap (λ is. map present (map fresh_kept is)) c.as_slice.ensures ∙ fresh_links c.args.config.now.interfaces);
+}
 
 pub returns : goal.returns
 returns c =

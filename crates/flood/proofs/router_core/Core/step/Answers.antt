@@ -1,13 +1,15 @@
 use Rattle.std.proofs.Common.{◌≡◌, sym, ap, ◌∙◌, subst}
 use Rattle.event_rooms.specs.RoomLaws.{IsRoomy}
+use Rattle.events.specs.Refusals.{exceeds}
 use Rattle.flood.specs.Occurrences.{occurrence_of}
 use Rattle.flood.proofs.Happening.{stays_roomy}
 use Rattle.flood.proofs.router_core.Core.step.Goals as goal
 
 pub invariant_of-self : goal.invariant_of-self
 invariant_of-self c =
-    let is = ap (λ k. k.present) c.settle.ensures in (
-      ap (λ k. k.settled) c.settle.ensures ∙ sym is,
+    let is = ap (λ k. k.present) c.settle_at.ensures in (
+      ap (λ k. k.settled) c.settle_at.ensures ∙ sym is,
       subst IsRoomy (sym is)
           (stays_roomy c.self.inside.router.present c.args.moment (occurrence_of c.args.event.now) c.in-Ok.outs.items c.take.new.router.present c.in-Ok.ensures.ok c.self.invariant.1),
+      ap exceeds is ∙ c.in-Ok.ensures.limit,
     )
