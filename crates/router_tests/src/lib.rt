@@ -1,10 +1,8 @@
-//! Tests of `lsdb`, `adjacency`, `routes` and `flood` by their public calls. They stand above, since a crate is proved once more for its tests.
+//! Tests of `lsdb`, `adjacency` and `routes` by their public calls. They stand above, since a crate is proved once more for its tests.
 #![tactic(auto)]
 
 #[cfg(test)]
 mod databases;
-#[cfg(test)]
-mod hello_protocol;
 #[cfg(test)]
 mod instances;
 #[cfg(test)]

@@ -61,7 +61,7 @@ fn of_two_faults_the_earlier_is_told(rt: HostRuntime) -> Result<(), Fail> {
 
 #[test]
 fn the_clock_comes_before_the_interface_and_the_packet(rt: HostRuntime) -> Result<(), Fail> {
-    let mut core = Core::new(rt.alloc(), configured(rt.alloc(), 5)?)?;
+    let mut core = Core::new(rt.alloc(), &configured(rt.alloc(), 5)?)?;
     for interface in [0, 2, 65535] {
         let event = packet(rt.alloc(), interface, packets::SUMMED)?;
         assert!(rt; matches!(stepped(&mut core, 4, &event), Err(CoreError::ClockBack)));

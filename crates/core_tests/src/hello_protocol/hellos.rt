@@ -62,12 +62,22 @@ fn other_hellos_are_discarded(rt: HostRuntime) -> Result<(), Fail> {
         assert_eq!(rt; sent(&mut core, 0, &event)?, 0);
         assert_eq!(rt; core.neighbor(1), None);
     }
-    for bytes in [packets::NAMING, packets::OTHER_MASK, packets::ALL_OPTIONS] {
+    for bytes in [packets::OTHER_MASK, packets::ALL_OPTIONS] {
         let mut core = started(rt.alloc())?;
         let event = packet(rt.alloc(), 1, bytes)?;
         assert_eq!(rt; sent(&mut core, 0, &event)?, 0);
         assert_eq!(rt; core.neighbor(1), Some((peer(), State::Init)));
     }
+    Ok(())
+}
+
+#[test]
+fn who_names_the_router_is_described_to(rt: HostRuntime) -> Result<(), Fail> {
+    let mut core = started(rt.alloc())?;
+    let naming = packet(rt.alloc(), 1, packets::NAMING)?;
+    assert_eq!(rt; sent(&mut core, 7, &naming)?, 1);
+    assert_eq!(rt; core.neighbor(1), Some((peer(), State::ExStart)));
+    assert_eq!(rt; sent(&mut core, 7, &naming)?, 0);
     Ok(())
 }
 
@@ -101,7 +111,7 @@ fn sixty_three_interfaces_greet_in_order(rt: HostRuntime) -> Result<(), Fail> {
         start: Second::new(0),
         interfaces: Sequence::from_vec(interfaces),
     };
-    let mut core = Core::new(rt.alloc(), config)?;
+    let mut core = Core::new(rt.alloc(), &config)?;
     let last_heard = packet(rt.alloc(), 63, packets::HEARD)?;
     assert_eq!(rt; sent(&mut core, 0, &last_heard)?, 0);
     for (moment, sent) in [(0, 63), (9, 0), (10, 63), (19, 0), (20, 63)] {

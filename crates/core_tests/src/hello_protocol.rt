@@ -46,7 +46,8 @@ fn configured(alloc: Global, start: u64) -> Result<Config, AllocError> {
 }
 
 fn started(alloc: Global) -> Result<Core, Fail> {
-    Ok(Core::new(alloc, configured(alloc, 0)?)?)
+    let config = configured(alloc, 0)?;
+    Ok(Core::new(alloc, &config)?)
 }
 
 // The event's answer. An allocation may be refused once, as a run of the tests with a refusal makes it: then the router is as it was.
