@@ -10,10 +10,10 @@ use std::alloc::{AllocError, Global};
 use std::test::Fail;
 use words::{Address, Key, LinkStateId, RouterId, Second, Sequence, SequenceNumber};
 
-// The interface of this number of a router: 10.0.<number>.<router>/24.
+// The interface of this number of a router below 256: 10.0.<number>.<router>/24.
 fn interface(router: u32, number: u32) -> Interface {
     Interface {
-        address: Address::new(0x0a00_0000 + (number << 8) + router),
+        address: Address::new(0x0a00_0000 | (number << 8) | router),
         length: 24,
         cost: 10,
         hello_interval: 10,
@@ -26,8 +26,8 @@ fn interface(router: u32, number: u32) -> Interface {
 // The router of this ID with so many interfaces, started at 0.
 fn started(alloc: Global, router: u32, interfaces: u32) -> Result<Core, Fail> {
     let mut taken = Vec::new(alloc);
-    for number in 1..=interfaces {
-        taken.push(interface(router, number))?;
+    for number in 0..interfaces {
+        taken.push(interface(router, number + 1))?;
     }
     let config = Config {
         router: RouterId::new(router),

@@ -1,5 +1,10 @@
 //! Three routers in a row.
+ghost use Rattle.std.specs.Prelude.{◌<◌};
+
 use super::*;
+
+// One event leads to fewer packets than this.
+const MOST_PACKETS: usize = 10_000;
 
 // Three routers: the first interface of the middle one leads to the first, its second to the last.
 #[derive(Drop)]
@@ -8,7 +13,9 @@ struct Line {
 }
 
 // The place and the interface at the other end of an interface.
-fn other_end(place: usize, interface: u16) -> (usize, u16) {
+fn other_end(place: usize, interface: u16) -> (usize, u16)
+    ensures { result.0 < 3 }
+{
     if place == 0 {
         return (1, 1);
     }
@@ -41,7 +48,10 @@ impl Line {
         for out in outs {
             under_way.push((place, out))?;
         }
-        while let Some((from, out)) = under_way.pop() {
+        for _packet in 0..MOST_PACKETS {
+            let Some((from, out)) = under_way.pop() else {
+                break;
+            };
             let (to, interface) = other_end(from, out.interface);
             let event = coming(alloc, interface, &out)?;
             for next in stepped(&mut self.routers[to], moment, &event)? {

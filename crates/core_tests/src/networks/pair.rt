@@ -1,4 +1,6 @@
 //! Two routers on one link.
+ghost use Rattle.std.specs.Prelude.{◌≤◌};
+
 use super::*;
 use crate::operator::Operator;
 use words::{External, ExternalType, Prefix};
@@ -35,7 +37,9 @@ impl Pair {
     }
 
     // The router at this place takes the event; what it sends is on the way to the other.
-    fn take(&mut self, place: usize, moment: u64, event: &Event) -> Result<(), Fail> {
+    fn take(&mut self, place: usize, moment: u64, event: &Event) -> Result<(), Fail>
+        requires { place ≤ 1 }
+    {
         for out in stepped(&mut self.routers[place], moment, event)? {
             self.coming[1 - place].push(out)?;
         }
@@ -51,7 +55,11 @@ impl Pair {
         moment: u64,
         lost: usize,
         repeated: usize,
-    ) -> Result<(), Fail> {
+    ) -> Result<(), Fail>
+        requires place { place ≤ 1 }
+        requires lost { 1 ≤ lost }
+        requires repeated { 1 ≤ repeated }
+    {
         let packets = std::mem::replace(&mut self.coming[place], Vec::new(alloc));
         for (i, out) in packets.iter().enumerate() {
             if i % lost == lost - 1 {
@@ -73,7 +81,10 @@ impl Pair {
         moment: u64,
         lost: usize,
         repeated: usize,
-    ) -> Result<(), Fail> {
+    ) -> Result<(), Fail>
+        requires lost { 1 ≤ lost }
+        requires repeated { 1 ≤ repeated }
+    {
         self.take(0, moment, &Event::Tick)?;
         self.take(1, moment, &Event::Tick)?;
         for _round in 0..8 {
