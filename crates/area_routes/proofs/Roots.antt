@@ -1,11 +1,21 @@
 -- The addresses of a router's links.
-use Rattle.std.proofs.Common.{◌≡◌, ℕ, ◌≤◌, List, [], ◌∷◌, length, map, refl, sym, ◌∙◌, ap, arith}
-use Rattle.std.proofs.lemmas.List.{length-map}
+use Rattle.std.proofs.Common.{◌≡◌, ℕ, ◌+◌, ◌<◌, ◌≤◌, List, [], ◌∷◌, ◌++◌, length, get_or, take, map, refl, sym, ◌∙◌, ap, arith}
+use Rattle.std.proofs.lemmas.List.{length-map, take_more}
 use Rattle.adjacency.specs.Kept.{Kept}
 use Rattle.received.specs.Links.{Link}
 use Rattle.flooding.specs.Links.{present}
 use Rattle.routes.specs.declared.root.Root.{Root}
 use Rattle.area_routes.specs.Offers.{root_by}
+
+module _ {A B : Type 0} (f : A → B) where
+  map_push : (xs : List A) (y : A) → map f (xs ++ y ∷ []) ≡ map f xs ++ f y ∷ []
+  map_push [] y = refl
+  map_push (x ∷ xs) y = ap (λ rest. f x ∷ rest) (map_push xs y)
+
+  -- one more element of the first so many
+  pub mapped_more : (xs : List A) (n : ℕ) (x : A) → n < length xs → x ≡ get_or xs n x → map f (take (n + 1) xs) ≡ map f (take n xs) ++ f x ∷ []
+  mapped_more xs n x within is =
+      ap (map f) (take_more xs n x within ∙ ap (λ y. take n xs ++ y ∷ []) (sym is)) ∙ map_push (take n xs) x
 
 addresses_are : (links : List (Kept Link)) → map (λ (l : Kept Link). (present l).interface.address) links ≡ map (λ (l : Link). l.interface.address) (map present links)
 addresses_are [] = refl

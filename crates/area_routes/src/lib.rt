@@ -30,7 +30,11 @@ fn addresses_of(alloc: Global, links: &[Link]) -> Result<Vec<Address>, AllocErro
     ensures { IfOk result (λ addresses.
         addresses.items ≡ map (λ link. (present link).interface.address) links.now) }
 {
-    links.iter().map(address_of).collect(alloc)
+    let mut addresses = Vec::new(alloc);
+    for link in links {
+        addresses.push(address_of(link))?;
+    }
+    Ok(addresses)
 }
 
 // Where the router's walks begin.

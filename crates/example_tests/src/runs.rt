@@ -96,6 +96,24 @@ pub fn answers(
     Ok(())
 }
 
+/// Runs the example so often on a context with these bytes, at the seat, and tells whether each run ends.
+fn do_all_end(
+    example: &Example,
+    bytes: &[(usize, u8)],
+    shared: &Shared,
+    seat: &mut Seat,
+    times: u32,
+) -> bool
+    requires { IsOf shared.now seat.old }
+    ensures { IsOf shared.now seat.new }
+{
+    let mut all_end = true;
+    for _run in 0..times {
+        all_end = answer_of(example, bytes, shared, seat).is_some() && all_end;
+    }
+    all_end
+}
+
 /// The example is accepted, and so many runs on a context with these bytes leave this in the counter.
 pub fn counts(
     rt: &impl Abort,
@@ -110,10 +128,7 @@ pub fn counts(
     let example = accepted(rt, alloc, text)?;
     let (shared, mut seats) = table(alloc)?;
     let mut seat = seats.pop().ok_or("no seat")?;
-    let mut all_end = true;
-    for _run in 0..times {
-        all_end = answer_of(&example, bytes, &shared, &mut seat).is_some() && all_end;
-    }
+    let all_end = do_all_end(&example, bytes, &shared, &mut seat, times);
     assert!(rt; all_end, "{bytes:?}");
     let counted = shared.read(&mut seat, counter.0);
     assert!(rt; counted == counter.1, "{bytes:?}: {counted}");

@@ -1,5 +1,4 @@
-use Rattle.std.proofs.Common.{◌≡◌, ◌<◌, List, [], ◌∷◌, ◌++◌, length, ◌∙◌, arith}
-use Rattle.hooks.specs.Questions.{RouteAnswer}
+use Rattle.std.proofs.Common.{◌≡◌, ◌<◌, [], ◌∷◌, ◌++◌, length, ◌∙◌, arith}
 use Rattle.worker.proofs.Vetoes.{one_more}
 use Rattle.worker.proofs.questions.vetoes.Goals as goal
 

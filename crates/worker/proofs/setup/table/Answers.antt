@@ -1,4 +1,4 @@
-use Rattle.std.proofs.Common.{◌≡◌, arith, vec_len}
+use Rattle.std.proofs.Common.{arith}
 use Rattle.worker.proofs.FreshSeats.{are_seated, are_so_many}
 use Rattle.worker.proofs.setup.table.Goals as goal
 
