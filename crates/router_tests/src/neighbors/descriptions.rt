@@ -56,7 +56,11 @@ fn with_a_router_lsa() -> [Row; 6] {
         as_slave(2, described, answers(State::Loading, 8, 0, false)),
         (2, Happening::NextRequest, asks(1)),
         as_slave(2, described, answers(State::Loading, 8, 0, false)),
-        as_slave(2, from_master(10, false), answers(State::ExStart, 1, 0, true)),
+        as_slave(
+            2,
+            from_master(10, false),
+            answers(State::ExStart, 1, 0, true),
+        ),
     ]
 }
 
