@@ -4,6 +4,4 @@
 #[cfg(test)]
 mod answers;
 #[cfg(test)]
-mod commands;
-#[cfg(test)]
 mod configurations;
