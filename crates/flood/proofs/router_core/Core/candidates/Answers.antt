@@ -10,11 +10,11 @@ use Rattle.routes.specs.Tables.{Answers}
 use Rattle.flood.proofs.Offering.{of_router}
 use Rattle.flood.proofs.router_core.Core.candidates.Goals as goal
 
-pub candidates_of-made-requires-clause-few : goal.candidates_of-made-requires-clause-few
-candidates_of-made-requires-clause-few c = subst (λ (a : RouterArea). length a.present.links ≤ 63) (sym c.area.ensures.parts) c.area.ensures.few
+pub candidates_of-requires-clause-few : goal.candidates_of-requires-clause-few
+candidates_of-requires-clause-few c = subst (λ (a : RouterArea). length a.present.links ≤ 63) (sym c.area.ensures.parts) c.area.ensures.few
 
-pub candidates_of-made-requires-clause-size : goal.candidates_of-made-requires-clause-size
-candidates_of-made-requires-clause-size c =
+pub candidates_of-requires-clause-size : goal.candidates_of-requires-clause-size
+candidates_of-requires-clause-size c =
     subst (λ (a : RouterArea). finite.len a.present.database ≤ 16384) (sym c.area.ensures.parts)
     (within c.self.inside.router.present.id c.self.inside.router.present.area.database c.self.invariant.2)
 

@@ -10,11 +10,11 @@ use Rattle.routes.specs.Tables.{Answers}
 use Rattle.flood.proofs.Offering.{of_router}
 use Rattle.flood.proofs.router_core.Core.offered.Goals as goal
 
-pub offered_at-made-requires-clause-few : goal.offered_at-made-requires-clause-few
-offered_at-made-requires-clause-few c = subst (λ (a : RouterArea). length a.present.links ≤ 63) (sym c.area.ensures.parts) c.area.ensures.few
+pub offered_at-requires-clause-few : goal.offered_at-requires-clause-few
+offered_at-requires-clause-few c = subst (λ (a : RouterArea). length a.present.links ≤ 63) (sym c.area.ensures.parts) c.area.ensures.few
 
-pub offered_at-made-requires-clause-size : goal.offered_at-made-requires-clause-size
-offered_at-made-requires-clause-size c =
+pub offered_at-requires-clause-size : goal.offered_at-requires-clause-size
+offered_at-requires-clause-size c =
     subst (λ (a : RouterArea). finite.len a.present.database ≤ 16384) (sym c.area.ensures.parts)
     (within c.self.inside.router.present.id c.self.inside.router.present.area.database c.self.invariant.2)
 

@@ -10,11 +10,11 @@ use Rattle.routes.specs.Tables.{Answers}
 use Rattle.flood.proofs.Offering.{of_router}
 use Rattle.flood.proofs.router_core.Core.rows.Goals as goal
 
-pub table_of-made-requires-clause-few : goal.table_of-made-requires-clause-few
-table_of-made-requires-clause-few c = subst (λ (a : RouterArea). length a.present.links ≤ 63) (sym c.area.ensures.parts) c.area.ensures.few
+pub table_of-requires-clause-few : goal.table_of-requires-clause-few
+table_of-requires-clause-few c = subst (λ (a : RouterArea). length a.present.links ≤ 63) (sym c.area.ensures.parts) c.area.ensures.few
 
-pub table_of-made-requires-clause-size : goal.table_of-made-requires-clause-size
-table_of-made-requires-clause-size c =
+pub table_of-requires-clause-size : goal.table_of-requires-clause-size
+table_of-requires-clause-size c =
     subst (λ (a : RouterArea). finite.len a.present.database ≤ 16384) (sym c.area.ensures.parts)
     (within c.self.inside.router.present.id c.self.inside.router.present.area.database c.self.invariant.2)
 

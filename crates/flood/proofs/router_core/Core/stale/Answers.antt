@@ -10,11 +10,11 @@ use Rattle.routes.specs.Tables.{Answers}
 use Rattle.flood.proofs.Offering.{of_router}
 use Rattle.flood.proofs.router_core.Core.stale.Goals as goal
 
-pub is_stale_at-made-requires-clause-few : goal.is_stale_at-made-requires-clause-few
-is_stale_at-made-requires-clause-few c = subst (λ (a : RouterArea). length a.present.links ≤ 63) (sym c.area.ensures.parts) c.area.ensures.few
+pub is_stale_at-requires-clause-few : goal.is_stale_at-requires-clause-few
+is_stale_at-requires-clause-few c = subst (λ (a : RouterArea). length a.present.links ≤ 63) (sym c.area.ensures.parts) c.area.ensures.few
 
-pub is_stale_at-made-requires-clause-size : goal.is_stale_at-made-requires-clause-size
-is_stale_at-made-requires-clause-size c =
+pub is_stale_at-requires-clause-size : goal.is_stale_at-requires-clause-size
+is_stale_at-requires-clause-size c =
     subst (λ (a : RouterArea). finite.len a.present.database ≤ 16384) (sym c.area.ensures.parts)
     (within c.self.inside.router.present.id c.self.inside.router.present.area.database c.self.invariant.2)
 
