@@ -1,3 +1,0 @@
-pub mod Replay
-pub mod Refusals
-pub mod Numbers

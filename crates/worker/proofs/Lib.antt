@@ -1,3 +1,0 @@
-mod FromSome
-mod FreshSeats
-mod Vetoes

@@ -1,3 +1,0 @@
-pub mod Turns
-pub mod Opening
-pub mod Numbers
