@@ -138,3 +138,23 @@ leaves_none bytes rest slots leaves none is each e = go (leaves is each e)
 
 pub spells_long : (bytes : List ℕ) (code : List Slot) → Spells bytes code → length bytes ≡ 8 * length code
 spells_long bytes code h = rw (h.spelled.bytes_are, h.spelled.slots_are) (length-spelled h.spelled.instructions)
+
+-- so many slots were read of the front
+pub record HasRead (bytes rest : List ℕ) (count : ℕ) : Type 0 where
+  pub slots : List Slot
+  pub counted : length slots ≡ count
+  pub reads : Reads bytes rest slots
+  pub leaves : Leaves bytes rest slots
+
+pub has_read_more : (bytes rest : List ℕ) (count : ℕ) (i : Instruction) (m taken : ℕ) → HasRead bytes rest count → 1 ≤ length rest → IsInstruction i
+    → bytes_of i ≡ take (length (bytes_of i)) rest
+    → ((k : Instruction) → IsInstruction k → bytes_of k ≡ take (length (bytes_of k)) rest → i ≡ k)
+    → taken ≡ length (slots_of i) → m ≡ 8 * taken → HasRead bytes (drop m rest) (count + taken)
+has_read_more bytes rest count i m taken h some is found only slots step =
+    let long = length-append h.slots (slots_of i) in
+    let more : m ≡ 8 * (length (h.slots ++ slots_of i) - length h.slots) = omega (arith, step, slots, long) in record {
+      slots = h.slots ++ slots_of i;
+      counted = omega (arith, long, h.counted, slots);
+      reads = reads_more bytes rest h.slots (h.slots ++ slots_of i) i m h.reads is found refl more;
+      leaves = leaves_more bytes rest h.slots (h.slots ++ slots_of i) i m h.leaves some only refl more;
+    }

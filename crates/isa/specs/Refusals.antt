@@ -4,7 +4,7 @@ use Rattle.isa.specs.declared.decoding.DecodeFault.{DecodeFault}
 use Rattle.isa.specs.declared.decoding.DecodeFault.TheVariants as faults
 use Rattle.isa.specs.declared.instruction.Instruction.{Instruction}
 use Rattle.isa.specs.Code.{IsInstruction, is_wide}
-use Rattle.isa.specs.Spelling.{fields_of, bytes_of_fields, bytes_of, SpellsSlots}
+use Rattle.isa.specs.Spelling.{fields_of, bytes_of_fields, bytes_of, SpellsSlots, Spells}
 use Rattle.isa.specs.declared.code.Slot.{Slot}
 
 -- the numbers that users see
@@ -64,9 +64,9 @@ pub record FailsAt (bytes : List ℕ) (slot : ℕ) (fault : DecodeFault) : Type 
   pub some : 1 ≤ length rest
   pub fails : Fails rest fault
 
--- Why bytes aren't code, and at which slot. Memory is asked for only where the length is right.
+-- Why bytes aren't code, and at which slot. Want of memory is told only of bytes that spell code.
 abbrev pub Refuses : List ℕ → ℕ → DecodeFault → Type 0
 Refuses bytes slot faults.Length = (slot ≡ 0) × ((length bytes ≡ 0) ⊎ (length bytes % 8 ≢ 0))
 Refuses bytes slot faults.TooLong = (slot ≡ 0) × (length bytes % 8 ≡ 0) × (4096 < length bytes / 8)
-Refuses bytes slot faults.Memory = (slot ≡ 0) × AreSlots bytes
+Refuses bytes slot faults.Memory = (slot ≡ 0) × ((code : List Slot) × Spells bytes code)
 Refuses bytes slot fault = AreSlots bytes × FailsAt bytes slot fault

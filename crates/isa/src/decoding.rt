@@ -148,7 +148,7 @@ pub fn decode(alloc: Global, bytes: &[u8]) -> Result<Code, DecodeError>
     ensures found { IfOk result (λ code. Spells bytes.now code) }
     // What is spelled so is read, unless memory runs out.
     ensures only { (code : List Slot) → Spells bytes.now code → MatchResult result (λ found. found ≡ code) (λ e. e.kind ≡ DecodeFault.Memory) }
-    // Which fault it is, and where.
+    // Which fault it is, and where; memory ran out only where the bytes spell code.
     ensures why { IfErr result (λ e. Refuses bytes.now e.slot e.kind) }
 {
     if bytes.is_empty() || bytes.len() % 8 != 0 {
@@ -166,6 +166,30 @@ pub fn decode(alloc: Global, bytes: &[u8]) -> Result<Code, DecodeError>
     Ok(Code::new(slots_of(alloc, bytes)?))
 }
 
+/// What is told of the bytes where memory ran out: the first fault, and want of memory only where there is none.
+fn want_of_memory(bytes: &[u8]) -> DecodeError
+    requires { AreSlots bytes.now }
+    ensures only { (is : List Instruction) → AllByRecursion IsInstruction is → bytes.now ≡ flat_map bytes_of is → result.kind ≡ DecodeFault.Memory }
+    ensures why { Refuses bytes.now result.slot result.kind }
+{
+    let mut slot = 0;
+    let mut rest = bytes;
+    while !rest.is_empty() {
+        let instruction = match first_instruction(rest) {
+            Ok(instruction) => instruction,
+            Err(kind) => return DecodeError { slot, kind },
+        };
+        let taken = if instruction.is_wide() { 2 } else { 1 };
+        let (_, after) = rest.split_at(8 * taken);
+        rest = after;
+        slot += taken;
+    }
+    DecodeError {
+        slot: 0,
+        kind: DecodeFault::Memory,
+    }
+}
+
 /// The slots of the instructions that the bytes spell.
 fn slots_of(alloc: Global, bytes: &[u8]) -> Result<Vec<Slot>, DecodeError>
     requires { AreSlots bytes.now }
@@ -173,7 +197,9 @@ fn slots_of(alloc: Global, bytes: &[u8]) -> Result<Vec<Slot>, DecodeError>
     ensures only { (is : List Instruction) → AllByRecursion IsInstruction is → bytes.now ≡ flat_map bytes_of is → MatchResult result (λ slots. slots.items ≡ flat_map slots_of is) (λ e. e.kind ≡ DecodeFault.Memory) }
     ensures why { IfErr result (λ e. Refuses bytes.now e.slot e.kind) }
 {
-    let mut slots = room_for(alloc, bytes.len() / 8)?;
+    let Ok(mut slots) = Vec::with_capacity(alloc, bytes.len() / 8) else {
+        return Err(want_of_memory(bytes));
+    };
     let mut rest = bytes;
     while !rest.is_empty() {
         let slot = slots.len();
@@ -182,24 +208,10 @@ fn slots_of(alloc: Global, bytes: &[u8]) -> Result<Vec<Slot>, DecodeError>
             Err(kind) => return Err(DecodeError { slot, kind }),
         };
         let Ok(()) = push_slots(&mut slots, instruction) else {
-            return Err(DecodeError {
-                slot: 0,
-                kind: DecodeFault::Memory,
-            });
+            return Err(want_of_memory(bytes));
         };
         let (_, after) = rest.split_at(8 * (slots.len() - slot));
         rest = after;
     }
     Ok(slots)
-}
-
-/// No slots yet, with room for this many.
-fn room_for(alloc: Global, slots: usize) -> Result<Vec<Slot>, DecodeError>
-    ensures empty { IfOk result (λ room. room.items ≡ []) }
-    ensures memory { IfErr result (λ e. (e.slot ≡ 0) × (e.kind ≡ DecodeFault.Memory)) }
-{
-    Vec::with_capacity(alloc, slots).map_err(|_| DecodeError {
-        slot: 0,
-        kind: DecodeFault::Memory,
-    })
 }

@@ -46,6 +46,7 @@ impl Shared {
     pub fn new(alloc: Global, count: usize) -> Result<(Shared, Vec<Seat>), MapsError>
         ensures seats { (result ≡ Err MapsError.Seats) ↔ ((count ≡ 0) ⊎ (64 < count)) }
         ensures table { IfOk result (λ r. r.0.seats ≡ count) }
+        ensures own { IfOk result (λ r. All (IsOf r.0) r.1.items) }
         ensures fresh { IfOk result (λ r. r.1.items ≡ map (fresh r.0.table) (range_with_len 0 count)) }
     {
         if count == 0 || count > SEATS {

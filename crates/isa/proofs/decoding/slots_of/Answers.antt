@@ -11,9 +11,9 @@ loop-rest-preserved c =
     let was = c.loop-rest.slots.ok.0 in
     let some : 1 ≤ length c.loop-rest.rest.now = omega (arith, eqb-false _ 0 (sym c.loop-rest-test.ensures)) in
     record {
-      reads = rw c.split_at.ensures.back (reads_more _ _ _ _ c.in-Ok.instruction _ c.loop-rest.invariant.reads c.in-Ok.ensures.found.0 c.in-Ok.ensures.found.1 grown (omega arith));
+      reads = rw c.split_at.ensures.back (reads_more _ _ _ _ c.in-Ok-first_instruction.instruction _ c.loop-rest.invariant.reads c.in-Ok-first_instruction.ensures.found.0 c.in-Ok-first_instruction.ensures.found.1 grown (omega arith));
       whole = c.loop-rest.invariant.whole;
-      leaves = rw c.split_at.ensures.back (leaves_more _ _ _ _ c.in-Ok.instruction _ c.loop-rest.invariant.leaves some (λ k is front. let e = c.in-Ok.ensures.only k is front in cc e) grown (omega arith));
+      leaves = rw c.split_at.ensures.back (leaves_more _ _ _ _ c.in-Ok-first_instruction.instruction _ c.loop-rest.invariant.leaves some (λ k is front. let e = c.in-Ok-first_instruction.ensures.only k is front in cc e) grown (omega arith));
     }
 
 pub returns-in-Err-clause-only : goal.returns-in-Err-clause-only
