@@ -9,7 +9,7 @@ use Rattle.adjacency.specs.Kept.{Kept}
 use Rattle.adjacency.specs.Neighbors.{Neighbor, fresh}
 use Rattle.adjacency.specs.declared.state.State.TheVariants.{Init, ExStart, Exchange, Loading, Full}
 use Rattle.adjacency.specs.declared.state.State.{State}
-use Rattle.adjacency.specs.Adjacencies.{after_hello, two_way_received}
+use Rattle.adjacency.specs.Adjacencies.{after_hello}
 use Rattle.adjacency.specs.Contents.{Step}
 use Rattle.adjacency.specs.declared.standing.Standing.{Standing}
 
@@ -86,7 +86,7 @@ started_standing moment router number last_heard = record {
 
 -- what a Hello makes of a neighbor in Init
 unfoldable pub begun : ℕ → ℕ → Option ℕ → Bool → Step
-begun moment router dd_sequence_start names = after_hello two_way_received moment router names (Some (fresh router dd_sequence_start moment))
+begun moment router dd_sequence_start names = after_hello moment router names (Some (fresh router dd_sequence_start moment))
 
 -- a Hello that doesn't name this router, or the first that does, begins anew
 abbrev pub begins : State → Bool → Bool
