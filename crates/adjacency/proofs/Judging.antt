@@ -137,7 +137,7 @@ module _ (own moment : ℕ) (db : Database) (d : Description) where
   abbrev whole : Neighbor → Step
   whole n = then_ (two_way_received moment n) (judging own moment db d)
 
-  in_its_state : (n : Neighbor) (s : State) → n.state ≡ s → whole n ≡ in_state two_way_received s own moment db d n
+  in_its_state : (n : Neighbor) (s : State) → n.state ≡ s → whole n ≡ in_state s own moment db d n
   unfolding judging
   in_its_state n Init is = refl
   in_its_state n ExStart is = ap (λ t. then_ (two_way_received_in t moment n) (judge own moment db d)) is
@@ -145,11 +145,11 @@ module _ (own moment : ℕ) (db : Database) (d : Description) where
   in_its_state n Loading is = ap (λ t. then_ (two_way_received_in t moment n) (judge own moment db d)) is
   in_its_state n Full is = ap (λ t. then_ (two_way_received_in t moment n) (judge own moment db d)) is
 
-  fits : (n : Neighbor) → nat_lt 8192 d.mtu ≡ false → whole n ≡ after_description two_way_received own moment db d n
-  fits n is = in_its_state n n.state refl ∙ sym (ap (λ b. cond b (no_sends n) (in_state two_way_received n.state own moment db d n)) is)
+  fits : (n : Neighbor) → nat_lt 8192 d.mtu ≡ false → whole n ≡ after_description own moment db d n
+  fits n is = in_its_state n n.state refl ∙ sym (ap (λ b. cond b (no_sends n) (in_state n.state own moment db d n)) is)
 
-  is_discarded : (n : Neighbor) → nat_lt 8192 d.mtu ≡ true → no_sends n ≡ after_description two_way_received own moment db d n
-  is_discarded n is = sym (ap (λ b. cond b (no_sends n) (in_state two_way_received n.state own moment db d n)) is)
+  is_discarded : (n : Neighbor) → nat_lt 8192 d.mtu ≡ true → no_sends n ≡ after_description own moment db d n
+  is_discarded n is = sym (ap (λ b. cond b (no_sends n) (in_state n.state own moment db d n)) is)
 
   joined_on : (o : Option Neighbor) → step_on (judging own moment db d) (step_on (two_way_received moment) o) ≡ step_on whole o
   joined_on None = refl
@@ -160,17 +160,17 @@ module _ (own moment : ℕ) (db : Database) (d : Description) where
   joined_sent (Some n) = refl
 
   module _ (o : Option Neighbor) where
-    pub discarded_on : nat_lt 8192 d.mtu ≡ true → o ≡ step_on (after_description two_way_received own moment db d) o
-    discarded_on is = stays o ∙ same_step no_sends (after_description two_way_received own moment db d) o (λ n there. is_discarded n is)
+    pub discarded_on : nat_lt 8192 d.mtu ≡ true → o ≡ step_on (after_description own moment db d) o
+    discarded_on is = stays o ∙ same_step no_sends (after_description own moment db d) o (λ n there. is_discarded n is)
 
-    pub discarded_sent : nat_lt 8192 d.mtu ≡ true → [] ≡ sent_on (after_description two_way_received own moment db d) o
-    discarded_sent is = sends_nothing o ∙ same_sent no_sends (after_description two_way_received own moment db d) o (λ n there. is_discarded n is)
+    pub discarded_sent : nat_lt 8192 d.mtu ≡ true → [] ≡ sent_on (after_description own moment db d) o
+    discarded_sent is = sends_nothing o ∙ same_sent no_sends (after_description own moment db d) o (λ n there. is_discarded n is)
 
-    pub judged_after : nat_lt 8192 d.mtu ≡ false → step_on (judging own moment db d) (step_on (two_way_received moment) o) ≡ step_on (after_description two_way_received own moment db d) o
-    judged_after is = joined_on o ∙ same_step whole (after_description two_way_received own moment db d) o (λ n there. fits n is)
+    pub judged_after : nat_lt 8192 d.mtu ≡ false → step_on (judging own moment db d) (step_on (two_way_received moment) o) ≡ step_on (after_description own moment db d) o
+    judged_after is = joined_on o ∙ same_step whole (after_description own moment db d) o (λ n there. fits n is)
 
     pub sent_after : (delay : ℕ) (draft : Drafted) → nat_lt 8192 d.mtu ≡ false
-        → drafting delay (sent_on (judging own moment db d) (step_on (two_way_received moment) o)) (drafting delay (sent_on (two_way_received moment) o) draft) ≡ drafting delay (sent_on (after_description two_way_received own moment db d) o) draft
+        → drafting delay (sent_on (judging own moment db d) (step_on (two_way_received moment) o)) (drafting delay (sent_on (two_way_received moment) o) draft) ≡ drafting delay (sent_on (after_description own moment db d) o) draft
     sent_after delay draft is =
         drafting-append delay (sent_on (two_way_received moment) o) (sent_on (judging own moment db d) (step_on (two_way_received moment) o)) draft
-        ∙ ap (λ (cs : List Content). drafting delay cs draft) (joined_sent o ∙ same_sent whole (after_description two_way_received own moment db d) o (λ n there. fits n is))
+        ∙ ap (λ (cs : List Content). drafting delay cs draft) (joined_sent o ∙ same_sent whole (after_description own moment db d) o (λ n there. fits n is))

@@ -185,23 +185,22 @@ module _ {Begins : ByKey ListEntry → Type 0} {Adds : Key → ListEntry → Typ
       → Of Q (judge own moment db d n).neighbor
   judge_kept own moment db d begun n h = judged_in moment db d begun n.state own n h
 
-  module _ (two_way : ℕ → Neighbor → Step) (two_way_kept : (moment : ℕ) (n : Neighbor) → Of Q n → Of Q (two_way moment n).neighbor) where
-    pub hello_kept : (moment from : ℕ) (names : Bool) (o : Option Neighbor) → Of Q (with_hello_heard from moment o) → Of Q (after_hello two_way moment from names o).neighbor
-    hello_kept moment from true o h = two_way_kept moment (with_hello_heard from moment o) h
-    hello_kept moment from false o h = kept.begins
+  pub hello_kept : (moment from : ℕ) (names : Bool) (o : Option Neighbor) → Of Q (with_hello_heard from moment o) → Of Q (after_hello moment from names o).neighbor
+  hello_kept moment from true o h = named_kept moment (with_hello_heard from moment o) h
+  hello_kept moment from false o h = kept.begins
 
-    stated_kept : (s : State) (own moment : ℕ) (db : Database) (d : Description) → Begins (aged_copies moment db) → (n : Neighbor) → Of Q n
-        → Of Q (in_state two_way s own moment db d n).neighbor
-    stated_kept Init own moment db d begun n h = judge_kept own moment db d begun (two_way moment n).neighbor (two_way_kept moment n h)
-    stated_kept ExStart own moment db d begun n h = judge_kept own moment db d begun n h
-    stated_kept Exchange own moment db d begun n h = judge_kept own moment db d begun n h
-    stated_kept Loading own moment db d begun n h = judge_kept own moment db d begun n h
-    stated_kept Full own moment db d begun n h = judge_kept own moment db d begun n h
+  stated_kept : (s : State) (own moment : ℕ) (db : Database) (d : Description) → Begins (aged_copies moment db) → (n : Neighbor) → Of Q n
+      → Of Q (in_state s own moment db d n).neighbor
+  stated_kept Init own moment db d begun n h = judge_kept own moment db d begun (two_way_received moment n).neighbor (named_kept moment n h)
+  stated_kept ExStart own moment db d begun n h = judge_kept own moment db d begun n h
+  stated_kept Exchange own moment db d begun n h = judge_kept own moment db d begun n h
+  stated_kept Loading own moment db d begun n h = judge_kept own moment db d begun n h
+  stated_kept Full own moment db d begun n h = judge_kept own moment db d begun n h
 
-    pub description_kept : (own moment : ℕ) (db : Database) (d : Description) → Begins (aged_copies moment db) → (n : Neighbor) → Of Q n
-        → Of Q (after_description two_way own moment db d n).neighbor
-    description_kept own moment db d begun n h =
-        chosen (λ (s : Step). Of Q s.neighbor) (nat_lt 8192 d.mtu) (no_sends n) (in_state two_way n.state own moment db d n) (λ e. h) (λ e. stated_kept n.state own moment db d begun n h)
+  pub description_kept : (own moment : ℕ) (db : Database) (d : Description) → Begins (aged_copies moment db) → (n : Neighbor) → Of Q n
+      → Of Q (after_description own moment db d n).neighbor
+  description_kept own moment db d begun n h =
+      chosen (λ (s : Step). Of Q s.neighbor) (nat_lt 8192 d.mtu) (no_sends n) (in_state n.state own moment db d n) (λ e. h) (λ e. stated_kept n.state own moment db d begun n h)
 
   -- ---- Loading and Requests
 

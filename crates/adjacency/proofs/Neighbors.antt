@@ -5,7 +5,7 @@ use Rattle.lsdb.proofs.Empty.{no_entries}
 use mathlib.Core.Bool.{false≢true}
 use Rattle.adjacency.specs.Kept.{Kept}
 use Rattle.adjacency.specs.Contents.{no_sends}
-use Rattle.adjacency.specs.Adjacencies.{two_way_received_in, after_hello, two_way_received, initial_description, enter_exstart}
+use Rattle.adjacency.specs.Adjacencies.{two_way_received_in, after_hello, initial_description, enter_exstart}
 use Rattle.adjacency.specs.declared.state.State.{State}
 use Rattle.adjacency.specs.declared.state.State.TheVariants.{Init, ExStart, Exchange, Loading, Full}
 use Rattle.std.specs.Ordering.{eq_by_cmp}
@@ -125,13 +125,13 @@ kept_is a b i = record { present = a i; settled = b i }
 
 pub begun_named : (moment router : ℕ) (start : Option ℕ) (names : Bool) → names ≡ true → enter_exstart moment (fresh router start moment) ≡ begun moment router start names
 unfolding begun
-begun_named moment router start names is = ap (λ b. after_hello two_way_received moment router b (Some (fresh router start moment))) (sym is)
+begun_named moment router start names is = ap (λ b. after_hello moment router b (Some (fresh router start moment))) (sym is)
 
 pub begun_unnamed : (moment router : ℕ) (start : Option ℕ) (names : Bool) → names ≡ false → no_sends (fresh router start moment) ≡ begun moment router start names
 unfolding begun
-begun_unnamed moment router start names is = ap (λ b. after_hello two_way_received moment router b (Some (fresh router start moment))) (sym is)
+begun_unnamed moment router start names is = ap (λ b. after_hello moment router b (Some (fresh router start moment))) (sym is)
 
-pub none_begins : (moment router : ℕ) (names : Bool) → begun moment router None names ≡ after_hello two_way_received moment router names None
+pub none_begins : (moment router : ℕ) (names : Bool) → begun moment router None names ≡ after_hello moment router names None
 unfolding begun
 none_begins moment router true = refl
 none_begins moment router false = refl
@@ -145,7 +145,7 @@ starts_in moment n Loading is = absurd (false≢true is)
 starts_in moment n Full is = absurd (false≢true is)
 
 pub some_begins : (moment from : ℕ) (n : Neighbor) (names : Bool) → begins n.state names ≡ true
-    → begun moment n.router n.dd_sequence_start names ≡ after_hello two_way_received moment from names (Some n)
+    → begun moment n.router n.dd_sequence_start names ≡ after_hello moment from names (Some n)
 unfolding begun
 some_begins moment from n true is = starts_in moment n n.state is
 some_begins moment from n false is = refl
@@ -165,6 +165,6 @@ goes_on Loading = refl
 goes_on Full = refl
 
 pub some_rests : (moment from : ℕ) (n : Neighbor) (names : Bool) → begins n.state names ≡ false
-    → no_sends (record n { last_heard = moment }) ≡ after_hello two_way_received moment from names (Some n)
+    → no_sends (record n { last_heard = moment }) ≡ after_hello moment from names (Some n)
 some_rests moment from n true is = sym (rests_in moment (record n { last_heard = moment }) n.state is)
 some_rests moment from n false is = absurd (false≢true (sym is ∙ goes_on n.state))

@@ -26,7 +26,7 @@ use Rattle.adjacency.specs.Descriptions.{Verdict, accept, act, after_description
 use Rattle.adjacency.specs.Neighbors.{Neighbor, fresh, is_exchange_or_later}
 use Rattle.adjacency.specs.Requests.{may_request, next_request, request_next, still_outstanding, without_request}
 use Rattle.adjacency.specs.Retransmissions.{acknowledged, after_acknowledgment, describe_again, is_entry, lsa_of, next_retransmissions, add_retransmission, retransmission_lsas, remove_retransmission, repeats_description, request_again, send_again, that_fit, update_again}
-use Rattle.adjacency.specs.Rooms.{AllFit, Fits, HasRoom, HasRoomyLists, HasRoomyListsIfAny, IsRoomyStep, IsRoomyTwoWay, StepsHaveRoom}
+use Rattle.adjacency.specs.Rooms.{AllFit, Fits, HasRoom, HasRoomyLists, HasRoomyListsIfAny, IsRoomyStep, StepsHaveRoom}
 use Rattle.adjacency.proofs.Kept.{chosen}
 
 -- ---- sets of keys
@@ -166,20 +166,17 @@ named_in_roomy Exchange moment n h = quiet_roomy n h
 named_in_roomy Loading moment n h = quiet_roomy n h
 named_in_roomy Full moment n h = quiet_roomy n h
 
-pub named_roomy : IsRoomyTwoWay two_way_received
+pub named_roomy : (moment : ℕ) (n : Neighbor) → HasRoomyLists n → IsRoomyStep (two_way_received moment n)
 named_roomy moment n h = named_in_roomy n.state moment n h
-
-pub unnamed_roomy : IsRoomyTwoWay (λ moment n. no_sends n)
-unnamed_roomy moment n h = quiet_roomy n h
 
 pub heard_roomy : (from moment : ℕ) (o : Option Neighbor) → HasRoomyListsIfAny o → HasRoomyLists (with_hello_heard from moment o)
 heard_roomy from moment None h = fresh_roomy from None moment
 heard_roomy from moment (Some n) h = roomy (record n { last_heard = moment }) h.described h.outstanding
 
-pub hello_roomy : (two_way : ℕ → Neighbor → Step) → IsRoomyTwoWay two_way → (moment from : ℕ) (names : Bool) (o : Option Neighbor) → HasRoomyListsIfAny o
-    → IsRoomyStep (after_hello two_way moment from names o)
-hello_roomy two_way each moment from true o h = each moment (with_hello_heard from moment o) (heard_roomy from moment o h)
-hello_roomy two_way each moment from false o h =
+pub hello_roomy : (moment from : ℕ) (names : Bool) (o : Option Neighbor) → HasRoomyListsIfAny o
+    → IsRoomyStep (after_hello moment from names o)
+hello_roomy moment from true o h = named_roomy moment (with_hello_heard from moment o) (heard_roomy from moment o h)
+hello_roomy moment from false o h =
     let n : Neighbor = with_hello_heard from moment o in
     quiet_roomy (one_way_received n) (fresh_roomy n.router n.dd_sequence_start n.last_heard)
 
@@ -240,17 +237,16 @@ act_roomy Verdict.Mismatch moment db d n h = mismatched_roomy moment n h
 judge_roomy : (own moment : ℕ) (db : Database) (d : Description) (n : Neighbor) → HasRoomyLists n → IsRoomyStep (judge own moment db d n)
 judge_roomy own moment db d n h = act_roomy (verdict own n d) moment db d n h
 
-module _ (two_way : ℕ → Neighbor → Step) (each : IsRoomyTwoWay two_way) where
-  in_state_roomy : (s : State) (own moment : ℕ) (db : Database) (d : Description) (n : Neighbor) → HasRoomyLists n → IsRoomyStep (in_state two_way s own moment db d n)
-  in_state_roomy Init own moment db d n h = then_roomy (two_way moment n) (judge own moment db d) (each moment n h) (judge_roomy own moment db d)
-  in_state_roomy ExStart own moment db d n h = judge_roomy own moment db d n h
-  in_state_roomy Exchange own moment db d n h = judge_roomy own moment db d n h
-  in_state_roomy Loading own moment db d n h = judge_roomy own moment db d n h
-  in_state_roomy Full own moment db d n h = judge_roomy own moment db d n h
+in_state_roomy : (s : State) (own moment : ℕ) (db : Database) (d : Description) (n : Neighbor) → HasRoomyLists n → IsRoomyStep (in_state s own moment db d n)
+in_state_roomy Init own moment db d n h = then_roomy (two_way_received moment n) (judge own moment db d) (named_roomy moment n h) (judge_roomy own moment db d)
+in_state_roomy ExStart own moment db d n h = judge_roomy own moment db d n h
+in_state_roomy Exchange own moment db d n h = judge_roomy own moment db d n h
+in_state_roomy Loading own moment db d n h = judge_roomy own moment db d n h
+in_state_roomy Full own moment db d n h = judge_roomy own moment db d n h
 
-  pub description_roomy : (own moment : ℕ) (db : Database) (d : Description) (n : Neighbor) → HasRoomyLists n → IsRoomyStep (after_description two_way own moment db d n)
-  description_roomy own moment db d n h =
-      chosen IsRoomyStep (nat_lt 8192 d.mtu) (no_sends n) (in_state two_way n.state own moment db d n) (λ e. quiet_roomy n h) (λ e. in_state_roomy n.state own moment db d n h)
+pub description_roomy : (own moment : ℕ) (db : Database) (d : Description) (n : Neighbor) → HasRoomyLists n → IsRoomyStep (after_description own moment db d n)
+description_roomy own moment db d n h =
+    chosen IsRoomyStep (nat_lt 8192 d.mtu) (no_sends n) (in_state n.state own moment db d n) (λ e. quiet_roomy n h) (λ e. in_state_roomy n.state own moment db d n h)
 
 -- ---- Loading and Requests
 
@@ -368,7 +364,6 @@ old_description_roomy moment dead n h =
 pub steps_roomy : StepsHaveRoom
 steps_roomy = record {
   two_way = named_roomy;
-  one_way = unnamed_roomy;
   hello = hello_roomy;
   description = description_roomy;
   request_next = request_roomy;

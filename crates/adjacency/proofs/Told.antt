@@ -62,9 +62,6 @@ pub record OfStep (t : Telling) (s : Step) : Type 0 where
   pub neighbor : OfOwed t s.neighbor
   pub sends : AllByRecursion (OfContent t) s.sends
 
-abbrev pub OfTwoWay : Telling → (ℕ → Neighbor → Step) → Type 0
-OfTwoWay t two_way = (moment : ℕ) (n : Neighbor) → OfOwed t n → OfStep t (two_way moment n)
-
 both : {A : Type 0} (P : A → Type 0) (xs ys : List A) → AllByRecursion P xs → AllByRecursion P ys → AllByRecursion P (xs ++ ys)
 both P [] ys p q = q
 both P (x ∷ xs) ys p q = (p.0, both P xs ys p.1 q)
@@ -95,17 +92,17 @@ module _ (t : Telling) where
   named_in_told Loading moment n h = quiet_told n h
   named_in_told Full moment n h = quiet_told n h
 
-  pub named_told : OfTwoWay t two_way_received
+  pub named_told : (moment : ℕ) (n : Neighbor) → OfOwed t n → OfStep t (two_way_received moment n)
   named_told moment n h = named_in_told n.state moment n h
 
   heard_told : (from moment : ℕ) (o : Option Neighbor) → OfOwedIfAny t o → OfOwed t (with_hello_heard from moment o)
   heard_told from moment None h = none_in (OfListed t)
   heard_told from moment (Some n) h = h
 
-  pub hello_told : (two_way : ℕ → Neighbor → Step) → OfTwoWay t two_way → (moment from : ℕ) (names : Bool) (o : Option Neighbor) → OfOwedIfAny t o
-      → OfStep t (after_hello two_way moment from names o)
-  hello_told two_way each moment from true o h = each moment (with_hello_heard from moment o) (heard_told from moment o h)
-  hello_told two_way each moment from false o h = quiet_told (one_way_received (with_hello_heard from moment o)) (none_in (OfListed t))
+  pub hello_told : (moment from : ℕ) (names : Bool) (o : Option Neighbor) → OfOwedIfAny t o
+      → OfStep t (after_hello moment from names o)
+  hello_told moment from true o h = named_told moment (with_hello_heard from moment o) (heard_told from moment o h)
+  hello_told moment from false o h = quiet_told (one_way_received (with_hello_heard from moment o)) (none_in (OfListed t))
 
   -- ---- Descriptions
 
@@ -171,20 +168,19 @@ module _ (t : Telling) where
   judge_told : (own moment : ℕ) (db : Database) (d : Description) → OfCopies t db → (n : Neighbor) → OfOwed t n → OfStep t (judge own moment db d n)
   judge_told own moment db d copies n h = act_told (verdict own n d) moment db d n copies h
 
-  module _ (two_way : ℕ → Neighbor → Step) (each : OfTwoWay t two_way) where
-    in_state_told : (s : State) (own moment : ℕ) (db : Database) (d : Description) (n : Neighbor) → OfCopies t db → OfOwed t n
-        → OfStep t (in_state two_way s own moment db d n)
-    in_state_told Init own moment db d n copies h = then_told (two_way moment n) (judge own moment db d) (each moment n h) (judge_told own moment db d copies)
-    in_state_told ExStart own moment db d n copies h = judge_told own moment db d copies n h
-    in_state_told Exchange own moment db d n copies h = judge_told own moment db d copies n h
-    in_state_told Loading own moment db d n copies h = judge_told own moment db d copies n h
-    in_state_told Full own moment db d n copies h = judge_told own moment db d copies n h
+  in_state_told : (s : State) (own moment : ℕ) (db : Database) (d : Description) (n : Neighbor) → OfCopies t db → OfOwed t n
+      → OfStep t (in_state s own moment db d n)
+  in_state_told Init own moment db d n copies h = then_told (two_way_received moment n) (judge own moment db d) (named_told moment n h) (judge_told own moment db d copies)
+  in_state_told ExStart own moment db d n copies h = judge_told own moment db d copies n h
+  in_state_told Exchange own moment db d n copies h = judge_told own moment db d copies n h
+  in_state_told Loading own moment db d n copies h = judge_told own moment db d copies n h
+  in_state_told Full own moment db d n copies h = judge_told own moment db d copies n h
 
-    pub description_told : (own moment : ℕ) (db : Database) (d : Description) → OfCopies t db → (n : Neighbor) → OfOwed t n
-        → OfStep t (after_description two_way own moment db d n)
-    description_told own moment db d copies n h =
-        chosen (OfStep t) (nat_lt 8192 d.mtu) (no_sends n) (in_state two_way n.state own moment db d n) (λ e. quiet_told n h)
-        (λ e. in_state_told n.state own moment db d n copies h)
+  pub description_told : (own moment : ℕ) (db : Database) (d : Description) → OfCopies t db → (n : Neighbor) → OfOwed t n
+      → OfStep t (after_description own moment db d n)
+  description_told own moment db d copies n h =
+      chosen (OfStep t) (nat_lt 8192 d.mtu) (no_sends n) (in_state n.state own moment db d n) (λ e. quiet_told n h)
+      (λ e. in_state_told n.state own moment db d n copies h)
 
   -- ---- Loading and Requests
 

@@ -26,10 +26,12 @@ update_of delay lsa = record { key = lsa_key lsa; text = text (sent_lsa delay ls
 -- one more content
 abbrev pub adds : ℕ → Drafted → Content → Drafted
 adds delay d (Content.SendsHello hello) = record d { hellos = d.hellos ++ hello ∷ [] }
-adds delay d (Content.Describes description) = record d { descriptions = d.descriptions ++ description ∷ [] }
+adds delay d (Content.Describes description) =
+    record d { descriptions = d.descriptions ++ description ∷ [] }
 adds delay d (Content.Requests keys) = record d { requests = d.requests ++ keys ∷ [] }
 adds delay d (Content.Updates lsa) = record d { updates = d.updates ++ update_of delay lsa ∷ [] }
-adds delay d (Content.Acknowledges header) = record d { acknowledgments = d.acknowledgments ++ header ∷ [] }
+adds delay d (Content.Acknowledges header) =
+    record d { acknowledgments = d.acknowledgments ++ header ∷ [] }
 
 unfoldable pub drafting : ℕ → List Content → Drafted → Drafted
 drafting delay contents d = fold (adds delay) d contents

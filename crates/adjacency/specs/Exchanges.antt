@@ -1,4 +1,5 @@
--- The exchange of Descriptions in words that the code's contracts use (RFC 2328, sections 10.6 and 10.8).
+-- The exchange of Descriptions in words that the code's contracts use (RFC 2328, sections 10.6 and
+-- 10.8).
 use Rattle.std.specs.Prelude.{ℕ, ◌+◌, ◌%◌, ◌^◌, ◌==◌, Bool, true, false, not, ◌&&◌, nat_lt, if◌then◌else◌, Option, None, Some}
 use Rattle.std.specs.FinMap as finite
 use Rattle.words.specs.Numbers.{Moment, RouterNumber}
@@ -59,7 +60,8 @@ follows own other d = is_initial_description d && nat_lt own other
 
 -- this router leads: the other side took its number over
 abbrev pub leads : RouterNumber → RouterNumber → ℕ → Description → Bool
-leads own other sequence d = not d.init && not d.master && d.sequence == sequence && nat_lt other own
+leads own other sequence d =
+    not d.init && not d.master && d.sequence == sequence && nat_lt other own
 
 -- the number that the next Description from the other side has
 abbrev pub expected_of : Standing → ℕ
@@ -79,14 +81,17 @@ starts_over Verdict.Mismatch d = true
 -- a Description whose headers are all of known types is accepted
 unfoldable pub accepted : Moment → Database → Description → Neighbor → Step
 accepted moment db d n =
-    let m : Neighbor = with_requests moment db d.headers (record n { received = Some (as_received d) }) in
+    let m : Neighbor =
+    with_requests moment db d.headers (record n { received = Some (as_received d) }) in
     if m.is_master then master_goes_on moment d m else slave_replies moment d m
 
 -- the step by the verdict, but for one that starts over
 unfoldable pub proceeding : Verdict → Moment → Database → Description → Neighbor → Step
 proceeding Verdict.Discarded moment db d n = no_sends n
-proceeding Verdict.NegotiatedAsSlave moment db d n = accepted moment db d (negotiated false d.sequence moment db n)
-proceeding Verdict.NegotiatedAsMaster moment db d n = accepted moment db d (negotiated true n.sequence moment db n)
+proceeding Verdict.NegotiatedAsSlave moment db d n =
+    accepted moment db d (negotiated false d.sequence moment db n)
+proceeding Verdict.NegotiatedAsMaster moment db d n =
+    accepted moment db d (negotiated true n.sequence moment db n)
 proceeding Verdict.Repeated moment db d n = repeat moment n
 proceeding Verdict.Accepted moment db d n = accepted moment db d n
 proceeding Verdict.Mismatch moment db d n = no_sends n
@@ -115,11 +120,14 @@ entry_header moment None = None
 entry_header moment (Some l) = Some (aged_header moment l)
 
 -- the copy goes on the list, if there is one and it passes the test
-abbrev pub with_copy : (DatabaseCopy → Bool) → Moment → Key → Option DatabaseCopy → ByKey ListEntry → ByKey ListEntry
+abbrev pub with_copy : (DatabaseCopy → Bool) → Moment → Key → Option DatabaseCopy → ByKey ListEntry
+    → ByKey ListEntry
 with_copy test moment key None list = list
-with_copy test moment key (Some c) list = if test c then finite.insert list key (listed moment c) else list
+with_copy test moment key (Some c) list =
+    if test c then finite.insert list key (listed moment c) else list
 
-abbrev pub with_key : (DatabaseCopy → Bool) → Moment → Database → ByKey ListEntry → Key → ByKey ListEntry
+abbrev pub with_key : (DatabaseCopy → Bool) → Moment → Database → ByKey ListEntry → Key
+    → ByKey ListEntry
 with_key test moment db list key = with_copy test moment key (finite.get db key) list
 
 abbrev pub is_young : Moment → DatabaseCopy → Bool

@@ -22,18 +22,24 @@ abbrev pub request_of : Neighbor → Lsa → Option ListEntry
 request_of n lsa = if is_exchange_or_loading n.state then requested n (lsa_key lsa) else None
 
 abbrev pub without_met_request : ℕ → Lsa → Neighbor → Neighbor
-without_met_request moment lsa n = if meets moment lsa (request_of n lsa) then without_request (lsa_key lsa) n else n
+without_met_request moment lsa n =
+    if meets moment lsa (request_of n lsa) then without_request (lsa_key lsa) n else n
 
--- the request goes where it is met; the old instance leaves the retransmission list, and the LSA enters it and is sent exactly where the
--- neighbor gets it: it isn't the one that it came from, and wants nothing newer
+-- the request goes where it is met; the old instance leaves the retransmission list, and the LSA
+-- enters it and is sent exactly where the neighbor gets it: it isn't the one that it came from, and
+-- wants nothing newer
 abbrev pub flooded_in_exchange : ℕ → Bool → Lsa → Neighbor → Step
 flooded_in_exchange moment from lsa n =
     if not from && passes moment lsa (request_of n lsa)
-    then record { neighbor = add_retransmission moment lsa.header (without_met_request moment lsa n); sends = Updates lsa ∷ [] }
+    then record {
+      neighbor = add_retransmission moment lsa.header (without_met_request moment lsa n);
+      sends = Updates lsa ∷ [];
+    }
     else no_sends (remove_retransmission (lsa_key lsa) (without_met_request moment lsa n))
 
 abbrev pub flooding : ℕ → Bool → Lsa → Neighbor → Step
-flooding moment from lsa n = if is_exchange_or_later n.state then flooded_in_exchange moment from lsa n else no_sends n
+flooding moment from lsa n =
+    if is_exchange_or_later n.state then flooded_in_exchange moment from lsa n else no_sends n
 
 -- the same under a name that contracts use
 unfoldable pub flooded : ℕ → Bool → Lsa → Neighbor → Step

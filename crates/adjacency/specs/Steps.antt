@@ -39,9 +39,11 @@ lsas_of moment db keys = filter_map (λ (key : Key). lsa_of moment (finite.get d
 -- the LSAs are sent and go on no list; where one is missing, none is (BadLSReq)
 abbrev pub answered : Moment → Database → List Key → Neighbor → Step
 answered moment db keys n =
-    if list_all (is_there db) keys then record { neighbor = n; sends = map Updates (lsas_of moment db keys) }
+    if list_all (is_there db) keys
+    then record { neighbor = n; sends = map Updates (lsas_of moment db keys) }
     else mismatched moment n
 
 -- a Request counts from Exchange on
 unfoldable pub after_request : Moment → Database → List Key → Neighbor → Step
-after_request moment db keys n = if is_exchange_or_later n.state then answered moment db keys n else no_sends n
+after_request moment db keys n =
+    if is_exchange_or_later n.state then answered moment db keys n else no_sends n

@@ -1,4 +1,5 @@
--- What a Tick asks of one neighbor, under names that contracts use (RFC 2328, sections 10.3, 10.8, 10.9 and 13.6).
+-- What a Tick asks of one neighbor, under names that contracts use (RFC 2328, sections 10.3, 10.8,
+-- 10.9 and 13.6).
 use Rattle.std.specs.Prelude.{ℕ, ◌==◌, Bool, false, not, ◌&&◌, if◌then◌else◌, List, [], Option, None, Some}
 use Rattle.std.specs.FinMap as finite
 use Rattle.std.specs.FinSet as set
@@ -19,10 +20,12 @@ abbrev pub is_any_inactive : Moment → (dead : Seconds) → Option Neighbor →
 is_any_inactive moment dead None = false
 is_any_inactive moment dead (Some n) = has_passed n.last_heard dead moment
 
--- a neighbor whose inactivity timer has run out is Down; of any other the last Description is given up, once the exchange is long done
+-- a neighbor whose inactivity timer has run out is Down; of any other the last Description is given
+-- up, once the exchange is long done
 abbrev pub run_out : Moment → (dead : Seconds) → Option Neighbor → Option Neighbor
 run_out moment dead n =
-    step_on (λ m. no_sends (without_old_description moment dead m)) (after_inactivity_timer moment dead n)
+    step_on (λ m. no_sends (without_old_description moment dead m))
+    (after_inactivity_timer moment dead n)
 
 -- Loading becomes Full where nothing is left to request
 abbrev pub full_where : State → (requests_nothing : Bool) → State
@@ -35,13 +38,16 @@ full_where Full requests_nothing = Full
 -- ---- what is sent again
 
 abbrev pub description_is_due : Moment → (interval : Seconds) → Neighbor → Bool
-description_is_due moment interval n = repeats_description n.state n.is_master && has_passed n.described_at interval moment
+description_is_due moment interval n =
+    repeats_description n.state n.is_master && has_passed n.described_at interval moment
 
 abbrev pub request_is_due : Moment → (interval : Seconds) → Neighbor → Bool
-request_is_due moment interval n = not (set.len n.outstanding == 0) && has_passed n.requested_at interval moment
+request_is_due moment interval n =
+    not (set.len n.outstanding == 0) && has_passed n.requested_at interval moment
 
 abbrev pub retransmission_is_due : Moment → (interval : Seconds) → Neighbor → Bool
-retransmission_is_due moment interval n = not (finite.len n.retransmissions == 0) && has_passed n.retransmitted_at interval moment
+retransmission_is_due moment interval n =
+    not (finite.len n.retransmissions == 0) && has_passed n.retransmitted_at interval moment
 
 -- the LSAs that have room behind so many bytes; none where one before them had none
 abbrev pub that_fit_after : Option ℕ → List Lsa → List Lsa

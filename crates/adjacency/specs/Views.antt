@@ -9,14 +9,15 @@ use Rattle.adjacency.specs.Kept.{Kept}
 use Rattle.adjacency.specs.Neighbors.{Neighbor, fresh}
 use Rattle.adjacency.specs.declared.state.State.TheVariants.{Init, ExStart, Exchange, Loading, Full}
 use Rattle.adjacency.specs.declared.state.State.{State}
-use Rattle.adjacency.specs.Adjacencies.{after_hello, two_way_received}
+use Rattle.adjacency.specs.Adjacencies.{after_hello}
 use Rattle.adjacency.specs.Contents.{Step}
 use Rattle.adjacency.specs.declared.standing.Standing.{Standing}
 
 abbrev pub keys_of : {X : Type 0} → ByKey X → KeySet
 keys_of m = set.from_list (finite.keys m)
 
-unfoldable pub neighbor_of : {X : Type 0} → Standing → Option Description → ByKey ListEntry → ByKey ListEntry → ByKey X → ByKey ListEntry → Neighbor
+unfoldable pub neighbor_of : {X : Type 0} → Standing → Option Description → ByKey ListEntry
+    → ByKey ListEntry → ByKey X → ByKey ListEntry → Neighbor
 neighbor_of s described summary requests outstanding retransmissions = record {
   router = s.router;
   state = s.state;
@@ -50,7 +51,8 @@ settled_of None = None
 settled_of (Some n) = Some n.settled
 
 -- the neighbor that was moved away, if one was, else the one that is there
-abbrev pub settled_among : Option (Option (Kept Neighbor)) → Option (Kept Neighbor) → Option Neighbor
+abbrev pub settled_among : Option (Option (Kept Neighbor)) → Option (Kept Neighbor)
+    → Option Neighbor
 settled_among None there = settled_of there
 settled_among (Some before) there = settled_of before
 
@@ -86,7 +88,8 @@ started_standing moment router number last_heard = record {
 
 -- what a Hello makes of a neighbor in Init
 unfoldable pub begun : ℕ → ℕ → Option ℕ → Bool → Step
-begun moment router dd_sequence_start names = after_hello two_way_received moment router names (Some (fresh router dd_sequence_start moment))
+begun moment router dd_sequence_start names =
+    after_hello moment router names (Some (fresh router dd_sequence_start moment))
 
 -- a Hello that doesn't name this router, or the first that does, begins anew
 abbrev pub begins : State → Bool → Bool

@@ -1,7 +1,7 @@
 //! The place of a neighbor on a link.
 ghost use Rattle.std.specs.Prelude.{◌≡◌, ℕ, IfOk, OnOk, None, Some};
 ghost use Rattle.lsdb.specs.Copies.{lsa_now};
-ghost use Rattle.adjacency.specs.Adjacencies.{after_hello, enter_exstart, two_way_received};
+ghost use Rattle.adjacency.specs.Adjacencies.{after_hello, enter_exstart};
 ghost use Rattle.adjacency.specs.Contents.{no_sends, sent_on, step_on};
 ghost use Rattle.adjacency.specs.Drafts.{drafting};
 ghost use Rattle.adjacency.specs.Floods.{flooded, is_any};
@@ -255,8 +255,8 @@ impl Place {
         names: bool,
         draft: &mut Draft,
     ) -> Result<(), AllocError>
-        ensures ok { OnOk result (self.new.present ≡ Some (after_hello two_way_received moment from names self.old.present).neighbor) }
-        ensures draft { OnOk result ((delay : ℕ) → draft.new ≡ drafting delay (after_hello two_way_received moment from names self.old.present).sends draft.old) }
+        ensures ok { OnOk result (self.new.present ≡ Some (after_hello moment from names self.old.present).neighbor) }
+        ensures draft { OnOk result ((delay : ℕ) → draft.new ≡ drafting delay (after_hello moment from names self.old.present).sends draft.old) }
         ensures settled { self.new.settled ≡ self.old.settled }
     {
         let Some(neighbor) = &self.neighbor else {

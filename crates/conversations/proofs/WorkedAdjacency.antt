@@ -7,7 +7,7 @@ use Rattle.packet.specs.declared.model.Hello.{Hello}
 use Rattle.packet.specs.declared.model.Packet.{Packet}
 use Rattle.packet.proofs.Whole.{one_packet}
 use Rattle.adjacency.specs.Adjacencies as adjacencies
-use Rattle.adjacency.specs.Adjacencies.{two_way_received, next_dd_sequence_start, initial_description, requests_nothing, enter_exstart}
+use Rattle.adjacency.specs.Adjacencies.{next_dd_sequence_start, initial_description, requests_nothing, enter_exstart}
 use Rattle.adjacency.specs.Contents.{Content, Step, no_sends}
 use Rattle.adjacency.specs.Contents as contents
 use Rattle.adjacency.specs.Descriptions.{Verdict, act, judge, repeat}
@@ -43,10 +43,10 @@ hello_ends r new link moment from bytes h outs nothing hello event =
     let p : EventState = last_heard r link moment from in
     let own : event.after ≡ p =
     event.own.2
-    ∙ ap (λ q. after_packet two_way_received moment 1 q (start_event moment old)) (one_packet bytes event.own.0 packet event.own.1 hello.is_text)
-    ∙ ap (after_packet two_way_received moment 1 packet) (begins moment old nothing)
-    ∙ (λ i. cond (hello.is_other i && (true || false)) (on_area (after_hello two_way_received r.id moment 1 from h) (start old)) (start old))
-    ∙ (λ i. on_area (λ o. cond (hello.is_accepted i) (hear moment 1 (adjacencies.after_hello two_way_received moment from (hello.is_naming i) None) o) o) (start old)) in
+    ∙ ap (λ q. after_packet moment 1 q (start_event moment old)) (one_packet bytes event.own.0 packet event.own.1 hello.is_text)
+    ∙ ap (after_packet moment 1 packet) (begins moment old nothing)
+    ∙ (λ i. cond (hello.is_other i && (true || false)) (on_area (after_hello r.id moment 1 from h) (start old)) (start old))
+    ∙ (λ i. on_area (λ o. cond (hello.is_accepted i) (hear moment 1 (adjacencies.after_hello moment from (hello.is_naming i) None) o) o) (start old)) in
     ap (end_event old moment) own ∙ ends_by old moment p refl refl
 
 pub opens_it : (r new : Router) (link : Link) (moment from : ℕ) (bytes : List ℕ) (h : Hello) (outs : List Out)
@@ -72,9 +72,9 @@ judged r new link n moment bytes d v outs nothing said event =
     let old : Router = beside r link (loading n) in
     let packet : Packet = record { router = n.router; body = body.Description d } in
     event.own.2
-    ∙ ap (λ q. after_packet two_way_received moment 1 q (start_event moment old)) (one_packet bytes event.own.0 packet event.own.1 said.is_text)
-    ∙ ap (after_packet two_way_received moment 1 packet) (begins moment old nothing)
-    ∙ (λ i. cond (said.is_other i && (false || itself n.router i)) (on_area (describe_to two_way_received r.id moment 1 d) (start old)) (start old))
+    ∙ ap (λ q. after_packet moment 1 q (start_event moment old)) (one_packet bytes event.own.0 packet event.own.1 said.is_text)
+    ∙ ap (after_packet moment 1 packet) (begins moment old nothing)
+    ∙ (λ i. cond (said.is_other i && (false || itself n.router i)) (on_area (describe_to r.id moment 1 d) (start old)) (start old))
     ∙ (λ i. stepping r link n moment (cond (said.fits i) (no_sends (loading n)) (judge r.id moment r.area.database d (loading n))))
     ∙ (λ i. stepping r link n moment (act (said.is_judged i) moment r.area.database d (loading n)))
 

@@ -12,7 +12,7 @@ use Rattle.packet.specs.declared.model.Body.TheVariants as body
 use Rattle.packet.specs.declared.model.Description.{Description}
 use Rattle.packet.specs.declared.model.Packet.{Packet}
 use Rattle.packet.proofs.Whole.{one_packet}
-use Rattle.adjacency.specs.Adjacencies.{mismatched, two_way_received, initial_description, requests_nothing}
+use Rattle.adjacency.specs.Adjacencies.{mismatched, initial_description, requests_nothing}
 use Rattle.adjacency.specs.Contents.{Content, Step, no_sends}
 use Rattle.adjacency.specs.Contents as contents
 use Rattle.adjacency.specs.Descriptions.{Verdict, act, after_description, describe, exchange_done, is_wanted, judge, as_received, negotiated, young_copies}
@@ -42,15 +42,15 @@ taken r link n moment s = on_area (λ o. one_neighbor moment 1 (λ m. s) o) (sta
 
 judged : (r new : Router) (link : Link) (n : Neighbor) (moment : ℕ) (bytes : List ℕ) (d : Description) (v : Verdict) (outs : List Out)
     → NothingAges r moment → IsJudged r n bytes d v
-    → after_description two_way_received r.id moment r.area.database d n ≡ cond (nat_lt 8192 d.mtu) (no_sends n) (judge r.id moment r.area.database d n)
+    → after_description r.id moment r.area.database d n ≡ cond (nat_lt 8192 d.mtu) (no_sends n) (judge r.id moment r.area.database d n)
     → (event : Happens (beside r link n) moment (Occurrence.Packet 1 bytes) outs new) → event.after ≡ taken r link n moment (act v moment r.area.database d n)
 judged r new link n moment bytes d v outs nothing said same event =
     let old : Router = beside r link n in
     let packet : Packet = record { router = n.router; body = body.Description d } in
     event.own.2
-    ∙ ap (λ q. after_packet two_way_received moment 1 q (start_event moment old)) (one_packet bytes event.own.0 packet event.own.1 said.is_text)
-    ∙ ap (after_packet two_way_received moment 1 packet) (begins moment old nothing)
-    ∙ (λ i. cond (said.is_other i && (false || itself n.router i)) (on_area (describe_to two_way_received r.id moment 1 d) (start old)) (start old))
+    ∙ ap (λ q. after_packet moment 1 q (start_event moment old)) (one_packet bytes event.own.0 packet event.own.1 said.is_text)
+    ∙ ap (after_packet moment 1 packet) (begins moment old nothing)
+    ∙ (λ i. cond (said.is_other i && (false || itself n.router i)) (on_area (describe_to r.id moment 1 d) (start old)) (start old))
     ∙ ap (taken r link n moment) same
     ∙ (λ i. taken r link n moment (cond (said.fits i) (no_sends n) (judge r.id moment r.area.database d n)))
     ∙ (λ i. taken r link n moment (act (said.is_judged i) moment r.area.database d n))

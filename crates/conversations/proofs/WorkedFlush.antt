@@ -11,7 +11,6 @@ use Rattle.lsdb.specs.Order.{age_at, compare_ages, is_max_age}
 use Rattle.packet.specs.declared.model.Body.TheVariants as body
 use Rattle.packet.specs.declared.model.Packet.{Packet}
 use Rattle.packet.proofs.Whole.{one_packet}
-use Rattle.adjacency.specs.Adjacencies.{two_way_received}
 use Rattle.adjacency.specs.Neighbors.{Neighbor}
 use Rattle.adjacency.specs.Retransmissions.{is_entry, add_retransmission, remove_retransmission}
 use Rattle.received.specs.Cases.{Case, case_of_readable, case_tests, first_case}
@@ -153,8 +152,8 @@ leaves_it r new link n moment bytes h entry c outs last event =
     let entry_is : is_entry moment h (finite.get n.retransmissions (key_of h)) ≡ true = ap (is_entry moment h) last.on_list ∙ last.is_same in
     let own : event.after ≡ p =
     event.own.2
-    ∙ ap (λ q. after_packet two_way_received moment 1 q (start_event moment old)) (one_packet bytes event.own.0 packet event.own.1 last.is_text)
-    ∙ ap (after_packet two_way_received moment 1 packet) (begins moment old last.nothing_ages)
+    ∙ ap (λ q. after_packet moment 1 q (start_event moment old)) (one_packet bytes event.own.0 packet event.own.1 last.is_text)
+    ∙ ap (after_packet moment 1 packet) (begins moment old last.nothing_ages)
     ∙ (λ i. cond (last.is_other i && (false || itself n.router i)) (on_area (acknowledged_by moment 1 (h ∷ [])) (start old)) (start old))
     ∙ (λ i. start (beside r link (cond (entry_is i) (remove_retransmission (key_of h) (full n)) (full n)))) in
     let end : end_event old moment event.after ≡ ended moment p = ap (end_event old moment) own ∙ ends old moment p refl refl in

@@ -9,7 +9,7 @@ use Rattle.packet.specs.declared.model.Body.TheVariants as body
 use Rattle.packet.specs.declared.model.Packet.{Packet}
 use Rattle.packet.proofs.Whole.{one_packet}
 use Rattle.adjacency.specs.Adjacencies as adjacencies
-use Rattle.adjacency.specs.Adjacencies.{two_way_received, initial_description, enter_exstart}
+use Rattle.adjacency.specs.Adjacencies.{initial_description, enter_exstart}
 use Rattle.adjacency.specs.Contents.{Content}
 use Rattle.adjacency.specs.Neighbors.{Neighbor, fresh, is_full, is_exchange_or_loading}
 use Rattle.received.specs.Links.{Link, any_exchange_or_loading, change_link, link_at, neighbor_at, neighbor_on, neighbor_is_exchange_or_loading}
@@ -85,12 +85,12 @@ is_heard_of old new number link moment from bytes h outs rest there none hello e
     } in
     let own : event.after ≡ p =
     event.own.2
-    ∙ ap (λ q. after_packet two_way_received moment number q (start_event moment old)) (one_packet bytes event.own.0 packet event.own.1 hello.is_text)
-    ∙ ap (after_packet two_way_received moment number packet) (begins moment old rest.nothing_ages)
-    ∙ (λ i. cond (hello.is_other i && (true || is_from from (neighbor_at number old.area.links))) (on_area (after_hello two_way_received old.id moment number from h) (start old)) (start old))
-    ∙ ap (λ o. on_area (heard_on two_way_received old.id moment number from h o) (start old)) there
-    ∙ (λ i. on_area (heard_on two_way_received old.id moment number from h (Some (record link { neighbor = none i }))) (start old))
-    ∙ (λ i. on_area (λ o. cond (hello.is_accepted i) (hear moment number (adjacencies.after_hello two_way_received moment from (hello.is_naming i) None) o) o) (start old)) in
+    ∙ ap (λ q. after_packet moment number q (start_event moment old)) (one_packet bytes event.own.0 packet event.own.1 hello.is_text)
+    ∙ ap (after_packet moment number packet) (begins moment old rest.nothing_ages)
+    ∙ (λ i. cond (hello.is_other i && (true || is_from from (neighbor_at number old.area.links))) (on_area (after_hello old.id moment number from h) (start old)) (start old))
+    ∙ ap (λ o. on_area (heard_on old.id moment number from h o) (start old)) there
+    ∙ (λ i. on_area (heard_on old.id moment number from h (Some (record link { neighbor = none i }))) (start old))
+    ∙ (λ i. on_area (λ o. cond (hello.is_accepted i) (hear moment number (adjacencies.after_hello moment from (hello.is_naming i) None) o) o) (start old)) in
     let free : IsFree number n refl refl 1 old.area.links = free_from number n refl refl old.area.links link there none in
     let links : flat_map links_of old.area.links ≡ flat_map links_of xs = sym (all_links number n refl refl 1 old.area.links free) in
     let body_same : router_body old.area.links ≡ router_body xs = λ i. lsa.Router (record { flags = 2; links = links i }) in

@@ -127,7 +127,7 @@ tick_sends r new link n moment copy outs due event =
     let one_due : due_keys moment q.router ≡ key ∷ [] = alone_due q.router moment due.nothing_announced due.is_due_now in
     let begun_so : event.after ≡ after =
     event.own
-    ∙ ap (after_tick due_keys moment) (begins moment old due.nothing_ages)
+    ∙ ap (after_tick moment) (begins moment old due.nothing_ages)
     ∙ ap (λ z. rest_of_tick moment (originate_due moment (due_keys moment z.router) z)) (rests r link n moment due.is_heard)
     ∙ ap (λ keys. rest_of_tick moment (originate_due moment keys q)) one_due
     ∙ ap (rest_of_tick moment) (originates moment copy q due.copy_there due.counts_on due.room (still_over moment (beside r link (full m)) key due.is_over)) in
@@ -169,7 +169,7 @@ tick_acknowledges r new link n moment outs idle event =
     let same_router : m.router ≡ n.router = by_case (is_over_for moment link.interface.dead_interval n.exchanged) in
     let begun_so : event.after ≡ after =
     event.own
-    ∙ ap (after_tick due_keys moment) (begins moment old idle.nothing_ages)
+    ∙ ap (after_tick moment) (begins moment old idle.nothing_ages)
     ∙ ap (λ z. rest_of_tick moment (originate_due moment (due_keys moment z.router) z)) (rests r link n moment idle.is_heard)
     ∙ ap (λ keys. rest_of_tick moment (originate_due moment keys q)) (none_due q.router moment idle.nothing_announced idle.not_due) in
     let seen_same : who (send_again moment link.interface.retransmit_interval o.area.database (full m)).neighbor ≡ who (full n) =

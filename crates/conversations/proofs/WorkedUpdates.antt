@@ -17,7 +17,6 @@ use Rattle.lsdb.proofs.Keys.{keys_total}
 use Rattle.packet.specs.declared.model.Body.TheVariants as body
 use Rattle.packet.specs.declared.model.Packet.{Packet}
 use Rattle.packet.proofs.Whole.{one_packet}
-use Rattle.adjacency.specs.Adjacencies.{two_way_received}
 use Rattle.adjacency.specs.Contents.{Content, Step, no_sends}
 use Rattle.adjacency.specs.Neighbors.{Neighbor, is_exchange_or_loading, is_exchange_or_later}
 use Rattle.adjacency.specs.Requests.{requested, without_request}
@@ -30,7 +29,7 @@ use Rattle.received.specs.Updates.{case_at, goes_on, install}
 pub use Rattle.received.proofs.Marks.{IsStill, changed_by, mark_all, marked_once, tied}
 use Rattle.events.specs.declared.model.Out.{Out}
 use Rattle.events.specs.Endings.{start_event, end_event, stays_as}
-use Rattle.events.specs.Events.{Happens, OwnPart, whole}
+use Rattle.events.specs.Events.{Happens, OwnPart}
 use Rattle.events.specs.Hellos.{is_foreign}
 use Rattle.events.specs.Originations.{is_wanted, originate_or_flush, wanted_body}
 use Rattle.events.specs.Packets.{after_lsa, after_lsas, after_packet, after_unread, case_in, from_neighbor, is_heard, is_in_exchange}
@@ -83,10 +82,10 @@ pub itself : (n : ℕ) → (n == n) ≡ true
 itself n = grind arith
 
 pub update_heard : (moment number : ℕ) (p : EventState) (n : Neighbor) (texts : List (List ℕ)) → neighbor_at number p.router.area.links ≡ Some n → is_foreign p.router.id n.router ≡ true → is_exchange_or_later n.state ≡ true
-    → after_packet two_way_received moment number (record { router = n.router; body = body.Update texts }) p ≡ after_lsas moment number texts p
+    → after_packet moment number (record { router = n.router; body = body.Update texts }) p ≡ after_lsas moment number texts p
 update_heard moment number p n texts there other part =
     let packet : Packet = record { router = n.router; body = body.Update texts } in
-    ap (λ o. cond (is_heard p.router.id packet o) (from_neighbor two_way_received moment number n.router (is_in_exchange o) packet.body p) p) there
+    ap (λ o. cond (is_heard p.router.id packet o) (from_neighbor moment number n.router (is_in_exchange o) packet.body p) p) there
     ∙ (λ i. cond (other i && (false || itself n.router i)) (cond (part i) (after_lsas moment number texts p) p) p)
 
 abbrev pub start : Router → EventState
@@ -95,13 +94,13 @@ start r = record { router = r; sends = [] }
 pub own_part : (r : Router) (moment number : ℕ) (bytes : List ℕ) (lsa : Lsa) (n : Neighbor) (after : EventState)
     → list_any (λ e. has_just_aged_out r.moment moment e.1) (finite.entries r.area.database) ≡ false
     → neighbor_at number r.area.links ≡ Some n → is_foreign r.id n.router ≡ true → is_exchange_or_later n.state ≡ true
-    → IsUpdateWith bytes n.router lsa → OwnPart whole moment (Occurrence.Packet number bytes) (start_event moment r) after
+    → IsUpdateWith bytes n.router lsa → OwnPart moment (Occurrence.Packet number bytes) (start_event moment r) after
     → after ≡ after_lsa (case_at moment number lsa r.area) moment number lsa (start r)
 own_part r moment number bytes lsa n after nothing there other part text own =
     let packet : Packet = record { router = n.router; body = body.Update (text.unread ∷ []) } in
     own.2
-    ∙ ap (λ q. after_packet two_way_received moment number q (start_event moment r)) (one_packet bytes own.0 packet own.1 text.is_text)
-    ∙ ap (after_packet two_way_received moment number packet) (begins moment r nothing)
+    ∙ ap (λ q. after_packet moment number q (start_event moment r)) (one_packet bytes own.0 packet own.1 text.is_text)
+    ∙ ap (after_packet moment number packet) (begins moment r nothing)
     ∙ update_heard moment number (start r) n (text.unread ∷ []) there other part
     ∙ after_one moment number text.unread lsa (start r) text.is_read
 

@@ -29,9 +29,9 @@ use Rattle.adjacency.specs.Neighbors.{Neighbor}
 use Rattle.adjacency.specs.declared.interface.Interface.{Interface}
 use Rattle.adjacency.specs.Requests.{request_next}
 use Rattle.adjacency.specs.Retransmissions.{after_acknowledgment}
-use Rattle.adjacency.specs.Rooms.{AllFit, Fits, HasRoom, HasRoomyLists, IsRoomyStep, IsRoomyTwoWay}
+use Rattle.adjacency.specs.Rooms.{AllFit, Fits, HasRoom, HasRoomyLists, IsRoomyStep}
 use Rattle.adjacency.proofs.Kept.{chosen}
-use Rattle.adjacency.proofs.Roomy.{acknowledgment_roomy, again_roomy, aged_fits, copies_fit, description_roomy, filled_roomy, hello_roomy, mismatched_roomy, named_roomy, now_fits, old_description_roomy, quiet_roomy, request_roomy, still_heard_roomy, unnamed_roomy, updates_room}
+use Rattle.adjacency.proofs.Roomy.{acknowledgment_roomy, again_roomy, aged_fits, copies_fit, description_roomy, filled_roomy, hello_roomy, mismatched_roomy, now_fits, old_description_roomy, quiet_roomy, request_roomy, still_heard_roomy, updates_room}
 use Rattle.received.specs.Holds.{Holds, HoldsOfEach}
 use Rattle.received.specs.Links.{Link, link_at, neighbor_on}
 use Rattle.received.specs.Outcomes.{Outcome, numbered, on_database, on_links}
@@ -41,9 +41,9 @@ use Rattle.events.specs.declared.model.Config.{Config}
 use Rattle.events.specs.declared.model.Out.{Out}
 use Rattle.events.specs.Commands.{taken_down}
 use Rattle.events.specs.Endings.{link_loading_done, loading_done_on, end_event, stays, with_age}
-use Rattle.events.specs.Events.{HappensBy, Rules, Run, Step, hellos_alone, initial, whole}
+use Rattle.events.specs.Events.{Happens, Run, Step, initial}
 use Rattle.events.specs.Hellos.{accepts, hello_is_due, heard_of, hello_on, names}
-use Rattle.events.specs.Originations.{install_and_flood, new_instance, originate_or_wait, router_key, wanted_body}
+use Rattle.events.specs.Originations.{due_keys, install_and_flood, new_instance, originate_or_wait, router_key, wanted_body}
 use Rattle.events.specs.Packets.{hear, heard_on, requested_lsas, with_neighbor}
 use Rattle.events.specs.EventState.{EventState, flood_from_nobody}
 use Rattle.event_rooms.specs.RoomLaws.{EveryPacketHasRoom, HaveRoom, IsRoomy}
@@ -205,81 +205,80 @@ brings old event = record {
   key = λ tagged tag priced price is. (tt, tt);
 }
 
-module _ (rules : Rules) (two_way_roomy : IsRoomyTwoWay rules.two_way) where
-  hello_heard : (own moment number from : ℕ) (hello : Hello) (link : Option Link) (o : Outcome) → Holds HasRoomyLists (neighbor_on link) → IsRoomyOutcome o
-      → IsRoomyOutcome (heard_on rules.two_way own moment number from hello link o)
-  hello_heard own moment number from hello None o here h = h
-  hello_heard own moment number from hello (Some link) o here h =
-      let s : NeighborStep = adjacencies.after_hello rules.two_way moment from (names own hello) link.neighbor in
-      let so : IsRoomyStep s = hello_roomy rules.two_way two_way_roomy moment from (names own hello) link.neighbor here in
-      chosen IsRoomyOutcome (accepts own from hello link) (hear moment number s o) o
-      (λ is.
-      sending_roomy moment (numbered number s.sends) _ (numbered_roomy number s.sends so.sends) (changed_roomy number (with_neighbor s.neighbor) (λ l at. so.neighbor) o h))
-      (λ is. h)
+hello_heard : (own moment number from : ℕ) (hello : Hello) (link : Option Link) (o : Outcome) → Holds HasRoomyLists (neighbor_on link) → IsRoomyOutcome o
+    → IsRoomyOutcome (heard_on own moment number from hello link o)
+hello_heard own moment number from hello None o here h = h
+hello_heard own moment number from hello (Some link) o here h =
+    let s : NeighborStep = adjacencies.after_hello moment from (names own hello) link.neighbor in
+    let so : IsRoomyStep s = hello_roomy moment from (names own hello) link.neighbor here in
+    chosen IsRoomyOutcome (accepts own from hello link) (hear moment number s o) o
+    (λ is.
+    sending_roomy moment (numbered number s.sends) _ (numbered_roomy number s.sends so.sends) (changed_roomy number (with_neighbor s.neighbor) (λ l at. so.neighbor) o h))
+    (λ is. h)
 
-  parts_roomy : IsKeptByParts roomy rules
-  parts_roomy = record {
-    ages = λ before moment o h. ages_roomy before moment (finite.entries o.area.database) o (entries_fit o.area.database h.fit) h;
-    flushes = λ moment key c o is young h. flushed_roomy moment key c o is h;
-    originates = λ moment key says p own goes wants grows h. originated_roomy moment key says p wants h.area;
-    own_router = λ r own. tt;
-    case = λ case moment number lsa so o h. case_roomy case moment number lsa o so h;
-    own_received = λ r lsa so is own. tt;
-    hello = λ own moment number from hello o h.
-        hello_heard own moment number from hello (link_at number o.area.links) o (one_holds HasRoomyLists number o.area.links h.lists) h;
-    description = λ own moment number d o h.
-        one_roomy moment number (after_description rules.two_way own moment o.area.database d)
-        (description_roomy rules.two_way two_way_roomy own moment o.area.database d) o h;
-    requested = λ moment number keys o h.
-        let lsas : List Lsa = requested_lsas moment o.area.database keys in
-        sending_roomy moment (numbered number (map Content.Updates lsas)) o
-        (numbered_roomy number (map Content.Updates lsas) (updates_room lsas (copies_fit moment o.area.database h.fit keys))) h;
-    mismatch = λ moment number o h. one_roomy moment number (adjacencies.mismatched moment) (mismatched_roomy moment) o h;
-    acknowledgment = λ moment number headers o h.
-        one_roomy moment number (λ n. no_sends (after_acknowledgment moment headers n))
-        (λ n at. quiet_roomy (after_acknowledgment moment headers n) (acknowledgment_roomy moment headers n at)) o h;
-    due = λ moment r own. keys_any (rules.due moment r);
-    inactive = λ moment o h.
-        each_link_roomy (run_out moment)
-        (λ link at.
-        exchange_settled moment link.interface.dead_interval (adjacencies.after_inactivity_timer moment link.interface.dead_interval link.neighbor)
-        (still_heard_roomy moment link.interface.dead_interval link.neighbor at)) o h;
-    again = λ moment o h.
-        each_roomy moment (again moment o) (λ number link n at. again_roomy moment link.interface.retransmit_interval o.area.database n h.fit at) o h;
-    acknowledges = λ moment o h.
-        sending_roomy moment (sends_of acknowledgments_on o.area.links) (on_links (map without_acknowledgments) o)
-        (sends_roomy acknowledgments_on (λ link. acknowledgments_room (finite.entries link.acknowledgments)) 1 o.area.links)
-        (each_link_roomy without_acknowledgments (λ link at. at) o h);
-    hellos = λ moment o h.
-        sending_roomy moment (sends_of (hello_sent_on moment) o.area.links) (on_links (map (with_hello_sent moment)) o)
-        (sends_roomy (hello_sent_on moment) (hello_room moment) 1 o.area.links)
-        (each_link_roomy (with_hello_sent moment) (λ link at. at) o h);
-    announces = λ r e own h. tt;
-    unannounces = λ r key h. tt;
-    link_down = λ number o h. changed_roomy number taken_down (λ link at. tt) o h;
-    loaded = λ o h. each_link_roomy link_loading_done (λ link at. filled_on_roomy link.neighbor at) o h;
-    requests = λ moment o h. each_roomy moment (λ number link n. request_next moment n) (λ number link n at. request_roomy moment n at) o h;
-    removes = λ moment o h.
-        on_database_roomy (λ db. finite.retain_keys db (stays moment o.area)) o (retained_fit o.area.database (stays moment o.area) h.fit) h;
-  }
+parts_roomy : IsKeptByParts roomy
+parts_roomy = record {
+  ages = λ before moment o h. ages_roomy before moment (finite.entries o.area.database) o (entries_fit o.area.database h.fit) h;
+  flushes = λ moment key c o is young h. flushed_roomy moment key c o is h;
+  originates = λ moment key says p own goes wants grows h. originated_roomy moment key says p wants h.area;
+  own_router = λ r own. tt;
+  case = λ case moment number lsa so o h. case_roomy case moment number lsa o so h;
+  own_received = λ r lsa so is own. tt;
+  hello = λ own moment number from hello o h.
+      hello_heard own moment number from hello (link_at number o.area.links) o (one_holds HasRoomyLists number o.area.links h.lists) h;
+  description = λ own moment number d o h.
+      one_roomy moment number (after_description own moment o.area.database d)
+      (description_roomy own moment o.area.database d) o h;
+  requested = λ moment number keys o h.
+      let lsas : List Lsa = requested_lsas moment o.area.database keys in
+      sending_roomy moment (numbered number (map Content.Updates lsas)) o
+      (numbered_roomy number (map Content.Updates lsas) (updates_room lsas (copies_fit moment o.area.database h.fit keys))) h;
+  mismatch = λ moment number o h. one_roomy moment number (adjacencies.mismatched moment) (mismatched_roomy moment) o h;
+  acknowledgment = λ moment number headers o h.
+      one_roomy moment number (λ n. no_sends (after_acknowledgment moment headers n))
+      (λ n at. quiet_roomy (after_acknowledgment moment headers n) (acknowledgment_roomy moment headers n at)) o h;
+  due = λ moment r own. keys_any (due_keys moment r);
+  inactive = λ moment o h.
+      each_link_roomy (run_out moment)
+      (λ link at.
+      exchange_settled moment link.interface.dead_interval (adjacencies.after_inactivity_timer moment link.interface.dead_interval link.neighbor)
+      (still_heard_roomy moment link.interface.dead_interval link.neighbor at)) o h;
+  again = λ moment o h.
+      each_roomy moment (again moment o) (λ number link n at. again_roomy moment link.interface.retransmit_interval o.area.database n h.fit at) o h;
+  acknowledges = λ moment o h.
+      sending_roomy moment (sends_of acknowledgments_on o.area.links) (on_links (map without_acknowledgments) o)
+      (sends_roomy acknowledgments_on (λ link. acknowledgments_room (finite.entries link.acknowledgments)) 1 o.area.links)
+      (each_link_roomy without_acknowledgments (λ link at. at) o h);
+  hellos = λ moment o h.
+      sending_roomy moment (sends_of (hello_sent_on moment) o.area.links) (on_links (map (with_hello_sent moment)) o)
+      (sends_roomy (hello_sent_on moment) (hello_room moment) 1 o.area.links)
+      (each_link_roomy (with_hello_sent moment) (λ link at. at) o h);
+  announces = λ r e own h. tt;
+  unannounces = λ r key h. tt;
+  link_down = λ number o h. changed_roomy number taken_down (λ link at. tt) o h;
+  loaded = λ o h. each_link_roomy link_loading_done (λ link at. filled_on_roomy link.neighbor at) o h;
+  requests = λ moment o h. each_roomy moment (λ number link n. request_next moment n) (λ number link n at. request_roomy moment n at) o h;
+  removes = λ moment o h.
+      on_database_roomy (λ db. finite.retain_keys db (stays moment o.area)) o (retained_fit o.area.database (stays moment o.area) h.fit) h;
+}
 
-  event_end : (old : Router) (moment : ℕ) (event : Occurrence) (outs : List Out) (new : Router) → (happens : HappensBy rules old moment event outs new)
-      → IsRoomy old → HasRoomFor (end_event old moment happens.after).router.area (end_event old moment happens.after).sends
-  event_end old moment event outs new happens h =
-      let start : OfEvent roomy (record { router = old; sends = [] }) = record {
-        area = record { fit = h.fit; lists = h.lists; few = h.few; sent = tt };
-        announced = tt;
-      } in (event_kept roomy rules parts_roomy old moment event happens.after (brings old event) happens.own start).area
+event_end : (old : Router) (moment : ℕ) (event : Occurrence) (outs : List Out) (new : Router) → (happens : Happens old moment event outs new)
+    → IsRoomy old → HasRoomFor (end_event old moment happens.after).router.area (end_event old moment happens.after).sends
+event_end old moment event outs new happens h =
+    let start : OfEvent roomy (record { router = old; sends = [] }) = record {
+      area = record { fit = h.fit; lists = h.lists; few = h.few; sent = tt };
+      announced = tt;
+    } in (event_kept roomy parts_roomy old moment event happens.after (brings old event) happens.own start).area
 
-  event_roomy : (old : Router) (moment : ℕ) (event : Occurrence) (outs : List Out) (new : Router) → HappensBy rules old moment event outs new
-      → IsRoomy old → IsRoomy new × HaveRoom outs
-  event_roomy old moment event outs new happens h =
-      let p : EventState = end_event old moment happens.after in
-      let end : HasRoomFor p.router.area p.sends = event_end old moment event outs new happens h in
-      let after : IsRoomy p.router = record { fit = end.fit; lists = end.lists; few = end.few } in (
-        subst IsRoomy (sym happens.router) after,
-        subst HaveRoom (sym happens.sent) (ordered_and_packed.bytes old.id old.area.links p.sends end.sent),
-      )
+event_roomy : (old : Router) (moment : ℕ) (event : Occurrence) (outs : List Out) (new : Router) → Happens old moment event outs new
+    → IsRoomy old → IsRoomy new × HaveRoom outs
+event_roomy old moment event outs new happens h =
+    let p : EventState = end_event old moment happens.after in
+    let end : HasRoomFor p.router.area p.sends = event_end old moment event outs new happens h in
+    let after : IsRoomy p.router = record { fit = end.fit; lists = end.lists; few = end.few } in (
+      subst IsRoomy (sym happens.router) after,
+      subst HaveRoom (sym happens.sent) (ordered_and_packed.bytes old.id old.area.links p.sends end.sent),
+    )
 
 -- ---- the start, and every run
 
@@ -307,21 +306,20 @@ first_roomy c e =
       announced = tt;
     } in
     let so : OfEvent roomy (originate_or_wait c.start (router_key c.router) start) =
-    originate_or_wait_kept roomy whole (parts_roomy whole named_roomy) c.start (router_key c.router) start tt at in
+    originate_or_wait_kept roomy parts_roomy c.start (router_key c.router) start tt at in
     record { fit = so.area.fit; lists = so.area.lists; few = so.area.few }
 
 run_roomy : (steps : List Step) (old new : Router) → Run old steps new → IsRoomy old → IsRoomy new × AllByRecursion (λ (s : Step). HaveRoom s.outs) steps
 run_roomy [] old new same h = (subst IsRoomy (sym same) h, tt)
 run_roomy (s ∷ steps) old new run h =
-    let now = event_roomy whole named_roomy old s.moment s.event s.outs run.0 run.1 h in
+    let now = event_roomy old s.moment s.event s.outs run.0 run.1 h in
     let rest = run_roomy steps run.0 new run.2 now.0 in
     (rest.0, (now.1, rest.1))
 
 pub every_packet_has_room : EveryPacketHasRoom
 every_packet_has_room = record {
   first = first_roomy;
-  event = event_roomy whole named_roomy;
-  sends = λ old moment event outs new happens h. (event_end whole named_roomy old moment event outs new happens h).sent;
-  hello_event = event_roomy hellos_alone unnamed_roomy;
+  event = event_roomy;
+  sends = λ old moment event outs new happens h. (event_end old moment event outs new happens h).sent;
   run = λ c steps new profile run. run_roomy steps (initial c) new run (first_roomy c profile);
 }

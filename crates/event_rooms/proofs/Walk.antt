@@ -29,8 +29,8 @@ use Rattle.received.specs.Outcomes.{Outcome, Send, numbered, on_database, on_lin
 use Rattle.received.specs.Updates.{after_case, case_at, goes_on}
 use Rattle.events.specs.Commands.{after_redistribute, after_withdraw, announce, announce_as, answered, end_want, ls_infinity, is_announced_as, is_for, taken_down, unannounce}
 use Rattle.events.specs.Endings.{start_event, describe_router, describe_router_later, link_loading_done, loading_done, end_event, is_current, links_differ, remove_aged, request_all, stays, with_ages}
-use Rattle.events.specs.Events.{OwnPart, Rules}
-use Rattle.events.specs.Originations.{external_key, flush, flush_copy, forget_originations, has_max_sequence, has_room, install_and_flood, is_wanted, may_originate, new_instance, originate, originate_anyway, originate_body, originate_due, originate_or_wait, router_key, receive_self_originated, originate_or_flush, wait, wanted_body}
+use Rattle.events.specs.Events.{OwnPart}
+use Rattle.events.specs.Originations.{due_keys, external_key, flush, flush_copy, forget_originations, has_max_sequence, has_room, install_and_flood, is_wanted, may_originate, new_instance, originate, originate_anyway, originate_body, originate_due, originate_or_wait, router_key, receive_self_originated, originate_or_flush, wait, wanted_body}
 use Rattle.events.specs.Packets.{acknowledged_by, after_hello, after_lsa, after_lsas, after_packet, after_unread, case_in, describe_to, from_neighbor, is_heard, is_in_exchange, is_there, requested_from, requested_lsas, after_self_originated}
 use Rattle.events.specs.EventState.{EventState, flood_from_nobody, on_area, on_router}
 use Rattle.events.specs.Routers.{Occurrence, Router}
@@ -86,7 +86,7 @@ pub data MayGrow (i : Invariant) (key : Key) (r : Router) : Type 0 where
 
 -- ---- what keeps it
 
-pub record IsKeptByParts (i : Invariant) (rules : Rules) : Type 0 where
+pub record IsKeptByParts (i : Invariant) : Type 0 where
   -- ages, and the router's own LSAs
   pub ages : (before moment : ℕ) → Keeps i (with_ages before moment)
   pub flushes : (moment : ℕ) (key : Key) (c : DatabaseCopy) (o : Outcome) → finite.get o.area.database key ≡ Some c → is_aged_out moment c ≡ false → OfOutcome i o
@@ -98,14 +98,14 @@ pub record IsKeptByParts (i : Invariant) (rules : Rules) : Type 0 where
   -- packets
   pub case : (case : Case) (moment number : ℕ) (lsa : Lsa) → i.of_lsa lsa → Keeps i (after_case case moment number lsa)
   pub own_received : (r : Router) (lsa : Lsa) → i.of_lsa lsa → lsa.header.advertising_router ≡ r.id → i.of_announced r.id r.announced → i.of_key (lsa_key lsa)
-  pub hello : (own moment number from : ℕ) (h : Hello) → Keeps i (after_hello rules.two_way own moment number from h)
-  pub description : (own moment number : ℕ) (d : Description) → Keeps i (describe_to rules.two_way own moment number d)
+  pub hello : (own moment number from : ℕ) (h : Hello) → Keeps i (after_hello own moment number from h)
+  pub description : (own moment number : ℕ) (d : Description) → Keeps i (describe_to own moment number d)
   pub requested : (moment number : ℕ) (keys : List Key) (o : Outcome) → OfOutcome i o
       → OfOutcome i (sending moment (numbered number (map Content.Updates (requested_lsas moment o.area.database keys))) o)
   pub mismatch : (moment number : ℕ) → Keeps i (one_neighbor moment number (adjacencies.mismatched moment))
   pub acknowledgment : (moment number : ℕ) (headers : List Header) → Keeps i (acknowledged_by moment number headers)
   -- a Tick
-  pub due : (moment : ℕ) (r : Router) → i.of_announced r.id r.announced → AllByRecursion i.of_key (rules.due moment r)
+  pub due : (moment : ℕ) (r : Router) → i.of_announced r.id r.announced → AllByRecursion i.of_key (due_keys moment r)
   pub inactive : (moment : ℕ) → Keeps i (on_links (map (run_out moment)))
   pub again : (moment : ℕ) → Keeps i (send_all_again moment)
   pub acknowledges : (moment : ℕ) → Keeps i (acknowledge_all moment)
@@ -128,7 +128,7 @@ pub record Brings (i : Invariant) (r : Router) (event : Occurrence) : Type 0 whe
 
 -- ---- the walk
 
-module _ (i : Invariant) (rules : Rules) (kept : IsKeptByParts i rules) where
+module _ (i : Invariant) (kept : IsKeptByParts i) where
   abbrev InProgress : EventState → Type 0
   InProgress p = OfEvent i p
 
@@ -221,11 +221,11 @@ module _ (i : Invariant) (rules : Rules) (kept : IsKeptByParts i rules) where
       (λ is. kept.requested moment number keys o h) (λ is. kept.mismatch moment number o h)
 
   from_neighbor_kept : (moment number from : ℕ) (in_exchange : Bool) (b : Body) (p : EventState) → OfBrought i.of_lsa b → InProgress p
-      → InProgress (from_neighbor rules.two_way moment number from in_exchange b p)
+      → InProgress (from_neighbor moment number from in_exchange b p)
   from_neighbor_kept moment number from in_exchange (body.Hello hello) p so h =
-      on_area_kept (after_hello rules.two_way p.router.id moment number from hello) p (λ a. kept.hello p.router.id moment number from hello (outcome p) a) h
+      on_area_kept (after_hello p.router.id moment number from hello) p (λ a. kept.hello p.router.id moment number from hello (outcome p) a) h
   from_neighbor_kept moment number from in_exchange (body.Description d) p so h =
-      on_area_kept (describe_to rules.two_way p.router.id moment number d) p (λ a. kept.description p.router.id moment number d (outcome p) a) h
+      on_area_kept (describe_to p.router.id moment number d) p (λ a. kept.description p.router.id moment number d (outcome p) a) h
   from_neighbor_kept moment number from in_exchange (body.Request keys) p so h =
       chosen InProgress in_exchange (on_area (requested_from moment number keys) p) p
       (λ is. on_area_kept (requested_from moment number keys) p (λ a. requests_answered moment number keys (outcome p) a) h) (λ is. h)
@@ -235,20 +235,20 @@ module _ (i : Invariant) (rules : Rules) (kept : IsKeptByParts i rules) where
       chosen InProgress in_exchange (on_area (acknowledged_by moment number headers) p) p
       (λ is. on_area_kept (acknowledged_by moment number headers) p (λ a. kept.acknowledgment moment number headers (outcome p) a) h) (λ is. h)
 
-  packet_kept : (moment number : ℕ) (packet : Packet) (p : EventState) → OfBrought i.of_lsa packet.body → InProgress p → InProgress (after_packet rules.two_way moment number packet p)
+  packet_kept : (moment number : ℕ) (packet : Packet) (p : EventState) → OfBrought i.of_lsa packet.body → InProgress p → InProgress (after_packet moment number packet p)
   packet_kept moment number packet p so h =
       let n : Option Neighbor = neighbor_on (link_at number p.router.area.links) in
-      chosen InProgress (is_heard p.router.id packet n) (from_neighbor rules.two_way moment number packet.router (is_in_exchange n) packet.body p) p
+      chosen InProgress (is_heard p.router.id packet n) (from_neighbor moment number packet.router (is_in_exchange n) packet.body p) p
       (λ is. from_neighbor_kept moment number packet.router (is_in_exchange n) packet.body p so h) (λ is. h)
 
   -- ---- a Tick
 
-  tick_kept : (moment : ℕ) (p : EventState) → InProgress p → InProgress (after_tick rules.due moment p)
+  tick_kept : (moment : ℕ) (p : EventState) → InProgress p → InProgress (after_tick moment p)
   tick_kept moment p h =
       let no_sends : EventState = on_router (forget_originations moment) (on_area (on_links (map (run_out moment))) p) in
-      let renewed : EventState = originate_due moment (rules.due moment no_sends.router) no_sends in
+      let renewed : EventState = originate_due moment (due_keys moment no_sends.router) no_sends in
       let still : InProgress no_sends = record { area = kept.inactive moment (outcome p) h.area; announced = h.announced } in
-      let so : InProgress renewed = due_kept moment (rules.due moment no_sends.router) no_sends (kept.due moment no_sends.router still.announced) still in
+      let so : InProgress renewed = due_kept moment (due_keys moment no_sends.router) no_sends (kept.due moment no_sends.router still.announced) still in
       let o : Outcome = outcome renewed in
       let again : OfOutcome i (send_all_again moment o) = kept.again moment o so.area in
       let acknowledged : OfOutcome i (acknowledge_all moment (send_all_again moment o)) = kept.acknowledges moment (send_all_again moment o) again in
@@ -281,7 +281,7 @@ module _ (i : Invariant) (rules : Rules) (kept : IsKeptByParts i rules) where
       let key : Key = external_key p.router.id prefix in
       chosen InProgress (is_for prefix (finite.get p.router.announced key)) (end_want moment key p) p (λ is. want_ended moment key p h) (λ is. h)
 
-  own_kept : (moment : ℕ) (event : Occurrence) (before after : EventState) → Brings i before.router event → OwnPart rules moment event before after
+  own_kept : (moment : ℕ) (event : Occurrence) (before after : EventState) → Brings i before.router event → OwnPart moment event before after
       → InProgress before → InProgress after
   own_kept moment (Occurrence.Packet number bytes) before after brings is h =
       subst InProgress (sym is.2) (packet_kept moment number is.0 before (brings.packet number bytes is.0 refl is.1) h)
@@ -325,7 +325,7 @@ module _ (i : Invariant) (rules : Rules) (kept : IsKeptByParts i rules) where
   begun_kept : (moment : ℕ) (r : Router) → InProgress (record { router = r; sends = [] }) → InProgress (start_event moment r)
   begun_kept moment r h = record { area = kept.ages r.moment moment (record { area = r.area; sends = [] }) h.area; announced = h.announced }
 
-  pub event_kept : (old : Router) (moment : ℕ) (event : Occurrence) (after : EventState) → Brings i old event → OwnPart rules moment event (start_event moment old) after
+  pub event_kept : (old : Router) (moment : ℕ) (event : Occurrence) (after : EventState) → Brings i old event → OwnPart moment event (start_event moment old) after
       → InProgress (record { router = old; sends = [] }) → InProgress (end_event old moment after)
   event_kept old moment event after brings own h =
       ended_kept old moment after (own_kept moment event (start_event moment old) after (record { packet = brings.packet; key = brings.key }) own (begun_kept moment old h))

@@ -9,7 +9,7 @@ use Rattle.received.specs.Outcomes.{Send}
 use Rattle.events.specs.declared.model.Config.{Config}
 use Rattle.events.specs.declared.model.Out.{Out}
 use Rattle.events.specs.Endings.{end_event}
-use Rattle.events.specs.Events.{Happens, HappensBy, Run, Step, hellos_alone, initial}
+use Rattle.events.specs.Events.{Happens, Run, Step, initial}
 use Rattle.events.specs.Routers.{Occurrence, Router, in_profile}
 
 -- it holds of each neighbor of the router
@@ -37,10 +37,6 @@ pub record EveryPacketHasRoom : Type 0 where
   pub sends : (old : Router) (moment : ℕ) (event : Occurrence) (outs : List Out) (new : Router)
       → (happens : Happens old moment event outs new) → IsRoomy old
       → AllByRecursion (λ (s : Send). HasRoom s.content) (end_event old moment happens.after).sends
-  -- also where the Hello protocol alone is run
-  pub hello_event : (old : Router) (moment : ℕ) (event : Occurrence) (outs : List Out)
-      (new : Router)
-      → HappensBy hellos_alone old moment event outs new → IsRoomy old → IsRoomy new × HaveRoom outs
   -- so in every run from the start, whatever happens in it
   pub run : (c : Config) (steps : List Step) (new : Router) → in_profile c ≡ true
       → Run (initial c) steps new

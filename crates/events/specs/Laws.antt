@@ -5,7 +5,7 @@ use Rattle.received.specs.Cases.{Case}
 use Rattle.received.specs.Updates.{goes_on}
 use Rattle.events.specs.declared.model.Out.{Out}
 use Rattle.events.specs.Commands.{after_install}
-use Rattle.events.specs.Events.{HappensBy, Rules}
+use Rattle.events.specs.Events.{Happens}
 use Rattle.events.specs.EventState.{EventState}
 use Rattle.events.specs.Packets.{after_unread, case_in}
 use Rattle.events.specs.Routers.{Occurrence, Router}
@@ -13,9 +13,9 @@ use Rattle.events.specs.Routers.{Occurrence, Router}
 -- an event has one outcome: nothing is left to choose
 abbrev pub EventsAreDetermined : Type 0
 EventsAreDetermined =
-    (rules : Rules) (old : Router) (moment : ℕ) (event : Occurrence) (sent others : List Out)
+    (old : Router) (moment : ℕ) (event : Occurrence) (sent others : List Out)
     (new another : Router)
-    → HappensBy rules old moment event sent new → HappensBy rules old moment event others another
+    → Happens old moment event sent new → Happens old moment event others another
     → (sent ≡ others) × (new ≡ another)
 
 -- the answers of the programs, a veto among them, change neither the database nor a link, and send

@@ -25,10 +25,6 @@ pub use Rattle.events.specs.Hellos.{accepts, agrees, is_foreign, may_be, names}
 use Rattle.events.specs.Originations.{receive_self_originated}
 use Rattle.events.specs.EventState.{EventState, on_area}
 
--- what a Hello that names this router makes of its sender, once it was heard
-abbrev pub TwoWay : Type 0
-TwoWay = Moment → Neighbor → Step
-
 -- ---- Hellos (section 10.5)
 
 abbrev pub with_neighbor : Neighbor → Link → Link
@@ -39,18 +35,18 @@ hear moment number s o =
     sending moment (numbered number s.sends)
     (on_links (change_link number (with_neighbor s.neighbor)) o)
 
-abbrev pub heard_on : TwoWay → (own : RouterNumber) → Moment → InterfaceNumber
+abbrev pub heard_on : (own : RouterNumber) → Moment → InterfaceNumber
     → (from : RouterNumber) → Hello → Option Link → Outcome → Outcome
-heard_on two_way own moment number from h None o = o
-heard_on two_way own moment number from h (Some link) o =
+heard_on own moment number from h None o = o
+heard_on own moment number from h (Some link) o =
     if accepts own from h link
     then hear moment number
-    (adjacencies.after_hello two_way moment from (names own h) link.neighbor) o else o
+    (adjacencies.after_hello moment from (names own h) link.neighbor) o else o
 
-abbrev pub after_hello : TwoWay → (own : RouterNumber) → Moment → InterfaceNumber
+abbrev pub after_hello : (own : RouterNumber) → Moment → InterfaceNumber
     → (from : RouterNumber) → Hello → Outcome → Outcome
-after_hello two_way own moment number from h o =
-    heard_on two_way own moment number from h (link_at number o.area.links) o
+after_hello own moment number from h o =
+    heard_on own moment number from h (link_at number o.area.links) o
 
 -- ---- Requests (section 10.7)
 
@@ -115,27 +111,26 @@ abbrev pub is_in_exchange : Option Neighbor → Bool
 is_in_exchange None = false
 is_in_exchange (Some n) = is_exchange_or_later n.state
 
-abbrev pub describe_to : TwoWay → RouterNumber → Moment → InterfaceNumber → Description → Outcome
-    → Outcome
-describe_to two_way own moment number d o =
-    one_neighbor moment number (after_description two_way own moment o.area.database d) o
+abbrev pub describe_to : RouterNumber → Moment → InterfaceNumber → Description → Outcome → Outcome
+describe_to own moment number d o =
+    one_neighbor moment number (after_description own moment o.area.database d) o
 
 abbrev pub acknowledged_by : Moment → InterfaceNumber → List Header → Outcome → Outcome
 acknowledged_by moment number headers o =
     one_neighbor moment number (λ n. no_sends (after_acknowledgment moment headers n)) o
 
 -- from the interface's neighbor; Requests, Updates and Acknowledgments count from Exchange on
-abbrev pub from_neighbor : TwoWay → Moment → InterfaceNumber → RouterNumber → Bool → Body
-    → EventState → EventState
-from_neighbor two_way moment number from in_exchange (body.Hello h) p =
-    on_area (after_hello two_way p.router.id moment number from h) p
-from_neighbor two_way moment number from in_exchange (body.Description d) p =
-    on_area (describe_to two_way p.router.id moment number d) p
-from_neighbor two_way moment number from in_exchange (body.Request keys) p =
+abbrev pub from_neighbor : Moment → InterfaceNumber → RouterNumber → Bool → Body → EventState
+    → EventState
+from_neighbor moment number from in_exchange (body.Hello h) p =
+    on_area (after_hello p.router.id moment number from h) p
+from_neighbor moment number from in_exchange (body.Description d) p =
+    on_area (describe_to p.router.id moment number d) p
+from_neighbor moment number from in_exchange (body.Request keys) p =
     if in_exchange then on_area (requested_from moment number keys) p else p
-from_neighbor two_way moment number from in_exchange (body.Update lsas) p =
+from_neighbor moment number from in_exchange (body.Update lsas) p =
     if in_exchange then after_lsas moment number lsas p else p
-from_neighbor two_way moment number from in_exchange (body.Acknowledgment headers) p =
+from_neighbor moment number from in_exchange (body.Acknowledgment headers) p =
     if in_exchange then on_area (acknowledged_by moment number headers) p else p
 
 abbrev pub is_hello : Body → Bool
@@ -151,9 +146,9 @@ abbrev pub is_heard : RouterNumber → Packet → Option Neighbor → Bool
 is_heard own packet n =
     is_foreign own packet.router && (is_hello packet.body || is_from packet.router n)
 
-abbrev pub after_packet : TwoWay → Moment → InterfaceNumber → Packet → EventState → EventState
-after_packet two_way moment number packet p =
+abbrev pub after_packet : Moment → InterfaceNumber → Packet → EventState → EventState
+after_packet moment number packet p =
     let n : Option Neighbor = neighbor_at number p.router.area.links in
     if is_heard p.router.id packet n
-    then from_neighbor two_way moment number packet.router (is_in_exchange n) packet.body p
+    then from_neighbor moment number packet.router (is_in_exchange n) packet.body p
     else p

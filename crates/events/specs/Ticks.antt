@@ -3,7 +3,6 @@ use Rattle.std.specs.Prelude.{ℕ, if◌then◌else◌, List, [], ◌∷◌, map
 use Rattle.std.specs.List.{enumerate_from, flat_map}
 use Rattle.std.specs.FinMap as finite
 use Rattle.words.specs.Numbers.{Moment, Seconds}
-use Rattle.words.specs.declared.key.Key.{Key}
 use Rattle.adjacency.specs.Adjacencies.{after_inactivity_timer}
 use Rattle.adjacency.specs.Contents.{Content}
 use Rattle.adjacency.specs.Descriptions.{without_old_description}
@@ -12,9 +11,8 @@ use Rattle.adjacency.specs.Retransmissions.{send_again}
 use Rattle.received.specs.Links.{Link}
 use Rattle.received.specs.Outcomes.{Outcome, Send, Stepping, each_neighbor, numbered, on_links, sending}
 pub use Rattle.events.specs.Hellos.{with_hello_sent, hello_is_due, hello_on, is_due}
-use Rattle.events.specs.Originations.{forget_originations, originate_due}
+use Rattle.events.specs.Originations.{due_keys, forget_originations, originate_due}
 use Rattle.events.specs.EventState.{EventState, on_area, on_router}
-use Rattle.events.specs.Routers.{Router}
 
 -- ---- times that run out
 
@@ -69,10 +67,9 @@ send_hellos moment o =
 
 -- ---- the whole
 
--- `due` are the own LSAs that a Tick originates
-abbrev pub after_tick : (ℕ → Router → List Key) → Moment → EventState → EventState
-after_tick due moment p =
+abbrev pub after_tick : Moment → EventState → EventState
+after_tick moment p =
     let no_sends : EventState =
     on_router (forget_originations moment) (on_area (on_links (map (run_out moment))) p) in
-    let renewed : EventState = originate_due moment (due moment no_sends.router) no_sends in
+    let renewed : EventState = originate_due moment (due_keys moment no_sends.router) no_sends in
     on_area (λ o. send_hellos moment (acknowledge_all moment (send_all_again moment o))) renewed

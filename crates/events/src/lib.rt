@@ -1,10 +1,12 @@
-//! What an event makes of a router, as definitions (RFC 2328, sections 8 to 14), and the types of what a router is told and answers.
+//! What an event makes of a router, as definitions (RFC 2328, sections 8 to 14), and the types of
+//! how a router begins, what it sends and why it refuses.
 //!
-//! The code that does it is the crate `flood`; laws of runs and worked conversations stand beside it.
+//! The code that does it is the crate `flood`, with the type of what a router is told; laws of runs
+//! and worked conversations stand beside it.
 #![tactic(auto)]
 
 pub mod laws;
 mod model;
 
 pub use adjacency::{Interface, State};
-pub use model::{Config, ConfigError, CoreError, Event, Out};
+pub use model::{Config, ConfigError, CoreError, Out};

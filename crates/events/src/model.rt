@@ -1,4 +1,4 @@
-//! What a router is told, and what it answers.
+//! How a router begins, what it sends, and why it refuses.
 ghost use Rattle.std.specs.Prelude.{◌≡◌, IfOk};
 ghost use Rattle.events.specs.Numbers.{config_error_number, core_error_number, core_error_of};
 
@@ -10,8 +10,9 @@ use words::{RouterId, Second, Sequence};
 
 /// How a router begins (RFC 2328, appendix C).
 ///
-/// A router runs with it where the Router ID isn't 0.0.0.0, the start is below 2^62 seconds, there are 1 to 63 interfaces, no two have one
-/// address, and each interface's numbers are in the ranges that [`Interface`] names.
+/// A router runs with it where the Router ID isn't 0.0.0.0, the start is below 2^62 seconds, there
+/// are 1 to 63 interfaces, no two have one address, and each interface's numbers are in the ranges
+/// that [`Interface`] names.
 #[derive(Debug, Drop)]
 pub struct Config {
     /// The own Router ID.
@@ -36,27 +37,6 @@ impl Config {
     }
 }
 
-/// What happens to a router at a moment.
-#[derive(Debug, Drop)]
-pub enum Event {
-    /// These bytes came in at the interface of this number.
-    Packet(u16, Sequence<u8>),
-    /// Time has passed: what is due is done. Each time of the router's runs out at a Tick alone.
-    Tick,
-}
-
-impl Event {
-    /// The same event once more. The only error is that an allocation was refused.
-    pub fn copy(&self) -> Result<Event, AllocError>
-        ensures { IfOk result (λ copy. copy ≡ self.now) }
-    {
-        match self {
-            Event::Packet(interface, bytes) => Ok(Event::Packet(*interface, bytes.copy()?)),
-            Event::Tick => Ok(Event::Tick),
-        }
-    }
-}
-
 /// The text of a packet that is to be sent at the interface of this number.
 #[derive(Debug, Drop)]
 pub struct Out {
@@ -67,7 +47,8 @@ pub struct Out {
 /// Why `Core::new` made no router.
 #[derive(Clone, Copy, Debug, PartialEq, Eq, Error)]
 pub enum ConfigError {
-    /// The configuration is outside of what [`Config`] allows: its Router ID, its interfaces or its start.
+    /// The configuration is outside of what [`Config`] allows: its Router ID, its interfaces or its
+    /// start.
     #[error("the configuration is not in the profile")]
     Interface,
     /// An allocation was refused; nothing is wrong with the configuration.
@@ -116,13 +97,14 @@ pub enum CoreError {
     /// There is no interface of this number.
     #[error("there is no such interface")]
     NoInterface,
-    /// The Link State ID is that of another announced prefix, or two answers are on different destinations. No event of today's is refused so.
+    /// The Link State ID is that of another announced prefix, or two answers are on different
+    /// destinations.
     #[error("the destination clashes with another one")]
     Clash,
     /// The moment is earlier than that of the last event, or 2^62 or more.
     #[error("the clock went back")]
     ClockBack,
-    /// The database would hold more than it may. No event of today's is refused so.
+    /// The database would hold more than it may.
     #[error("the database is full")]
     Full,
     /// An allocation was refused; nothing is wrong with the event.
@@ -131,7 +113,8 @@ pub enum CoreError {
 }
 
 impl CoreError {
-    /// The number of the refusal: 1 for `BadPacket`, 2 for `NoInterface`, 3 for `Clash`, 4 for `ClockBack`, 5 for `Full`, 6 for `Memory`.
+    /// The number of the refusal: 1 for `BadPacket`, 2 for `NoInterface`, 3 for `Clash`, 4 for
+    /// `ClockBack`, 5 for `Full`, 6 for `Memory`.
     pub fn number(self) -> u8
         ensures { result ≡ core_error_number self }
     {

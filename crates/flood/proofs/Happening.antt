@@ -7,7 +7,7 @@ use Rattle.event_rooms.specs.RoomLaws.{IsRoomy}
 use Rattle.event_rooms.proofs.Roomy.{every_packet_has_room}
 use Rattle.events.specs.declared.model.Out.{Out}
 use Rattle.events.specs.Endings.{start_event}
-use Rattle.events.specs.Events.{Happens, whole}
+use Rattle.events.specs.Events.{Happens}
 use Rattle.events.specs.EventState.{EventState}
 use Rattle.events.specs.Packing.{outs_of}
 use Rattle.events.specs.Refusals.{WouldExceed, exceeds, first_refusal}
@@ -46,7 +46,7 @@ module _ (old : Router) (moment : ℕ) (event : Occurrence) (p : Part) (is : IsP
   -- an event has one outcome
   pub made_stays_within : exceeds (made old moment p).router ≡ false → WouldExceed old moment event → ⊥
   made_stays_within fine would =
-      let same : would.new ≡ (made old moment p).router = (determined whole old moment event _ _ _ _ would.happens makes).1 in
+      let same : would.new ≡ (made old moment p).router = (determined old moment event _ _ _ _ would.happens makes).1 in
       let no : true ≡ false = sym would.too_much ∙ ap exceeds same ∙ fine in
       absurd cc
 

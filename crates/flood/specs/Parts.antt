@@ -2,15 +2,13 @@
 use Rattle.std.specs.Prelude.{◌≡◌, ℕ, ◌≤◌, true, false, List, [], Option, None, Some, Result, Ok, Err, if◌then◌else◌}
 use Rattle.words.specs.Numbers.{Moment}
 use Rattle.packet.specs.Reading.{fault_of}
-use Rattle.adjacency.specs.Adjacencies.{two_way_received}
 use Rattle.events.specs.declared.model.CoreError.{CoreError}
 use Rattle.events.specs.declared.model.CoreError.TheVariants as error
 use Rattle.events.specs.declared.model.Out.{Out}
 use Rattle.events.specs.Commands.{after_install, after_link_down, after_redistribute, after_withdraw}
 use Rattle.events.specs.Endings.{end_event, with_ages}
-use Rattle.events.specs.Events.{OwnPart, whole}
+use Rattle.events.specs.Events.{OwnPart}
 use Rattle.events.specs.EventState.{EventState, on_area}
-use Rattle.events.specs.Originations.{due_keys}
 use Rattle.events.specs.Packets.{after_packet}
 use Rattle.events.specs.Packing.{outs_of}
 use Rattle.events.specs.Refusals.{bad_packet, clashes, exceeds}
@@ -23,8 +21,8 @@ use Rattle.flood.specs.declared.part.Part.TheVariants as part
 
 abbrev pub after_part : Part → Moment → EventState → EventState
 after_part (part.Packet number packet) moment p =
-    after_packet two_way_received moment number packet p
-after_part part.Tick moment p = after_tick due_keys moment p
+    after_packet moment number packet p
+after_part part.Tick moment p = after_tick moment p
 after_part (part.Redistribute external tag price) moment p =
     after_redistribute moment external tag price p
 after_part (part.Withdraw prefix) moment p = after_withdraw moment prefix p
@@ -34,7 +32,7 @@ after_part (part.LinkDown number) moment p = after_link_down number p
 -- it is the own part of this event
 pub record IsPartOf (event : Occurrence) (p : Part) : Type 0 where
   pub own : (moment : Moment) (before : EventState)
-      → OwnPart whole moment event before (after_part p moment before)
+      → OwnPart moment event before (after_part p moment before)
 
 -- a packet came in at one of so many interfaces
 abbrev pub HasInterface : Part → ℕ → Type 0

@@ -4,10 +4,10 @@ use Rattle.adjacency.specs.Laws.{IsBareWhereFull}
 use Rattle.adjacency.specs.Lists.{HasSoundLists}
 use Rattle.adjacency.specs.Neighbors.{Neighbor}
 use Rattle.adjacency.proofs.Facts.{Bare, Sound, bare_kept, sound_kept, sound_lists, sound_of}
-use Rattle.adjacency.proofs.Kept.{Fact, IsKept, Of, named_kept}
+use Rattle.adjacency.proofs.Kept.{Fact, IsKept, Of}
 use Rattle.received.specs.Holds.{Holds, HoldsOfEach}
 use Rattle.received.specs.Links.{Link}
-use Rattle.events.specs.Events.{Run, Step, hellos_alone, initial, whole}
+use Rattle.events.specs.Events.{Run, Step, initial}
 use Rattle.flood_laws.specs.NeighborLaws.{FullNeighborsRequestNothing, IsAlwaysSo, ListsAreSound}
 use Rattle.events.specs.Routers.{Router}
 use Rattle.flood_laws.proofs.Invariants.{event_kept, initial_kept}
@@ -25,16 +25,14 @@ module _ (Q : Fact) (kept : IsKept Q) (P : Neighbor → Type 0) (of_it : (n : Ne
   run_kept : (steps : List Step) (old new : Router) → Run old steps new → HoldsOfEach (Of Q) old.area.links → HoldsOfEach (Of Q) new.area.links
   run_kept [] old new same h = subst (λ (r : Router). HoldsOfEach (Of Q) r.area.links) (sym same) h
   run_kept (s ∷ steps) old new run h =
-      run_kept steps run.0 new run.2 (event_kept Q kept whole (named_kept Q kept) old s.moment s.event s.outs run.0 run.1 h)
+      run_kept steps run.0 new run.2 (event_kept Q kept old s.moment s.event s.outs run.0 run.1 h)
 
   always : IsAlwaysSo P
   always = record {
-    first = λ c. each_so (Of Q) P is (initial c).area.links (initial_kept Q kept (named_kept Q kept) c);
+    first = λ c. each_so (Of Q) P is (initial c).area.links (initial_kept Q kept c);
     event = λ old moment event outs new happens h.
-        each_so (Of Q) P is new.area.links (event_kept Q kept whole (named_kept Q kept) old moment event outs new happens (each_so P (Of Q) of_it old.area.links h));
-    hello_event = λ old moment event outs new happens h.
-        each_so (Of Q) P is new.area.links (event_kept Q kept hellos_alone (λ moment n so. so) old moment event outs new happens (each_so P (Of Q) of_it old.area.links h));
-    run = λ c steps new run. each_so (Of Q) P is new.area.links (run_kept steps (initial c) new run (initial_kept Q kept (named_kept Q kept) c));
+        each_so (Of Q) P is new.area.links (event_kept Q kept old moment event outs new happens (each_so P (Of Q) of_it old.area.links h));
+    run = λ c steps new run. each_so (Of Q) P is new.area.links (run_kept steps (initial c) new run (initial_kept Q kept c));
   }
 
 pub full_request_nothing : FullNeighborsRequestNothing

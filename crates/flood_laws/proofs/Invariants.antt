@@ -27,10 +27,10 @@ use Rattle.events.specs.declared.model.Config.{Config}
 use Rattle.events.specs.declared.model.Out.{Out}
 use Rattle.events.specs.Commands.{taken_down}
 use Rattle.events.specs.Endings.{link_loading_done, loading_done_on, with_age}
-use Rattle.events.specs.Events.{HappensBy, Rules, initial, whole}
+use Rattle.events.specs.Events.{Happens, initial}
 use Rattle.events.specs.EventState.{flood_from_nobody}
 use Rattle.events.specs.Hellos.{accepts, names}
-use Rattle.events.specs.Originations.{new_instance, router_key}
+use Rattle.events.specs.Originations.{due_keys, new_instance, router_key}
 use Rattle.events.specs.Packets.{hear, heard_on, with_neighbor}
 use Rattle.events.specs.Routers.{Occurrence, Router, fresh_link, unannounced}
 use Rattle.events.specs.Ticks.{again, with_hello_sent, run_out, settled_exchange, without_acknowledgments}
@@ -78,78 +78,77 @@ module _ (Q : Fact) (kept : IsKept Q) where
   keys_any [] = tt
   keys_any (key ∷ keys) = (tt, keys_any keys)
 
-  module _ (rules : Rules) (two_way_kept : (moment : ℕ) (n : Neighbor) → Of Q n → Of Q (rules.two_way moment n).neighbor) where
-    heard_before : (from moment : ℕ) (o : Option Neighbor) → Holds (Of Q) o → Of Q (adjacencies.with_hello_heard from moment o)
-    heard_before from moment None h = kept.begins
-    heard_before from moment (Some n) h = h
+  heard_before : (from moment : ℕ) (o : Option Neighbor) → Holds (Of Q) o → Of Q (adjacencies.with_hello_heard from moment o)
+  heard_before from moment None h = kept.begins
+  heard_before from moment (Some n) h = h
 
-    hello_heard : (own moment number from : ℕ) (hello : Hello) (link : Option Link) (o : Outcome) → Holds (Of Q) (neighbor_on link) → OnOutcome o
-        → OnOutcome (heard_on rules.two_way own moment number from hello link o)
-    hello_heard own moment number from hello None o here h = h
-    hello_heard own moment number from hello (Some link) o here h =
-        let s : Step = adjacencies.after_hello rules.two_way moment from (names own hello) link.neighbor in
-        let so : Of Q s.neighbor = hello_kept Q kept rules.two_way two_way_kept moment from (names own hello) link.neighbor (heard_before from moment link.neighbor here) in
-        chosen OnOutcome (accepts own from hello link) (hear moment number s o) o (λ is. changed_keeps (Of Q) number (with_neighbor s.neighbor) (λ l at. so) o.area.links h) (λ is. h)
+  hello_heard : (own moment number from : ℕ) (hello : Hello) (link : Option Link) (o : Outcome) → Holds (Of Q) (neighbor_on link) → OnOutcome o
+      → OnOutcome (heard_on own moment number from hello link o)
+  hello_heard own moment number from hello None o here h = h
+  hello_heard own moment number from hello (Some link) o here h =
+      let s : Step = adjacencies.after_hello moment from (names own hello) link.neighbor in
+      let so : Of Q s.neighbor = hello_kept Q kept moment from (names own hello) link.neighbor (heard_before from moment link.neighbor here) in
+      chosen OnOutcome (accepts own from hello link) (hear moment number s o) o (λ is. changed_keeps (Of Q) number (with_neighbor s.neighbor) (λ l at. so) o.area.links h) (λ is. h)
 
-    parts_keep : IsKeptByParts on_neighbors rules
-    parts_keep = record {
-      ages = λ before moment o h. ages_kept before moment (finite.entries o.area.database) o h;
-      flushes = λ moment key c o is young h. flood_kept Q kept moment None (lsa_aged 3600 c.lsa) (on_database (age_out moment key) o) h;
-      originates = λ moment key says p own goes wants grows h.
-          let lsa : Lsa = new_instance key (finite.get p.router.area.database key) says in
-          flood_kept Q kept moment None lsa (on_database (install_originated moment lsa) (walk.outcome p)) h.area;
-      own_router = λ r own. tt;
-      case = λ case moment number lsa so o h. case_kept Q kept case moment number lsa o h;
-      own_received = λ r lsa so is own. tt;
-      hello = λ own moment number from hello o h. hello_heard own moment number from hello (link_at number o.area.links) o (one_holds (Of Q) number o.area.links h) h;
-      description = λ own moment number d o h.
-          one_keeps (Of Q) moment number (after_description rules.two_way own moment o.area.database d)
-          (description_kept Q kept rules.two_way two_way_kept own moment o.area.database d tt) o h;
-      requested = λ moment number keys o h. h;
-      mismatch = λ moment number o h. one_keeps (Of Q) moment number (adjacencies.mismatched moment) (mismatched_kept Q kept moment) o h;
-      acknowledgment = λ moment number headers o h.
-          one_keeps (Of Q) moment number (λ n. no_sends (after_acknowledgment moment headers n)) (acknowledgment_kept Q kept moment headers) o h;
-      due = λ moment r own. keys_any (rules.due moment r);
-      inactive = λ moment o h.
-          each_link_keeps (Of Q) (run_out moment)
-          (λ link at.
-          exchange_settled Q kept moment link.interface.dead_interval (adjacencies.after_inactivity_timer moment link.interface.dead_interval link.neighbor)
-          (still_heard_kept Q kept moment link.interface.dead_interval link.neighbor at)) o.area.links h;
-      again = λ moment o h.
-          each_keeps (Of Q) moment (again moment o) (λ number link n at. again_kept Q kept moment link.interface.retransmit_interval o.area.database n at) o h;
-      acknowledges = λ moment o h. each_link_keeps (Of Q) without_acknowledgments (λ link at. at) o.area.links h;
-      hellos = λ moment o h. each_link_keeps (Of Q) (with_hello_sent moment) (λ link at. at) o.area.links h;
-      announces = λ r e own h. tt;
-      unannounces = λ r key h. tt;
-      link_down = λ number o h. changed_keeps (Of Q) number taken_down (λ link at. tt) o.area.links h;
-      loaded = λ o h. each_link_keeps (Of Q) link_loading_done (λ link at. filled_on_kept Q kept link.neighbor at) o.area.links h;
-      requests = λ moment o h. each_keeps (Of Q) moment (λ number link n. request_next moment n) (λ number link n at. request_kept Q kept moment n at) o h;
-      removes = λ moment o h. h;
-    }
+  parts_keep : IsKeptByParts on_neighbors
+  parts_keep = record {
+    ages = λ before moment o h. ages_kept before moment (finite.entries o.area.database) o h;
+    flushes = λ moment key c o is young h. flood_kept Q kept moment None (lsa_aged 3600 c.lsa) (on_database (age_out moment key) o) h;
+    originates = λ moment key says p own goes wants grows h.
+        let lsa : Lsa = new_instance key (finite.get p.router.area.database key) says in
+        flood_kept Q kept moment None lsa (on_database (install_originated moment lsa) (walk.outcome p)) h.area;
+    own_router = λ r own. tt;
+    case = λ case moment number lsa so o h. case_kept Q kept case moment number lsa o h;
+    own_received = λ r lsa so is own. tt;
+    hello = λ own moment number from hello o h. hello_heard own moment number from hello (link_at number o.area.links) o (one_holds (Of Q) number o.area.links h) h;
+    description = λ own moment number d o h.
+        one_keeps (Of Q) moment number (after_description own moment o.area.database d)
+        (description_kept Q kept own moment o.area.database d tt) o h;
+    requested = λ moment number keys o h. h;
+    mismatch = λ moment number o h. one_keeps (Of Q) moment number (adjacencies.mismatched moment) (mismatched_kept Q kept moment) o h;
+    acknowledgment = λ moment number headers o h.
+        one_keeps (Of Q) moment number (λ n. no_sends (after_acknowledgment moment headers n)) (acknowledgment_kept Q kept moment headers) o h;
+    due = λ moment r own. keys_any (due_keys moment r);
+    inactive = λ moment o h.
+        each_link_keeps (Of Q) (run_out moment)
+        (λ link at.
+        exchange_settled Q kept moment link.interface.dead_interval (adjacencies.after_inactivity_timer moment link.interface.dead_interval link.neighbor)
+        (still_heard_kept Q kept moment link.interface.dead_interval link.neighbor at)) o.area.links h;
+    again = λ moment o h.
+        each_keeps (Of Q) moment (again moment o) (λ number link n at. again_kept Q kept moment link.interface.retransmit_interval o.area.database n at) o h;
+    acknowledges = λ moment o h. each_link_keeps (Of Q) without_acknowledgments (λ link at. at) o.area.links h;
+    hellos = λ moment o h. each_link_keeps (Of Q) (with_hello_sent moment) (λ link at. at) o.area.links h;
+    announces = λ r e own h. tt;
+    unannounces = λ r key h. tt;
+    link_down = λ number o h. changed_keeps (Of Q) number taken_down (λ link at. tt) o.area.links h;
+    loaded = λ o h. each_link_keeps (Of Q) link_loading_done (λ link at. filled_on_kept Q kept link.neighbor at) o.area.links h;
+    requests = λ moment o h. each_keeps (Of Q) moment (λ number link n. request_next moment n) (λ number link n at. request_kept Q kept moment n at) o h;
+    removes = λ moment o h. h;
+  }
 
-    texts_any : (lsas : List (List ℕ)) → AllByRecursion (OfBytes on_neighbors.of_lsa) lsas
-    texts_any [] = tt
-    texts_any (bytes ∷ rest) = (read_any (lsa_in bytes), texts_any rest)
-      where
-        read_any : (o : Option Lsa) → walk.IfRead on_neighbors.of_lsa o
-        read_any None = tt
-        read_any (Some lsa) = tt
+  texts_any : (lsas : List (List ℕ)) → AllByRecursion (OfBytes on_neighbors.of_lsa) lsas
+  texts_any [] = tt
+  texts_any (bytes ∷ rest) = (read_any (lsa_in bytes), texts_any rest)
+    where
+      read_any : (o : Option Lsa) → walk.IfRead on_neighbors.of_lsa o
+      read_any None = tt
+      read_any (Some lsa) = tt
 
-    brought_any : (b : Body) → OfBrought on_neighbors.of_lsa b
-    brought_any (body.Hello h) = tt
-    brought_any (body.Description d) = tt
-    brought_any (body.Request keys) = tt
-    brought_any (body.Update lsas) = texts_any lsas
-    brought_any (body.Acknowledgment headers) = tt
+  brought_any : (b : Body) → OfBrought on_neighbors.of_lsa b
+  brought_any (body.Hello h) = tt
+  brought_any (body.Description d) = tt
+  brought_any (body.Request keys) = tt
+  brought_any (body.Update lsas) = texts_any lsas
+  brought_any (body.Acknowledgment headers) = tt
 
-    brings : (old : Router) (event : Occurrence) → Brings on_neighbors old event
-    brings old event = record { packet = λ number bytes packet is text. brought_any packet.body; key = λ tagged tag priced price is. (tt, tt) }
+  brings : (old : Router) (event : Occurrence) → Brings on_neighbors old event
+  brings old event = record { packet = λ number bytes packet is text. brought_any packet.body; key = λ tagged tag priced price is. (tt, tt) }
 
-    pub event_kept : (old : Router) (moment : ℕ) (event : Occurrence) (outs : List Out) (new : Router) → HappensBy rules old moment event outs new
-        → HoldsOfEach (Of Q) old.area.links → HoldsOfEach (Of Q) new.area.links
-    event_kept old moment event outs new happens h =
-        subst (λ (r : Router). HoldsOfEach (Of Q) r.area.links) (sym happens.router)
-        (walk.event_kept on_neighbors rules parts_keep old moment event happens.after (brings old event) happens.own (record { area = h; announced = tt })).area
+  pub event_kept : (old : Router) (moment : ℕ) (event : Occurrence) (outs : List Out) (new : Router) → Happens old moment event outs new
+      → HoldsOfEach (Of Q) old.area.links → HoldsOfEach (Of Q) new.area.links
+  event_kept old moment event outs new happens h =
+      subst (λ (r : Router). HoldsOfEach (Of Q) r.area.links) (sym happens.router)
+      (walk.event_kept on_neighbors parts_keep old moment event happens.after (brings old event) happens.own (record { area = h; announced = tt })).area
 
   -- ---- the start
 
@@ -157,8 +156,7 @@ module _ (Q : Fact) (kept : IsKept Q) where
   fresh_so [] = tt
   fresh_so (i ∷ is) = (tt, fresh_so is)
 
-  module _ (named_kept : (moment : ℕ) (n : Neighbor) → Of Q n → Of Q (whole.two_way moment n).neighbor) where
-    pub initial_kept : (c : Config) → HoldsOfEach (Of Q) (initial c).area.links
-    initial_kept c =
-        (originate_or_wait_kept on_neighbors whole (parts_keep whole named_kept) c.start (router_key c.router) (record { router = unannounced c; sends = [] }) tt
-        (record { area = fresh_so c.interfaces; announced = tt })).area
+  pub initial_kept : (c : Config) → HoldsOfEach (Of Q) (initial c).area.links
+  initial_kept c =
+      (originate_or_wait_kept on_neighbors parts_keep c.start (router_key c.router) (record { router = unannounced c; sends = [] }) tt
+      (record { area = fresh_so c.interfaces; announced = tt })).area

@@ -2,7 +2,7 @@
 use Rattle.std.proofs.Common.{◌≡◌, ℕ, zero, suc, ◌<◌, length, List, [], ◌∷◌, ◌++◌, map, Option, None, Some, refl, sym, ap, subst, ◌∙◌, arith}
 use Rattle.std.specs.Prelude.{slice_index_or}
 use Rattle.std.specs.FinMap as finite
-use Rattle.std.specs.List.{AllByRecursion, Contains, cons_option, filter, filter_map, flat_map}
+use Rattle.std.specs.List.{AllByRecursion, Contains, cons_option, filter_map, flat_map}
 use Rattle.words.specs.declared.key.Key.{Key}
 use Rattle.words.specs.declared.route.External.{External}
 use Rattle.lsa.specs.Origination.{sealed_lsa}
@@ -18,24 +18,23 @@ use Rattle.packet.specs.Text.{PacketText}
 use Rattle.adjacency.specs.Contents.{Content}
 use Rattle.adjacency.specs.Neighbors.{Neighbor}
 use Rattle.adjacency.specs.declared.interface.Interface.{Interface}
-use Rattle.adjacency.proofs.Kept.{chosen}
 use Rattle.adjacency.proofs.Maps.{AllIn, IfThere, OfEntry, entries_in, none_in, of_entries}
-use Rattle.adjacency.proofs.Told.{OfContent, OfCopy, OfListed, OfOwedIfAny, OfTwoWay, Telling, named_told, quiet_told}
+use Rattle.adjacency.proofs.Told.{OfContent, OfCopy, OfListed, OfOwedIfAny, Telling}
 use Rattle.received.specs.Links.{Link}
 use Rattle.received.specs.Outcomes.{Send}
 use Rattle.received.proofs.Told.{OfArea, OfLink, OfLinks, OfSend, OfWaiting}
 use Rattle.events.specs.declared.model.Config.{Config}
 use Rattle.events.specs.declared.model.Out.{Out}
 use Rattle.events.specs.Endings.{end_event}
-use Rattle.events.specs.Events.{HappensBy, Rules, Run, Step, hellos_alone, initial, whole}
+use Rattle.events.specs.Events.{Happens, Run, Step, initial}
 use Rattle.flood_laws.specs.Known.{AnnouncesItsOwn, EventsHoldOnlyWhatIsKnown, HoldsWhatIsKnown, IsNewInstance, IsOutOf, instances_in_content, instances_in_send, instances_in_sends}
 use Rattle.events.specs.LsaInstances.{LsaInstance, instance_of_lsa, instance_of_header, instances_received, instances_in_update}
-use Rattle.events.specs.Originations.{is_due, new_instance, router_key, wanted_keys}
+use Rattle.events.specs.Originations.{new_instance}
 use Rattle.events.specs.EventState.{EventState}
 use Rattle.events.specs.Routers.{Occurrence, Router, fresh_link, unannounced}
 use Rattle.events.specs.Worlds.{IsKnown, instances_stored, instances_on_link, instances_on_list}
 use Rattle.flood_laws.proofs.Packed.{outs_bear}
-use Rattle.flood_laws.proofs.Told.{IsOwn, IsOwnKey, event_told, first_told, told}
+use Rattle.flood_laws.proofs.Told.{IsOwn, event_told, first_told, told}
 use Rattle.event_rooms.proofs.Walk.{IfRead, OfBrought, OfBytes, OfEvent}
 use Rattle.flood_laws.proofs.Worlds.{one_more}
 
@@ -243,69 +242,47 @@ all_own t so r own key = found (finite.get r.announced key) (own key)
 pub announces : (t : Telling) (r : Router) → AllIn (IsOwn t r.id) r.announced → AnnouncesItsOwn r
 announces t r all key e is = (subst (IfThere (IsOwn t r.id) key) is (all key)).0
 
-entry_keys : (t : Telling) (id : ℕ) (es : List (Key × External)) → AllByRecursion (OfEntry (IsOwn t id)) es → AllByRecursion (IsOwnKey t id) (map (λ e. e.0) es)
-entry_keys t id [] h = tt
-entry_keys t id (e ∷ es) h = (h.0, entry_keys t id es h.1)
-
-due_of : (t : Telling) (id moment : ℕ) (r : Router) (keys : List Key) → AllByRecursion (IsOwnKey t id) keys → AllByRecursion (IsOwnKey t id) (filter (is_due moment r) keys)
-due_of t id moment r [] h = tt
-due_of t id moment r (key ∷ keys) h =
-    chosen (AllByRecursion (IsOwnKey t id)) (is_due moment r key) (key ∷ filter (is_due moment r) keys) (filter (is_due moment r) keys)
-    (λ is. (h.0, due_of t id moment r keys h.1)) (λ is. due_of t id moment r keys h.1)
-
-abbrev pub IsDueOwn : Rules → Type 1
-IsDueOwn rules = (t : Telling) (id : ℕ) → t.of_key (router_key id) → (moment : ℕ) (r : Router) → r.id ≡ id → AllIn (IsOwn t id) r.announced → AllByRecursion (IsOwnKey t id) (rules.due moment r)
-
-pub due_whole : IsDueOwn whole
-due_whole t id so moment r same all =
-    due_of t id moment r (wanted_keys r)
-    ((same, subst (λ (i : ℕ). t.of_key (router_key i)) (sym same) so), entry_keys t id (finite.entries r.announced) (entries_in (IsOwn t id) r.announced all))
-
-pub due_none : IsDueOwn hellos_alone
-due_none t id so moment r same all = tt
-
 -- ---- an event
 
-module _ (rules : Rules) (two_way_told : (t : Telling) → OfTwoWay t rules.two_way) (due_own : IsDueOwn rules) where
-  event_known : (old : Router) (moment : ℕ) (event : Occurrence) (outs : List Out) (new : Router) → HappensBy rules old moment event outs new
-      → AnnouncesItsOwn old → AnnouncesItsOwn new × HoldsWhatIsKnown old event outs new
-  event_known old moment event outs new happens own =
-      let p : EventState = end_event old moment happens.after in
-      let held : AllByRecursion (IsExplained old event) (instances_stored old) = of_members (IsExplained old event) (instances_stored old) (λ name c. IsExplained.Held c) in
-      let end : OfEvent (told (named_by (IsExplained old event) (length old.area.links)) old.id) p =
-      event_told (named_by (IsExplained old event) (length old.area.links)) old.id (λ key copy says its wants. IsExplained.New (record { key = key; copy = copy; says = says; own = its.0; is = refl })) tt
-      rules (two_way_told (named_by (IsExplained old event) (length old.area.links))) (due_own (named_by (IsExplained old event) (length old.area.links)) old.id tt) old moment event happens.after
-      (record {
-        packet = λ number bytes packet is text.
-            body_brought (IsExplained old event) (length old.area.links) packet.body
-            (of_members (IsExplained old event) (instances_received packet.body) (λ name c. IsExplained.Brought number bytes packet is text c));
-        key = λ tagged tag priced price is. ((refl, tt), tt);
-      })
-      happens.own (named_held (IsExplained old event) (length old.area.links) old refl held) refl (all_own (named_by (IsExplained old event) (length old.area.links)) (λ key. tt) old own) in
-      let all : AllByRecursion (IsExplained old event) (instances_stored p.router ++ instances_in_sends p.sends) = held_named (IsExplained old event) (length old.area.links) p.router p.sends end.area in
-      let originated : List LsaInstance = new_ones old event (instances_stored p.router ++ instances_in_sends p.sends) all in
-      let known : AllByRecursion (IsKnown old event originated) (instances_stored p.router ++ instances_in_sends p.sends) =
-      all_known old event (instances_stored p.router ++ instances_in_sends p.sends) all in
-      let fresh : AllByRecursion (IsNewInstance old.id) originated = all_new old event (instances_stored p.router ++ instances_in_sends p.sends) all in (
-        subst AnnouncesItsOwn (sym happens.router)
-            (announces (named_by (IsExplained old event) (length old.area.links)) p.router (subst (λ id. AllIn (IsOwn (named_by (IsExplained old event) (length old.area.links)) id) p.router.announced) (sym end.announced.0) end.announced.1)),
-        record {
-          originated = originated;
-          new_instances = fresh;
-          same_router = ap (λ (r : Router). r.id) happens.router ∙ end.announced.0;
-          own = λ name c. own_if_new old.id name (of_member (IsNewInstance old.id) originated fresh name c);
-          held = λ name c.
-              of_member (IsKnown old event originated) (instances_stored p.router) (left_all (IsKnown old event originated) (instances_stored p.router) (instances_in_sends p.sends) known) name
-              (subst (λ (r : Router). Contains (instances_stored r) name) happens.router c);
-          sent = λ out c.
-              of_member (IsOutOf (IsKnown old event originated) old.id) outs
-              (subst (λ os. AllByRecursion (IsOutOf (IsKnown old event originated) old.id) os) (sym happens.sent)
-              (outs_bear (IsKnown old event originated) old.id p.sends
-              (named_sends (IsKnown old event originated) p.sends (right_all (IsKnown old event originated) (instances_stored p.router) (instances_in_sends p.sends) known)) 1
-              old.area.links))
-              out c;
-        },
-      )
+event_known : (old : Router) (moment : ℕ) (event : Occurrence) (outs : List Out) (new : Router) → Happens old moment event outs new
+    → AnnouncesItsOwn old → AnnouncesItsOwn new × HoldsWhatIsKnown old event outs new
+event_known old moment event outs new happens own =
+    let p : EventState = end_event old moment happens.after in
+    let held : AllByRecursion (IsExplained old event) (instances_stored old) = of_members (IsExplained old event) (instances_stored old) (λ name c. IsExplained.Held c) in
+    let end : OfEvent (told (named_by (IsExplained old event) (length old.area.links)) old.id) p =
+    event_told (named_by (IsExplained old event) (length old.area.links)) old.id (λ key copy says its wants. IsExplained.New (record { key = key; copy = copy; says = says; own = its.0; is = refl })) tt
+    old moment event happens.after
+    (record {
+      packet = λ number bytes packet is text.
+          body_brought (IsExplained old event) (length old.area.links) packet.body
+          (of_members (IsExplained old event) (instances_received packet.body) (λ name c. IsExplained.Brought number bytes packet is text c));
+      key = λ tagged tag priced price is. ((refl, tt), tt);
+    })
+    happens.own (named_held (IsExplained old event) (length old.area.links) old refl held) refl (all_own (named_by (IsExplained old event) (length old.area.links)) (λ key. tt) old own) in
+    let all : AllByRecursion (IsExplained old event) (instances_stored p.router ++ instances_in_sends p.sends) = held_named (IsExplained old event) (length old.area.links) p.router p.sends end.area in
+    let originated : List LsaInstance = new_ones old event (instances_stored p.router ++ instances_in_sends p.sends) all in
+    let known : AllByRecursion (IsKnown old event originated) (instances_stored p.router ++ instances_in_sends p.sends) =
+    all_known old event (instances_stored p.router ++ instances_in_sends p.sends) all in
+    let fresh : AllByRecursion (IsNewInstance old.id) originated = all_new old event (instances_stored p.router ++ instances_in_sends p.sends) all in (
+      subst AnnouncesItsOwn (sym happens.router)
+          (announces (named_by (IsExplained old event) (length old.area.links)) p.router (subst (λ id. AllIn (IsOwn (named_by (IsExplained old event) (length old.area.links)) id) p.router.announced) (sym end.announced.0) end.announced.1)),
+      record {
+        originated = originated;
+        new_instances = fresh;
+        same_router = ap (λ (r : Router). r.id) happens.router ∙ end.announced.0;
+        own = λ name c. own_if_new old.id name (of_member (IsNewInstance old.id) originated fresh name c);
+        held = λ name c.
+            of_member (IsKnown old event originated) (instances_stored p.router) (left_all (IsKnown old event originated) (instances_stored p.router) (instances_in_sends p.sends) known) name
+            (subst (λ (r : Router). Contains (instances_stored r) name) happens.router c);
+        sent = λ out c.
+            of_member (IsOutOf (IsKnown old event originated) old.id) outs
+            (subst (λ os. AllByRecursion (IsOutOf (IsKnown old event originated) old.id) os) (sym happens.sent)
+            (outs_bear (IsKnown old event originated) old.id p.sends
+            (named_sends (IsKnown old event originated) p.sends (right_all (IsKnown old event originated) (instances_stored p.router) (instances_in_sends p.sends) known)) 1
+            old.area.links))
+            out c;
+      },
+    )
 
 -- ---- the start, and every run
 
@@ -323,23 +300,16 @@ first_own c =
       area = record { copies = none_in (OfCopy (anything c)); links = none_on (anything c) c.interfaces; few = refl; sent = tt };
       announced = (refl, none_in (IsOwn (anything c) c.router));
     } in
-    let end = first_told (anything c) c.router (λ key copy says its wants. tt) tt whole (named_told (anything c)) (due_whole (anything c) c.router tt) c.start start at in
+    let end = first_told (anything c) c.router (λ key copy says its wants. tt) tt c.start start at in
     announces (anything c) (initial c) (subst (λ id. AllIn (IsOwn (anything c) id) (initial c).announced) (sym end.announced.0) end.announced.1)
-
-named_anyhow : (t : Telling) → OfTwoWay t whole.two_way
-named_anyhow t = named_told t
-
-unnamed_anyhow : (t : Telling) → OfTwoWay t hellos_alone.two_way
-unnamed_anyhow t moment n h = quiet_told t n h
 
 run_own : (steps : List Step) (old new : Router) → Run old steps new → AnnouncesItsOwn old → AnnouncesItsOwn new
 run_own [] old new same h = subst AnnouncesItsOwn (sym same) h
-run_own (s ∷ steps) old new run h = run_own steps run.0 new run.2 (event_known whole named_anyhow due_whole old s.moment s.event s.outs run.0 run.1 h).0
+run_own (s ∷ steps) old new run h = run_own steps run.0 new run.2 (event_known old s.moment s.event s.outs run.0 run.1 h).0
 
 pub only_what_is_known : EventsHoldOnlyWhatIsKnown
 only_what_is_known = record {
   first = first_own;
-  event = event_known whole named_anyhow due_whole;
-  hello_event = event_known hellos_alone unnamed_anyhow due_none;
+  event = event_known;
   run = λ c steps new run. run_own steps (initial c) new run (first_own c);
 }

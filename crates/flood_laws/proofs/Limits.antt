@@ -35,10 +35,10 @@ use Rattle.received.specs.Outcomes.{Outcome, Send, Stepping, each_neighbor, mark
 use Rattle.events.specs.declared.model.Out.{Out}
 use Rattle.events.specs.Endings.{end_event, stays, with_age}
 use Rattle.events.specs.declared.model.Config.{Config}
-use Rattle.events.specs.Events.{Happens, Run, Step as RunStep, initial, whole}
+use Rattle.events.specs.Events.{Happens, Run, Step as RunStep, initial}
 use Rattle.events.specs.EventState.{EventState, flood_from_nobody}
 use Rattle.events.specs.Hellos.{accepts, names}
-use Rattle.events.specs.Originations.{announced_body, external_key, has_room, is_own_external, new_instance, originate_or_wait, own_externals, router_body, router_key, wanted_body}
+use Rattle.events.specs.Originations.{announced_body, due_keys, external_key, has_room, is_own_external, new_instance, originate_or_wait, own_externals, router_body, router_key, wanted_body}
 use Rattle.events.specs.Packets.{hear, heard_on, requested_lsas, with_neighbor}
 use Rattle.events.specs.Refusals.{exceeds}
 use Rattle.events.specs.Routers.{Occurrence, Router, unannounced}
@@ -233,10 +233,10 @@ module _ (id : RouterNumber) where
       (chosen OnOutcome (has_just_aged_out before moment e.1) (flood_from_nobody moment (lsa_now moment e.1) o) o (λ is. flooded moment (lsa_now moment e.1) o h) (λ is. h))
 
   hello_heard : (own_id moment number from : ℕ) (hello : Hello) (link : Option Link) (o : Outcome) → OnOutcome o
-      → OnOutcome (heard_on whole.two_way own_id moment number from hello link o)
+      → OnOutcome (heard_on own_id moment number from hello link o)
   hello_heard own_id moment number from hello None o h = h
   hello_heard own_id moment number from hello (Some link) o h =
-      let s : Step = adjacencies.after_hello whole.two_way moment from (names own_id hello) link.neighbor in
+      let s : Step = adjacencies.after_hello moment from (names own_id hello) link.neighbor in
       chosen OnOutcome (accepts own_id from hello link) (hear moment number s o) o
       (λ is. sent_within moment (numbered number s.sends) (on_links (change_link number (with_neighbor s.neighbor)) o) h) (λ is. h)
 
@@ -248,7 +248,7 @@ module _ (id : RouterNumber) where
   room_of key r (MayGrow.HasRoom is) = is
   room_of key r (MayGrow.Anyway anyway) = absurd anyway
 
-  parts_within : IsKeptByParts within whole
+  parts_within : IsKeptByParts within
   parts_within = record {
     ages = λ before moment o h. ages_within before moment (finite.entries o.area.database) o h;
     flushes = λ moment key c o is young h.
@@ -267,11 +267,11 @@ module _ (id : RouterNumber) where
     case = λ case moment number lsa so o h. absurd so;
     own_received = λ r lsa so is same. absurd so;
     hello = λ own_id moment number from hello o h. hello_heard own_id moment number from hello (link_at number o.area.links) o h;
-    description = λ own_id moment number d o h. one_within moment number (after_description whole.two_way own_id moment o.area.database d) o h;
+    description = λ own_id moment number d o h. one_within moment number (after_description own_id moment o.area.database d) o h;
     requested = λ moment number keys o h. sent_within moment (numbered number (map Content.Updates (requested_lsas moment o.area.database keys))) o h;
     mismatch = λ moment number o h. one_within moment number (adjacencies.mismatched moment) o h;
     acknowledgment = λ moment number headers o h. one_within moment number (λ n. no_sends (after_acknowledgment moment headers n)) o h;
-    due = λ moment r same. keys_any (whole.due moment r);
+    due = λ moment r same. keys_any (due_keys moment r);
     inactive = λ moment o h. h;
     again = λ moment o h. each_within moment (again moment o) o h;
     acknowledges = λ moment o h. sent_within moment (sends_of acknowledgments_on o.area.links) (on_links (map without_acknowledgments) o) h;
@@ -318,7 +318,7 @@ kept : (old : Router) (moment : ℕ) (event : Occurrence) (outs : List Out) (new
     → Happens old moment event outs new → exceeds old ≡ false → exceeds new ≡ false
 kept old moment event outs new externals may happens fine =
     let end : OfEvent (within old.id) (end_event old moment happens.after) =
-    event_kept (within old.id) whole (parts_within old.id) old moment event happens.after (brings old.id old event may) happens.own
+    event_kept (within old.id) (parts_within old.id) old moment event happens.after (brings old.id old event may) happens.own
     (record { area = is_within old fine; announced = (refl, externals) }) in
     subst (λ (r : Router). exceeds r ≡ false) (sym happens.router) (is_not_past old.id (end_event old moment happens.after).router end.announced.0 end.area)
 
@@ -337,7 +337,7 @@ start : (c : Config) → exceeds (initial c) ≡ false
 start c =
     let begun : EventState = record { router = unannounced c; sends = [] } in
     let end : OfEvent (within c.router) (originate_or_wait c.start (router_key c.router) begun) =
-    originate_or_wait_kept (within c.router) whole (parts_within c.router) c.start (router_key c.router) begun tt
+    originate_or_wait_kept (within c.router) (parts_within c.router) c.start (router_key c.router) begun tt
     (record { area = empty_within c.router; announced = (refl, none_announced) }) in
     is_not_past c.router (initial c) end.announced.0 end.area
 
@@ -371,7 +371,7 @@ any_body (body.Request keys) = tt
 any_body (body.Update lsas) = all_texts lsas
 any_body (body.Acknowledgment headers) = tt
 
-parts_external : IsKeptByParts external whole
+parts_external : IsKeptByParts external
 parts_external = record {
   ages = λ before moment o h. tt;
   flushes = λ moment key c o is young h. tt;
@@ -384,7 +384,7 @@ parts_external = record {
   requested = λ moment number keys o h. tt;
   mismatch = λ moment number o h. tt;
   acknowledgment = λ moment number headers o h. tt;
-  due = λ moment r h. all_keys (whole.due moment r);
+  due = λ moment r h. all_keys (due_keys moment r);
   inactive = λ moment o h. tt;
   again = λ moment o h. tt;
   acknowledges = λ moment o h. tt;
@@ -401,13 +401,13 @@ after_event : (old : Router) (moment : ℕ) (event : Occurrence) (outs : List Ou
     → AnnouncesExternals old → AnnouncesExternals new
 after_event old moment event outs new happens h =
     subst AnnouncesExternals (sym happens.router)
-    (event_kept external whole parts_external old moment event happens.after
+    (event_kept external parts_external old moment event happens.after
     (record { packet = λ number bytes packet is text. any_body packet.body; key = λ tagged tag priced price is. (tt, tt) }) happens.own
     (record { area = tt; announced = h })).announced
 
 first : (c : Config) → AnnouncesExternals (initial c)
 first c =
-    (originate_or_wait_kept external whole parts_external c.start (router_key c.router) (record { router = unannounced c; sends = [] }) tt
+    (originate_or_wait_kept external parts_external c.start (router_key c.router) (record { router = unannounced c; sends = [] }) tt
     (record { area = tt; announced = none_announced })).announced
 
 after_run : (steps : List RunStep) (old new : Router) → Run old steps new → AnnouncesExternals old → AnnouncesExternals new

@@ -38,10 +38,10 @@ all_told (l ∷ ls) h = with_first (lsa_in (text l)) (read_name l h.0) (further 
 
     with_first : (o : Option Lsa) → NamedAs l o → AllByRecursion (Contains (map instance_of_lsa (l ∷ ls))) (instances_in_update (map (λ m. text m) ls))
         → AllByRecursion (Contains (map instance_of_lsa (l ∷ ls))) (map instance_of_lsa (cons_option o (filter_map lsa_in (map (λ m. text m) ls))))
-    with_first None two_way_received rest = rest
-    with_first (Some m) two_way_received rest =
+    with_first None named rest = rest
+    with_first (Some m) named rest =
         let first : 0 < suc (length (map instance_of_lsa ls)) = omega arith in
-        ((0, first, two_way_received), rest)
+        ((0, first, named), rest)
 
 pub told_is_borne : UpdatesTellWhatTheyBear
 told_is_borne lsas is name c = of_member (Contains (map instance_of_lsa lsas)) (instances_in_update (map (λ l. text l) lsas)) (all_told lsas is) name c

@@ -26,7 +26,7 @@ use Rattle.adjacency.specs.declared.interface.Interface.{Interface}
 use Rattle.adjacency.specs.Requests.{request_next, without_request}
 use Rattle.adjacency.specs.Retransmissions.{add_retransmission, after_acknowledgment, remove_retransmission}
 use Rattle.adjacency.proofs.Facts.{Sound, sound_kept, sound_lists, sound_of}
-use Rattle.adjacency.proofs.Kept.{Fact, IsKeptWith, Of, acknowledgment_kept, again_kept, chosen, description_kept, hello_kept, mismatched_kept, named_kept, released_kept, request_kept}
+use Rattle.adjacency.proofs.Kept.{Fact, IsKeptWith, Of, acknowledgment_kept, again_kept, chosen, description_kept, hello_kept, mismatched_kept, released_kept, request_kept}
 use Rattle.adjacency.proofs.Maps.{AllIn, IfThere, OfEntry, entries_in, inserted_in, made_in, none_in, removed_in, retained_in}
 use Rattle.received.specs.Cases.{Case}
 use Rattle.received.specs.Flooding.{flood, flood_to, gets, meets, request_of, without_met_request}
@@ -40,10 +40,10 @@ use Rattle.events.specs.declared.model.Config.{Config}
 use Rattle.events.specs.declared.model.Out.{Out}
 use Rattle.events.specs.Commands.{taken_down}
 use Rattle.events.specs.Endings.{link_loading_done, stays, stays_as, with_age}
-use Rattle.events.specs.Events.{Happens, Run, Step as EventStep, initial, whole}
+use Rattle.events.specs.Events.{Happens, Run, Step as EventStep, initial}
 use Rattle.events.specs.EventState.{flood_from_nobody}
 use Rattle.events.specs.Hellos.{accepts, names}
-use Rattle.events.specs.Originations.{new_instance, router_key}
+use Rattle.events.specs.Originations.{due_keys, new_instance, router_key}
 use Rattle.events.specs.Packets.{hear, heard_on, requested_lsas, with_neighbor}
 use Rattle.events.specs.Routers.{Occurrence, Router, fresh_link, unannounced}
 use Rattle.events.specs.Ticks.{acknowledgments_on, again, hello_sent_on, run_out, sends_of, with_hello_sent, without_acknowledgments}
@@ -383,17 +383,14 @@ heard_before : (db : Database) (from moment : ℕ) (o : Option Neighbor) → Hol
 heard_before db from moment None h = (its_kept db).begins
 heard_before db from moment (Some n) h = h
 
-named : (db : Database) (moment : ℕ) (n : Neighbor) → Of (OfIt db) n → Of (OfIt db) (adjacencies.two_way_received moment n).neighbor
-named db moment n h = named_kept (OfIt db) (its_kept db) moment n h
-
 hello_heard : (own moment number from : ℕ) (hello : Hello) (link : Option Link) (o : Outcome) → Holds (Of (OfIt o.area.database)) (neighbor_on link) → OfOutcome o
-    → OfOutcome (heard_on adjacencies.two_way_received own moment number from hello link o)
+    → OfOutcome (heard_on own moment number from hello link o)
 hello_heard own moment number from hello None o here h = h
 hello_heard own moment number from hello (Some link) o here h =
     let db : Database = o.area.database in
-    let s : Step = adjacencies.after_hello adjacencies.two_way_received moment from (names own hello) link.neighbor in
+    let s : Step = adjacencies.after_hello moment from (names own hello) link.neighbor in
     let so : Of (OfIt db) s.neighbor =
-    hello_kept (OfIt db) (its_kept db) adjacencies.two_way_received (named db) moment from (names own hello) link.neighbor (heard_before db from moment link.neighbor here) in
+    hello_kept (OfIt db) (its_kept db) moment from (names own hello) link.neighbor (heard_before db from moment link.neighbor here) in
     chosen OfOutcome (accepts own from hello link) (hear moment number s o) o
     (λ is. sending_kept moment (numbered number s.sends) (on_links (change_link number (with_neighbor s.neighbor)) o)
     (record { keys = h.keys; each = changed_keeps (Of (OfIt db)) number (with_neighbor s.neighbor) (λ l at. so) o.area.links h.each }))
@@ -456,7 +453,7 @@ keys_any : (keys : List Key) → AllByRecursion (λ key. Unit {0}) keys
 keys_any [] = tt
 keys_any (key ∷ keys) = (tt, keys_any keys)
 
-parts_keep : IsKeptByParts its_own whole
+parts_keep : IsKeptByParts its_own
 parts_keep = record {
   ages = λ before moment o h. ages_kept before moment (finite.entries o.area.database) o (still_all o.area.database _ (all_there o.area.database)) h;
   flushes = λ moment key c o is young h. flushes_kept moment key c o is h;
@@ -468,8 +465,8 @@ parts_keep = record {
   hello = λ own moment number from hello o h.
       hello_heard own moment number from hello (link_at number o.area.links) o (one_holds (Of (OfIt o.area.database)) number o.area.links h.each) h;
   description = λ own moment number d o h.
-      one_kept moment number (after_description adjacencies.two_way_received own moment o.area.database d) o
-      (description_kept (OfIt o.area.database) (its_kept o.area.database) adjacencies.two_way_received (named o.area.database) own moment o.area.database d
+      one_kept moment number (after_description own moment o.area.database d) o
+      (description_kept (OfIt o.area.database) (its_kept o.area.database) own moment o.area.database d
       (begun moment o.area.database)) h;
   requested = λ moment number keys o h. sending_kept moment (numbered number (map Content.Updates (requested_lsas moment o.area.database keys))) o h;
   mismatch = λ moment number o h.
@@ -477,7 +474,7 @@ parts_keep = record {
   acknowledgment = λ moment number headers o h.
       one_kept moment number (λ n. no_sends (after_acknowledgment moment headers n)) o
       (acknowledgment_kept (OfIt o.area.database) (its_kept o.area.database) moment headers) h;
-  due = λ moment r own. keys_any (whole.due moment r);
+  due = λ moment r own. keys_any (due_keys moment r);
   inactive = λ moment o h.
       links_kept (map (run_out moment)) o
       (each_link_keeps (Of (OfIt o.area.database)) (run_out moment)
@@ -530,7 +527,7 @@ brings old event = record { packet = λ number bytes packet is text. brought_any
 event_kept : (old : Router) (moment : ℕ) (event : Occurrence) (outs : List Out) (new : Router) → Happens old moment event outs new → IsItsOwn old.area → IsItsOwn new.area
 event_kept old moment event outs new happens h =
     subst (λ (r : Router). IsItsOwn r.area) (sym happens.router)
-    (walk.event_kept its_own whole parts_keep old moment event happens.after (brings old event) happens.own (record { area = h; announced = tt })).area
+    (walk.event_kept its_own parts_keep old moment event happens.after (brings old event) happens.own (record { area = h; announced = tt })).area
 
 -- ---- the start
 
@@ -540,7 +537,7 @@ fresh_so (i ∷ is) = (tt, fresh_so is)
 
 initial_kept : (c : Config) → IsItsOwn (initial c).area
 initial_kept c =
-    (originate_or_wait_kept its_own whole parts_keep c.start (router_key c.router) (record { router = unannounced c; sends = [] }) tt
+    (originate_or_wait_kept its_own parts_keep c.start (router_key c.router) (record { router = unannounced c; sends = [] }) tt
     (record { area = record { keys = none_in IsOwnKey; each = fresh_so c.interfaces }; announced = tt })).area
 
 run_kept : (steps : List EventStep) (old new : Router) → Run old steps new → IsItsOwn old.area → IsItsOwn new.area

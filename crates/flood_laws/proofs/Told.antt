@@ -2,7 +2,7 @@
 -- brings, and of new instances of the router's own LSAs, it holds of all that is held after the event and of all that is sent.
 use Rattle.std.proofs.Common.{◌≡◌, ℕ, ◌+◌, false, List, [], ◌∷◌, map, length, Option, None, Some, sym, subst, ◌∙◌, arith}
 use Rattle.std.specs.FinMap as finite
-use Rattle.std.specs.List.{AllByRecursion, enumerate_from, flat_map, fold}
+use Rattle.std.specs.List.{AllByRecursion, enumerate_from, filter, flat_map, fold}
 use Rattle.std.proofs.lemmas.List.{length-map}
 use Rattle.words.specs.declared.key.Key.{Key}
 use Rattle.words.specs.declared.route.External.{External}
@@ -18,15 +18,15 @@ use Rattle.adjacency.specs.Requests.{request_next}
 use Rattle.adjacency.specs.Retransmissions.{after_acknowledgment}
 use Rattle.adjacency.proofs.Kept.{chosen}
 use Rattle.adjacency.proofs.Maps.{AllIn, IfThere, OfEntry, entries_in, inserted_in, none_in, removed_in, retained_in}
-use Rattle.adjacency.proofs.Told.{OfContent, OfCopy, OfOwedIfAny, OfStep, OfTwoWay, Telling, acknowledgment_told, again_told, copies_told, description_told, filled_told, hello_told, lsa_now_told, mismatched_told, old_description_told, quiet_told, request_told, still_heard_told, updates_told}
+use Rattle.adjacency.proofs.Told.{OfContent, OfCopy, OfOwedIfAny, OfStep, Telling, acknowledgment_told, again_told, copies_told, description_told, filled_told, hello_told, lsa_now_told, mismatched_told, old_description_told, quiet_told, request_told, still_heard_told, updates_told}
 use Rattle.received.specs.Links.{Link, link_at, neighbor_on}
 use Rattle.received.specs.Outcomes.{Outcome, numbered, on_database, on_links}
 use Rattle.received.proofs.Told.{OfArea, OfLink, OfLinks, OfOutcome, OfSend, OfWaiting, case_told, change_told, changed_told, each_link_told, each_told, flood_told, joined, numbered_told, on_database_told, on_links_told, one_neighbor_told, one_told, sending_told}
 use Rattle.events.specs.Commands.{taken_down}
 use Rattle.events.specs.Endings.{start_event, link_loading_done, loading_done_on, end_event, stays, with_age}
-use Rattle.events.specs.Events.{OwnPart, Rules}
+use Rattle.events.specs.Events.{OwnPart}
 use Rattle.events.specs.Hellos.{accepts, hello_is_due, hello_on, names}
-use Rattle.events.specs.Originations.{external_key, has_max_sequence, install_and_flood, new_instance, originate_or_wait, router_key, wanted_body}
+use Rattle.events.specs.Originations.{due_keys, external_key, has_max_sequence, install_and_flood, is_due, new_instance, originate_or_wait, router_key, wanted_body, wanted_keys}
 use Rattle.events.specs.Packets.{hear, heard_on, requested_lsas, with_neighbor}
 use Rattle.events.specs.EventState.{EventState, flood_from_nobody}
 use Rattle.events.specs.Routers.{Occurrence, Router}
@@ -115,78 +115,93 @@ module _ (t : Telling) (id : ℕ) (news : (key : Key) (copy : Option DatabaseCop
   hello_told_on moment link =
       chosen (AllByRecursion (OfContent t)) (hello_is_due moment link) (Content.SendsHello (hello_on link) ∷ []) [] (λ is. (tt, tt)) (λ is. tt)
 
+  -- ---- the own LSAs that are due
+
+  keys_told : (es : List (Key × External)) → AllByRecursion (OfEntry (IsOwn t id)) es → AllByRecursion (IsOwnKey t id) (map (λ e. e.0) es)
+  keys_told [] h = tt
+  keys_told (e ∷ es) h = (h.0, keys_told es h.1)
+
+  filtered_told : (moment : ℕ) (r : Router) (keys : List Key) → AllByRecursion (IsOwnKey t id) keys → AllByRecursion (IsOwnKey t id) (filter (is_due moment r) keys)
+  filtered_told moment r [] h = tt
+  filtered_told moment r (key ∷ keys) h =
+      chosen (AllByRecursion (IsOwnKey t id)) (is_due moment r key) (key ∷ filter (is_due moment r) keys) (filter (is_due moment r) keys)
+      (λ is. (h.0, filtered_told moment r keys h.1)) (λ is. filtered_told moment r keys h.1)
+
+  due_told : (moment : ℕ) (r : Router) → r.id ≡ id → AllIn (IsOwn t id) r.announced → AllByRecursion (IsOwnKey t id) (due_keys moment r)
+  due_told moment r same all =
+      filtered_told moment r (wanted_keys r)
+      ((same, subst (λ (i : ℕ). t.of_key (router_key i)) (sym same) router_told), keys_told (finite.entries r.announced) (entries_in (IsOwn t id) r.announced all))
+
   -- ---- the parts, and the whole event
 
-  module _ (rules : Rules) (two_way_told : OfTwoWay t rules.two_way)
-      (due_own : (moment : ℕ) (r : Router) → r.id ≡ id → AllIn (IsOwn t id) r.announced → AllByRecursion (IsOwnKey t id) (rules.due moment r)) where
-    hello_heard : (own moment number from : ℕ) (hello : Hello) (link : Option Link) (o : Outcome) → OfOwedIfAny t (neighbor_on link) → OfOutcome t o
-        → OfOutcome t (heard_on rules.two_way own moment number from hello link o)
-    hello_heard own moment number from hello None o here h = h
-    hello_heard own moment number from hello (Some link) o here h =
-        let s : NeighborStep = adjacencies.after_hello rules.two_way moment from (names own hello) link.neighbor in
-        let so : OfStep t s = hello_told t rules.two_way two_way_told moment from (names own hello) link.neighbor here in
-        chosen (OfOutcome t) (accepts own from hello link) (hear moment number s o) o
-        (λ is.
-        sending_told t moment (numbered number s.sends) _ (numbered_told t number s.sends so.sends)
-        (change_told t number (with_neighbor s.neighbor) (λ l at. record { neighbor = so.neighbor; acknowledgments = at.acknowledgments }) o h))
-        (λ is. h)
+  hello_heard : (own moment number from : ℕ) (hello : Hello) (link : Option Link) (o : Outcome) → OfOwedIfAny t (neighbor_on link) → OfOutcome t o
+      → OfOutcome t (heard_on own moment number from hello link o)
+  hello_heard own moment number from hello None o here h = h
+  hello_heard own moment number from hello (Some link) o here h =
+      let s : NeighborStep = adjacencies.after_hello moment from (names own hello) link.neighbor in
+      let so : OfStep t s = hello_told t moment from (names own hello) link.neighbor here in
+      chosen (OfOutcome t) (accepts own from hello link) (hear moment number s o) o
+      (λ is.
+      sending_told t moment (numbered number s.sends) _ (numbered_told t number s.sends so.sends)
+      (change_told t number (with_neighbor s.neighbor) (λ l at. record { neighbor = so.neighbor; acknowledgments = at.acknowledgments }) o h))
+      (λ is. h)
 
-    parts_told : IsKeptByParts (told t id) rules
-    parts_told = record {
-      ages = λ before moment o h. ages_told before moment (finite.entries o.area.database) o (entries_in (OfCopy t) o.area.database h.copies) h;
-      flushes = λ moment key c o is young h. flushed_told moment key c o is h;
-      originates = λ moment key says p own goes wants grows h. originated_told moment key says p own goes wants h.area;
-      own_router = λ r own. (own.0, subst (λ (i : ℕ). t.of_key (router_key i)) (sym own.0) router_told);
-      case = λ case moment number lsa so o h. case_told t case moment number lsa o so h;
-      own_received = λ r lsa so is own. (is ∙ own.0, t.key lsa so);
-      hello = λ own moment number from hello o h. hello_heard own moment number from hello (link_at number o.area.links) o (one_told t number o.area.links h.links) h;
-      description = λ own moment number d o h.
-          one_neighbor_told t moment number (after_description rules.two_way own moment o.area.database d)
-          (description_told t rules.two_way two_way_told own moment o.area.database d h.copies) o h;
-      requested = λ moment number keys o h.
-          let lsas : List Lsa = requested_lsas moment o.area.database keys in
-          sending_told t moment (numbered number (map Content.Updates lsas)) o
-          (numbered_told t number (map Content.Updates lsas) (updates_told t lsas (copies_told t moment o.area.database h.copies keys))) h;
-      mismatch = λ moment number o h. one_neighbor_told t moment number (adjacencies.mismatched moment) (mismatched_told t moment) o h;
-      acknowledgment = λ moment number headers o h.
-          one_neighbor_told t moment number (λ n. no_sends (after_acknowledgment moment headers n))
-          (λ n at. quiet_told t (after_acknowledgment moment headers n) (acknowledgment_told t moment headers n at)) o h;
-      due = λ moment r own. due_own moment r own.0 own.1;
-      inactive = λ moment o h.
-          each_link (run_out moment)
-          (λ link at. record {
-            neighbor = exchange_settled moment link.interface.dead_interval (adjacencies.after_inactivity_timer moment link.interface.dead_interval link.neighbor)
-                (still_heard_told t moment link.interface.dead_interval link.neighbor at.neighbor);
-            acknowledgments = at.acknowledgments;
-          }) o h;
-      again = λ moment o h.
-          each_told t moment (again moment o) (λ number link n at. again_told t moment link.interface.retransmit_interval o.area.database n h.copies at) o h;
-      acknowledges = λ moment o h.
-          sending_told t moment (sends_of acknowledgments_on o.area.links) (on_links (map without_acknowledgments) o)
-          (sends_told acknowledgments_on
-          (λ link at. acknowledgments_told (finite.entries link.acknowledgments) (entries_in (OfWaiting t) link.acknowledgments at.acknowledgments)) 1 o.area.links h.links)
-          (each_link without_acknowledgments (λ link at. record { neighbor = at.neighbor; acknowledgments = none_in (OfWaiting t) }) o h);
-      hellos = λ moment o h.
-          sending_told t moment (sends_of (hello_sent_on moment) o.area.links) (on_links (map (with_hello_sent moment)) o)
-          (sends_told (hello_sent_on moment) (λ link at. hello_told_on moment link) 1 o.area.links h.links)
-          (each_link (with_hello_sent moment) (λ link at. record { neighbor = at.neighbor; acknowledgments = at.acknowledgments }) o h);
-      announces = λ r e own h. (h.0, inserted_in (IsOwn t id) r.announced (external_key r.id e.prefix) e h.1 own);
-      unannounces = λ r key h. (h.0, removed_in (IsOwn t id) r.announced key h.1);
-      link_down = λ number o h. change_told t number taken_down (λ link at. record { neighbor = tt; acknowledgments = at.acknowledgments }) o h;
-      loaded = λ o h.
-          each_link link_loading_done (λ link at. record { neighbor = filled_on_told link.neighbor at.neighbor; acknowledgments = at.acknowledgments }) o h;
-      requests = λ moment o h. each_told t moment (λ number link n. request_next moment n) (λ number link n at. request_told t moment n at) o h;
-      removes = λ moment o h.
-          on_database_told t (λ db. finite.retain_keys db (stays moment o.area)) o (retained_in (OfCopy t) o.area.database (stays moment o.area) h.copies) h;
-    }
+  parts_told : IsKeptByParts (told t id)
+  parts_told = record {
+    ages = λ before moment o h. ages_told before moment (finite.entries o.area.database) o (entries_in (OfCopy t) o.area.database h.copies) h;
+    flushes = λ moment key c o is young h. flushed_told moment key c o is h;
+    originates = λ moment key says p own goes wants grows h. originated_told moment key says p own goes wants h.area;
+    own_router = λ r own. (own.0, subst (λ (i : ℕ). t.of_key (router_key i)) (sym own.0) router_told);
+    case = λ case moment number lsa so o h. case_told t case moment number lsa o so h;
+    own_received = λ r lsa so is own. (is ∙ own.0, t.key lsa so);
+    hello = λ own moment number from hello o h. hello_heard own moment number from hello (link_at number o.area.links) o (one_told t number o.area.links h.links) h;
+    description = λ own moment number d o h.
+        one_neighbor_told t moment number (after_description own moment o.area.database d)
+        (description_told t own moment o.area.database d h.copies) o h;
+    requested = λ moment number keys o h.
+        let lsas : List Lsa = requested_lsas moment o.area.database keys in
+        sending_told t moment (numbered number (map Content.Updates lsas)) o
+        (numbered_told t number (map Content.Updates lsas) (updates_told t lsas (copies_told t moment o.area.database h.copies keys))) h;
+    mismatch = λ moment number o h. one_neighbor_told t moment number (adjacencies.mismatched moment) (mismatched_told t moment) o h;
+    acknowledgment = λ moment number headers o h.
+        one_neighbor_told t moment number (λ n. no_sends (after_acknowledgment moment headers n))
+        (λ n at. quiet_told t (after_acknowledgment moment headers n) (acknowledgment_told t moment headers n at)) o h;
+    due = λ moment r own. due_told moment r own.0 own.1;
+    inactive = λ moment o h.
+        each_link (run_out moment)
+        (λ link at. record {
+          neighbor = exchange_settled moment link.interface.dead_interval (adjacencies.after_inactivity_timer moment link.interface.dead_interval link.neighbor)
+              (still_heard_told t moment link.interface.dead_interval link.neighbor at.neighbor);
+          acknowledgments = at.acknowledgments;
+        }) o h;
+    again = λ moment o h.
+        each_told t moment (again moment o) (λ number link n at. again_told t moment link.interface.retransmit_interval o.area.database n h.copies at) o h;
+    acknowledges = λ moment o h.
+        sending_told t moment (sends_of acknowledgments_on o.area.links) (on_links (map without_acknowledgments) o)
+        (sends_told acknowledgments_on
+        (λ link at. acknowledgments_told (finite.entries link.acknowledgments) (entries_in (OfWaiting t) link.acknowledgments at.acknowledgments)) 1 o.area.links h.links)
+        (each_link without_acknowledgments (λ link at. record { neighbor = at.neighbor; acknowledgments = none_in (OfWaiting t) }) o h);
+    hellos = λ moment o h.
+        sending_told t moment (sends_of (hello_sent_on moment) o.area.links) (on_links (map (with_hello_sent moment)) o)
+        (sends_told (hello_sent_on moment) (λ link at. hello_told_on moment link) 1 o.area.links h.links)
+        (each_link (with_hello_sent moment) (λ link at. record { neighbor = at.neighbor; acknowledgments = at.acknowledgments }) o h);
+    announces = λ r e own h. (h.0, inserted_in (IsOwn t id) r.announced (external_key r.id e.prefix) e h.1 own);
+    unannounces = λ r key h. (h.0, removed_in (IsOwn t id) r.announced key h.1);
+    link_down = λ number o h. change_told t number taken_down (λ link at. record { neighbor = tt; acknowledgments = at.acknowledgments }) o h;
+    loaded = λ o h.
+        each_link link_loading_done (λ link at. record { neighbor = filled_on_told link.neighbor at.neighbor; acknowledgments = at.acknowledgments }) o h;
+    requests = λ moment o h. each_told t moment (λ number link n. request_next moment n) (λ number link n at. request_told t moment n at) o h;
+    removes = λ moment o h.
+        on_database_told t (λ db. finite.retain_keys db (stays moment o.area)) o (retained_in (OfCopy t) o.area.database (stays moment o.area) h.copies) h;
+  }
 
-    -- what a text brings is so
-    pub event_told : (old : Router) (moment : ℕ) (event : Occurrence) (after : EventState) → Brings (told t id) old event
-        → OwnPart rules moment event (start_event moment old) after → OfArea t old.area [] → old.id ≡ id → AllIn (IsOwn t id) old.announced
-        → OfEvent (told t id) (end_event old moment after)
-    event_told old moment event after brings own held same announced =
-        event_kept (told t id) rules parts_told old moment event after brings own (record { area = held; announced = (same, announced) })
+  -- what a text brings is so
+  pub event_told : (old : Router) (moment : ℕ) (event : Occurrence) (after : EventState) → Brings (told t id) old event
+      → OwnPart moment event (start_event moment old) after → OfArea t old.area [] → old.id ≡ id → AllIn (IsOwn t id) old.announced
+      → OfEvent (told t id) (end_event old moment after)
+  event_told old moment event after brings own held same announced =
+      event_kept (told t id) parts_told old moment event after brings own (record { area = held; announced = (same, announced) })
 
-    pub first_told : (moment : ℕ) (p : EventState) → OfEvent (told t id) p → OfEvent (told t id) (originate_or_wait moment (router_key p.router.id) p)
-    first_told moment p h =
-        originate_or_wait_kept (told t id) rules parts_told moment (router_key p.router.id) p (parts_told.own_router p.router h.announced) h
+  pub first_told : (moment : ℕ) (p : EventState) → OfEvent (told t id) p → OfEvent (told t id) (originate_or_wait moment (router_key p.router.id) p)
+  first_told moment p h =
+      originate_or_wait_kept (told t id) parts_told moment (router_key p.router.id) p (parts_told.own_router p.router h.announced) h

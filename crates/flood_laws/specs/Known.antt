@@ -16,7 +16,7 @@ use Rattle.adjacency.specs.Contents.{Content}
 use Rattle.received.specs.Outcomes.{Send}
 use Rattle.events.specs.declared.model.Config.{Config}
 use Rattle.events.specs.declared.model.Out.{Out}
-use Rattle.events.specs.Events.{Happens, HappensBy, Run, Step, hellos_alone, initial}
+use Rattle.events.specs.Events.{Happens, Run, Step, initial}
 use Rattle.events.specs.LsaInstances.{LsaInstance, instance_of_lsa, instance_of_header, instances_in_update}
 use Rattle.events.specs.Originations.{new_instance}
 use Rattle.events.specs.Packing.{out_of}
@@ -85,13 +85,9 @@ pub record HoldsWhatIsKnown (old : Router) (event : Occurrence) (outs : List Out
 pub record EventsHoldOnlyWhatIsKnown : Type 0 where
   -- at the start
   pub first : (c : Config) → AnnouncesItsOwn (initial c)
-  -- each event, also where the Hello protocol alone is run
+  -- each event
   pub event : (old : Router) (moment : ℕ) (event : Occurrence) (outs : List Out) (new : Router)
       → Happens old moment event outs new → AnnouncesItsOwn old → AnnouncesItsOwn new
-      × HoldsWhatIsKnown old event outs new
-  pub hello_event : (old : Router) (moment : ℕ) (event : Occurrence) (outs : List Out)
-      (new : Router)
-      → HappensBy hellos_alone old moment event outs new → AnnouncesItsOwn old → AnnouncesItsOwn new
       × HoldsWhatIsKnown old event outs new
   -- so after every run from the start, whatever happens in it
   pub run : (c : Config) (steps : List Step) (new : Router) → Run (initial c) steps new

@@ -9,7 +9,7 @@ use Rattle.adjacency.specs.Neighbors.{Neighbor, is_exchange_or_loading}
 use Rattle.adjacency.specs.declared.state.State.TheVariants.{Loading}
 use Rattle.events.specs.declared.model.Config.{Config}
 use Rattle.events.specs.declared.model.Out.{Out}
-use Rattle.events.specs.Events.{Happens, HappensBy, Run, Step, hellos_alone, initial}
+use Rattle.events.specs.Events.{Happens, Run, Step, initial}
 use Rattle.events.specs.Routers.{Occurrence, Router}
 use Rattle.event_rooms.specs.RoomLaws.{OfEachNeighbor}
 
@@ -19,11 +19,6 @@ pub record IsAlwaysSo (P : Neighbor → Type 0) : Type 0 where
   -- after each event, where it held before it
   pub event : (old : Router) (moment : ℕ) (event : Occurrence) (outs : List Out) (new : Router)
       → Happens old moment event outs new → OfEachNeighbor P old → OfEachNeighbor P new
-  -- also where the Hello protocol alone is run
-  pub hello_event : (old : Router) (moment : ℕ) (event : Occurrence) (outs : List Out)
-      (new : Router)
-      → HappensBy hellos_alone old moment event outs new → OfEachNeighbor P old
-      → OfEachNeighbor P new
   -- so after every run from the start, whatever happens in it
   pub run : (c : Config) (steps : List Step) (new : Router) → Run (initial c) steps new
       → OfEachNeighbor P new

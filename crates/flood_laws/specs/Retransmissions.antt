@@ -15,8 +15,8 @@ use Rattle.events.specs.Events.{Happens, Run, Step, initial}
 use Rattle.events.specs.Routers.{Occurrence, Router}
 use Rattle.event_rooms.specs.RoomLaws.{OfEachNeighbor}
 
--- the database has a copy of the key, and at each moment from when the entry was made on the entry's
--- header is the copy's
+-- the database has a copy of the key, and at each moment from when the entry was made on the
+-- entry's header is the copy's
 abbrev pub IsOfCopy : Database → Key → ListEntry → Type 0
 IsOfCopy db key entry =
     (copy : DatabaseCopy) × (finite.get db key ≡ Some copy)

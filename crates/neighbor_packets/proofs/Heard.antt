@@ -3,7 +3,6 @@ use Rattle.std.proofs.Common.{◌≡◌, ℕ, ◌≤◌, Bool, true, false, cond
 use Rattle.std.specs.Prelude.{Option, None, Some}
 use Rattle.lsdb.specs.Copies.{Database}
 use Rattle.packet.specs.declared.model.Hello.{Hello}
-use Rattle.adjacency.specs.Adjacencies.{two_way_received}
 use Rattle.adjacency.specs.Contents.{Content, Step}
 use Rattle.adjacency.specs.Drafts.{Drafted, drafting}
 use Rattle.adjacency.specs.Neighbors.{Neighbor}
@@ -54,8 +53,8 @@ module _ (own moment k from : ℕ) (h : Hello) (a : Area) (first : 1 ≤ k) (las
   by_test false = stays moment k a first last []
 
   pub hears : one_link moment k (λ (db : Database) (l : Link). after_heard own moment from h l) (λ (db : Database) (l : Link). sent_heard own moment from h l) (start a)
-      ≡ after_hello two_way_received own moment k from h (start a)
+      ≡ after_hello own moment k from h (start a)
   hears =
       one_link_is moment k a first last (λ (db : Database) (l : Link). after_heard own moment from h l) (λ (db : Database) (l : Link). sent_heard own moment from h l)
       ∙ by_test (accepts own from h (link moment k a first last))
-      ∙ ap (λ (o : Option Link). heard_on two_way_received own moment k from h o (start a)) (sym (link_is moment k a first last))
+      ∙ ap (λ (o : Option Link). heard_on own moment k from h o (start a)) (sym (link_is moment k a first last))

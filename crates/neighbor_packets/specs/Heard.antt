@@ -2,7 +2,7 @@
 use Rattle.std.specs.Prelude.{Bool, true, not, ◌&&◌, ◌==◌, bit_and, if◌then◌else◌, List, [], Option, None, Some}
 use Rattle.words.specs.Numbers.{Moment, RouterNumber}
 use Rattle.packet.specs.declared.model.Hello.{Hello}
-use Rattle.adjacency.specs.Adjacencies.{after_hello, two_way_received}
+use Rattle.adjacency.specs.Adjacencies.{after_hello}
 use Rattle.adjacency.specs.Contents.{Content, Step}
 use Rattle.adjacency.specs.declared.interface.Interface.{Interface}
 use Rattle.adjacency.specs.declared.state.State.{State}
@@ -25,7 +25,7 @@ may_be_named (Some named) from = named.0 == from
 -- what an accepted Hello makes of the neighbor
 abbrev pub heard : (own : RouterNumber) → Moment → (from : RouterNumber) → Hello → Link → Step
 heard own moment from h link =
-    after_hello two_way_received moment from (names own h) link.neighbor
+    after_hello moment from (names own h) link.neighbor
 
 abbrev pub after_heard : (own : RouterNumber) → Moment → (from : RouterNumber) → Hello → Link
     → Link

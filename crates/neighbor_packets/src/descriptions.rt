@@ -1,6 +1,5 @@
 //! Received Database Descriptions (RFC 2328, section 10.6).
 ghost use Rattle.std.specs.Prelude.{◌≡◌, ◌≤◌, OnOk, length};
-ghost use Rattle.adjacency.specs.Adjacencies.{two_way_received};
 ghost use Rattle.events.specs.Packets.{describe_to};
 ghost use Rattle.flooding.specs.Drafted.{drafted};
 ghost use Rattle.flooding.specs.Links.{start};
@@ -20,19 +19,18 @@ struct Describing<'a> {
 }
 
 impl<'a> LinkStep for Describing<'a> {
-    ghost use Rattle.adjacency.specs.Adjacencies.{two_way_received};
     ghost use Rattle.adjacency.specs.Contents.{sent_on, step_on};
     ghost use Rattle.adjacency.specs.Descriptions.{after_description};
     ghost use Rattle.flooding.specs.Links.{with_neighbor};
 
     ghost after = { λ a database link. with_neighbor
         (step_on
-        (after_description two_way_received a.own a.moment database a.description.now)
+        (after_description a.own a.moment database a.description.now)
         link.neighbor)
         link };
 
     ghost sends = { λ a database link. sent_on
-        (after_description two_way_received a.own a.moment database a.description.now)
+        (after_description a.own a.moment database a.description.now)
         link.neighbor };
 
     fn take(
@@ -71,10 +69,10 @@ pub fn describe(
     requires last { number ≤ length area.old.present.links }
     requires drafts { length drafts.old ≡ length area.old.present.links }
     ensures ok { OnOk result (area.new.present
-        ≡ (describe_to two_way_received own moment number description.now
+        ≡ (describe_to own moment number description.now
         (start area.old.present)).area) }
     ensures drafts { OnOk result (drafts.new
-        ≡ drafted (describe_to two_way_received own moment number description.now
+        ≡ drafted (describe_to own moment number description.now
         (start area.old.present)).sends area.old.present.links drafts.old) }
     ensures settled { area.new.settled ≡ area.old.settled }
     ensures router { area.new.router ≡ area.old.router }

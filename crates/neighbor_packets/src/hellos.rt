@@ -1,7 +1,6 @@
 //! Received Hellos (RFC 2328, section 10.5).
 ghost use Rattle.std.specs.Prelude.{◌≡◌, ◌≤◌, ◌==◌, OnOk, length};
 ghost use Rattle.std.specs.List.{list_any};
-ghost use Rattle.adjacency.specs.Adjacencies.{two_way_received};
 ghost use Rattle.events.specs.Hellos.{accepts, agrees, is_foreign, may_be, names};
 ghost use Rattle.events.specs.Packets.{after_hello};
 ghost use Rattle.flooding.specs.Drafted.{drafted};
@@ -135,10 +134,10 @@ pub fn hear(
     requires last { number ≤ length area.old.present.links }
     requires drafts { length drafts.old ≡ length area.old.present.links }
     ensures ok { OnOk result (area.new.present
-        ≡ (after_hello two_way_received own moment number from hello.now
+        ≡ (after_hello own moment number from hello.now
         (start area.old.present)).area) }
     ensures drafts { OnOk result (drafts.new
-        ≡ drafted (after_hello two_way_received own moment number from hello.now
+        ≡ drafted (after_hello own moment number from hello.now
         (start area.old.present)).sends area.old.present.links drafts.old) }
     ensures settled { area.new.settled ≡ area.old.settled }
     ensures router { area.new.router ≡ area.old.router }

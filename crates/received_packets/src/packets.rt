@@ -1,6 +1,5 @@
 //! Packets by their types.
 ghost use Rattle.std.specs.Prelude.{◌≡◌, ◌≤◌, OnOk, false, length, true};
-ghost use Rattle.adjacency.specs.Adjacencies.{two_way_received};
 ghost use Rattle.adjacency.specs.Neighbors.{is_exchange_or_later};
 ghost use Rattle.adjacency.specs.Steps.{named};
 ghost use Rattle.received.specs.Links.{neighbor_at};
@@ -121,7 +120,7 @@ fn from_neighbor_in_exchange(
         (neighbor_at number router.old.present.area.links) ≡ true }
     requires drafts { length drafts.old ≡ length router.old.present.area.links }
     ensures makes { OnOk result (Makes
-        (from_neighbor two_way_received moment number from true body.now)
+        (from_neighbor moment number from true body.now)
         router.old.present router.new.present drafts.old drafts.new) }
     ensures drafts { OnOk result (length drafts.new ≡ length router.new.present.area.links) }
     ensures settled { router.new.settled ≡ router.old.settled }
@@ -156,7 +155,7 @@ fn from_neighbor_before_exchange(
     requires last { number ≤ length router.old.present.area.links }
     requires drafts { length drafts.old ≡ length router.old.present.area.links }
     ensures makes { OnOk result (Makes
-        (from_neighbor two_way_received moment number from false body.now)
+        (from_neighbor moment number from false body.now)
         router.old.present router.new.present drafts.old drafts.new) }
     ensures drafts { OnOk result (length drafts.new ≡ length router.new.present.area.links) }
     ensures settled { router.new.settled ≡ router.old.settled }
@@ -189,7 +188,7 @@ pub fn receive_packet(
     requires first { 1 ≤ number }
     requires last { number ≤ length router.old.present.area.links }
     requires drafts { length drafts.old ≡ length router.old.present.area.links }
-    ensures makes { OnOk result (Makes (after_packet two_way_received moment number packet.now)
+    ensures makes { OnOk result (Makes (after_packet moment number packet.now)
         router.old.present router.new.present drafts.old drafts.new) }
     ensures drafts { OnOk result (length drafts.new ≡ length router.new.present.area.links) }
     ensures settled { router.new.settled ≡ router.old.settled }

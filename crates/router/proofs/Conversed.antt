@@ -9,7 +9,7 @@ use Rattle.lsdb.specs.Headers.{Header}
 use Rattle.packet.specs.declared.model.Description.{Description}
 use Rattle.packet.specs.declared.model.Hello.{Hello}
 use Rattle.adjacency.specs.Adjacencies as adjacencies
-use Rattle.adjacency.specs.Adjacencies.{mismatched, two_way_received}
+use Rattle.adjacency.specs.Adjacencies.{mismatched}
 use Rattle.adjacency.specs.Contents.{Step, Updates, no_sends}
 use Rattle.adjacency.specs.Descriptions.{after_description}
 use Rattle.adjacency.specs.Retransmissions.{after_acknowledgment}
@@ -27,38 +27,38 @@ use Rattle.router.proofs.Areas.{appends_nothing, change_interfaces, keeps_neighb
 
 module _ (own moment number from : ℕ) (h : Hello) where
   abbrev heard : Link → Step
-  heard l = adjacencies.after_hello two_way_received moment from (names own h) l.neighbor
+  heard l = adjacencies.after_hello moment from (names own h) l.neighbor
 
   accepted_after : (s : Step) (o : Outcome) (b : Bool) → cond b (hear moment number s o) o ≡ followed o (cond b (hear moment number s (start o.area)) (start o.area))
   accepted_after s o true = refl
   accepted_after s o false = appends_nothing o
 
-  heard_after : (l : Option Link) (o : Outcome) → heard_on two_way_received own moment number from h l o ≡ followed o (heard_on two_way_received own moment number from h l (start o.area))
+  heard_after : (l : Option Link) (o : Outcome) → heard_on own moment number from h l o ≡ followed o (heard_on own moment number from h l (start o.area))
   heard_after None o = appends_nothing o
   heard_after (Some l) o = accepted_after (heard l) o (accepts own from h l)
 
-  pub appends_hello : Appends (after_hello two_way_received own moment number from h)
+  pub appends_hello : Appends (after_hello own moment number from h)
   appends_hello o = heard_after (link_at number o.area.links) o
 
   accepted_keeps : (s : Step) (a : Area) (b : Bool) → interfaces_of (cond b (hear moment number s (start a)) (start a)).area.links ≡ interfaces_of a.links
   accepted_keeps s a true = change_interfaces number (with_neighbor s.neighbor) (λ l. refl) a.links
   accepted_keeps s a false = refl
 
-  heard_keeps : (l : Option Link) (a : Area) → interfaces_of (heard_on two_way_received own moment number from h l (start a)).area.links ≡ interfaces_of a.links
+  heard_keeps : (l : Option Link) (a : Area) → interfaces_of (heard_on own moment number from h l (start a)).area.links ≡ interfaces_of a.links
   heard_keeps None a = refl
   heard_keeps (Some l) a = accepted_keeps (heard l) a (accepts own from h l)
 
-  pub keeps_hello : KeepsInterfaces (after_hello two_way_received own moment number from h)
+  pub keeps_hello : KeepsInterfaces (after_hello own moment number from h)
   keeps_hello a = heard_keeps (link_at number a.links) a
 
 -- ---- Database Descriptions
 
 module _ (own moment number : ℕ) (d : Description) where
-  pub appends_description : Appends (describe_to two_way_received own moment number d)
+  pub appends_description : Appends (describe_to own moment number d)
   appends_description o = refl
 
-  pub keeps_description : KeepsInterfaces (describe_to two_way_received own moment number d)
-  keeps_description a = keeps_neighbors moment (only_at number (after_description two_way_received own moment a.database d)) a
+  pub keeps_description : KeepsInterfaces (describe_to own moment number d)
+  keeps_description a = keeps_neighbors moment (only_at number (after_description own moment a.database d)) a
 
 -- ---- Requests
 

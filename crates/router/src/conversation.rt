@@ -1,7 +1,6 @@
 //! What packets of a neighbor make of the conversation with it (RFC 2328, sections 10.5 to 10.7 and
 //! 13.7).
 ghost use Rattle.std.specs.Prelude.{◌≡◌, ◌≤◌, OnOk, length, true};
-ghost use Rattle.adjacency.specs.Adjacencies.{two_way_received};
 ghost use Rattle.received.specs.Links.{neighbor_at};
 ghost use Rattle.events.specs.EventState.{on_area};
 ghost use Rattle.events.specs.Packets.{acknowledged_by, after_hello, describe_to, is_in_exchange};
@@ -36,7 +35,7 @@ impl Router {
         requires last { number ≤ length self.old.present.area.links }
         requires drafts { length drafts.old ≡ length self.old.present.area.links }
         ensures makes { OnOk result (Makes
-            (on_area (after_hello two_way_received self.old.present.id moment number from
+            (on_area (after_hello self.old.present.id moment number from
             hello.now))
             self.old.present self.new.present drafts.old drafts.new) }
         ensures drafts { OnOk result (length drafts.new ≡ length self.new.present.area.links) }
@@ -71,7 +70,7 @@ impl Router {
         requires last { number ≤ length self.old.present.area.links }
         requires drafts { length drafts.old ≡ length self.old.present.area.links }
         ensures makes { OnOk result (Makes
-            (on_area (describe_to two_way_received self.old.present.id moment number
+            (on_area (describe_to self.old.present.id moment number
             description.now))
             self.old.present self.new.present drafts.old drafts.new) }
         ensures drafts { OnOk result (length drafts.new ≡ length self.new.present.area.links) }

@@ -82,7 +82,7 @@ pub fn tick(
     drafts: &mut [Draft],
 ) -> Result<(), AllocError>
     requires drafts { length drafts.old ≡ length router.old.present.area.links }
-    ensures makes { OnOk result (Makes (after_tick due_keys moment)
+    ensures makes { OnOk result (Makes (after_tick moment)
         router.old.present router.new.present drafts.old drafts.new) }
     ensures drafts { OnOk result (length drafts.new ≡ length router.new.present.area.links) }
     ensures settled { router.new.settled ≡ router.old.settled }

@@ -138,8 +138,8 @@ impl Place {
         description: &Description,
         draft: &mut Draft,
     ) -> Result<(), AllocError>
-        ensures ok { OnOk result (self.new.present ≡ step_on (after_description two_way_received own moment database.now.present description.now) self.old.present) }
-        ensures draft { OnOk result ((delay : ℕ) → draft.new ≡ drafting delay (sent_on (after_description two_way_received own moment database.now.present description.now) self.old.present) draft.old) }
+        ensures ok { OnOk result (self.new.present ≡ step_on (after_description own moment database.now.present description.now) self.old.present) }
+        ensures draft { OnOk result ((delay : ℕ) → draft.new ≡ drafting delay (sent_on (after_description own moment database.now.present description.now) self.old.present) draft.old) }
         ensures settled { self.new.settled ≡ self.old.settled }
     {
         let too_large = is_too_large(description);

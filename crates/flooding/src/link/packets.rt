@@ -1,7 +1,7 @@
 //! What packets of the neighbor make of the conversation with it (RFC 2328, sections 10.5 to 10.7 and
 //! 13.7).
 ghost use Rattle.std.specs.Prelude.{◌≡◌, ℕ, OnOk, Some};
-ghost use Rattle.adjacency.specs.Adjacencies.{after_hello, two_way_received};
+ghost use Rattle.adjacency.specs.Adjacencies.{after_hello};
 ghost use Rattle.adjacency.specs.Contents.{no_sends, sent_on, step_on};
 ghost use Rattle.adjacency.specs.Descriptions.{after_description};
 ghost use Rattle.adjacency.specs.Drafts.{drafting};
@@ -32,10 +32,10 @@ impl Link {
     ) -> Result<(), AllocError>
         ensures ok { OnOk result (self.new.present ≡ with_neighbor
             (Some
-            (after_hello two_way_received moment from names self.old.present.neighbor).neighbor)
+            (after_hello moment from names self.old.present.neighbor).neighbor)
             self.old.present) }
         ensures draft { OnOk result ((delay : ℕ) → draft.new ≡ drafting delay
-            (after_hello two_way_received moment from names self.old.present.neighbor).sends
+            (after_hello moment from names self.old.present.neighbor).sends
             draft.old) }
         ensures settled { self.new.settled ≡ self.old.settled }
     {
@@ -57,12 +57,12 @@ impl Link {
     ) -> Result<(), AllocError>
         ensures ok { OnOk result (self.new.present ≡ with_neighbor
             (step_on
-            (after_description two_way_received own moment database.now.present description.now)
+            (after_description own moment database.now.present description.now)
             self.old.present.neighbor)
             self.old.present) }
         ensures draft { OnOk result ((delay : ℕ) → draft.new ≡ drafting delay
             (sent_on
-            (after_description two_way_received own moment database.now.present description.now)
+            (after_description own moment database.now.present description.now)
             self.old.present.neighbor)
             draft.old) }
         ensures settled { self.new.settled ≡ self.old.settled }

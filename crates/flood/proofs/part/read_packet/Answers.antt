@@ -1,5 +1,4 @@
 use Rattle.std.proofs.Common.{ap}
-use Rattle.adjacency.specs.Adjacencies.{two_way_received}
 use Rattle.events.specs.Packets.{after_packet}
 use Rattle.flood.proofs.part.read_packet.Goals as goal
 
@@ -8,6 +7,6 @@ returns-clause-part c = record {
   own = λ moment before. (
     c.in_ok-packet.packet,
     c.in_ok-packet.ensures.found,
-    ap (λ number. after_packet two_way_received moment number c.in_ok-packet.packet before) c.from.ensures,
+    ap (λ number. after_packet moment number c.in_ok-packet.packet before) c.from.ensures,
   );
 }

@@ -1,7 +1,7 @@
 use Rattle.std.proofs.Common.{Bool, sym, ap, ◌∙◌}
 use Rattle.std.specs.Prelude.{Some}
 use Rattle.keyed_map.proofs.Helds.{on_ok}
-use Rattle.adjacency.specs.Adjacencies.{after_hello, two_way_received}
+use Rattle.adjacency.specs.Adjacencies.{after_hello}
 use Rattle.adjacency.specs.Drafts.{drafting}
 use Rattle.flooding.specs.Links.{with_neighbor}
 use Rattle.neighbor_packets.proofs.Heard.{accepted, accepted_sends, ignored, ignored_sends}
@@ -12,7 +12,7 @@ returns-then-accepted-clause-ok c =
     let a = c.args.self.now in
     let l = c.args.link.now.present in
     on_ok c.hello.result
-    (λ is. is ∙ ap (λ (b : Bool). with_neighbor (Some (after_hello two_way_received a.moment a.from b l.neighbor).neighbor) l) c.names-named.ensures
+    (λ is. is ∙ ap (λ (b : Bool). with_neighbor (Some (after_hello a.moment a.from b l.neighbor).neighbor) l) c.names-named.ensures
     ∙ accepted a.own a.moment a.from a.hello.now l (sym c.accepts-accepted.ensures ∙ c.if-accepted.true))
     c.hello.ensures.ok
 
@@ -23,7 +23,7 @@ returns-then-accepted-clause-draft c =
     let delay = l.interface.delay in
     let d = c.args.draft.now in
     on_ok c.hello.result
-    (λ is. is delay ∙ ap (λ (b : Bool). drafting delay (after_hello two_way_received a.moment a.from b l.neighbor).sends d) c.names-named.ensures
+    (λ is. is delay ∙ ap (λ (b : Bool). drafting delay (after_hello a.moment a.from b l.neighbor).sends d) c.names-named.ensures
     ∙ accepted_sends a.own a.moment a.from a.hello.now l delay d (sym c.accepts-accepted.ensures ∙ c.if-accepted.true))
     c.hello.ensures.draft
 

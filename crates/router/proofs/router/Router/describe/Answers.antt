@@ -1,5 +1,4 @@
 use Rattle.std.proofs.Common.{ℕ, ap}
-use Rattle.adjacency.specs.Adjacencies.{two_way_received}
 use Rattle.events.specs.EventState.{on_area}
 use Rattle.events.specs.Packets.{describe_to}
 use Rattle.events.specs.Routers.{Router}
@@ -17,8 +16,8 @@ returns-clause-makes c =
     let view = ap (λ k. k.present) c.self.view_is in
     both c.describe.result
     (λ to drafts.
-    makes_same (λ p is. ap (λ (own : ℕ). on_area (describe_to two_way_received own m n d) p) (ap (λ (r : Router). r.id) view))
-    (makes_are (describe_to two_way_received id m n d) (keeps_description id m n d) _ c.args.self.now.present c.describe.new.area.present c.args.drafts.now c.describe.new.drafts
+    makes_same (λ p is. ap (λ (own : ℕ). on_area (describe_to own m n d) p) (ap (λ (r : Router). r.id) view))
+    (makes_are (describe_to id m n d) (keeps_description id m n d) _ c.args.self.now.present c.describe.new.area.present c.args.drafts.now c.describe.new.drafts
     (appends_description id m n d) view to drafts))
     c.describe.ensures.ok c.describe.ensures.drafts
 
@@ -29,6 +28,6 @@ returns-clause-drafts c =
     let n = c.args.number in
     let d = c.args.description.now in
     both c.describe.result
-    (drafts_are (describe_to two_way_received id m n d) (keeps_description id m n d) _ c.args.self.now.present c.describe.new.area.present c.args.drafts.now c.describe.new.drafts
+    (drafts_are (describe_to id m n d) (keeps_description id m n d) _ c.args.self.now.present c.describe.new.area.present c.args.drafts.now c.describe.new.drafts
     (ap (λ k. k.present) c.self.view_is) c.requires.drafts)
     c.describe.ensures.ok c.describe.ensures.drafts
