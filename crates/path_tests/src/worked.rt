@@ -49,7 +49,7 @@ fn row(address: u32, kind: RouteKind, cost: u32, distance: u32, hops: u64) -> Ro
 
 // 1.1.1.1 with interfaces 1 and 2 of cost 5 to 2.2.2.2 and 3.3.3.3, each with a link of cost 5 to 4.4.4.4, which has the stub network
 // 192.0.2.0/24 of metric 10.
-fn square(alloc: Global) -> Result<Vec<Lsa>, Fail> {
+pub fn square(alloc: Global) -> Result<Vec<Lsa>, Fail> {
     let mut lsas = Vec::new(alloc);
     let own = [
         to_router(0x0202_0202, 0x0a00_0101, 5),
@@ -87,7 +87,7 @@ fn walks_of_one_cost_join_their_next_hops(rt: HostRuntime) -> Result<(), Fail> {
 }
 
 // 1.1.1.1 and 2.2.2.2 on a link of cost 10; the second has the flags, and another network at cost 5.
-fn two_routers(alloc: Global, flags: u8) -> Result<Vec<Lsa>, Fail> {
+pub fn two_routers(alloc: Global, flags: u8) -> Result<Vec<Lsa>, Fail> {
     let mut lsas = Vec::new(alloc);
     let own = [
         to_router(0x0202_0202, 0x0a00_0101, 10),
@@ -145,7 +145,7 @@ fn two_routers_on_a_link(rt: HostRuntime) -> Result<(), Fail> {
     Ok(())
 }
 
-fn announced(alloc: Global, originator: u32, is_type_2: bool) -> Result<Lsa, Fail> {
+pub fn announced(alloc: Global, originator: u32, is_type_2: bool) -> Result<Lsa, Fail> {
     let name = Name {
         age: 1,
         ls_type: 5,
@@ -181,7 +181,7 @@ fn external_destinations_of_both_types(rt: HostRuntime) -> Result<(), Fail> {
 const NETWORK: &[u8] =
     b"\x00\x00\x02\x03\xc6\x33\x64\x00\x02\x02\x02\x02\x80\x00\x00\x01\x92\x5f\x00\x1c\xff\xff\xff\x00\x00\x00\x00\x05";
 
-fn of_2(ls_type: u8, id: u32) -> Name {
+pub fn of_2(ls_type: u8, id: u32) -> Name {
     Name {
         age: 1,
         ls_type,
