@@ -1,6 +1,7 @@
 -- The exchange of Descriptions in words that the code's contracts use (RFC 2328, sections 10.6 and
 -- 10.8).
-use Rattle.std.specs.Prelude.{ℕ, ◌+◌, ◌%◌, ◌^◌, ◌==◌, Bool, true, false, not, ◌&&◌, nat_lt, if◌then◌else◌, Option, None, Some}
+use Rattle.std.specs.Prelude.{ℕ, ◌+◌, ◌%◌, ◌^◌, ◌==◌, Bool, true, false, not, ◌&&◌, nat_lt}
+use Rattle.std.specs.Prelude.{if◌then◌else◌, Option, None, Some}
 use Rattle.std.specs.FinMap as finite
 use Rattle.words.specs.Numbers.{Moment, RouterNumber}
 use Rattle.words.specs.declared.key.Key.{Key}
@@ -15,7 +16,9 @@ use Rattle.adjacency.specs.declared.standing.Standing.{Standing}
 use Rattle.adjacency.specs.declared.verdict.Verdict.{Verdict as Said}
 use Rattle.adjacency.specs.declared.verdict.Verdict.TheVariants as said
 use Rattle.adjacency.specs.Contents.{Step, no_sends}
-use Rattle.adjacency.specs.Descriptions.{Verdict, as_received, is_initial_description, judge, knows_types, master_goes_on, negotiated, repeat, slave_replies, verdict, with_requests}
+use Rattle.adjacency.specs.Descriptions.{Verdict, as_received, is_initial_description, judge}
+use Rattle.adjacency.specs.Descriptions.{knows_types, master_goes_on, negotiated, repeat}
+use Rattle.adjacency.specs.Descriptions.{slave_replies, verdict, with_requests}
 use Rattle.adjacency.specs.Neighbors.{Neighbor}
 
 -- ---- verdicts

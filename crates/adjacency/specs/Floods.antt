@@ -1,5 +1,6 @@
 -- Flooding's step of one neighbor (RFC 2328, section 13.3), by whether the LSA came from it.
-use Rattle.std.specs.Prelude.{ℕ, Bool, true, false, not, ◌&&◌, if◌then◌else◌, List, [], ◌∷◌, Option, None, Some}
+use Rattle.std.specs.Prelude.{ℕ, Bool, true, false, not, ◌&&◌, if◌then◌else◌, List, [], ◌∷◌, Option}
+use Rattle.std.specs.Prelude.{None, Some}
 use Rattle.lsdb.specs.Headers.{Lsa, lsa_key}
 use Rattle.lsdb.specs.Instances.{ListEntry, newer_than_listed, older_than_listed}
 use Rattle.adjacency.specs.Contents.{Step, Updates, no_sends}

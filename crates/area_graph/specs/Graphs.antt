@@ -22,7 +22,8 @@ abbrev pub StandsAt : List Node → Node → ℕ → Type 0
 StandsAt nodes node at = slice_get nodes at ≡ Some node
 
 -- the link of the graph stands for this one, which the node at the far end tells of too
-pub record StandsFor (said : Said) (root : Root) (nodes : List Node) (from : Node) (way : OneWayLink) (link : Link) : Type 0 where
+pub record StandsFor (said : Said) (root : Root) (nodes : List Node) (from : Node)
+    (way : OneWayLink) (link : Link) : Type 0 where
   pub target : Node
   pub stands : StandsAt nodes target link.to
   pub toward : LeadsToward way target
@@ -32,11 +33,13 @@ pub record StandsFor (said : Said) (root : Root) (nodes : List Node) (from : Nod
 
 -- the graph has the link from the node
 abbrev pub IsLinkFrom : Said → Root → List Node → Node → Link → Type 0
-IsLinkFrom said root nodes from link = (way : OneWayLink) × Tells said from way × StandsFor said root nodes from way link
+IsLinkFrom said root nodes from link =
+    (way : OneWayLink) × Tells said from way × StandsFor said root nodes from way link
 
 -- the same for a link of a router-LSA, whose metric isn't 0
 abbrev pub StandsForLink : Said → Root → List Node → Node → Told → Link → Type 0
-StandsForLink said root nodes from told link = (0 < told.metric) × StandsFor said root nodes from (of_link told) link
+StandsForLink said root nodes from told link =
+    (0 < told.metric) × StandsFor said root nodes from (of_link told) link
 
 -- the list after elements were added: just those
 abbrev pub Adds : {X : Type 0} → (X → Type 0) → (old : List X) → (new : List X) → Type 0
@@ -46,7 +49,9 @@ abbrev pub CostFits : Link → Type 0
 CostFits link = link.cost < 2 ^ 16
 
 -- the vertex has the node's kind and just its links
-pub record IsVertexOf (said : Said) (root : Root) (nodes : List Node) (node : Node) (vertex : Vertex) : Type 0 where
+pub record IsVertexOf (said : Said) (root : Root) (nodes : List Node) (node : Node)
+    (vertex : Vertex) : Type 0 where
   pub kind : vertex.kind ≡ kind_of node
-  pub links : (link : Link) → Contains vertex.links.items link ↔ IsLinkFrom said root nodes node link
+  pub links : (link : Link)
+      → Contains vertex.links.items link ↔ IsLinkFrom said root nodes node link
   pub fits : All CostFits vertex.links.items

@@ -1,4 +1,5 @@
--- The nodes of an area's graph: the routers and transit networks whose LSAs stand in the database (RFC 2328, section 16.1).
+-- The nodes of an area's graph: the routers and transit networks whose LSAs stand in the database
+-- (RFC 2328, section 16.1).
 use Rattle.std.specs.Prelude.{◌≡◌, ◌==◌, ◌&&◌, ℕ, ◌↔◌, List, Option, None, Some, if◌then◌else◌}
 use Rattle.std.specs.List.{AllPairs, Contains}
 use Rattle.std.specs.Ordering.{nat_cmp, ordering_then}
@@ -19,7 +20,8 @@ abbrev pub HasLsa : Said → Node → Type 0
 HasLsa said (ARouter router) = (lsa : RouterLsa) × IsRouterLsa said router lsa
 HasLsa said (ANetwork id by) = (lsa : NetworkLsa) × IsNetworkLsa said id by lsa
 
--- routers by Router ID, then networks by Link State ID and Advertising Router: the order of the keys of their LSAs
+-- routers by Router ID, then networks by Link State ID and Advertising Router: the order of the
+-- keys of their LSAs
 abbrev pub node_cmp : Node → Node → Ordering
 node_cmp (ARouter a) (ARouter b) = nat_cmp a b
 node_cmp (ARouter a) (ANetwork id by) = Less
@@ -71,4 +73,7 @@ abbrev pub node_at : Said → Key → Option Node
 node_at said key =
     if (key.ls_type == 1) && (key.link_state_id == key.advertising_router)
     then if_router key.advertising_router (router_lsa said key.advertising_router)
-    else (if key.ls_type == 2 then if_network key.link_state_id key.advertising_router (network_lsa said key.link_state_id key.advertising_router) else None)
+    else (if key.ls_type == 2
+    then if_network key.link_state_id key.advertising_router
+    (network_lsa said key.link_state_id key.advertising_router)
+    else None)

@@ -1,4 +1,5 @@
--- Links as one of their ends tells of them: a link counts where the other end tells of one back (RFC 2328, section 16.1).
+-- Links as one of their ends tells of them: a link counts where the other end tells of one back
+-- (RFC 2328, section 16.1).
 use Rattle.std.specs.Prelude.{◌≡◌, ℕ, ◌+◌, ◌<◌, Some, slice_get}
 use Rattle.lsa.specs.declared.body.Link.{Link}
 use Rattle.lsa.specs.declared.body.LinkKind.{LinkKind}
@@ -12,7 +13,8 @@ use Rattle.area_graph.specs.declared.one_way.OneWayLink.{OneWayLink}
 
 -- a link of a router-LSA
 abbrev pub of_link : Link → OneWayLink
-of_link link = record { kind = link.kind; id = link.link_id; address = link.link_data; cost = link.metric }
+of_link link =
+    record { kind = link.kind; id = link.link_id; address = link.link_data; cost = link.metric }
 
 -- a network leads to each router that it lists at cost 0
 abbrev pub to_attached : ℕ → OneWayLink
@@ -20,8 +22,10 @@ to_attached router = record { kind = PointToPoint; id = router; address = 0; cos
 
 -- the node's LSA tells of the link; those of metric 0 don't count
 abbrev pub Tells : Said → Node → OneWayLink → Type 0
-Tells said (ARouter router) way = (link : Link) × HasLink said router link × (0 < link.metric) × (way ≡ of_link link)
-Tells said (ANetwork id by) way = (router : ℕ) × ListsRouter said id by router × (way ≡ to_attached router)
+Tells said (ARouter router) way =
+    (link : Link) × HasLink said router link × (0 < link.metric) × (way ≡ of_link link)
+Tells said (ANetwork id by) way =
+    (router : ℕ) × ListsRouter said id by router × (way ≡ to_attached router)
 
 -- the link leads to the node, by its kind and Link ID
 abbrev pub LeadsToward : OneWayLink → Node → Type 0
@@ -47,7 +51,8 @@ TellsBack said (ANetwork id by) (ANetwork other its) = ⊥
 
 -- the root sends by an own interface whose address the link has as its data; elsewhere it is 0
 pub record IsExitOf (root : Root) (router : ℕ) (address exit : ℕ) : Type 0 where
-  pub by_interface : router ≡ root.router → (n : ℕ) × (exit ≡ n + 1) × (slice_get root.addresses n ≡ Some address)
+  pub by_interface : router ≡ root.router
+      → (n : ℕ) × (exit ≡ n + 1) × (slice_get root.addresses n ≡ Some address)
   pub elsewhere : ¬ (router ≡ root.router) → exit ≡ 0
 
 abbrev pub IsExit : Root → Node → OneWayLink → ℕ → Type 0

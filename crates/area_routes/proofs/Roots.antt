@@ -1,6 +1,6 @@
 -- The addresses of a router's links.
-use Rattle.std.proofs.Common.{◌≡◌, ℕ, ◌+◌, ◌<◌, ◌≤◌, List, [], ◌∷◌, ◌++◌, length, get_or, take, map, refl, sym, ◌∙◌, ap, arith}
-use Rattle.std.proofs.lemmas.List.{length-map, take_more}
+use Rattle.std.proofs.Common.{◌≡◌, ℕ, ◌+◌, ◌<◌, List, [], ◌∷◌, ◌++◌, length, get_or, take, map, refl, sym, ◌∙◌, ap}
+use Rattle.std.proofs.lemmas.List.{take_more}
 use Rattle.adjacency.specs.Kept.{Kept}
 use Rattle.received.specs.Links.{Link}
 use Rattle.flooding.specs.Links.{present}
@@ -27,5 +27,6 @@ root_is router kept links addresses shown is =
     let same = is ∙ addresses_are kept ∙ ap (map (λ (l : Link). l.interface.address)) shown in
     λ i. record { router = router; addresses = same i }
 
-pub few_addresses : (router : ℕ) (links : List Link) (root : Root) → root ≡ root_by router links → length links ≤ 63 → length root.addresses ≤ 63
-few_addresses router links root is few = omega (arith, few, ap (λ (r : Root). length r.addresses) is, length-map links (λ (l : Link). l.interface.address))
+-- a root whose router is this one
+pub begins_here : (root : Root) (router : ℕ) → root.router ≡ router → root ≡ record { router = router; addresses = root.addresses }
+begins_here root router is = λ i. record { router = is i; addresses = root.addresses }

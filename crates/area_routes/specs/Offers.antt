@@ -1,5 +1,5 @@
 -- What the links and the database of a router offer at a moment: candidates, and rows of its table.
-use Rattle.std.specs.Prelude.{◌≡◌, ℕ, List, map}
+use Rattle.std.specs.Prelude.{◌≡◌, List, map}
 use Rattle.words.specs.Numbers.{Moment, RouterNumber}
 use Rattle.words.specs.declared.route.Route.{Route}
 use Rattle.words.specs.declared.route.TableRow.{TableRow}
@@ -27,13 +27,19 @@ abbrev pub IsTableOf : RouterNumber → Area → Moment → Answers → List Rou
 IsTableOf router area moment answers table =
     IsTable (said_at moment area.database) (root_by router area.links) answers table
 
--- its candidates, and beside them the rows of its table
-pub record AreOffered (router : RouterNumber) (area : Area) (moment : Moment) (answers : Answers)
+-- candidates, and beside them the rows of the table
+pub record AreOfferedBy (said : Said) (root : Root) (answers : Answers)
     (candidates : List Route) (rows : List TableRow) : Type 0 where
-  pub are_candidates : AreCandidatesOf router area moment candidates
+  pub are_candidates : AreCandidates said root candidates
   pub table : List Route
-  pub is_table : IsTableOf router area moment answers table
+  pub is_table : IsTable said root answers table
   pub are_rows : rows ≡ rows_of table
+
+-- its candidates, and beside them the rows of its table
+abbrev pub AreOffered : RouterNumber → Area → Moment → Answers → List Route → List TableRow
+    → Type 0
+AreOffered router area moment answers candidates rows =
+    AreOfferedBy (said_at moment area.database) (root_by router area.links) answers candidates rows
 
 -- some candidate stands in none of the answers
 abbrev pub IsStaleOf : RouterNumber → Area → Moment → Answers → Type 0

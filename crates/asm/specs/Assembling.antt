@@ -1,5 +1,8 @@
 -- What the lines of a text say, one after the other, and which of them is the first bad one.
-use Rattle.std.specs.Prelude.{◌⊎◌, ◌≡◌, ℕ, ◌+◌, ◌≤◌, ◌^◌, Bool, true, false, ◌||◌, ◌&&◌, List, [], ◌∷◌, ◌++◌, length, replicate, Option, Some, None, is_some, is_none, Result, Ok, Err, IsOk, if◌then◌else◌, nat_le, nat_lt, ◌==◌, slice_set, slice_index_or}
+use Rattle.std.specs.Prelude.{◌⊎◌, ◌≡◌, ℕ, ◌+◌, ◌≤◌, ◌^◌, Bool, true, false, ◌||◌, ◌&&◌, List, []}
+use Rattle.std.specs.Prelude.{◌∷◌, ◌++◌, length, replicate, Option, Some, None, is_some, is_none}
+use Rattle.std.specs.Prelude.{Result, Ok, Err, IsOk, if◌then◌else◌, nat_le, nat_lt, ◌==◌, slice_set}
+use Rattle.std.specs.Prelude.{slice_index_or}
 use Rattle.std.specs.Str.{bytes_eq}
 use Rattle.isa.specs.declared.hook.Hook.{Hook}
 use Rattle.isa.specs.declared.code.Slot.{Slot}
@@ -37,11 +40,13 @@ abbrev pub slots_in : Option Line → ℕ
 slots_in (Some line) = slots_taken line
 slots_in None = 0
 
--- where the label of this name is given first, from the line `at` on, before which there are so many slots
+-- where the label of this name is given first, from the line `at` on, before which there are so
+-- many slots
 abbrev pub place_from : ℕ → ℕ → List (Option Line) → List Word → Word → Option Place
 place_from at slot [] names word = None
 place_from at slot (line ∷ rest) [] word = None
-place_from at slot (line ∷ rest) (name ∷ names) word = if gives_label line && bytes_eq name word then Some (record { line = at; slot = slot })
+place_from at slot (line ∷ rest) (name ∷ names) word = if gives_label line && bytes_eq name word
+    then Some (record { line = at; slot = slot })
     else place_from (at + 1) (slot + slots_in line) rest names word
 
 abbrev pub slot_at : Option Place → Option ℕ
@@ -68,20 +73,23 @@ abbrev pub with_rank : Sketch → ℕ → Result Sketch AsmFault
 with_rank s rank = Ok (record s { rank = Some rank })
 
 abbrev pub rank_step : Sketch → Numeral → Result Sketch AsmFault
-rank_step s n = if is_none s.hook || is_some s.rank then Err faults.Syntax else (ranged (natural_in (2 ^ 32) n) >>= with_rank s)
+rank_step s n = if is_none s.hook || is_some s.rank then Err faults.Syntax
+    else (ranged (natural_in (2 ^ 32) n) >>= with_rank s)
 
 abbrev pub with_code : Sketch → List Slot → Result Sketch AsmFault
 with_code s code = Ok (record s { code = code })
 
 -- Instructions come before all statements.
 abbrev pub instruction_step : Sketch → Line → Option ℕ → Result Sketch AsmFault
-instruction_step s line place = if is_some s.last then Err faults.Syntax else (code_step s.code line place >>= with_code s)
+instruction_step s line place = if is_some s.last then Err faults.Syntax
+    else (code_step s.code line place >>= with_code s)
 
 -- ---- statements
 
 -- with no register and no byte stated yet
 abbrev pub bare : ℕ → Rank → StatementParts
-bare slot rank = record { slot = slot; rank = rank; kinds = replicate 10 kinds.Empty; stack = no_bytes }
+bare slot rank =
+    record { slot = slot; rank = rank; kinds = replicate 10 kinds.Empty; stack = no_bytes }
 
 abbrev pub has_slot : List StatementParts → ℕ → Bool
 has_slot [] slot = false
@@ -95,7 +103,8 @@ all_of before None = before
 -- `Twice` where an earlier statement has the slot, else `Range` where the last one's isn't below it
 abbrev pub order_fault : List StatementParts → Option StatementParts → ℕ → Option AsmFault
 order_fault before None slot = None
-order_fault before (Some last) slot = if (slot == last.slot) || has_slot before slot then Some faults.Twice
+order_fault before (Some last) slot = if (slot == last.slot) || has_slot before slot
+    then Some faults.Twice
     else (if nat_lt slot last.slot then Some faults.Range else None)
 
 -- the last statement behind those before it, and another in its place
@@ -107,11 +116,14 @@ opened s slot rank (Some fault) = Err fault
 opened s slot rank None = Ok (shifted s (Some (bare slot rank)))
 
 abbrev pub state_at : Sketch → Option Rank → ℕ → Result Sketch AsmFault
-state_at s rank slot = if nat_le (length s.code) slot then Err faults.Range else (ranged rank >>= λ r. opened s slot r (order_fault s.before s.last slot))
+state_at s rank slot = if nat_le (length s.code) slot then Err faults.Range
+    else (ranged rank >>= λ r. opened s slot r (order_fault s.before s.last slot))
 
 -- These lines follow the `state` line.
-abbrev pub state_step : Sketch → Target → Numeral → Terms → Option ℕ → List (Option Line) → Result Sketch AsmFault
-state_step s slot constant found place rest = slot_of slot place >>= state_at s (rank_of constant found rest)
+abbrev pub state_step : Sketch → Target → Numeral → Terms → Option ℕ → List (Option Line)
+    → Result Sketch AsmFault
+state_step s slot constant found place rest = slot_of slot place
+    >>= state_at s (rank_of constant found rest)
 
 abbrev pub is_empty : Kind → Bool
 is_empty kinds.Empty = true
@@ -120,7 +132,8 @@ is_empty other = false
 -- the last statement with this register stated
 abbrev pub kind_step : StatementParts → ℕ → Kind → Result StatementParts AsmFault
 kind_step p register kind = if nat_lt 9 register then Err faults.Range
-    else (if is_empty (slice_index_or p.kinds register kinds.Empty) then Ok (record p { kinds = slice_set p.kinds register kind }) else Err faults.Twice)
+    else (if is_empty (slice_index_or p.kinds register kinds.Empty)
+    then Ok (record p { kinds = slice_set p.kinds register kind }) else Err faults.Twice)
 
 abbrev pub with_step : StatementParts → ℕ → Content → Result StatementParts AsmFault
 with_step p register content = ranged (kind_of content) >>= kind_step p register
@@ -166,19 +179,23 @@ abbrev pub bytes_line_step : Sketch → Numeral → Numeral → Result Sketch As
 bytes_line_step s start end = last_of s >>= λ p. bytes_step p start end >>= with_last s
 
 -- behind the first two
-abbrev pub body_step : Sketch → Line → ℕ → Option Place → List (Option Line) → Result Sketch AsmFault
+abbrev pub body_step : Sketch → Line → ℕ → Option Place → List (Option Line)
+    → Result Sketch AsmFault
 body_step s lines.Label at place rest = label_step s at place
-body_step s (lines.State slot constant found) at place rest = state_step s slot constant found (slot_at place) rest
+body_step s (lines.State slot constant found) at place rest =
+    state_step s slot constant found (slot_at place) rest
 body_step s (lines.With register content) at place rest = with_line_step s register content
 body_step s (lines.Bytes start end) at place rest = bytes_line_step s start end
 body_step s other at place rest = instruction_step s other (slot_at place)
 
 -- The line `at`, which these lines follow: `hook` is the first one, `rank` the second.
-abbrev pub line_step : Sketch → Line → ℕ → Option Place → List (Option Line) → Result Sketch AsmFault
+abbrev pub line_step : Sketch → Line → ℕ → Option Place → List (Option Line)
+    → Result Sketch AsmFault
 line_step s lines.Empty at place rest = Ok s
 line_step s (lines.Hook hook) at place rest = hook_step s hook
 line_step s (lines.Rank rank) at place rest = rank_step s rank
-line_step s other at place rest = if is_none s.rank then Err faults.Syntax else body_step s other at place rest
+line_step s other at place rest = if is_none s.rank then Err faults.Syntax
+    else body_step s other at place rest
 
 -- ---- all lines
 
@@ -195,7 +212,8 @@ abbrev pub taken : (Word → Option Place) → ℕ → List (Option Line) → Li
 taken places at [] names s = Ok s
 taken places at (line ∷ rest) [] s = Ok s
 taken places at (None ∷ rest) (name ∷ names) s = Err (at + 1, faults.Syntax)
-taken places at (Some line ∷ rest) (name ∷ names) s = blamed at (line_step s line at (places name) rest) (taken places (at + 1) rest names)
+taken places at (Some line ∷ rest) (name ∷ names) s =
+    blamed at (line_step s line at (places name) rest) (taken places (at + 1) rest names)
 
 -- the whole text, whose lines say these things with these names beside them
 abbrev pub taken_all : List (Option Line) → List Word → Verdict
@@ -211,7 +229,8 @@ pub record IsMade (s : Sketch) (o : ObjectParts) : Type 0 where
 
 -- None is made of them where there is no instruction, or where there is and memory runs out.
 abbrev pub Declines : Sketch → AsmFault → Type 0
-Declines s fault = ((fault ≡ faults.Memory) × (1 ≤ length s.code)) ⊎ ((fault ≡ faults.Syntax) × (s.code ≡ []))
+Declines s fault = ((fault ≡ faults.Memory) × (1 ≤ length s.code))
+    ⊎ ((fault ≡ faults.Syntax) × (s.code ≡ []))
 
 -- No object has these statements.
 abbrev pub AreUnlawful : List StatementParts → Type 0
@@ -220,7 +239,8 @@ AreUnlawful statements = (least slots : ℕ) → AreStatements least slots state
 -- ---- texts
 
 -- The lines of the text say these things, with these names beside them.
-pub record Says (text : List ℕ) (found : List (Option Line)) (names : List (Bor Word)) : Type 0 where
+pub record Says (text : List ℕ) (found : List (Option Line))
+    (names : List (Bor Word)) : Type 0 where
   pub same : length found ≡ length names
   pub read : Readings (lines_in text) (items found names)
 
@@ -233,9 +253,12 @@ pub record TextSpells (text : List ℕ) (o : ObjectParts) : Type 0 where
   pub taken : taken_all found (views names) ≡ Ok made
   pub is_made : IsMade made o
 
--- The first bad line, and what is wrong with it. Where no line is bad and none is an instruction, that is `Syntax` at line 1.
+-- The first bad line, and what is wrong with it. Where no line is bad and none is an instruction,
+-- that is `Syntax` at line 1.
 abbrev pub Blames : Verdict → ℕ → AsmFault → Type 0
-Blames verdict line fault = (verdict ≡ Err (line, fault)) ⊎ ((line ≡ 1) × (fault ≡ faults.Syntax) × ((made : Sketch) × (verdict ≡ Ok made) × (made.code ≡ [])))
+Blames verdict line fault = (verdict ≡ Err (line, fault))
+    ⊎ ((line ≡ 1) × (fault ≡ faults.Syntax)
+    × ((made : Sketch) × (verdict ≡ Ok made) × (made.code ≡ [])))
 
 pub record Refuses (text : List ℕ) (line : ℕ) (fault : AsmFault) : Type 0 where
   pub found : List (Option Line)

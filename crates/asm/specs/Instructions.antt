@@ -1,5 +1,6 @@
 -- The instruction of a line, and which refusal comes where it has none.
-use Rattle.std.specs.Prelude.{List, ◌++◌, length, ℕ, ◌+◌, ◌-◌, ◌^◌, ℤ, Option, Some, None, Result, Ok, Err, if◌then◌else◌, nat_lt}
+use Rattle.std.specs.Prelude.{List, ◌++◌, length, ℕ, ◌+◌, ◌-◌, ◌^◌, ℤ, Option, Some, None, Result}
+use Rattle.std.specs.Prelude.{Ok, Err, if◌then◌else◌, nat_lt}
 use Rattle.isa.specs.declared.code.Slot.{Slot}
 use Rattle.isa.specs.Code.{slots_of}
 use Rattle.isa.specs.declared.instruction.Instruction.{Instruction}
@@ -40,7 +41,8 @@ source_of (operands.Number n) = immediate_of (signed_in (2 ^ 31) n)
 -- from the slot behind the jump to the label's
 abbrev pub distance_to : ℕ → ℕ → Numeral
 distance_to slot place = if nat_lt slot place then numerals.Natural (place - slot - 1)
-    else (if nat_lt (slot - place) (2 ^ 32) then numerals.Negative (slot - place) else numerals.Huge)
+    else (if nat_lt (slot - place) (2 ^ 32) then numerals.Negative (slot - place)
+    else numerals.Huge)
 
 abbrev pub label_distance : ℕ → Option ℕ → Result Numeral AsmFault
 label_distance slot (Some place) = Ok (distance_to slot place)
@@ -51,22 +53,37 @@ abbrev pub distance_of : Target → ℕ → Option ℕ → Result Numeral AsmFau
 distance_of (targets.Number n) slot place = Ok n
 distance_of targets.Label slot place = label_distance slot place
 
--- Where a label is missing, that comes before a number that is out of its range. A line that has no instruction is `Syntax`.
+-- Where a label is missing, that comes before a number that is out of its range. A line that has no
+-- instruction is `Syntax`.
 abbrev pub instruction_of : Line → ℕ → Option ℕ → Result Instruction AsmFault
-instruction_of (lines.Arithmetic width operation target source) slot place = ranged (source_of source) >>= λ s. Ok (instructions.Arithmetic width operation target s)
+instruction_of (lines.Arithmetic width operation target source) slot place =
+    ranged (source_of source) >>= λ s. Ok (instructions.Arithmetic width operation target s)
 instruction_of (lines.Negate width target) slot place = Ok (instructions.Negate width target)
-instruction_of (lines.SignExtend extension target source) slot place = Ok (instructions.SignExtend extension target source)
-instruction_of (lines.Reorder order width target) slot place = Ok (instructions.Reorder order width target)
-instruction_of (lines.Jump target) slot place = distance_of target slot place >>= λ d. ranged (signed_in (2 ^ 15) d) >>= λ distance. Ok (instructions.Jump distance)
-instruction_of (lines.LongJump target) slot place = distance_of target slot place >>= λ d. ranged (signed_in (2 ^ 31) d) >>= λ distance. Ok (instructions.LongJump distance)
-instruction_of (lines.Branch width test left right target) slot place = distance_of target slot place >>= λ d. ranged (signed_in (2 ^ 15) d) >>= λ distance. ranged (source_of right) >>= λ s.
+instruction_of (lines.SignExtend extension target source) slot place =
+    Ok (instructions.SignExtend extension target source)
+instruction_of (lines.Reorder order width target) slot place =
+    Ok (instructions.Reorder order width target)
+instruction_of (lines.Jump target) slot place = distance_of target slot place >>= λ d.
+    ranged (signed_in (2 ^ 15) d) >>= λ distance. Ok (instructions.Jump distance)
+instruction_of (lines.LongJump target) slot place = distance_of target slot place >>= λ d.
+    ranged (signed_in (2 ^ 31) d) >>= λ distance. Ok (instructions.LongJump distance)
+instruction_of (lines.Branch width test left right target) slot place =
+    distance_of target slot place >>= λ d. ranged (signed_in (2 ^ 15) d) >>= λ distance.
+    ranged (source_of right) >>= λ s.
     Ok (instructions.Branch width test left s distance)
-instruction_of (lines.Call helper) slot place = ranged (signed_in (2 ^ 31) helper) >>= λ n. Ok (instructions.Call n)
+instruction_of (lines.Call helper) slot place = ranged (signed_in (2 ^ 31) helper) >>= λ n.
+    Ok (instructions.Call n)
 instruction_of lines.Exit slot place = Ok instructions.Exit
-instruction_of (lines.Load size target base offset) slot place = ranged (signed_in (2 ^ 15) offset) >>= λ n. Ok (instructions.Load size target base n)
-instruction_of (lines.Store size base offset source) slot place = ranged (signed_in (2 ^ 15) offset) >>= λ n. ranged (source_of source) >>= λ s. Ok (instructions.Store size base n s)
-instruction_of (lines.LoadNumber target number) slot place = ranged (natural_in (2 ^ 64) number) >>= λ n. Ok (instructions.LoadNumber target n)
-instruction_of (lines.LoadMap target map offset) slot place = ranged (signed_in (2 ^ 31) map) >>= λ m. ranged (signed_in (2 ^ 31) offset) >>= λ n. Ok (instructions.LoadMap target m n)
+instruction_of (lines.Load size target base offset) slot place =
+    ranged (signed_in (2 ^ 15) offset) >>= λ n. Ok (instructions.Load size target base n)
+instruction_of (lines.Store size base offset source) slot place =
+    ranged (signed_in (2 ^ 15) offset) >>= λ n. ranged (source_of source) >>= λ s.
+    Ok (instructions.Store size base n s)
+instruction_of (lines.LoadNumber target number) slot place =
+    ranged (natural_in (2 ^ 64) number) >>= λ n. Ok (instructions.LoadNumber target n)
+instruction_of (lines.LoadMap target map offset) slot place =
+    ranged (signed_in (2 ^ 31) map) >>= λ m. ranged (signed_in (2 ^ 31) offset) >>= λ n.
+    Ok (instructions.LoadMap target m n)
 instruction_of other slot place = Err faults.Syntax
 
 -- the slots that a line's instruction takes
@@ -88,7 +105,8 @@ slots_taken other = 0
 
 -- the code with an instruction behind it, if there is room for its slots
 abbrev pub with_instruction : List Slot → Instruction → Result (List Slot) AsmFault
-with_instruction code i = if nat_lt 4096 (length code + length (slots_of i)) then Err faults.Range else Ok (code ++ slots_of i)
+with_instruction code i = if nat_lt 4096 (length code + length (slots_of i)) then Err faults.Range
+    else Ok (code ++ slots_of i)
 
 -- the code with the instruction of a line behind it
 abbrev pub code_step : List Slot → Line → Option ℕ → Result (List Slot) AsmFault

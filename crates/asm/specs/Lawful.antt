@@ -1,5 +1,6 @@
 -- What the lines so far keep, so that an object can be made of them once there is an instruction.
-use Rattle.std.specs.Prelude.{◌⊎◌, ◌≡◌, ℕ, ◌≤◌, ◌<◌, ◌^◌, true, List, [], length, Option, Some, None}
+use Rattle.std.specs.Prelude.{◌⊎◌, ◌≡◌, ℕ, ◌≤◌, ◌<◌, ◌^◌, true, List, [], length, Option, Some}
+use Rattle.std.specs.Prelude.{None}
 use Rattle.std.specs.List.{All}
 use Rattle.isa.specs.declared.hook.Hook.{Hook}
 use Rattle.isa.specs.declared.code.Slot.{Slot}
@@ -21,7 +22,8 @@ IsFront (Some hook) (Some rank) code = rank < 2 ^ 32
 -- A term's register is stated as a number, or a line of those that follow says so.
 abbrev pub IsTermSoon : List Kind → List (Option Line) → Option Term → Type 0
 IsTermSoon registers rest None = Unit {0}
-IsTermSoon registers rest (Some term) = IsNumberAt registers term.register ⊎ (is_stated_number rest term.register ≡ true)
+IsTermSoon registers rest (Some term) = IsNumberAt registers term.register
+    ⊎ (is_stated_number rest term.register ≡ true)
 
 -- a statement which these lines follow
 pub record IsOpen (rest : List (Option Line)) (s : StatementParts) : Type 0 where
@@ -33,9 +35,11 @@ pub record IsOpen (rest : List (Option Line)) (s : StatementParts) : Type 0 wher
   pub stack : IsStackBytes s.stack
 
 -- Slots ascend and are below the code's end, and the statements before the last one are whole.
-abbrev pub AreInOrder : ℕ → List (Option Line) → List StatementParts → Option StatementParts → Type 0
+abbrev pub AreInOrder : ℕ → List (Option Line) → List StatementParts → Option StatementParts
+    → Type 0
 AreInOrder slots rest before None = before ≡ []
-AreInOrder slots rest before (Some last) = AreStatements 0 last.slot before × (last.slot < slots) × IsOpen rest last
+AreInOrder slots rest before (Some last) = AreStatements 0 last.slot before × (last.slot < slots)
+    × IsOpen rest last
 
 pub record IsLawful (rest : List (Option Line)) (s : Sketch) : Type 0 where
   pub front : IsFront s.hook s.rank s.code

@@ -1,5 +1,6 @@
 -- What the lines of a listing say so far.
-use Rattle.std.specs.Prelude.{◌≡◌, ◌≤◌, ◌<◌, ℕ, Bool, true, false, List, [], ◌∷◌, ◌++◌, length, map, Option, Some, None}
+use Rattle.std.specs.Prelude.{◌≡◌, ◌≤◌, ◌<◌, ℕ, Bool, true, false, List, [], ◌∷◌, ◌++◌, length, map}
+use Rattle.std.specs.Prelude.{Option, Some, None}
 use Rattle.isa.specs.declared.hook.Hook.{Hook}
 use Rattle.isa.specs.declared.code.Slot.{Slot}
 use Rattle.object.specs.declared.kind.Kind.{Kind}
@@ -31,14 +32,17 @@ some_line line = Some line
 
 -- New is old with this line behind it.
 abbrev pub AddsLine : List ℕ → List ℕ → Line → Type 0
-AddsLine old new line = (items : List (Line × Word)) → AreLines old items → AreLines new (items ++ (line, []) ∷ [])
+AddsLine old new line = (items : List (Line × Word)) → AreLines old items
+    → AreLines new (items ++ (line, []) ∷ [])
 
 -- The text's lines say this much, if `Next` holds of the lines that follow.
 pub record Listed (text : List ℕ) (s : Sketch) (Next : List (Option Line) → Type 0) : Type 0 where
   pub lines : List Line
   pub are : AreLines text (map unnamed lines)
-  pub leads : (places : Word → Option Place) (rest : List (Option Line)) (names : List Word) → Next rest
-      → taken places 0 (map some_line lines ++ rest) (map no_name lines ++ names) nothing ≡ taken places (length lines) rest names s
+  pub leads : (places : Word → Option Place) (rest : List (Option Line)) (names : List Word)
+      → Next rest
+      → taken places 0 (map some_line lines ++ rest) (map no_name lines ++ names) nothing
+      ≡ taken places (length lines) rest names s
 
 abbrev pub Any : List (Option Line) → Type 0
 Any rest = Unit {0}
@@ -52,24 +56,29 @@ pub record Front : Type 0 where
   pub before : List StatementParts
 
 abbrev pub sketch_of : Front → Option StatementParts → Sketch
-sketch_of f last = record { hook = Some f.hook; rank = Some f.rank; code = f.code; before = f.before; last = last }
+sketch_of f last =
+    record { hook = Some f.hook; rank = Some f.rank; code = f.code; before = f.before; last = last }
 
 -- no statement yet
 abbrev pub coded : Hook → ℕ → List Slot → Sketch
-coded hook rank code = sketch_of (record { hook = hook; rank = rank; code = code; before = [] }) None
+coded hook rank code =
+    sketch_of (record { hook = hook; rank = rank; code = code; before = [] }) None
 
 -- The text says this much, and these statements.
-pub record ListedAll (text : List ℕ) (hook : Hook) (rank : ℕ) (code : List Slot) (statements : List StatementParts) : Type 0 where
+pub record ListedAll (text : List ℕ) (hook : Hook) (rank : ℕ) (code : List Slot)
+    (statements : List StatementParts) : Type 0 where
   pub before : List StatementParts
   pub last : Option StatementParts
   pub same : statements ≡ all_of before last
-  pub listed : Listed text (sketch_of (record { hook = hook; rank = rank; code = code; before = before }) last) Any
+  pub listed : Listed text
+      (sketch_of (record { hook = hook; rank = rank; code = code; before = before }) last) Any
 
 -- ---- statements
 
 -- From this register on, what is a number is said to be one by the lines that follow.
 abbrev pub AreStated : List Kind → ℕ → List (Option Line) → Type 0
-AreStated registers from rest = (register : ℕ) → from ≤ register → IsNumberAt registers register → is_stated_number rest register ≡ true
+AreStated registers from rest = (register : ℕ) → from ≤ register → IsNumberAt registers register
+    → is_stated_number rest register ≡ true
 
 -- A term's register is said to be a number by the lines that follow.
 abbrev pub is_stated : List (Option Line) → Option Term → Bool
@@ -87,13 +96,15 @@ gives_number other = false
 -- ---- what the lines of each part of a listing add to what the lines before them say
 
 abbrev pub AddsCode : List ℕ → List ℕ → List Slot → Type 0
-AddsCode old new code = (hook : Hook) (rank : ℕ) → Listed old (coded hook rank []) Any → Listed new (coded hook rank code) Any
+AddsCode old new code = (hook : Hook) (rank : ℕ) → Listed old (coded hook rank []) Any
+    → Listed new (coded hook rank code) Any
 
 abbrev pub filled : ℕ → Rank → List Kind → List Bool → StatementParts
 filled slot rank kinds stack = record { slot = slot; rank = rank; kinds = kinds; stack = stack }
 
 abbrev pub AddsKinds : List ℕ → List ℕ → List Kind → Type 0
-AddsKinds old new kinds = (f : Front) (slot : ℕ) (rank : Rank) → Listed old (sketch_of f (Some (bare slot rank))) (AreStated kinds 0)
+AddsKinds old new kinds = (f : Front) (slot : ℕ) (rank : Rank)
+    → Listed old (sketch_of f (Some (bare slot rank))) (AreStated kinds 0)
     → Listed new (sketch_of f (Some (filled slot rank kinds no_bytes))) Any
 
 abbrev pub AddsStack : List ℕ → List ℕ → List Bool → Type 0
@@ -103,7 +114,8 @@ AddsStack old new stack = (f : Front) (slot : ℕ) (rank : Rank) (kinds : List K
 
 -- behind the statements so far
 abbrev pub behind : Front → Option StatementParts → Front
-behind f last = record { hook = f.hook; rank = f.rank; code = f.code; before = all_of f.before last }
+behind f last =
+    record { hook = f.hook; rank = f.rank; code = f.code; before = all_of f.before last }
 
 abbrev pub AddsStatement : List ℕ → List ℕ → StatementParts → Type 0
 AddsStatement old new s = (f : Front) (last : Option StatementParts)
@@ -111,5 +123,6 @@ AddsStatement old new s = (f : Front) (last : Option StatementParts)
     → Listed old (sketch_of f last) Any → Listed new (sketch_of (behind f last) (Some s)) Any
 
 abbrev pub AddsStatements : List ℕ → List ℕ → List StatementParts → Type 0
-AddsStatements old new statements = (hook : Hook) (rank : ℕ) (code : List Slot) → AreStatements 0 (length code) statements
+AddsStatements old new statements = (hook : Hook) (rank : ℕ) (code : List Slot)
+    → AreStatements 0 (length code) statements
     → Listed old (coded hook rank code) Any → ListedAll new hook rank code statements

@@ -1,5 +1,6 @@
 -- What a listing is: its lines in their order, and the text of them.
-use Rattle.std.specs.Prelude.{◌≡◌, ℕ, ◌+◌, ◌==◌, Bool, true, false, List, [], ◌∷◌, ◌++◌, map, Option, Some, None, if◌then◌else◌}
+use Rattle.std.specs.Prelude.{◌≡◌, ℕ, ◌+◌, ◌==◌, Bool, true, false, List, [], ◌∷◌, ◌++◌, map}
+use Rattle.std.specs.Prelude.{Option, Some, None, if◌then◌else◌}
 use Rattle.std.specs.List.{flat_map}
 use Rattle.isa.specs.declared.map.Map.{Map}
 use Rattle.isa.specs.Maps.{map_number}
@@ -41,15 +42,18 @@ abbrev pub instruction_line : Instruction → Line
 instruction_line (instructions.Arithmetic width operation target source) =
     lines.Arithmetic width operation target (the_operand source)
 instruction_line (instructions.Negate width target) = lines.Negate width target
-instruction_line (instructions.SignExtend extension target source) = lines.SignExtend extension target source
+instruction_line (instructions.SignExtend extension target source) =
+    lines.SignExtend extension target source
 instruction_line (instructions.Reorder order width target) = lines.Reorder order width target
 instruction_line (instructions.Jump distance) = lines.Jump (targets.Number (numeral_of distance))
-instruction_line (instructions.LongJump distance) = lines.LongJump (targets.Number (numeral_of distance))
+instruction_line (instructions.LongJump distance) =
+    lines.LongJump (targets.Number (numeral_of distance))
 instruction_line (instructions.Branch width test left right distance) =
     lines.Branch width test left (the_operand right) (targets.Number (numeral_of distance))
 instruction_line (instructions.Call helper) = lines.Call (numeral_of helper)
 instruction_line instructions.Exit = lines.Exit
-instruction_line (instructions.Load size target base offset) = lines.Load size target base (numeral_of offset)
+instruction_line (instructions.Load size target base offset) =
+    lines.Load size target base (numeral_of offset)
 instruction_line (instructions.Store size base offset source) =
     lines.Store size base (numeral_of offset) (the_operand source)
 instruction_line (instructions.LoadNumber target n) = lines.LoadNumber target (Natural n)
@@ -76,14 +80,21 @@ the_terms first (Some second) = terms.Two (the_term first) (the_term (Some secon
 -- ---- what it says of registers
 
 abbrev pub the_range : Numbers → Range
-the_range n = record { low = Natural n.low; high = Natural n.high; mask = Natural n.mask; value = Natural n.value }
+the_range n =
+    record {
+      low = Natural n.low;
+      high = Natural n.high;
+      mask = Natural n.mask;
+      value = Natural n.value;
+    }
 
 abbrev pub the_content : Kind → Option Content
 the_content kinds.Empty = None
 the_content (kinds.Number numbers) = Some (contents.Number (the_range numbers))
 the_content (kinds.Context offset) = Some (contents.Context (Natural offset))
 the_content (kinds.Stack offset) = Some (contents.Stack (Natural offset))
-the_content (kinds.MapValue map offset) = Some (contents.Map (Natural (map_number map)) (the_range offset))
+the_content (kinds.MapValue map offset) =
+    Some (contents.Map (Natural (map_number map)) (the_range offset))
 
 -- An empty register has no line.
 abbrev pub with_line : ℕ → Option Content → List Line
@@ -93,7 +104,8 @@ with_line register None = []
 -- the registers from this one on, ascending
 abbrev pub with_lines : ℕ → List Kind → List Line
 with_lines register [] = []
-with_lines register (kind ∷ kinds) = with_line register (the_content kind) ++ with_lines (register + 1) kinds
+with_lines register (kind ∷ kinds) = with_line register (the_content kind)
+    ++ with_lines (register + 1) kinds
 
 -- ---- what it says of stack bytes
 
@@ -103,7 +115,8 @@ joined byte [] = (byte, byte + 1) ∷ []
 joined byte (range ∷ ranges) =
     if range.0 == byte + 1 then (byte, range.1) ∷ ranges else (byte, byte + 1) ∷ range ∷ ranges
 
--- The longest ranges of bytes in the set, from this byte on, ascending: the first byte of each, and the first behind it.
+-- The longest ranges of bytes in the set, from this byte on, ascending: the first byte of each, and
+-- the first behind it.
 abbrev pub longest_ranges : ℕ → List Bool → List (ℕ × ℕ)
 longest_ranges byte [] = []
 longest_ranges byte (true ∷ bytes) = joined byte (longest_ranges (byte + 1) bytes)
@@ -116,10 +129,12 @@ bytes_line range = lines.Bytes (Natural range.0) (Natural range.1)
 
 abbrev pub state_line : StatementParts → Line
 state_line s =
-    lines.State (targets.Number (Natural s.slot)) (Natural s.rank.constant) (the_terms s.rank.first s.rank.second)
+    lines.State (targets.Number (Natural s.slot)) (Natural s.rank.constant)
+    (the_terms s.rank.first s.rank.second)
 
 abbrev pub statement_lines : StatementParts → List Line
-statement_lines s = state_line s ∷ (with_lines 0 s.kinds ++ map bytes_line (longest_ranges 0 s.stack))
+statement_lines s = state_line s
+    ∷ (with_lines 0 s.kinds ++ map bytes_line (longest_ranges 0 s.stack))
 
 -- the listing of an object whose bytes of code spell these slots
 abbrev pub listing_lines : ObjectParts → List Slot → List Line

@@ -19,3 +19,9 @@ is_register (lines.Negate width target) = true
 is_register (lines.SignExtend extension target source) = true
 is_register (lines.Reorder order width target) = true
 is_register other = false
+
+-- a load from memory, or a store to it
+abbrev pub is_access : Line → Bool
+is_access (lines.Load size target base offset) = true
+is_access (lines.Store size base offset source) = true
+is_access other = false

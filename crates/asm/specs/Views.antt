@@ -9,4 +9,11 @@ abbrev pub parts_of : OpenStatement → StatementParts
 parts_of o = record { slot = o.slot; rank = o.rank; kinds = o.kinds; stack = o.stack }
 
 abbrev pub sketch : Draft → Sketch
-sketch d = record { hook = d.hook; rank = d.rank; code = d.code; before = map parts_of d.before.items; last = option_map parts_of d.open }
+sketch d =
+    record {
+      hook = d.hook;
+      rank = d.rank;
+      code = d.code;
+      before = map parts_of d.before.items;
+      last = option_map parts_of d.open;
+    }

@@ -1,5 +1,5 @@
 //! From a text to the object that it spells.
-ghost use Rattle.std.specs.Prelude.{◌≡◌, ◌⊎◌, ℕ, Option, Some, None, Ok, Err, List, [], IfSome, MatchResult, length, map, option_map};
+ghost use Rattle.std.specs.Prelude.{◌≡◌, ◌⊎◌, ℕ, Option, Some, None, Ok, Err, List, [], IfSome, IfErr, MatchResult, length, map, option_map};
 ghost use Rattle.asm_words.specs.Words.{Word};
 ghost use Rattle.asm.specs.Assembling.{hook_step, rank_step, instruction_step, state_step, with_line_step, bytes_line_step, body_step, line_step, has_slot, order_fault, slot_at, shifted, nothing, Takes, IsMade, Declines, TextSpells, Refuses};
 ghost use Rattle.asm.specs.Faults.{error_at, IsWantOfMemory};
@@ -285,9 +285,11 @@ fn at_line(line: usize, kind: AsmFault) -> AsmError
 /// The object that a text of assembly spells.
 ///
 /// The refusal names the first bad line. A text without a bad line and without an instruction is `Syntax` at line 1.
+/// Where memory ran out the line is 0.
 pub fn assemble(alloc: Global, text: &str) -> Result<Object, AsmError>
-    ensures { MatchResult result (TextSpells text.now)
+    ensures spells { MatchResult result (TextSpells text.now)
         (λ error. IsWantOfMemory error ⊎ Refuses text.now error.line error.kind) }
+    ensures memory { IfErr result (λ error. error.kind ≡ AsmFault.Memory → error.line ≡ 0) }
 {
     let mut lines = Vec::new(alloc);
     let mut names = Vec::new(alloc);

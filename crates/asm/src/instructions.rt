@@ -3,7 +3,7 @@ ghost use Rattle.std.specs.Prelude.{◌≡◌, ◌⊎◌, ℕ, Option, true, fal
 ghost use Rattle.asm.specs.Instructions.{ranged, source_of, distance_to, distance_of, instruction_of, code_step};
 ghost use Rattle.asm_lines.specs.Forms.{names_label};
 ghost use Rattle.asm.specs.declared.error.AsmFault.{AsmFault};
-ghost use Rattle.asm.specs.Shapes.{is_jump, is_register};
+ghost use Rattle.asm.specs.Shapes.{is_jump, is_register, is_access};
 ghost use Rattle.asm.specs.Assembling.{Takes};
 ghost use Rattle.asm.specs.Listing.{the_operand, instruction_line};
 
@@ -196,6 +196,22 @@ fn memory_instruction_of(
                 source,
             })
         }
+        other => wide_instruction_of(other, slot, place),
+    }
+}
+
+/// The instruction of a line that loads a number or an address in a map, which takes two slots.
+fn wide_instruction_of(
+    line: Line,
+    slot: usize,
+    place: Option<usize>,
+) -> Result<Instruction, AsmFault>
+    requires jump { is_jump line ≡ false }
+    requires register { is_register line ≡ false }
+    requires access { is_access line ≡ false }
+    ensures { result ≡ instruction_of line slot place }
+{
+    match line {
         Line::LoadNumber { target, number } => {
             let number = in_range(natural_64(number))?;
             Ok(Instruction::LoadNumber { target, number })
@@ -276,6 +292,18 @@ pub(crate) fn line_of(instruction: Instruction) -> Line
         },
         Instruction::Call { helper } => Line::Call(Numeral::from_signed(helper)),
         Instruction::Exit => Line::Exit,
+        other => data_line_of(other),
+    }
+}
+
+/// The line of an instruction that assigns to a register, loads or stores.
+fn data_line_of(instruction: Instruction) -> Line
+    requires { is_jump (instruction_line instruction) ≡ false }
+    ensures line { result ≡ instruction_line instruction }
+    ensures plain { names_label result ≡ false }
+    ensures again { (slot : ℕ) (place : Option ℕ) → instruction_of result slot place ≡ Ok instruction }
+{
+    match instruction {
         Instruction::Arithmetic {
             width,
             operation,
@@ -306,6 +334,20 @@ pub(crate) fn line_of(instruction: Instruction) -> Line
             width,
             target,
         },
+        other => memory_line_of(other),
+    }
+}
+
+/// The line of an instruction that loads or stores.
+fn memory_line_of(instruction: Instruction) -> Line
+    requires jump { is_jump (instruction_line instruction) ≡ false }
+    requires register { is_register (instruction_line instruction) ≡ false }
+    ensures line { result ≡ instruction_line instruction }
+    ensures plain { names_label result ≡ false }
+    ensures again { (slot : ℕ) (place : Option ℕ) → instruction_of result slot place ≡ Ok instruction }
+{
+    instruction.check_ranges();
+    match instruction {
         Instruction::Load {
             size,
             target,
@@ -328,6 +370,21 @@ pub(crate) fn line_of(instruction: Instruction) -> Line
             offset: Numeral::from_signed(i32::from(offset)),
             source: operand_of(source),
         },
+        other => wide_line_of(other),
+    }
+}
+
+/// The line of an instruction that loads a number or an address in a map, and takes two slots.
+fn wide_line_of(instruction: Instruction) -> Line
+    requires jump { is_jump (instruction_line instruction) ≡ false }
+    requires register { is_register (instruction_line instruction) ≡ false }
+    requires access { is_access (instruction_line instruction) ≡ false }
+    ensures line { result ≡ instruction_line instruction }
+    ensures plain { names_label result ≡ false }
+    ensures again { (slot : ℕ) (place : Option ℕ) → instruction_of result slot place ≡ Ok instruction }
+{
+    instruction.check_ranges();
+    match instruction {
         Instruction::LoadNumber { target, number } => Line::LoadNumber {
             target,
             number: Numeral::Natural(number),
@@ -341,5 +398,6 @@ pub(crate) fn line_of(instruction: Instruction) -> Line
             map: Numeral::from_signed(map),
             offset: Numeral::from_signed(offset),
         },
+        _ => unreachable!(),
     }
 }

@@ -241,11 +241,14 @@ fn told(fault: DecodeFault) -> ListError
 
 /// A text that spells the object: distances in place of labels, registers ascending, each longest range of stack bytes in one line.
 ///
-/// `Code` comes where the object's code doesn't decode.
+/// `Code` comes where the object's code doesn't decode, `Memory` only where it does.
 pub fn listing(alloc: Global, object: &Object) -> Result<String, ListError>
     ensures spells { IfOk result (λ text. TextSpells (string_bytes text) object.now) }
     ensures lines { IfOk result (λ text. IsListing (string_bytes text) object.now) }
-    ensures code { IfErr result (λ error. error ≡ ListError.Code → (code : List Slot) → Spells object.now.code code → ⊥) }
+    ensures code { IfErr result (λ error. error ≡ ListError.Code
+        → (code : List Slot) → Spells object.now.code code → ⊥) }
+    ensures memory { IfErr result (λ error. error ≡ ListError.Memory
+        → (code : List Slot) × Spells object.now.code code) }
 {
     match decode(alloc, object.code()) {
         Ok(code) => match write_object(alloc, object, &code) {

@@ -1,4 +1,5 @@
--- The grammar of lines: one table of forms. A form is a list of parts, each of which is one word of the line.
+-- The grammar of lines: one table of forms. A form is a list of parts, each of which is one word of
+-- the line.
 use Rattle.std.specs.Prelude.{◌≡◌, ℕ, Bool, true, false, ◌≤◌, List, [], ◌∷◌, ◌++◌, Some, codes}
 use Rattle.isa.specs.declared.instruction.Width.{Width}
 use Rattle.isa.specs.declared.instruction.Width.TheVariants.{Bits64}
@@ -17,7 +18,8 @@ use Rattle.asm_lines.specs.declared.line.Content.{Content}
 use Rattle.asm_lines.specs.declared.line.Content.TheVariants as contents
 use Rattle.asm_words.specs.Numbers.{number_of, distance_of}
 use Rattle.asm_words.specs.Names.{is_name}
-use Rattle.asm_words.specs.Words.{Word, hook_word, operation_word, test_word, load_word, store_word, reorder_word, register_word, extension_word, extension_width}
+use Rattle.asm_words.specs.Words.{Word, hook_word, operation_word, test_word, load_word, store_word}
+use Rattle.asm_words.specs.Words.{reorder_word, register_word, extension_word, extension_width}
 
 -- ---- a part of a form
 
@@ -90,21 +92,35 @@ form_of lines.Empty name = []
 form_of (lines.Hook hook) name = Exactly (codes "hook") ∷ Exactly (hook_word hook) ∷ []
 form_of (lines.Rank rank) name = Exactly (codes "rank") ∷ Number rank ∷ []
 form_of lines.Label name = Definition name ∷ []
-form_of (lines.Arithmetic width operation target source) name = the_register width target ∷ Exactly (operation_word operation) ∷ the_operand width source ∷ []
-form_of (lines.Negate width target) name = the_register width target ∷ Exactly (codes "=") ∷ Exactly (codes "neg") ∷ []
-form_of (lines.SignExtend extension target source) name = the_register (extension_width extension) target ∷ Exactly (codes "=") ∷ Exactly (extension_word extension) ∷ the_register (extension_width extension) source ∷ []
-form_of (lines.Reorder order width target) name = the_register Bits64 target ∷ Exactly (codes "=") ∷ Exactly (reorder_word (order, width)) ∷ []
+form_of (lines.Arithmetic width operation target source) name = the_register width target
+    ∷ Exactly (operation_word operation) ∷ the_operand width source ∷ []
+form_of (lines.Negate width target) name = the_register width target ∷ Exactly (codes "=")
+    ∷ Exactly (codes "neg") ∷ []
+form_of (lines.SignExtend extension target source) name =
+    the_register (extension_width extension) target ∷ Exactly (codes "=")
+    ∷ Exactly (extension_word extension) ∷ the_register (extension_width extension) source ∷ []
+form_of (lines.Reorder order width target) name = the_register Bits64 target ∷ Exactly (codes "=")
+    ∷ Exactly (reorder_word (order, width)) ∷ []
 form_of (lines.Jump target) name = Exactly (codes "goto") ∷ the_target target name ∷ []
 form_of (lines.LongJump target) name = Exactly (codes "gotol") ∷ the_target target name ∷ []
-form_of (lines.Branch width test left right target) name = Exactly (codes "if") ∷ the_register width left ∷ Exactly (test_word test) ∷ the_operand width right ∷ Exactly (codes "goto") ∷ the_target target name ∷ []
+form_of (lines.Branch width test left right target) name = Exactly (codes "if")
+    ∷ the_register width left ∷ Exactly (test_word test) ∷ the_operand width right
+    ∷ Exactly (codes "goto") ∷ the_target target name ∷ []
 form_of (lines.Call helper) name = Exactly (codes "call") ∷ Number helper ∷ []
 form_of lines.Exit name = Exactly (codes "exit") ∷ []
-form_of (lines.Load size target base offset) name = the_register Bits64 target ∷ Exactly (codes "=") ∷ Exactly (load_word size) ∷ the_register Bits64 base ∷ Number offset ∷ []
-form_of (lines.Store size base offset source) name = Exactly (store_word size) ∷ the_register Bits64 base ∷ Number offset ∷ Exactly (codes "=") ∷ the_operand Bits64 source ∷ []
-form_of (lines.LoadNumber target n) name = the_register Bits64 target ∷ Exactly (codes "=") ∷ Exactly (codes "wide") ∷ Number n ∷ []
-form_of (lines.LoadMap target map offset) name = the_register Bits64 target ∷ Exactly (codes "=") ∷ Exactly (codes "map") ∷ Number map ∷ Number offset ∷ []
-form_of (lines.State slot constant terms) name = Exactly (codes "state") ∷ the_slot slot name ∷ Exactly (codes "rank") ∷ Number constant ∷ the_terms terms
-form_of (lines.With register content) name = Exactly (codes "with") ∷ the_register Bits64 register ∷ the_content content
+form_of (lines.Load size target base offset) name = the_register Bits64 target ∷ Exactly (codes "=")
+    ∷ Exactly (load_word size) ∷ the_register Bits64 base ∷ Number offset ∷ []
+form_of (lines.Store size base offset source) name = Exactly (store_word size)
+    ∷ the_register Bits64 base ∷ Number offset ∷ Exactly (codes "=") ∷ the_operand Bits64 source
+    ∷ []
+form_of (lines.LoadNumber target n) name = the_register Bits64 target ∷ Exactly (codes "=")
+    ∷ Exactly (codes "wide") ∷ Number n ∷ []
+form_of (lines.LoadMap target map offset) name = the_register Bits64 target ∷ Exactly (codes "=")
+    ∷ Exactly (codes "map") ∷ Number map ∷ Number offset ∷ []
+form_of (lines.State slot constant terms) name = Exactly (codes "state") ∷ the_slot slot name
+    ∷ Exactly (codes "rank") ∷ Number constant ∷ the_terms terms
+form_of (lines.With register content) name = Exactly (codes "with") ∷ the_register Bits64 register
+    ∷ the_content content
 form_of (lines.Bytes start end) name = Exactly (codes "bytes") ∷ Number start ∷ Number end ∷ []
 
 -- Whether the line gives or uses a label. Where it does not, the name beside it is empty.

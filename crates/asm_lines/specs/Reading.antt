@@ -1,5 +1,6 @@
 -- Reading a line: what words spell, looked for by their number and their first word.
-use Rattle.std.specs.Prelude.{ℕ, Bool, List, [], ◌∷◌, Option, Some, None, if◌then◌else◌, codes, ◌==◌}
+use Rattle.std.specs.Prelude.{ℕ, Bool, List, [], ◌∷◌, Option, Some, None, if◌then◌else◌, codes}
+use Rattle.std.specs.Prelude.{◌==◌}
 use Rattle.std.specs.Str.{bytes_eq}
 use Rattle.isa.specs.declared.instruction.Width.{Width}
 use Rattle.isa.specs.declared.instruction.Width.TheVariants.{Bits32, Bits64}
@@ -17,7 +18,8 @@ use Rattle.asm_lines.specs.declared.line.Terms.TheVariants as terms
 use Rattle.asm_lines.specs.declared.line.Range.{Range}
 use Rattle.asm_lines.specs.declared.line.Content.TheVariants as contents
 use Rattle.asm_words.specs.Numbers.{number_of, distance_of}
-use Rattle.asm_words.specs.Words.{hook_of, operation_of, test_of, load_of, store_of, reorder_of, register_of, extension_of, if_wide, Word}
+use Rattle.asm_words.specs.Words.{hook_of, operation_of, test_of, load_of, store_of, reorder_of}
+use Rattle.asm_words.specs.Words.{register_of, extension_of, if_wide, Word}
 use Rattle.asm_words.specs.Names.{is_name}
 
 infixl 10 ◌>>=◌
@@ -50,7 +52,9 @@ abbrev pub register_at : Width → Word → Option ℕ
 register_at width word = register_of word >>= of_width width
 
 abbrev pub operand_at : Width → Word → Option Operand
-operand_at width word = or_else (register_at width word >>= λ register. Some (operands.Register register)) (number_of word >>= λ n. Some (operands.Number n))
+operand_at width word =
+    or_else (register_at width word >>= λ register. Some (operands.Register register))
+    (number_of word >>= λ n. Some (operands.Number n))
 
 abbrev pub name_at : Word → Option (Target × Word)
 name_at word = when (is_name word) (Some (targets.Label, word))
@@ -84,79 +88,115 @@ two a b = if at (codes "hook") a then (hook_of b >>= λ hook. Some (plain (lines
 -- what is assigned beside registers and numbers
 abbrev pub computed : Width → ℕ → Word → Option Line
 computed width target c = if at (codes "neg") c then Some (lines.Negate width target)
-    else (if_wide width c >>= λ word. reorder_of word >>= λ order. Some (lines.Reorder order.0 order.1 target))
+    else (if_wide width c >>= λ word. reorder_of word >>= λ order.
+    Some (lines.Reorder order.0 order.1 target))
 
 abbrev pub moved : Width → Operation → ℕ → Word → Option Line
 moved width operations.Move target c = computed width target c
 moved width other target c = None
 
 abbrev pub assignment : Width × ℕ → Word → Word → Option Line
-assignment register b c = operation_of b >>= λ operation. or_else (operand_at register.0 c >>= λ source. Some (lines.Arithmetic register.0 operation register.1 source)) (moved register.0 operation register.1 c)
+assignment register b c = operation_of b >>= λ operation.
+    or_else (operand_at register.0 c >>= λ source.
+    Some (lines.Arithmetic register.0 operation register.1 source))
+    (moved register.0 operation register.1 c)
 
 abbrev pub stack_range : Word → Word → Word → Option Line
-stack_range a b c = when (at (codes "bytes") a) (number_of b >>= λ start. number_of c >>= λ end. Some (lines.Bytes start end))
+stack_range a b c =
+    when (at (codes "bytes") a)
+    (number_of b >>= λ start. number_of c >>= λ end. Some (lines.Bytes start end))
 
 abbrev pub three : Word → Word → Word → Option (Line × Word)
-three a b c = or_else (register_of a >>= λ register. assignment register b c) (stack_range a b c) >>= λ line. Some (plain line)
+three a b c =
+    or_else (register_of a >>= λ register. assignment register b c) (stack_range a b c) >>= λ line.
+    Some (plain line)
 
 abbrev pub widened : Width × ℕ → Word → Word → Option Line
-widened register c d = if at (codes "wide") c then (if_wide register.0 d >>= λ word. number_of word >>= λ n. Some (lines.LoadNumber register.1 n))
-    else (extension_of register.0 c >>= λ extension. register_at register.0 d >>= λ source. Some (lines.SignExtend extension register.1 source))
+widened register c d = if at (codes "wide") c
+    then (if_wide register.0 d >>= λ word. number_of word >>= λ n.
+    Some (lines.LoadNumber register.1 n))
+    else (extension_of register.0 c >>= λ extension. register_at register.0 d >>= λ source.
+    Some (lines.SignExtend extension register.1 source))
 
 abbrev pub state_of : Word → Word → Word → Word → Terms → Option (Line × Word)
-state_of a b c d found = when (at (codes "state") a) (when (at (codes "rank") c) (slot_at b >>= λ slot. number_of d >>= λ constant. Some (lines.State slot.0 constant found, slot.1)))
+state_of a b c d found =
+    when (at (codes "state") a)
+    (when (at (codes "rank") c)
+    (slot_at b >>= λ slot. number_of d >>= λ constant.
+    Some (lines.State slot.0 constant found, slot.1)))
 
 abbrev pub offset_of : Word → Word → Word → Word → Option Line
-offset_of a b c d = when (at (codes "with") a) (register_at Bits64 b >>= λ register. number_of d >>= λ offset.
+offset_of a b c d =
+    when (at (codes "with") a) (register_at Bits64 b >>= λ register. number_of d >>= λ offset.
     if at (codes "context") c then Some (lines.With register (contents.Context offset))
     else (when (at (codes "stack") c) (Some (lines.With register (contents.Stack offset)))))
 
 abbrev pub four : Word → Word → Word → Word → Option (Line × Word)
-four a b c d = if at (codes "=") b then (register_of a >>= λ register. widened register c d >>= λ line. Some (plain line))
+four a b c d = if at (codes "=") b
+    then (register_of a >>= λ register. widened register c d >>= λ line. Some (plain line))
     else (if at (codes "state") a then state_of a b c d terms.None
     else (offset_of a b c d >>= λ line. Some (plain line)))
 
 abbrev pub loaded : ℕ → Word → Word → Word → Option Line
-loaded target c d e = if at (codes "map") c then (number_of d >>= λ map. number_of e >>= λ offset. Some (lines.LoadMap target map offset))
-    else (load_of c >>= λ size. register_at Bits64 d >>= λ base. number_of e >>= λ offset. Some (lines.Load size target base offset))
+loaded target c d e = if at (codes "map") c
+    then (number_of d >>= λ map. number_of e >>= λ offset. Some (lines.LoadMap target map offset))
+    else (load_of c >>= λ size. register_at Bits64 d >>= λ base. number_of e >>= λ offset.
+    Some (lines.Load size target base offset))
 
 abbrev pub stored : Word → Word → Word → Word → Option Line
-stored a b c e = store_of a >>= λ size. register_at Bits64 b >>= λ base. number_of c >>= λ offset. operand_at Bits64 e >>= λ source. Some (lines.Store size base offset source)
+stored a b c e = store_of a >>= λ size. register_at Bits64 b >>= λ base. number_of c >>= λ offset.
+    operand_at Bits64 e >>= λ source. Some (lines.Store size base offset source)
 
 abbrev pub five : Word → Word → Word → Word → Word → Option (Line × Word)
 five a b c d e = (if at (codes "=") b then (register_at Bits64 a >>= λ target. loaded target c d e)
     else (when (at (codes "=") d) (stored a b c e))) >>= λ line. Some (plain line)
 
 abbrev pub six : Word → Word → Word → Word → Word → Word → Option (Line × Word)
-six a b c d e f = when (at (codes "if") a) (when (at (codes "goto") e) (register_of b >>= λ left. test_of c >>= λ test. operand_at left.0 d >>= λ right.
+six a b c d e f =
+    when (at (codes "if") a)
+    (when (at (codes "goto") e)
+    (register_of b >>= λ left. test_of c >>= λ test. operand_at left.0 d >>= λ right.
     target_at f >>= λ target. Some (lines.Branch left.0 test left.1 right target.0, target.1)))
 
 abbrev pub range_of : Word → Word → Word → Word → Option Range
-range_of a b c d = number_of a >>= λ low. number_of b >>= λ high. number_of c >>= λ mask. number_of d >>= λ value.
+range_of a b c d = number_of a >>= λ low. number_of b >>= λ high. number_of c >>= λ mask.
+    number_of d >>= λ value.
     Some (record { low = low; high = high; mask = mask; value = value })
 
 abbrev pub term_of : Word → Word → Word → Option Term
-term_of a b c = when (at (codes "*") b) (register_at Bits64 a >>= λ register. number_of c >>= λ coefficient. Some (record { register = register; coefficient = coefficient }))
+term_of a b c =
+    when (at (codes "*") b)
+    (register_at Bits64 a >>= λ register. number_of c >>= λ coefficient.
+    Some (record { register = register; coefficient = coefficient }))
 
 abbrev pub numbers_of : Word → Word → Word → Word → Word → Word → Option Line
-numbers_of b c d e f g = when (at (codes "number") c) (register_at Bits64 b >>= λ register. range_of d e f g >>= λ range. Some (lines.With register (contents.Number range)))
+numbers_of b c d e f g =
+    when (at (codes "number") c)
+    (register_at Bits64 b >>= λ register. range_of d e f g >>= λ range.
+    Some (lines.With register (contents.Number range)))
 
 abbrev pub seven : Word → Word → Word → Word → Word → Word → Word → Option (Line × Word)
-seven a b c d e f g = if at (codes "with") a then (numbers_of b c d e f g >>= λ line. Some (plain line))
+seven a b c d e f g = if at (codes "with") a
+    then (numbers_of b c d e f g >>= λ line. Some (plain line))
     else (term_of e f g >>= λ term. state_of a b c d (terms.One term))
 
 -- a register that is a pointer into a map
 abbrev pub map_value_of : Word → Word → Word → Word → Word → Word → Word → Option Line
-map_value_of b c d e f g h = when (at (codes "map") c) (register_at Bits64 b >>= λ register. number_of d >>= λ map. range_of e f g h >>= λ offset.
+map_value_of b c d e f g h =
+    when (at (codes "map") c)
+    (register_at Bits64 b >>= λ register. number_of d >>= λ map. range_of e f g h >>= λ offset.
     Some (lines.With register (contents.Map map offset)))
 
 abbrev pub eight : Word → Word → Word → Word → Word → Word → Word → Word → Option (Line × Word)
-eight a b c d e f g h = when (at (codes "with") a) (map_value_of b c d e f g h >>= λ line. Some (plain line))
+eight a b c d e f g h =
+    when (at (codes "with") a) (map_value_of b c d e f g h >>= λ line. Some (plain line))
 
 abbrev pub terms_of : Word → Word → Word → Word → Word → Word → Option Terms
-terms_of e f g h i j = term_of e f g >>= λ first. term_of h i j >>= λ second. Some (terms.Two first second)
+terms_of e f g h i j = term_of e f g >>= λ first. term_of h i j >>= λ second.
+    Some (terms.Two first second)
 
-abbrev pub ten : Word → Word → Word → Word → Word → Word → Word → Word → Word → Word → Option (Line × Word)
+abbrev pub ten : Word → Word → Word → Word → Word → Word → Word → Word → Word → Word
+    → Option (Line × Word)
 ten a b c d e f g h i j = terms_of e f g h i j >>= λ found. state_of a b c d found
 
 -- what the words spell

@@ -1,5 +1,6 @@
 -- A text is lines, and a line is words.
-use Rattle.std.specs.Prelude.{◌≡◌, ℕ, Bool, List, [], ◌∷◌, ◌++◌, Option, Some, None, filter, length, not, ◌==◌}
+use Rattle.std.specs.Prelude.{◌≡◌, ℕ, Bool, List, [], ◌∷◌, ◌++◌, Option, Some, None, filter, length}
+use Rattle.std.specs.Prelude.{not, ◌==◌}
 use Rattle.std.specs.List.{slice_split}
 use Rattle.asm_lines.specs.Forms.{Spells}
 use Rattle.asm_words.specs.Words.{Word}
@@ -26,8 +27,11 @@ abbrev pub Readings : List (List ℕ) → List (Option (Line × Word)) → Type 
 Readings [] [] = Unit {0}
 Readings [] (reading ∷ readings) = ⊥
 Readings (line ∷ lines) [] = ⊥
-Readings (line ∷ lines) (reading ∷ readings) = Reads (words_in line) reading × Readings lines readings
+Readings (line ∷ lines) (reading ∷ readings) = Reads (words_in line) reading
+    × Readings lines readings
 
 -- new is old with what the words spell at its end
-abbrev pub AddsReading : List Word → List (Option (Line × Word)) → List (Option (Line × Word)) → Type 0
-AddsReading words old new = (reading : Option (Line × Word)) × Reads words reading × (new ≡ old ++ reading ∷ [])
+abbrev pub AddsReading : List Word → List (Option (Line × Word)) → List (Option (Line × Word))
+    → Type 0
+AddsReading words old new = (reading : Option (Line × Word)) × Reads words reading
+    × (new ≡ old ++ reading ∷ [])

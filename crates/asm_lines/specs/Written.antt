@@ -1,10 +1,12 @@
 -- What a line is written as: a word for each part of its form, between single spaces.
-use Rattle.std.specs.Prelude.{◌≡◌, ℕ, ◌+◌, List, [], ◌∷◌, ◌++◌, map, Option, Some, Bool, true, false, codes}
+use Rattle.std.specs.Prelude.{◌≡◌, ℕ, ◌+◌, List, [], ◌∷◌, ◌++◌, map, Option, Some, Bool, true}
+use Rattle.std.specs.Prelude.{false, codes}
 use Rattle.std.specs.Fmt.{decimal}
 use Rattle.asm_words.specs.declared.numeral.Numeral.{Numeral}
 use Rattle.asm_words.specs.declared.numeral.Numeral.TheVariants as numerals
 use Rattle.asm_lines.specs.declared.line.Line.{Line}
-use Rattle.asm_lines.specs.Forms.{Part, Exactly, Number, Distance, Name, Definition, Matches, form_of, names_label}
+use Rattle.asm_lines.specs.Forms.{Part, Exactly, Number, Distance, Name, Definition, Matches}
+use Rattle.asm_lines.specs.Forms.{form_of, names_label}
 use Rattle.asm_words.specs.Names.{is_name}
 use Rattle.asm_words.specs.Words.{Word, is_word}
 use Rattle.asm_lines.specs.Text.{lines_in, Readings}
@@ -43,7 +45,8 @@ line_text line name = spaced (form_of line name) ++ 10 ∷ []
 
 -- Where the line gives or uses a label, this is a label's name; else it is empty.
 abbrev pub IsNamed : Line → Word → Type 0
-IsNamed line name = (names_label line ≡ true → is_name name ≡ true) × (names_label line ≡ false → name ≡ [])
+IsNamed line name = (names_label line ≡ true → is_name name ≡ true)
+    × (names_label line ≡ false → name ≡ [])
 
 -- The part is written as one word, which matches it.
 pub record IsWritten (part : Part) : Type 0 where

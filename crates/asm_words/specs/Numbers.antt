@@ -1,5 +1,6 @@
 -- The numbers that words spell.
-use Rattle.std.specs.Prelude.{ℤ, pos, negsuc, ℕ, ◌^◌, ◌-◌, Bool, List, [], ◌∷◌, length, Option, Some, None, if◌then◌else◌, nat_lt, ◌==◌, ◌&&◌, not}
+use Rattle.std.specs.Prelude.{ℤ, pos, negsuc, ℕ, ◌^◌, ◌-◌, Bool, List, [], ◌∷◌, length, Option}
+use Rattle.std.specs.Prelude.{Some, None, if◌then◌else◌, nat_lt, ◌==◌, ◌&&◌, not}
 use Rattle.std.specs.Str.{all_ascii_digits}
 use Rattle.std.specs.Str.Parse.{digits_value}
 use Rattle.asm_words.specs.declared.numeral.Numeral.{Numeral}
@@ -17,7 +18,8 @@ abbrev pub natural_of : List ℕ → Option Numeral
 natural_of word = if is_numeral word then Some (held (digits_value 10 word)) else None
 
 abbrev pub negated : Numeral → Numeral
-negated (Natural n) = if n == 0 then Natural 0 else (if nat_lt (n - 1) (2 ^ 32) then Negative (n - 1) else Huge)
+negated (Natural n) = if n == 0 then Natural 0
+    else (if nat_lt (n - 1) (2 ^ 32) then Negative (n - 1) else Huge)
 negated other = other
 
 abbrev pub negated_some : Option Numeral → Option Numeral

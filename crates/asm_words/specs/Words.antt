@@ -1,5 +1,6 @@
 -- Words, and those that name one thing of several.
-use Rattle.std.specs.Prelude.{ℕ, Bool, false, not, ◌&&◌, List, [], ◌∷◌, Option, Some, None, if◌then◌else◌, codes, ◌==◌, ◌+◌}
+use Rattle.std.specs.Prelude.{ℕ, Bool, false, not, ◌&&◌, List, [], ◌∷◌, Option, Some, None}
+use Rattle.std.specs.Prelude.{if◌then◌else◌, codes, ◌==◌, ◌+◌}
 use Rattle.std.specs.List.{list_all}
 use Rattle.std.specs.Str.{bytes_eq}
 use Rattle.isa.specs.Hooks.{hook_name}
@@ -57,7 +58,14 @@ operation_word operations.Move = codes "="
 operation_word operations.ArithmeticShiftRight = codes "s>>="
 
 abbrev pub operation_of : List ℕ → Option Operation
-operation_of = first_match ((codes "+=", operations.Add) ∷ (codes "-=", operations.Subtract) ∷ (codes "*=", operations.Multiply) ∷ (codes "/=", operations.Divide) ∷ (codes "s/=", operations.SignedDivide) ∷ (codes "|=", operations.Or) ∷ (codes "&=", operations.And) ∷ (codes "<<=", operations.ShiftLeft) ∷ (codes ">>=", operations.ShiftRight) ∷ (codes "%=", operations.Modulo) ∷ (codes "s%=", operations.SignedModulo) ∷ (codes "^=", operations.Xor) ∷ (codes "=", operations.Move) ∷ (codes "s>>=", operations.ArithmeticShiftRight) ∷ [])
+operation_of =
+    first_match ((codes "+=", operations.Add) ∷ (codes "-=", operations.Subtract)
+    ∷ (codes "*=", operations.Multiply) ∷ (codes "/=", operations.Divide)
+    ∷ (codes "s/=", operations.SignedDivide) ∷ (codes "|=", operations.Or)
+    ∷ (codes "&=", operations.And) ∷ (codes "<<=", operations.ShiftLeft)
+    ∷ (codes ">>=", operations.ShiftRight) ∷ (codes "%=", operations.Modulo)
+    ∷ (codes "s%=", operations.SignedModulo) ∷ (codes "^=", operations.Xor)
+    ∷ (codes "=", operations.Move) ∷ (codes "s>>=", operations.ArithmeticShiftRight) ∷ [])
 
 -- what a conditional jump asks
 abbrev pub test_word : Test → List ℕ
@@ -74,7 +82,13 @@ test_word tests.SignedLess = codes "s<"
 test_word tests.SignedLessOrEqual = codes "s<="
 
 abbrev pub test_of : List ℕ → Option Test
-test_of = first_match ((codes "==", tests.Equal) ∷ (codes ">", tests.Greater) ∷ (codes ">=", tests.GreaterOrEqual) ∷ (codes "&", tests.AnyBitSet) ∷ (codes "!=", tests.NotEqual) ∷ (codes "s>", tests.SignedGreater) ∷ (codes "s>=", tests.SignedGreaterOrEqual) ∷ (codes "<", tests.Less) ∷ (codes "<=", tests.LessOrEqual) ∷ (codes "s<", tests.SignedLess) ∷ (codes "s<=", tests.SignedLessOrEqual) ∷ [])
+test_of =
+    first_match ((codes "==", tests.Equal) ∷ (codes ">", tests.Greater)
+    ∷ (codes ">=", tests.GreaterOrEqual) ∷ (codes "&", tests.AnyBitSet)
+    ∷ (codes "!=", tests.NotEqual) ∷ (codes "s>", tests.SignedGreater)
+    ∷ (codes "s>=", tests.SignedGreaterOrEqual) ∷ (codes "<", tests.Less)
+    ∷ (codes "<=", tests.LessOrEqual) ∷ (codes "s<", tests.SignedLess)
+    ∷ (codes "s<=", tests.SignedLessOrEqual) ∷ [])
 
 -- the names of the hooks
 abbrev pub hook_word : Hook → List ℕ
@@ -96,7 +110,11 @@ load_word loads.Signed16 = codes "*s16"
 load_word loads.Signed32 = codes "*s32"
 
 abbrev pub load_of : List ℕ → Option LoadSize
-load_of = first_match ((codes "*u8", loads.Unsigned8) ∷ (codes "*u16", loads.Unsigned16) ∷ (codes "*u32", loads.Unsigned32) ∷ (codes "*u64", loads.Unsigned64) ∷ (codes "*s8", loads.Signed8) ∷ (codes "*s16", loads.Signed16) ∷ (codes "*s32", loads.Signed32) ∷ [])
+load_of =
+    first_match ((codes "*u8", loads.Unsigned8) ∷ (codes "*u16", loads.Unsigned16)
+    ∷ (codes "*u32", loads.Unsigned32) ∷ (codes "*u64", loads.Unsigned64)
+    ∷ (codes "*s8", loads.Signed8) ∷ (codes "*s16", loads.Signed16)
+    ∷ (codes "*s32", loads.Signed32) ∷ [])
 
 -- what a store writes
 abbrev pub store_word : StoreSize → List ℕ
@@ -106,7 +124,9 @@ store_word stores.Bits32 = codes "*u32"
 store_word stores.Bits64 = codes "*u64"
 
 abbrev pub store_of : List ℕ → Option StoreSize
-store_of = first_match ((codes "*u8", stores.Bits8) ∷ (codes "*u16", stores.Bits16) ∷ (codes "*u32", stores.Bits32) ∷ (codes "*u64", stores.Bits64) ∷ [])
+store_of =
+    first_match ((codes "*u8", stores.Bits8) ∷ (codes "*u16", stores.Bits16)
+    ∷ (codes "*u32", stores.Bits32) ∷ (codes "*u64", stores.Bits64) ∷ [])
 
 -- what reorders bytes
 abbrev pub reorder_word : ByteOrder × SwapWidth → List ℕ
@@ -121,7 +141,14 @@ reorder_word (orders.Swap, swaps.Bits32) = codes "swap32"
 reorder_word (orders.Swap, swaps.Bits64) = codes "swap64"
 
 abbrev pub reorder_of : List ℕ → Option (ByteOrder × SwapWidth)
-reorder_of = first_match ((codes "le16", (orders.Little, swaps.Bits16)) ∷ (codes "le32", (orders.Little, swaps.Bits32)) ∷ (codes "le64", (orders.Little, swaps.Bits64)) ∷ (codes "be16", (orders.Big, swaps.Bits16)) ∷ (codes "be32", (orders.Big, swaps.Bits32)) ∷ (codes "be64", (orders.Big, swaps.Bits64)) ∷ (codes "swap16", (orders.Swap, swaps.Bits16)) ∷ (codes "swap32", (orders.Swap, swaps.Bits32)) ∷ (codes "swap64", (orders.Swap, swaps.Bits64)) ∷ [])
+reorder_of =
+    first_match ((codes "le16", (orders.Little, swaps.Bits16))
+    ∷ (codes "le32", (orders.Little, swaps.Bits32))
+    ∷ (codes "le64", (orders.Little, swaps.Bits64)) ∷ (codes "be16", (orders.Big, swaps.Bits16))
+    ∷ (codes "be32", (orders.Big, swaps.Bits32)) ∷ (codes "be64", (orders.Big, swaps.Bits64))
+    ∷ (codes "swap16", (orders.Swap, swaps.Bits16))
+    ∷ (codes "swap32", (orders.Swap, swaps.Bits32))
+    ∷ (codes "swap64", (orders.Swap, swaps.Bits64)) ∷ [])
 
 -- `r` names all of a register's bits, `w` the low 32.
 abbrev pub register_letter : Width → ℕ
@@ -129,10 +156,18 @@ register_letter Bits64 = 114
 register_letter Bits32 = 119
 
 abbrev pub register_word : Width × ℕ → List ℕ
-register_word (width, register) = register_letter width ∷ (if register == 10 then codes "10" else (48 + register) ∷ [])
+register_word (width, register) = register_letter width
+    ∷ (if register == 10 then codes "10" else (48 + register) ∷ [])
 
 abbrev pub register_table : List (List ℕ × (Width × ℕ))
-register_table = (codes "r0", (Bits64, 0)) ∷ (codes "r1", (Bits64, 1)) ∷ (codes "r2", (Bits64, 2)) ∷ (codes "r3", (Bits64, 3)) ∷ (codes "r4", (Bits64, 4)) ∷ (codes "r5", (Bits64, 5)) ∷ (codes "r6", (Bits64, 6)) ∷ (codes "r7", (Bits64, 7)) ∷ (codes "r8", (Bits64, 8)) ∷ (codes "r9", (Bits64, 9)) ∷ (codes "r10", (Bits64, 10)) ∷ (codes "w0", (Bits32, 0)) ∷ (codes "w1", (Bits32, 1)) ∷ (codes "w2", (Bits32, 2)) ∷ (codes "w3", (Bits32, 3)) ∷ (codes "w4", (Bits32, 4)) ∷ (codes "w5", (Bits32, 5)) ∷ (codes "w6", (Bits32, 6)) ∷ (codes "w7", (Bits32, 7)) ∷ (codes "w8", (Bits32, 8)) ∷ (codes "w9", (Bits32, 9)) ∷ (codes "w10", (Bits32, 10)) ∷ []
+register_table = (codes "r0", (Bits64, 0)) ∷ (codes "r1", (Bits64, 1)) ∷ (codes "r2", (Bits64, 2))
+    ∷ (codes "r3", (Bits64, 3)) ∷ (codes "r4", (Bits64, 4)) ∷ (codes "r5", (Bits64, 5))
+    ∷ (codes "r6", (Bits64, 6)) ∷ (codes "r7", (Bits64, 7)) ∷ (codes "r8", (Bits64, 8))
+    ∷ (codes "r9", (Bits64, 9)) ∷ (codes "r10", (Bits64, 10)) ∷ (codes "w0", (Bits32, 0))
+    ∷ (codes "w1", (Bits32, 1)) ∷ (codes "w2", (Bits32, 2)) ∷ (codes "w3", (Bits32, 3))
+    ∷ (codes "w4", (Bits32, 4)) ∷ (codes "w5", (Bits32, 5)) ∷ (codes "w6", (Bits32, 6))
+    ∷ (codes "w7", (Bits32, 7)) ∷ (codes "w8", (Bits32, 8)) ∷ (codes "w9", (Bits32, 9))
+    ∷ (codes "w10", (Bits32, 10)) ∷ []
 
 abbrev pub register_of : List ℕ → Option (Width × ℕ)
 register_of = first_match register_table

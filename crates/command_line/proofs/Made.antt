@@ -51,6 +51,21 @@ asm≢verify e = let bad : ◌≡◌ {A = ℕ} 118 97 = ap (λ (t : List ℕ). s
 pub list≢verify : codes "verify" ≡ codes "list" → ⊥
 list≢verify e = let bad : ◌≡◌ {A = ℕ} 118 108 = ap (λ (t : List ℕ). slice_index t 0) e in absurd (omega arith)
 
+pub raw≢route : codes "route" ≡ codes "raw" → ⊥
+raw≢route e = let bad : ◌≡◌ {A = ℕ} 111 97 = ap (λ (t : List ℕ). slice_index t 1) e in absurd (omega arith)
+
+pub run≢route : codes "route" ≡ codes "run" → ⊥
+run≢route e = let bad : ◌≡◌ {A = ℕ} 111 117 = ap (λ (t : List ℕ). slice_index t 1) e in absurd (omega arith)
+
+pub asm≢route : codes "route" ≡ codes "asm" → ⊥
+asm≢route e = let bad : ◌≡◌ {A = ℕ} 114 97 = ap (λ (t : List ℕ). slice_index t 0) e in absurd (omega arith)
+
+pub list≢route : codes "route" ≡ codes "list" → ⊥
+list≢route e = let bad : ◌≡◌ {A = ℕ} 114 108 = ap (λ (t : List ℕ). slice_index t 0) e in absurd (omega arith)
+
+pub verify≢route : codes "route" ≡ codes "verify" → ⊥
+verify≢route e = let bad : ◌≡◌ {A = ℕ} 114 118 = ap (λ (t : List ℕ). slice_index t 0) e in absurd (omega arith)
+
 pub no_raw : (rows : List Row)
     → ((hook : Hook) (file : Text) (seats : ℕ) → HasWord rows (codes "HOOK") (hook_name hook) → HasWord rows (codes "FILE") file → HasSeats rows seats → ⊥)
     → MadeBy (codes "raw") rows None
@@ -59,6 +74,7 @@ no_raw rows none (requests.Run object context packet) named has = absurd (raw≢
 no_raw rows none (requests.Asm source object) named has = absurd (raw≢asm named)
 no_raw rows none (requests.List object) named has = absurd (raw≢list named)
 no_raw rows none (requests.Verify object) named has = absurd (raw≢verify named)
+no_raw rows none (requests.Route config) named has = absurd (raw≢route named)
 
 pub no_run : (rows : List Row)
     → ((object context packet : Text) (zeros bytes : List ℕ) → HasWord rows (codes "OBJECT") object → HasWord rows (codes "CONTEXT") context
@@ -70,6 +86,7 @@ no_run rows none (requests.Run object context packet) named has =
 no_run rows none (requests.Asm source object) named has = absurd (run≢asm named)
 no_run rows none (requests.List object) named has = absurd (run≢list named)
 no_run rows none (requests.Verify object) named has = absurd (run≢verify named)
+no_run rows none (requests.Route config) named has = absurd (run≢route named)
 
 pub no_asm : (rows : List Row)
     → ((source object : Text) → HasWord rows (codes "SOURCE") source → HasWord rows (codes "OBJECT") object → ⊥)
@@ -79,6 +96,7 @@ no_asm rows none (requests.Run object context packet) named has = absurd (run≢
 no_asm rows none (requests.Asm source object) named has = none source.now object.now has.0 has.1
 no_asm rows none (requests.List object) named has = absurd (asm≢list named)
 no_asm rows none (requests.Verify object) named has = absurd (asm≢verify named)
+no_asm rows none (requests.Route config) named has = absurd (asm≢route named)
 
 pub no_list : (rows : List Row) → ((object : Text) → HasWord rows (codes "OBJECT") object → ⊥) → MadeBy (codes "list") rows None
 no_list rows none (requests.Raw hook file seats) named has = absurd (raw≢list (sym named))
@@ -86,6 +104,7 @@ no_list rows none (requests.Run object context packet) named has = absurd (run�
 no_list rows none (requests.Asm source object) named has = absurd (asm≢list (sym named))
 no_list rows none (requests.List object) named has = none object.now has
 no_list rows none (requests.Verify object) named has = absurd (list≢verify named)
+no_list rows none (requests.Route config) named has = absurd (list≢route named)
 
 pub no_verify : (rows : List Row) → ((object : Text) → HasWord rows (codes "OBJECT") object → ⊥) → MadeBy (codes "verify") rows None
 no_verify rows none (requests.Raw hook file seats) named has = absurd (raw≢verify (sym named))
@@ -93,15 +112,25 @@ no_verify rows none (requests.Run object context packet) named has = absurd (run
 no_verify rows none (requests.Asm source object) named has = absurd (asm≢verify (sym named))
 no_verify rows none (requests.List object) named has = absurd (list≢verify (sym named))
 no_verify rows none (requests.Verify object) named has = none object.now has
+no_verify rows none (requests.Route config) named has = absurd (verify≢route named)
+
+pub no_route : (rows : List Row) → ((config : Text) → HasWord rows (codes "CONFIG") config → ⊥) → MadeBy (codes "route") rows None
+no_route rows none (requests.Raw hook file seats) named has = absurd (raw≢route (sym named))
+no_route rows none (requests.Run object context packet) named has = absurd (run≢route (sym named))
+no_route rows none (requests.Asm source object) named has = absurd (asm≢route (sym named))
+no_route rows none (requests.List object) named has = absurd (list≢route (sym named))
+no_route rows none (requests.Verify object) named has = absurd (verify≢route (sym named))
+no_route rows none (requests.Route config) named has = none config.now has
 
 -- a command of another name makes nothing
 pub no_other : (rows : List Row) (name : Text) → name ≢ codes "raw" → name ≢ codes "run" → name ≢ codes "asm" → name ≢ codes "list" → name ≢ codes "verify"
-    → MadeBy name rows None
-no_other rows name raw run asm list verify (requests.Raw hook file seats) named has = raw (sym named)
-no_other rows name raw run asm list verify (requests.Run object context packet) named has = run (sym named)
-no_other rows name raw run asm list verify (requests.Asm source object) named has = asm (sym named)
-no_other rows name raw run asm list verify (requests.List object) named has = list (sym named)
-no_other rows name raw run asm list verify (requests.Verify object) named has = verify (sym named)
+    → name ≢ codes "route" → MadeBy name rows None
+no_other rows name raw run asm list verify route (requests.Raw hook file seats) named has = raw (sym named)
+no_other rows name raw run asm list verify route (requests.Run object context packet) named has = run (sym named)
+no_other rows name raw run asm list verify route (requests.Asm source object) named has = asm (sym named)
+no_other rows name raw run asm list verify route (requests.List object) named has = list (sym named)
+no_other rows name raw run asm list verify route (requests.Verify object) named has = verify (sym named)
+no_other rows name raw run asm list verify route (requests.Route config) named has = route (sym named)
 
 -- what the command makes that was named
 pub named_makes : (name : Text) (rows : List Row) (request : Request) → MadeBy name rows (Some request) → Makes (Some (name, rows)) request

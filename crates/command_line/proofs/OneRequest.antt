@@ -6,7 +6,7 @@ use Rattle.clap.specs.Kinds.{IsAmong, Kinds}
 use Rattle.clap.specs.Values.{kind_of}
 use Rattle.clap.specs.Walk.{Row, Text}
 use Rattle.clap.specs.declared.error.kind.ErrorKind.{ErrorKind}
-use Rattle.command_line.proofs.Made.{asm≢list, asm≢verify, list≢verify, raw≢asm, raw≢list, raw≢run, raw≢verify, run≢asm, run≢list, run≢verify, some_is}
+use Rattle.command_line.proofs.Made.{asm≢list, asm≢verify, list≢verify, raw≢asm, raw≢list, raw≢run, raw≢verify, run≢asm, run≢list, run≢verify, some_is, asm≢route, list≢route, raw≢route, run≢route, verify≢route}
 use Rattle.command_line.specs.Laws.{MistakenWordsAskForNothing, SameRequest, WordsMakeOneRequest}
 use Rattle.command_line.specs.Requests.{HasSeats, HasWordsOf, command_of}
 use Rattle.command_line.specs.Words.{IsContext, IsPacket, hook_name}
@@ -86,6 +86,7 @@ same_words rows (requests.Run object context packet) (requests.Run object_2 cont
 same_words rows (requests.Asm source object) (requests.Asm source_2 object_2) e x y = (one_word x.0 y.0, one_word x.1 y.1)
 same_words rows (requests.List object) (requests.List object_2) e x y = one_word x y
 same_words rows (requests.Verify object) (requests.Verify object_2) e x y = one_word x y
+same_words rows (requests.Route config) (requests.Route config_2) e x y = one_word x y
 same_words rows (requests.Raw _ _ _) (requests.Run _ _ _) e x y = raw≢run (sym e)
 same_words rows (requests.Raw _ _ _) (requests.Asm _ _) e x y = raw≢asm (sym e)
 same_words rows (requests.Raw _ _ _) (requests.List _) e x y = raw≢list (sym e)
@@ -106,6 +107,16 @@ same_words rows (requests.Verify _) (requests.Raw _ _ _) e x y = raw≢verify e
 same_words rows (requests.Verify _) (requests.Run _ _ _) e x y = run≢verify e
 same_words rows (requests.Verify _) (requests.Asm _ _) e x y = asm≢verify e
 same_words rows (requests.Verify _) (requests.List _) e x y = list≢verify e
+same_words rows (requests.Raw _ _ _) (requests.Route _) e x y = raw≢route (sym e)
+same_words rows (requests.Run _ _ _) (requests.Route _) e x y = run≢route (sym e)
+same_words rows (requests.Asm _ _) (requests.Route _) e x y = asm≢route (sym e)
+same_words rows (requests.List _) (requests.Route _) e x y = list≢route (sym e)
+same_words rows (requests.Verify _) (requests.Route _) e x y = verify≢route (sym e)
+same_words rows (requests.Route _) (requests.Raw _ _ _) e x y = raw≢route e
+same_words rows (requests.Route _) (requests.Run _ _ _) e x y = run≢route e
+same_words rows (requests.Route _) (requests.Asm _ _) e x y = asm≢route e
+same_words rows (requests.Route _) (requests.List _) e x y = list≢route e
+same_words rows (requests.Route _) (requests.Verify _) e x y = verify≢route e
 
 pub one_request : WordsMakeOneRequest
 one_request line words request other own asks asks_2 =

@@ -13,7 +13,7 @@ use Rattle.command_line.proofs.Places.{rows_same}
 use Rattle.command_line.proofs.PlacesFaults.{by_rules, level_same}
 use Rattle.command_line.proofs.PlacesRaw.{SameParser, rules_by, same_faults}
 use Rattle.command_line.proofs.PlainRaw.{line_by}
-use Rattle.command_line.specs.CommandLine.{asm, command, hook_names, list, run, verify}
+use Rattle.command_line.specs.CommandLine.{asm, command, hook_names, list, route, run, verify}
 use Rattle.command_line.specs.Laws.{WhereTheNamesLieChangesNothing}
 
 -- the command line, by the parser of the hook
@@ -29,7 +29,7 @@ raw_by p = by_rules (built_leaf (command (codes "raw") [])) (rules_by p)
 
 -- the commands after it
 abbrev others : List Shape
-others = built_leaf run ∷ built_leaf asm ∷ built_leaf list ∷ built_leaf verify ∷ built_leaf help_shape ∷ []
+others = built_leaf run ∷ built_leaf asm ∷ built_leaf list ∷ built_leaf verify ∷ built_leaf route ∷ built_leaf help_shape ∷ []
 
 entered_same : (p q : ValueParser) → SameParser p q → (stop : Option (Text × List Text)) → entered (app_of p) stop ≡ entered (app_of q) stop
 entered_same p q same None = refl

@@ -9,7 +9,7 @@ use Rattle.clap.specs.Lexer.{long_of, short_of}
 use Rattle.clap.specs.Simple.{App, subcommand_of}
 use Rattle.clap.specs.Walk.{Row, Text}
 use Rattle.command_line.specs.CommandLine.{IsCommandLine, line_with}
-use Rattle.command_line.specs.Laws.{IsPlain, ListIsTaken, AsmIsTaken, RunIsTaken, VerifyIsTaken}
+use Rattle.command_line.specs.Laws.{IsPlain, ListIsTaken, AsmIsTaken, RouteIsTaken, RunIsTaken, VerifyIsTaken}
 use Rattle.command_line.specs.Requests.{Asks, HasWord}
 use Rattle.command_line.specs.declared.requests.Request.{Request}
 use Rattle.command_line.specs.declared.requests.Request.TheVariants as requests
@@ -90,6 +90,29 @@ verify line program object own plain = at_line (verify_words program object.now)
     let taken = verify_taken hooks program object.now object_plain in
     let word = verify_object hooks program object.now object_plain in
     (taken.no_fault, (rows_of_words hooks (verify_words program object.now), taken.named, word))) line own
+
+abbrev route_words : Text → Text → List Text
+route_words program config = program ∷ codes "route" ∷ config ∷ []
+
+route_taken : (hooks : Bor (List (Bor Text))) (program config : Text) → NoFlag config
+    → Taken hooks (codes "route") (route_words program config)
+unfolding clap_on_literals
+route_taken hooks program config plain = record {
+  no_fault = rw (plain.not_end, plain.not_long, plain.not_short) refl;
+  named = rw (plain.not_end, plain.not_long, plain.not_short) refl;
+}
+
+route_config : (hooks : Bor (List (Bor Text))) (program config : Text) → NoFlag config
+    → HasWord (rows_of_words hooks (route_words program config)) (codes "CONFIG") config
+unfolding clap_on_literals
+route_config hooks program config plain = rw (plain.not_end, plain.not_long, plain.not_short) refl
+
+pub route : RouteIsTaken
+route line program config own plain = at_line (route_words program config.now) (requests.Route config) (λ hooks.
+    let config_plain = no_flag config.now plain in
+    let taken = route_taken hooks program config.now config_plain in
+    let word = route_config hooks program config.now config_plain in
+    (taken.no_fault, (rows_of_words hooks (route_words program config.now), taken.named, word))) line own
 
 abbrev asm_words : Text → Text → Text → List Text
 asm_words program source object = program ∷ codes "asm" ∷ source ∷ object ∷ []

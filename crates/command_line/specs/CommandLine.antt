@@ -19,17 +19,21 @@ command name rules = record (new_shape name) { rules = rules }
 
 -- the names of the hooks, wherever they lie
 abbrev pub hook_names : ℕ × ℕ → ℕ × ℕ → ℕ × ℕ → ℕ × ℕ → List (Bor Text)
-hook_names a b c d = record { ref_ptr = a; now = codes "count" } ∷ record { ref_ptr = b; now = codes "tag" }
+hook_names a b c d =
+    record { ref_ptr = a; now = codes "count" } ∷ record { ref_ptr = b; now = codes "tag" }
     ∷ record { ref_ptr = c; now = codes "price" } ∷ record { ref_ptr = d; now = codes "veto" } ∷ []
 
 -- raw HOOK FILE SEATS
 abbrev pub raw : Bor (List (Bor Text)) → Shape
 raw hooks = command (codes "raw")
-    (checked (codes "HOOK") (parsers.Names hooks) ∷ required (codes "FILE") ∷ checked (codes "SEATS") (parsers.Signed (pos 1) (pos 64)) ∷ [])
+    (checked (codes "HOOK") (parsers.Names hooks) ∷ required (codes "FILE")
+    ∷ checked (codes "SEATS") (parsers.Signed (pos 1) (pos 64)) ∷ [])
 
 -- run OBJECT CONTEXT PACKET
 abbrev pub run : Shape
-run = command (codes "run") (required (codes "OBJECT") ∷ required (codes "CONTEXT") ∷ required (codes "PACKET") ∷ [])
+run =
+    command (codes "run")
+    (required (codes "OBJECT") ∷ required (codes "CONTEXT") ∷ required (codes "PACKET") ∷ [])
 
 -- asm SOURCE OBJECT
 abbrev pub asm : Shape
@@ -43,13 +47,21 @@ list = command (codes "list") (required (codes "OBJECT") ∷ [])
 abbrev pub verify : Shape
 verify = command (codes "verify") (required (codes "OBJECT") ∷ [])
 
+-- route CONFIG
+abbrev pub route : Shape
+route = command (codes "route") (required (codes "CONFIG") ∷ [])
+
 -- One of these commands has to be named, and without any word the answer is help.
 abbrev pub line_with : Bor (List (Bor Text)) → App
 line_with hooks = record {
-  top = record (new_shape (codes "routerd")) { is_leaf = false; subcommand_required = true; arg_required_else_help = true };
-  subs = raw hooks ∷ run ∷ asm ∷ list ∷ verify ∷ [];
+  top =
+      record (new_shape (codes "routerd"))
+      { is_leaf = false; subcommand_required = true; arg_required_else_help = true };
+  subs = raw hooks ∷ run ∷ asm ∷ list ∷ verify ∷ route ∷ [];
 }
 
 -- the command line, wherever the names of the hooks lie
 abbrev pub IsCommandLine : App → Type 0
-IsCommandLine line = (hooks : Bor (List (Bor Text))) × (a b c d : ℕ × ℕ) × (hooks.now ≡ hook_names a b c d) × (line ≡ line_with hooks)
+IsCommandLine line =
+    (hooks : Bor (List (Bor Text))) × (a b c d : ℕ × ℕ) × (hooks.now ≡ hook_names a b c d)
+    × (line ≡ line_with hooks)

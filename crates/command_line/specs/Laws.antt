@@ -19,13 +19,16 @@ SameRequest (requests.Raw hook file seats) (requests.Raw hook_2 file_2 seats_2) 
     (hook ≡ hook_2) × (file.now ≡ file_2.now) × (seats ≡ seats_2)
 SameRequest (requests.Run object context packet) (requests.Run object_2 context_2 packet_2) =
     (object.now ≡ object_2.now) × (context ≡ context_2) × (packet.items ≡ packet_2.items)
-SameRequest (requests.Asm source object) (requests.Asm source_2 object_2) = (source.now ≡ source_2.now) × (object.now ≡ object_2.now)
+SameRequest (requests.Asm source object) (requests.Asm source_2 object_2) =
+    (source.now ≡ source_2.now) × (object.now ≡ object_2.now)
 SameRequest (requests.List object) (requests.List object_2) = object.now ≡ object_2.now
 SameRequest (requests.Verify object) (requests.Verify object_2) = object.now ≡ object_2.now
+SameRequest (requests.Route config) (requests.Route config_2) = config.now ≡ config_2.now
 SameRequest _ _ = ⊥
 
 abbrev pub WordsMakeOneRequest : Type 0
-WordsMakeOneRequest = (line : App) (words : List Text) (request other : Request) → IsCommandLine line
+WordsMakeOneRequest = (line : App) (words : List Text) (request other : Request)
+    → IsCommandLine line
     → Asks line words request → Asks line words other → SameRequest request other
 
 abbrev pub MistakenWordsAskForNothing : Type 0
@@ -39,31 +42,49 @@ IsPlain (first ∷ rest) = (first ≢ 45) ⊎ (rest ≡ [])
 
 -- Whatever the program is called, and whatever the file: these words ask for this request.
 abbrev pub RawIsTaken : Type 0
-RawIsTaken = (line : App) (program seats_word : Text) (hook : Hook) (file : Bor Text) (seats : ℕ) → IsCommandLine line
+RawIsTaken = (line : App) (program seats_word : Text) (hook : Hook) (file : Bor Text) (seats : ℕ)
+    → IsCommandLine line
     → IsPlain file.now → IsSeats seats_word seats
-    → Asks line (program ∷ codes "raw" ∷ hook_name hook ∷ file.now ∷ seats_word ∷ []) (requests.Raw hook file seats)
+    → Asks line (program ∷ codes "raw" ∷ hook_name hook ∷ file.now ∷ seats_word ∷ [])
+    (requests.Raw hook file seats)
 
 abbrev pub RunIsTaken : Type 0
-RunIsTaken = (line : App) (program context_word packet_word : Text) (object : Bor Text) (context : List ℕ) (packet : Vec ℕ) → IsCommandLine line
-    → IsPlain object.now → IsPlain context_word → IsPlain packet_word → IsContext context_word context → IsPacket packet_word packet.items
-    → Asks line (program ∷ codes "run" ∷ object.now ∷ context_word ∷ packet_word ∷ []) (requests.Run object context packet)
+RunIsTaken =
+    (line : App) (program context_word packet_word : Text) (object : Bor Text) (context : List ℕ)
+    (packet : Vec ℕ) → IsCommandLine line
+    → IsPlain object.now → IsPlain context_word → IsPlain packet_word
+    → IsContext context_word context → IsPacket packet_word packet.items
+    → Asks line (program ∷ codes "run" ∷ object.now ∷ context_word ∷ packet_word ∷ [])
+    (requests.Run object context packet)
 
 abbrev pub AsmIsTaken : Type 0
-AsmIsTaken = (line : App) (program : Text) (source object : Bor Text) → IsCommandLine line → IsPlain source.now → IsPlain object.now
+AsmIsTaken = (line : App) (program : Text) (source object : Bor Text) → IsCommandLine line
+    → IsPlain source.now → IsPlain object.now
     → Asks line (program ∷ codes "asm" ∷ source.now ∷ object.now ∷ []) (requests.Asm source object)
 
 abbrev pub ListIsTaken : Type 0
-ListIsTaken = (line : App) (program : Text) (object : Bor Text) → IsCommandLine line → IsPlain object.now
+ListIsTaken = (line : App) (program : Text) (object : Bor Text) → IsCommandLine line
+    → IsPlain object.now
     → Asks line (program ∷ codes "list" ∷ object.now ∷ []) (requests.List object)
 
 abbrev pub VerifyIsTaken : Type 0
-VerifyIsTaken = (line : App) (program : Text) (object : Bor Text) → IsCommandLine line → IsPlain object.now
+VerifyIsTaken = (line : App) (program : Text) (object : Bor Text) → IsCommandLine line
+    → IsPlain object.now
     → Asks line (program ∷ codes "verify" ∷ object.now ∷ []) (requests.Verify object)
 
-abbrev pub PlainWordsAreTaken : Type 0
-PlainWordsAreTaken = RawIsTaken × RunIsTaken × AsmIsTaken × ListIsTaken × VerifyIsTaken
+abbrev pub RouteIsTaken : Type 0
+RouteIsTaken =
+    (line : App) (program : Text) (config : Bor Text) → IsCommandLine line → IsPlain config.now
+    → Asks line (program ∷ codes "route" ∷ config.now ∷ []) (requests.Route config)
 
--- What a line makes of its words, and what it finds wrong with them, is the same wherever the names of the hooks lie.
+abbrev pub PlainWordsAreTaken : Type 0
+PlainWordsAreTaken =
+    RawIsTaken × RunIsTaken × AsmIsTaken × ListIsTaken × VerifyIsTaken × RouteIsTaken
+
+-- What a line makes of its words, and what it finds wrong with them, is the same wherever the names
+-- of the hooks lie.
 abbrev pub WhereTheNamesLieChangesNothing : Type 0
-WhereTheNamesLieChangesNothing = (line other : App) (words : List Text) → IsCommandLine line → IsCommandLine other
-    → (fault_of line words ≡ fault_of other words) × (subcommand_of line words ≡ subcommand_of other words)
+WhereTheNamesLieChangesNothing = (line other : App) (words : List Text) → IsCommandLine line
+    → IsCommandLine other
+    → (fault_of line words ≡ fault_of other words)
+    × (subcommand_of line words ≡ subcommand_of other words)

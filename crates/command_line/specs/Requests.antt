@@ -19,6 +19,7 @@ command_of (requests.Run object context packet) = codes "run"
 command_of (requests.Asm source object) = codes "asm"
 command_of (requests.List object) = codes "list"
 command_of (requests.Verify object) = codes "verify"
+command_of (requests.Route config) = codes "route"
 
 -- the word under this name
 abbrev pub HasWord : List Row → Text → Text → Type 0
@@ -26,42 +27,51 @@ HasWord rows name word = first_of name rows ≡ Some word
 
 -- the number of seats, 1 to 64 in decimal digits, that a word gives
 abbrev pub IsSeats : Text → ℕ → Type 0
-IsSeats word seats = IsNumeral 10 (without_leading_plus word) × (seats ≡ digits_value 10 (without_leading_plus word)) × (1 ≤ seats) × (seats ≤ 64)
+IsSeats word seats = IsNumeral 10 (without_leading_plus word)
+    × (seats ≡ digits_value 10 (without_leading_plus word)) × (1 ≤ seats) × (seats ≤ 64)
 
 abbrev pub HasSeats : List Row → ℕ → Type 0
 HasSeats rows seats = (word : Text) × (one_of (codes "SEATS") rows ≡ Some word) × IsSeats word seats
 
 -- The words of the request's command are those of the request.
 abbrev pub HasWordsOf : List Row → Request → Type 0
-HasWordsOf rows (requests.Raw hook file seats) = HasWord rows (codes "HOOK") (hook_name hook) × HasWord rows (codes "FILE") file.now × HasSeats rows seats
+HasWordsOf rows (requests.Raw hook file seats) = HasWord rows (codes "HOOK") (hook_name hook)
+    × HasWord rows (codes "FILE") file.now × HasSeats rows seats
 HasWordsOf rows (requests.Run object context packet) = HasWord rows (codes "OBJECT") object.now
     × ((word : Text) × HasWord rows (codes "CONTEXT") word × IsContext word context)
     × ((word : Text) × HasWord rows (codes "PACKET") word × IsPacket word packet.items)
-HasWordsOf rows (requests.Asm source object) = HasWord rows (codes "SOURCE") source.now × HasWord rows (codes "OBJECT") object.now
+HasWordsOf rows (requests.Asm source object) = HasWord rows (codes "SOURCE") source.now
+    × HasWord rows (codes "OBJECT") object.now
 HasWordsOf rows (requests.List object) = HasWord rows (codes "OBJECT") object.now
 HasWordsOf rows (requests.Verify object) = HasWord rows (codes "OBJECT") object.now
+HasWordsOf rows (requests.Route config) = HasWord rows (codes "CONFIG") config.now
 
 -- what the command of this name makes of its words, if it makes a request of them
 abbrev pub MadeBy : Text → List Row → Option Request → Type 0
 MadeBy name rows (Some request) = (command_of request ≡ name) × HasWordsOf rows request
-MadeBy name rows None = (request : Request) → command_of request ≡ name → HasWordsOf rows request → ⊥
+MadeBy name rows None = (request : Request) → command_of request ≡ name → HasWordsOf rows request
+    → ⊥
 
 -- A word of this command is wrong, so that it makes no request; or memory was refused.
 abbrev pub IsWrong : Text → List Row → Error → Type 0
-IsWrong name rows error = (kind_of error ≡ kinds.OutOfMemory) ⊎ ((kind_of error ≡ kinds.InvalidValue) × MadeBy name rows None)
+IsWrong name rows error = (kind_of error ≡ kinds.OutOfMemory)
+    ⊎ ((kind_of error ≡ kinds.InvalidValue) × MadeBy name rows None)
 
 -- A command that was named, with its words, makes the request.
 abbrev pub Makes : Option (Text × List Row) → Request → Type 0
-Makes named request = (rows : List Row) × (named ≡ Some (command_of request, rows)) × HasWordsOf rows request
+Makes named request = (rows : List Row) × (named ≡ Some (command_of request, rows))
+    × HasWordsOf rows request
 
 abbrev pub MakesNone : Option (Text × List Row) → Type 0
 MakesNone named = (request : Request) → Makes named request → ⊥
 
--- The command line takes the words, and the command that they name makes the request of the words under its names.
+-- The command line takes the words, and the command that they name makes the request of the words
+-- under its names.
 abbrev pub Asks : App → List Text → Request → Type 0
 Asks line words request = (fault_of line words ≡ []) × Makes (subcommand_of line words) request
 
--- What is wrong with words that the command line takes: that no command is named, or a value where one is.
+-- What is wrong with words that the command line takes: that no command is named, or a value where
+-- one is.
 abbrev pub IsWrongKind : Option (Text × List Row) → Error → Type 0
 IsWrongKind None error = kind_of error ≡ kinds.MissingSubcommand
 IsWrongKind (Some named) error = kind_of error ≡ kinds.InvalidValue
@@ -69,7 +79,8 @@ IsWrongKind (Some named) error = kind_of error ≡ kinds.InvalidValue
 abbrev pub IsWrongWord : Option (Text × List Row) → Error → Type 0
 IsWrongWord named error = IsWrongKind named error × MakesNone named
 
--- The command line doesn't take the words, for a reason of this kind (help is one); or no request is made of them.
+-- The command line doesn't take the words, for a reason of this kind (help is one); or no request
+-- is made of them.
 abbrev pub IsMistake : App → List Text → Error → Type 0
 IsMistake line words error = IsAmong (kind_of error) (fault_of line words)
     ⊎ ((fault_of line words ≡ []) × IsWrongWord (subcommand_of line words) error)

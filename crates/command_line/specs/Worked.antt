@@ -24,22 +24,33 @@ abbrev pub NoWordsGetHelp : Type 0
 NoWordsGetHelp = Fails (codes "routerd" ∷ []) (kinds.DisplayHelpOnMissingArgumentOrSubcommand ∷ [])
 
 abbrev pub TooManySeatsFail : Type 0
-TooManySeatsFail = Fails (codes "routerd" ∷ codes "raw" ∷ codes "count" ∷ codes "adds.bin" ∷ codes "65" ∷ []) (kinds.ValueValidation ∷ [])
+TooManySeatsFail =
+    Fails (codes "routerd" ∷ codes "raw" ∷ codes "count" ∷ codes "adds.bin" ∷ codes "65" ∷ [])
+    (kinds.ValueValidation ∷ [])
 
 abbrev pub NoSeatsFail : Type 0
-NoSeatsFail = Fails (codes "routerd" ∷ codes "raw" ∷ codes "count" ∷ codes "adds.bin" ∷ codes "0" ∷ []) (kinds.ValueValidation ∷ [])
+NoSeatsFail =
+    Fails (codes "routerd" ∷ codes "raw" ∷ codes "count" ∷ codes "adds.bin" ∷ codes "0" ∷ [])
+    (kinds.ValueValidation ∷ [])
 
 abbrev pub UnknownHookFails : Type 0
-UnknownHookFails = Fails (codes "routerd" ∷ codes "raw" ∷ codes "input" ∷ codes "adds.bin" ∷ codes "2" ∷ []) (kinds.InvalidValue ∷ [])
+UnknownHookFails =
+    Fails (codes "routerd" ∷ codes "raw" ∷ codes "input" ∷ codes "adds.bin" ∷ codes "2" ∷ [])
+    (kinds.InvalidValue ∷ [])
 
 abbrev pub UnknownCommandFails : Type 0
-UnknownCommandFails = Fails (codes "routerd" ∷ codes "load" ∷ codes "a.o" ∷ []) (kinds.UnknownArgument ∷ kinds.InvalidSubcommand ∷ [])
+UnknownCommandFails =
+    Fails (codes "routerd" ∷ codes "load" ∷ codes "a.o" ∷ [])
+    (kinds.UnknownArgument ∷ kinds.InvalidSubcommand ∷ [])
 
 abbrev pub AWordIsMissing : Type 0
-AWordIsMissing = Fails (codes "routerd" ∷ codes "raw" ∷ codes "count" ∷ codes "adds.bin" ∷ []) (kinds.MissingRequiredArgument ∷ [])
+AWordIsMissing =
+    Fails (codes "routerd" ∷ codes "raw" ∷ codes "count" ∷ codes "adds.bin" ∷ [])
+    (kinds.MissingRequiredArgument ∷ [])
 
 abbrev pub AWordTooMany : Type 0
-AWordTooMany = Fails (codes "routerd" ∷ codes "list" ∷ codes "a" ∷ codes "b" ∷ []) (kinds.UnknownArgument ∷ [])
+AWordTooMany =
+    Fails (codes "routerd" ∷ codes "list" ∷ codes "a" ∷ codes "b" ∷ []) (kinds.UnknownArgument ∷ [])
 
 abbrev pub AFlagFails : Type 0
 AFlagFails = Fails (codes "routerd" ∷ codes "list" ∷ codes "-a" ∷ []) (kinds.UnknownArgument ∷ [])
@@ -50,13 +61,16 @@ HelpIsShown = Fails (codes "routerd" ∷ codes "--help" ∷ []) (kinds.DisplayHe
 -- `raw count adds.bin 2`
 abbrev pub RawAsks : Type 0
 RawAsks = (file : Bor Text) → file.now ≡ codes "adds.bin"
-    → AsksFor (codes "routerd" ∷ codes "raw" ∷ codes "count" ∷ codes "adds.bin" ∷ codes "2" ∷ []) (requests.Raw hooks.Count file 2)
+    → AsksFor (codes "routerd" ∷ codes "raw" ∷ codes "count" ∷ codes "adds.bin" ∷ codes "2" ∷ [])
+    (requests.Raw hooks.Count file 2)
 
 -- `run a.o - -` asks for a context of 64 zeros and no packet.
 abbrev pub RunAsks : Type 0
 RunAsks = (object : Bor Text) (packet : Vec ℕ) → object.now ≡ codes "a.o" → packet.items ≡ []
-    → AsksFor (codes "routerd" ∷ codes "run" ∷ codes "a.o" ∷ codes "-" ∷ codes "-" ∷ []) (requests.Run object (replicate 64 0) packet)
+    → AsksFor (codes "routerd" ∷ codes "run" ∷ codes "a.o" ∷ codes "-" ∷ codes "-" ∷ [])
+    (requests.Run object (replicate 64 0) packet)
 
 abbrev pub WorkedWords : Type 0
-WorkedWords = NoWordsGetHelp × TooManySeatsFail × NoSeatsFail × UnknownHookFails × UnknownCommandFails × AWordIsMissing × AWordTooMany × AFlagFails
+WorkedWords = NoWordsGetHelp × TooManySeatsFail × NoSeatsFail × UnknownHookFails
+    × UnknownCommandFails × AWordIsMissing × AWordTooMany × AFlagFails
     × HelpIsShown × RawAsks × RunAsks

@@ -15,7 +15,7 @@ use clap::error::ErrorKind;
 use clap::{Arg, Command, Error, value_parser};
 use std::alloc::{AllocError, Global};
 
-const ABOUT: &str = "Assembles, lists, verifies and runs the programs of a router.";
+const ABOUT: &str = "Runs a router, and assembles, lists, verifies and runs its programs.";
 
 const RAW: &str =
     "Runs bare code (slots of 8 bytes) once on each of SEATS threads, all on the same counters, and prints each answer and each counter above 0";
@@ -46,9 +46,15 @@ const VERIFY: &str =
 const VERIFY_RULES: &str =
     "Example: routerd verify sum.o\n\nPrints accepted bound N, with status 0: on no input is a run of the program stuck, and each ends within N instructions.\nOr prints refused slot S rule R, with status 1: the first slot that breaks a rule, and the number of the rule:\n\n   1 Target     a jump or a statement at a slot where no instruction begins\n   2 FallsOff   the last instruction is neither exit nor an unconditional jump\n   3 Unreached  no statement behind exit or an unconditional jump\n   4 Unstated   a jump to a slot without a statement\n   5 Empty      an empty register or stack byte may be read\n   6 Kind       a pointer may be used as a number, or a number as a pointer\n   7 Bounds     a load or store may lie outside of its region\n   8 Align      a load or store in a map may not be of eight bytes at a multiple of eight\n   9 Helper     this hook has no helper of this number\n  10 Argument   a helper's argument may be too large\n  11 NotWithin  what is known may lie outside of the statement that comes next\n  12 Rank       the rank may rise at a statement, or may not fall on a jump back\n  13 Budget     the entry rank plus 1, times the slots, is above 1,000,000\n  14 ExitKind   a pointer may be answered\n  15 Frame      r10 is written\n\nFor each rule docs/VERIFIER.md has the smallest program that breaks it, and how to mend it. docs/FORMATS.md has the format of object files and of statements.";
 
+const ROUTE: &str =
+    "Runs a router (OSPFv2, RFC 2328) by a configuration, with a console on the standard input and output, until quit or the end of input";
+
+const ROUTE_EXAMPLE: &str =
+    "Example: routerd route one.conf\n\nThe configuration:\n  router A.B.C.D\n  interface N A.B.C.D/L cost C hello H dead D rxmt R delay T port P peer Q\nwith a line for each interface, N = 1, 2, ..\n\nThe console: attach PATH, detach HOOK, add A.B.C.D/L METRIC TYPE TAG, withdraw A.B.C.D/L, table, neighbors, counters, quit.\n\ndocs/OPERATING.md has each line and each refusal.";
+
 // What is written behind the top help: a line for each command and what it prints, and the statuses.
 const WORKED: &str =
-    "Examples:\n  routerd raw count adds.bin 2  prints seat 1 answer 0 used 4, seat 2 answer 0 used 4, counter 5 6\n  routerd asm sum.s sum.o       prints ok 6\n  routerd list sum.o            prints hook price, rank 10, r1 = 10 and the other lines of the text\n  routerd verify sum.o          prints accepted bound 66\n  routerd run sum.o - -         prints answer 55 used 33\n\nStatuses: 0 done, 1 refused or stuck, 2 usage, 3 file or stream, 4 memory.";
+    "Examples:\n  routerd raw count adds.bin 2  prints seat 1 answer 0 used 4, seat 2 answer 0 used 4, counter 5 6\n  routerd asm sum.s sum.o       prints ok 6\n  routerd list sum.o            prints hook price, rank 10, r1 = 10 and the other lines of the text\n  routerd verify sum.o          prints accepted bound 66\n  routerd run sum.o - -         prints answer 55 used 33\n  routerd route one.conf        runs a router with a console\n\nStatuses: 0 done, 1 refused or stuck, 2 usage, 3 file, socket or stream, 4 memory.";
 
 static HOOKS: [&str; 4] = ["count", "tag", "price", "veto"];
 
@@ -137,6 +143,17 @@ fn verify<'a>(alloc: Global) -> Result<Command<'a>, AllocError>
         .arg(object)
 }
 
+fn route<'a>(alloc: Global) -> Result<Command<'a>, AllocError>
+    ensures app { IfOk result (λ c. shape_of c ≡ line.route) }
+    ensures local { IfOk result (λ c. (fields_of c).has_globals ≡ false) }
+{
+    let config = required(alloc, "CONFIG", "The file that holds the configuration");
+    Command::new(alloc, "route")
+        .about(ROUTE)
+        .after_help(ROUTE_EXAMPLE)
+        .arg(config)
+}
+
 /// The whole command line.
 pub(crate) fn whole<'a>(alloc: Global) -> Result<Command<'a>, AllocError>
     ensures { IfOk result (λ c. IsCommandLine (app_of c)) }
@@ -150,7 +167,8 @@ pub(crate) fn whole<'a>(alloc: Global) -> Result<Command<'a>, AllocError>
         .subcommand(run(alloc)?)?
         .subcommand(asm(alloc)?)?
         .subcommand(list(alloc)?)?
-        .subcommand(verify(alloc)?)
+        .subcommand(verify(alloc)?)?
+        .subcommand(route(alloc)?)
 }
 
 /// An error about the words of a command line.

@@ -46,6 +46,10 @@ pub enum Request<'a> {
     Verify {
         object: &'a str,
     },
+    /// Run a router by a configuration.
+    Route {
+        config: &'a str,
+    },
 }
 
 /// The context that a word stands for: zeros for `-`, else 64 bytes in hex. None where it is neither.
@@ -143,6 +147,13 @@ fn verify_request<'a>(matches: &ArgMatches<'a>) -> Option<Request<'a>>
     Some(Request::Verify { object })
 }
 
+fn route_request<'a>(matches: &ArgMatches<'a>) -> Option<Request<'a>>
+    ensures { MadeBy (codes "route") (rows_of (found_of matches.now)) result }
+{
+    let config = word_of(matches, "CONFIG")?;
+    Some(Request::Route { config })
+}
+
 // What a command makes of its words. None where it makes nothing of them, or there is no such command.
 fn made_by<'a>(
     alloc: Global,
@@ -158,6 +169,7 @@ fn made_by<'a>(
         "asm" => Ok(asm_request(matches)),
         "list" => Ok(list_request(matches)),
         "verify" => Ok(verify_request(matches)),
+        "route" => Ok(route_request(matches)),
         _ => Ok(None),
     }
 }

@@ -1,10 +1,13 @@
 //! Command lines with what they print, where, and their statuses. Files stand in a folder of the test's own.
 
 mod objects;
+mod routers;
 mod streams;
 mod verdicts;
 
+use commands::Routing;
 use commands::program::program;
+use std::io::{BufRead, Write};
 use std::process::Abort;
 use std::rt::{Env, Files};
 use std::test::Fail;
@@ -19,11 +22,24 @@ struct Outcome {
     usage: String,
 }
 
+// In the place of a router: prints the configuration.
+#[derive(Drop)]
+struct Echo {}
+
+impl Routing for Echo {
+    fn route<I: BufRead, O: Write>(&self, text: &str, _input: &mut I, output: &mut O) -> u8 {
+        match output.write_all(text.as_bytes()) {
+            Ok(()) => 0,
+            Err(_) => 3,
+        }
+    }
+}
+
 fn run<R: Files + AllocGlobal + Threads + Sync>(rt: &R, words: &[&str]) -> Result<Outcome, Fail> {
     let mut input: &[u8] = &[];
     let mut output = Vec::new(rt.alloc());
     let mut errors = Vec::new(rt.alloc());
-    let status = program(rt, words, &mut input, &mut output, &mut errors);
+    let status = program(rt, &Echo {}, words, &mut input, &mut output, &mut errors);
     let lines = String::from_utf8(output).map_err(|_| "the lines are no text")?;
     let usage = String::from_utf8(errors).map_err(|_| "the usage is no text")?;
     Ok(Outcome {
@@ -378,7 +394,7 @@ fn sixty_four_seats_print_in_seat_order(rt: HostRuntime) -> Result<(), Fail> {
 
 #[test]
 fn wrong_words_are_a_matter_of_usage(rt: HostRuntime) -> Result<(), Fail> {
-    let wrong: [&[&str]; 19] = [
+    let wrong: [&[&str]; 21] = [
         &["routerd"],
         &["routerd", "fly"],
         &["routerd", "raw"],
@@ -398,6 +414,8 @@ fn wrong_words_are_a_matter_of_usage(rt: HostRuntime) -> Result<(), Fail> {
         &["routerd", "run"],
         &["routerd", "run", "o", "-"],
         &["routerd", "run", "o", "-", "-", "-"],
+        &["routerd", "route"],
+        &["routerd", "route", "a", "b"],
     ];
     for words in wrong {
         let outcome = run(&rt, words)?;
@@ -415,18 +433,20 @@ fn help_names_each_command(rt: HostRuntime) -> Result<(), Fail> {
     assert!(rt; outcome.lines.as_str() == "");
     let help = outcome.usage.as_str();
     for part in [
-        "Assembles, lists, verifies and runs the programs of a router.",
+        "Runs a router, and assembles, lists, verifies and runs its programs.",
         "\n  raw     Runs bare code",
         "\n  run     Runs the program of an object file",
         "\n  asm     Assembles a text into an object file",
         "\n  list    Prints a text that assembles to the object file",
         "\n  verify  Verifies the program of an object file",
+        "\n  route   Runs a router (OSPFv2, RFC 2328) by a configuration",
         "\n  routerd raw count adds.bin 2  prints seat 1 answer 0 used 4, seat 2 answer 0 used 4, counter 5 6\n",
         "\n  routerd asm sum.s sum.o       prints ok 6\n",
         "\n  routerd list sum.o            prints hook price, rank 10, r1 = 10",
         "\n  routerd verify sum.o          prints accepted bound 66\n",
         "\n  routerd run sum.o - -         prints answer 55 used 33\n",
-        "\nStatuses: 0 done, 1 refused or stuck, 2 usage, 3 file or stream, 4 memory.",
+        "\n  routerd route one.conf        runs a router with a console\n",
+        "\nStatuses: 0 done, 1 refused or stuck, 2 usage, 3 file, socket or stream, 4 memory.",
     ] {
         assert!(rt; help.contains(part), "{help}");
     }

@@ -119,6 +119,18 @@ fn verify_takes_an_object(rt: HostRuntime) -> Result<(), Fail> {
 }
 
 #[test]
+fn route_takes_a_configuration(rt: HostRuntime) -> Result<(), Fail> {
+    let words = ["routerd", "route", "one.conf"];
+    match parse(rt.alloc(), &words)? {
+        Request::Route { config } => {
+            assert!(rt; config == "one.conf");
+        }
+        _ => assert!(rt; false),
+    }
+    Ok(())
+}
+
+#[test]
 fn seats_are_1_to_64(rt: HostRuntime) {
     for seats in ["0", "65", "256", "two", "2.5"] {
         assert!(rt;
@@ -154,6 +166,7 @@ fn each_word_has_to_be_there(rt: HostRuntime) {
     assert!(rt; kind(&rt, &["routerd", "asm", "a.s"]) == missing);
     assert!(rt; kind(&rt, &["routerd", "list"]) == missing);
     assert!(rt; kind(&rt, &["routerd", "verify"]) == missing);
+    assert!(rt; kind(&rt, &["routerd", "route"]) == missing);
 }
 
 #[test]
@@ -165,6 +178,7 @@ fn no_more_words_are_taken(rt: HostRuntime) {
     assert!(rt; kind(&rt, &["routerd", "list", "a.o", "b.o"]) == unknown);
     assert!(rt; kind(&rt, &["routerd", "list", "-a"]) == unknown);
     assert!(rt; kind(&rt, &["routerd", "verify", "a.o", "b.o"]) == unknown);
+    assert!(rt; kind(&rt, &["routerd", "route", "a.conf", "b.conf"]) == unknown);
 }
 
 #[test]

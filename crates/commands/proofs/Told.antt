@@ -5,9 +5,8 @@ use Rattle.clap.specs.Values.{kind_of}
 use Rattle.clap.specs.declared.error.Error.{Error}
 use Rattle.clap.specs.declared.error.kind.ErrorKind.{ErrorKind}
 use Rattle.clap.specs.declared.error.kind.ErrorKind.TheVariants as kinds
-use Rattle.command_line.specs.Requests.{Asks, IsMistake, IsRefusal}
-use Rattle.command_line.specs.declared.requests.Request.{Request}
-use Rattle.commands.specs.Endings.{IsFaultOf}
+use Rattle.command_line.specs.Requests.{IsRefusal}
+use Rattle.commands.specs.Endings.{IsFaultOfWords}
 use Rattle.commands.specs.Statuses.{fault_of_kind_of_words, fault_of_words}
 use Rattle.commands.specs.declared.fault.Fault.{Fault}
 use Rattle.commands.specs.declared.fault.Fault.TheVariants as faults
@@ -33,12 +32,11 @@ text_or_memory kinds.Format error = inr refl
 text_or_memory kinds.OutOfMemory error = inl refl
 
 pub told : (line : App) (words : List (List ℕ)) (error : Error) (fault : Fault) → IsRefusal line words error → fault ≡ fault_of_words error
-    → (fault ≡ faults.Memory) ⊎ ((e : Error) × IsMistake line words e × (fault ≡ faults.Usage e))
-    ⊎ ((request : Request) × Asks line words request × IsFaultOf request fault)
+    → IsFaultOfWords line words fault
 told line words error fault refusal is = elim refusal [
   | inl memory ↦ inl (is ∙ ap (λ (k : ErrorKind). fault_of_kind_of_words k error) memory)
   | inr mistake ↦ elim (text_or_memory (kind_of error) error) [
     | inl memory ↦ inl (is ∙ memory)
-    | inr usage ↦ inr (inl (error, mistake, is ∙ usage))
+    | inr usage ↦ inr (error, mistake, is ∙ usage)
   ]
 ]

@@ -53,4 +53,5 @@ pub record IsCodeRefused (bytes : List ℕ) (fault : Fault) : Type 0 where
 
 -- Memory was refused, or the bytes hold no program.
 abbrev pub IsObjectFault : List ℕ → Fault → Type 0
-IsObjectFault bytes fault = (fault ≡ faults.Memory) ⊎ IsObjectRefused bytes fault ⊎ IsCodeRefused bytes fault
+IsObjectFault bytes fault = (fault ≡ faults.Memory) ⊎ IsObjectRefused bytes fault
+    ⊎ IsCodeRefused bytes fault

@@ -1,5 +1,7 @@
 -- What is told of runs of bare code.
-use Rattle.std.specs.Prelude.{◌≡◌, ℕ, ◌+◌, ◌<◌, List, [], ◌∷◌, ◌++◌, length, map, replicate, slice_index, slice_index_or, codes, decimal, string_bytes, Result, Ok, Err, is_err, if◌then◌else◌, nat_lt}
+use Rattle.std.specs.Prelude.{◌≡◌, ℕ, ◌+◌, ◌<◌, List, [], ◌∷◌, ◌++◌, length, map, replicate}
+use Rattle.std.specs.Prelude.{slice_index, slice_index_or, codes, decimal, string_bytes, Result, Ok}
+use Rattle.std.specs.Prelude.{Err, is_err, if◌then◌else◌, nat_lt}
 use Rattle.std.specs.List.{list_any, sum_by}
 use Rattle.isa.specs.declared.code.Slot.{Slot}
 use Rattle.isa.specs.declared.hook.Hook.{Hook}
@@ -20,8 +22,12 @@ use Rattle.commands.specs.Statuses.{fault_of_refusal}
 
 -- how the seat of this number ended
 abbrev pub seat_line : ℕ → Result Run Trap → List ℕ
-seat_line number (Ok run) = codes "seat " ++ (decimal number ++ (codes " answer " ++ (decimal run.answer ++ (codes " used " ++ (decimal run.used ++ 10 ∷ [])))))
-seat_line number (Err trap) = codes "seat " ++ (decimal number ++ (codes " trap " ++ (decimal (trap_number trap) ++ 10 ∷ [])))
+seat_line number (Ok run) = codes "seat "
+    ++ (decimal number
+    ++ (codes " answer "
+    ++ (decimal run.answer ++ (codes " used " ++ (decimal run.used ++ 10 ∷ [])))))
+seat_line number (Err trap) = codes "seat "
+    ++ (decimal number ++ (codes " trap " ++ (decimal (trap_number trap) ++ 10 ∷ [])))
 
 abbrev pub seat_lines : ℕ → List Finished → List ℕ
 seat_lines number [] = []
@@ -29,7 +35,8 @@ seat_lines number (one ∷ rest) = seat_line number one.outcome ++ seat_lines (n
 
 -- a counter above 0
 abbrev pub counter_line : ℕ → ℕ → List ℕ
-counter_line index sum = if nat_lt 0 sum then codes "counter " ++ (decimal index ++ (codes " " ++ (decimal sum ++ 10 ∷ []))) else []
+counter_line index sum = if nat_lt 0 sum
+    then codes "counter " ++ (decimal index ++ (codes " " ++ (decimal sum ++ 10 ∷ []))) else []
 
 abbrev pub counter_lines : ℕ → List ℕ → List ℕ
 counter_lines index [] = []
@@ -37,7 +44,12 @@ counter_lines index (sum ∷ rest) = counter_line index sum ++ counter_lines (in
 
 -- what each seat runs: the code at the hook, on a context of 64 zeros, no packet and no rows
 abbrev pub setting_of : List Slot → Hook → Setting
-setting_of slots hook = record { code = slots; hook = hook; input = record { context = replicate 64 0; packet = []; rows = [] } }
+setting_of slots hook =
+    record {
+      code = slots;
+      hook = hook;
+      input = record { context = replicate 64 0; packet = []; rows = [] };
+    }
 
 -- the seat ran that once, for as many instructions as any program may take
 abbrev pub Ran : Setting → SeatView → Finished → Type 0
@@ -45,19 +57,24 @@ Ran setting seat one = Outcome setting budget seat one.outcome one.seat
 
 -- and so did each of these seats, in their order
 abbrev pub EachRan : Setting → List SeatView → List Finished → Type 0
-EachRan setting seats finished = (i : ℕ) (s : SeatView) (d : Finished) → i < length seats → Ran setting (slice_index_or seats i s) (slice_index_or finished i d)
+EachRan setting seats finished = (i : ℕ) (s : SeatView) (d : Finished) → i < length seats
+    → Ran setting (slice_index_or seats i s) (slice_index_or finished i d)
 
--- Each of the seats of one table, that had done nothing, ran the code once at the hook. Each seat's end is told in their order, and then
--- the counters above 0, which are the sums of all that the seats added.
-pub record IsToldOfRuns (slots : List Slot) (hook : Hook) (seats : ℕ) (report : Report) : Type 0 where
+-- Each of the seats of one table, that had done nothing, ran the code once at the hook. Each seat's
+-- end is told in their order, and then the counters above 0, which are the sums of all that the
+-- seats added.
+pub record IsToldOfRuns (slots : List Slot) (hook : Hook) (seats : ℕ)
+    (report : Report) : Type 0 where
   pub shared : SharedWords
   pub dealt : shared.seats ≡ seats
   pub finished : List Finished
   pub each : length finished ≡ seats
-  pub ran : (i : ℕ) (d : Finished) → i < seats → Ran (setting_of slots hook) (fresh shared.table i) (slice_index_or finished i d)
+  pub ran : (i : ℕ) (d : Finished) → i < seats
+      → Ran (setting_of slots hook) (fresh shared.table i) (slice_index_or finished i d)
   pub sums : List ℕ
   pub counters : length sums ≡ 256
-  pub exact : (k : ℕ) → k < 256 → slice_index sums k ≡ sum_by (λ s. adds_to k s.accesses) (map (λ one. one.seat) finished)
+  pub exact : (k : ℕ) → k < 256
+      → slice_index sums k ≡ sum_by (λ s. adds_to k s.accesses) (map (λ one. one.seat) finished)
   pub told : string_bytes report.text ≡ seat_lines 1 finished ++ counter_lines 0 sums
   pub stuck : report.is_refused ≡ list_any (λ one. is_err one.outcome) finished
 

@@ -1,5 +1,6 @@
 -- What is told of one run of an object's program.
-use Rattle.std.specs.Prelude.{◌≡◌, ℕ, List, [], ◌∷◌, ◌++◌, codes, decimal, string_bytes, Result, Ok, Err, is_err}
+use Rattle.std.specs.Prelude.{◌≡◌, ℕ, List, [], ◌∷◌, ◌++◌, codes, decimal, string_bytes, Result, Ok}
+use Rattle.std.specs.Prelude.{Err, is_err}
 use Rattle.machine.specs.Given.{Given}
 use Rattle.maps.specs.Words.{SeatView, fresh}
 use Rattle.interp.specs.declared.ending.Run.{Run}
@@ -11,15 +12,16 @@ use Rattle.commands.specs.declared.report.Report.{Report}
 
 -- the line that is printed
 abbrev pub outcome_line : Result Run Trap → List ℕ
-outcome_line (Ok run) = codes "answer " ++ (decimal run.answer ++ (codes " used " ++ (decimal run.used ++ 10 ∷ [])))
+outcome_line (Ok run) = codes "answer "
+    ++ (decimal run.answer ++ (codes " used " ++ (decimal run.used ++ 10 ∷ [])))
 outcome_line (Err trap) = codes "trap " ++ decimal (trap_number trap) ++ 10 ∷ []
 
 -- no table rows
 abbrev pub input_of : List ℕ → List ℕ → Given
 input_of context packet = record { context = context; packet = packet; rows = [] }
 
--- A seat of a table of one seat, that had done nothing, ran the program of the object file that the bytes are once on the input, for as
--- many instructions as its object allows, with this end.
+-- A seat of a table of one seat, that had done nothing, ran the program of the object file that the
+-- bytes are once on the input, for as many instructions as its object allows, with this end.
 pub record Ran (bytes : List ℕ) (input : Given) (outcome : Result Run Trap) : Type 0 where
   pub seat : SeatView
   pub unused : seat ≡ fresh seat.table 0

@@ -62,7 +62,8 @@ abbrev pub fault_of_run : RunError → Fault
 fault_of_run (running.Object error) = fault_of_object error
 fault_of_run (running.Code error) = fault_of_refusal error
 
--- What is told of a text that spells no object: the number and line of the refusal, or want of memory.
+-- What is told of a text that spells no object: the number and line of the refusal, or want of
+-- memory.
 abbrev pub fault_of_line : AsmFault → ℕ → Fault
 fault_of_line texts.Memory line = faults.Memory
 fault_of_line kind line = faults.Source (asm_faults.fault_number kind) line

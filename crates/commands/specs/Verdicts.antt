@@ -1,5 +1,6 @@
 -- What is told of the verifier's word on an object file.
-use Rattle.std.specs.Prelude.{◌≡◌, ◌≢◌, ℕ, ◌⊎◌, List, [], ◌∷◌, ◌++◌, true, false, codes, decimal, string_bytes}
+use Rattle.std.specs.Prelude.{◌≡◌, ◌≢◌, ℕ, ◌⊎◌, List, [], ◌∷◌, ◌++◌, true, false, codes, decimal}
+use Rattle.std.specs.Prelude.{string_bytes}
 use Rattle.transfer.specs.Rules.{rule_number}
 use Rattle.transfer.specs.declared.rule.Rule.TheVariants as rules
 use Rattle.verifier.specs.Programs.{Program}
@@ -13,7 +14,8 @@ abbrev pub accepted_line : (bound : ℕ) → List ℕ
 accepted_line bound = codes "accepted bound " ++ (decimal bound ++ 10 ∷ [])
 
 abbrev pub refused_line : Refusal → List ℕ
-refused_line refusal = codes "refused slot " ++ (decimal refusal.slot ++ (codes " rule " ++ (decimal (rule_number refusal.rule) ++ 10 ∷ [])))
+refused_line refusal = codes "refused slot "
+    ++ (decimal refusal.slot ++ (codes " rule " ++ (decimal (rule_number refusal.rule) ++ 10 ∷ [])))
 
 -- The program of the object file that the bytes are is accepted, and its bound is told.
 pub record IsAcceptance (bytes : List ℕ) (report : Report) : Type 0 where

@@ -70,9 +70,7 @@ pub fn assemble_file<'a, R: Files + AllocGlobal>(
     ensures fault { IfErr result (λ fault. (fault ≡ Fault.Read source.entry) ⊎ (fault ≡ Fault.Write target.entry) ⊎ ((text : List ℕ) × IsTextFault text fault)) }
 {
     let alloc = rt.alloc();
-    let Ok(text) = String::from_utf8(files::read(rt, source)?) else {
-        return Err(Fault::Read { path: source });
-    };
+    let text = files::read_text(rt, source)?;
     let file = object_file(alloc, text.as_str())?;
     let report = written(alloc, &file)?;
     write_object(rt, target, &file)?;

@@ -28,6 +28,16 @@ pub fn read<'a, R: Files + AllocGlobal>(rt: &R, path: &'a str) -> Result<Vec<u8>
     }
 }
 
+/// The text of the file at `path`. `Fault::Read` where it can't be opened or read, is too long, or isn't UTF-8.
+pub fn read_text<'a, R: Files + AllocGlobal>(rt: &R, path: &'a str) -> Result<String, Fault<'a>>
+    ensures fault { IfErr result (λ fault. (fault ≡ Fault.Read path.entry) ⊎ (fault ≡ Fault.Memory)) }
+{
+    match String::from_utf8(read(rt, path)?) {
+        Ok(text) => Ok(text),
+        Err(_) => Err(Fault::Read { path }),
+    }
+}
+
 // Takes a file away that was begun. Where that fails too, nothing is left to do.
 fn give_up<'a, R: Files + AllocGlobal>(
     rt: &R,

@@ -7,8 +7,10 @@ mod files;
 pub mod program;
 mod raw;
 mod report;
+mod routing;
 mod run;
 mod verify;
 
 pub use fault::Fault;
 pub use report::Report;
+pub use routing::Routing;

@@ -1,55 +1,20 @@
 //! The whole program, over readers and writers that are handed in.
 
-ghost use Rattle.std.specs.Prelude.{◌≡◌, ◌≤◌, ◌⊎◌, IfErr, IfOk, Result, map};
+ghost use Rattle.std.specs.Prelude.{◌≡◌, ◌⊎◌, map};
 ghost use Rattle.std.specs.IoError.{error_kind};
-ghost use Rattle.commands.specs.declared.fault.Fault.{Fault};
-ghost use Rattle.commands.specs.declared.report.Report.{Report};
 ghost use Rattle.clap.specs.Simple.{App};
 ghost use Rattle.command_line.specs.CommandLine.{IsCommandLine};
-ghost use Rattle.commands.specs.Endings.{Ends, IsFaultOf, IsMadeOf, IsOutcome, Prints, Tells};
+ghost use Rattle.commands.specs.Endings.{Ends, EndsRequest, EndsWords, Prints, Tells};
 
 use crate::fault::{DONE, Fault, REFUSED};
 use crate::report::Report;
-use crate::{assembly, raw, run, verify};
+use crate::routing::Routing;
+use crate::{assembly, files, raw, run, verify};
 use command_line::Request;
 use std::alloc::Global;
 use std::io::{self, BufRead, ErrorKind, Write};
 use std::rt::Files;
 use std::thread::Threads;
-
-// Carries out a request, and tells what is to be printed of it.
-fn carry_out<'a, R: Files + AllocGlobal + Threads + Sync>(
-    rt: &R,
-    request: Request<'a>,
-) -> Result<Report, Fault<'a>>
-    ensures made { IfOk result (IsMadeOf request.entry) }
-    ensures fault { IfErr result (IsFaultOf request.entry) }
-{
-    match request {
-        Request::Raw { hook, file, seats } => raw::raw(rt, hook, file, seats),
-        Request::Run {
-            object,
-            context,
-            packet,
-        } => run::run(rt, object, context, packet),
-        Request::Asm { source, object } => assembly::assemble_file(rt, source, object),
-        Request::List { object } => assembly::list(rt, object),
-        Request::Verify { object } => verify::verify(rt, object),
-    }
-}
-
-// What the words ask for, carried out.
-fn answer<'a, R: Files + AllocGlobal + Threads + Sync>(
-    rt: &R,
-    words: &'a [&'a str],
-) -> Result<Report, Fault<'a>>
-    ensures { (line : App) × IsCommandLine line × IsOutcome line (map (λ word. word.now) words.entry.now) result }
-{
-    match command_line::parse(rt.alloc(), words) {
-        Ok(request) => carry_out(rt, request),
-        Err(error) => Err(Fault::from(error)),
-    }
-}
 
 // Prints what a command made, and answers the status.
 fn print<O: Write>(report: &Report, output: &mut O) -> u8
@@ -78,17 +43,13 @@ fn tell<O: Write, E: Write>(fault: &Fault<'_>, output: &mut O, errors: &mut E) -
 }
 
 // Prints what a command made or what its fault is, and answers the status.
-fn end<O: Write, E: Write>(
-    outcome: &Result<Report, Fault<'_>>,
-    output: &mut O,
-    errors: &mut E,
-) -> u8
-    ensures { Ends outcome.now (O.contents output.old) (O.contents output.new)
+fn end<O: Write, E: Write>(outcome: Result<Report, Fault<'_>>, output: &mut O, errors: &mut E) -> u8
+    ensures { Ends outcome.entry (O.contents output.old) (O.contents output.new)
         (E.contents errors.old) (E.contents errors.new) result }
 {
     match outcome {
-        Ok(report) => print(report, output),
-        Err(fault) => tell(fault, output, errors),
+        Ok(report) => print(&report, output),
+        Err(fault) => tell(&fault, output, errors),
     }
 }
 
@@ -107,21 +68,72 @@ pub fn end_without_words<O: Write, E: Write>(
     tell(&fault, output, errors)
 }
 
-/// Carries out what the words ask for (the first is the program's name), and answers the status: 0
-/// done, 1 refused or stuck, 2 usage, 3 a file, a socket or a stream failed, 4 memory was refused.
-///
-/// Lines are read from `input` and written to `output`; the texts about usage go to `errors`.
-pub fn program<R: Files + AllocGlobal + Threads + Sync, I: BufRead, O: Write, E: Write>(
+// Runs the router of the configuration file at `path`, or tells why the file can't be read, and answers the status.
+fn route<R: Files + AllocGlobal, G: Routing, I: BufRead, O: Write, E: Write>(
     rt: &R,
-    words: &[&str],
-    _input: &mut I,
+    routing: &G,
+    path: &str,
+    input: &mut I,
     output: &mut O,
     errors: &mut E,
 ) -> u8
-    ensures ended { (line : App) × IsCommandLine line × (outcome : Result Report Fault) × IsOutcome line (map (λ word. word.now) words.now) outcome
-        × Ends outcome (O.contents output.old) (O.contents output.new)
+    ensures { EndsRequest (Request.Route path.entry) (O.contents output.old) (O.contents output.new)
         (E.contents errors.old) (E.contents errors.new) result }
 {
-    let outcome = answer(rt, words);
-    end(&outcome, output, errors)
+    match files::read_text(rt, path) {
+        Ok(text) => routing.route(text.as_str(), input, output),
+        Err(fault) => end(Err(fault), output, errors),
+    }
+}
+
+// Carries out a request, and answers the status.
+fn carry_out<R: Files + AllocGlobal + Threads + Sync, G: Routing, I: BufRead, O: Write, E: Write>(
+    rt: &R,
+    routing: &G,
+    request: Request<'_>,
+    input: &mut I,
+    output: &mut O,
+    errors: &mut E,
+) -> u8
+    ensures { EndsRequest request.entry (O.contents output.old) (O.contents output.new)
+        (E.contents errors.old) (E.contents errors.new) result }
+{
+    match request {
+        Request::Raw { hook, file, seats } => {
+            end(raw::raw(rt, hook, file, seats), output, errors)
+        }
+        Request::Run {
+            object,
+            context,
+            packet,
+        } => end(run::run(rt, object, context, packet), output, errors),
+        Request::Asm { source, object } => {
+            end(assembly::assemble_file(rt, source, object), output, errors)
+        }
+        Request::List { object } => end(assembly::list(rt, object), output, errors),
+        Request::Verify { object } => end(verify::verify(rt, object), output, errors),
+        Request::Route { config } => route(rt, routing, config, input, output, errors),
+    }
+}
+
+/// Carries out what the words ask for (the first is the program's name), and answers the status: 0
+/// done, 1 refused or stuck, 2 usage, 3 a file, a socket or a stream failed, 4 memory was refused.
+///
+/// Lines are read from `input` and written to `output`; the texts about usage go to `errors`. Routers are run by `routing`.
+pub fn program<R: Files + AllocGlobal + Threads + Sync, G: Routing, I: BufRead, O: Write, E: Write>(
+    rt: &R,
+    routing: &G,
+    words: &[&str],
+    input: &mut I,
+    output: &mut O,
+    errors: &mut E,
+) -> u8
+    ensures ended { (line : App) × IsCommandLine line × EndsWords line (map (λ word. word.now) words.now)
+        (O.contents output.old) (O.contents output.new)
+        (E.contents errors.old) (E.contents errors.new) result }
+{
+    match command_line::parse(rt.alloc(), words) {
+        Ok(request) => carry_out(rt, routing, request, input, output, errors),
+        Err(error) => end(Err(Fault::from(error)), output, errors),
+    }
 }

@@ -1,5 +1,6 @@
 -- What the console answers: lines, each with a line feed (10) at its end.
-use Rattle.std.specs.Prelude.{ℕ, ◌+◌, List, [], ◌∷◌, ◌++◌, Option, None, Some, codes, decimal, filter, map, if◌then◌else◌, nat_lt}
+use Rattle.std.specs.Prelude.{ℕ, ◌+◌, List, [], ◌∷◌, ◌++◌, Option, None, Some, codes, decimal}
+use Rattle.std.specs.Prelude.{filter, map, if◌then◌else◌, nat_lt}
 use Rattle.std.specs.List.{join_with_byte, range_with_len}
 use Rattle.words.specs.Interfaces.{has_interface}
 use Rattle.words.specs.Numbers.{InterfaceNumber, RouterNumber}

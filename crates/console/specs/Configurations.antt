@@ -1,6 +1,7 @@
 -- The text of a configuration: a line for the router, then one for each interface (RFC 2328,
 -- appendices C.1 and C.3).
-use Rattle.std.specs.Prelude.{◌≡◌, ℕ, ◌+◌, ◌<◌, ◌≤◌, ◌^◌, ◌==◌, true, false, List, [], ◌∷◌, codes, decimal, length, map, slice_get, Some, take, ◌⊎◌, if◌then◌else◌}
+use Rattle.std.specs.Prelude.{◌≡◌, ℕ, ◌+◌, ◌<◌, ◌≤◌, ◌^◌, ◌==◌, true, false, List, [], ◌∷◌, codes}
+use Rattle.std.specs.Prelude.{decimal, length, map, slice_get, Some, take, ◌⊎◌, if◌then◌else◌}
 use Rattle.std.specs.List.{list_any, slice_split}
 use Rattle.words.specs.Constants.{most_interfaces}
 use Rattle.words.specs.Numbers.{InterfaceNumber, RouterNumber}

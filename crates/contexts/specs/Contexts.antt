@@ -1,5 +1,6 @@
 -- The 64 bytes of context that a program is run on, hook by hook.
-use Rattle.std.specs.Prelude.{ℕ, ◌+◌, nat_lt, if◌then◌else◌, List, [], ◌∷◌, ◌++◌, length, take, drop, replicate, fold, slice_index, count_ones, Option, Some, None}
+use Rattle.std.specs.Prelude.{ℕ, ◌+◌, nat_lt, if◌then◌else◌, List, [], ◌∷◌, ◌++◌, length, take}
+use Rattle.std.specs.Prelude.{drop, replicate, fold, slice_index, count_ones, Option, Some, None}
 use Rattle.std.specs.Int.{bytes_low_first}
 use Rattle.std.specs.List.{find, range_with_len}
 use Rattle.isa.specs.declared.hook.Hook.{Hook}
@@ -36,8 +37,8 @@ with_field bytes f =
 abbrev pub context_of : List Field → List ℕ
 context_of fields = fold with_field (replicate 64 0) fields
 
--- the second byte of a packet is its type, and the bytes 4 to 7 are its Router ID (RFC 2328, A.3.1);
--- 0 where the packet ends before
+-- the second byte of a packet is its type, and the bytes 4 to 7 are its Router ID (RFC 2328,
+-- A.3.1); 0 where the packet ends before
 abbrev pub type_in : (packet : List ℕ) → ℕ
 type_in packet = if nat_lt (length packet) 2 then 0 else slice_index packet 1
 

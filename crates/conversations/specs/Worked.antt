@@ -10,9 +10,11 @@ use Rattle.lsa.specs.declared.body.Body.{Body}
 use Rattle.lsdb.specs.Copies.{DatabaseCopy}
 use Rattle.lsdb.specs.Headers.{Lsa, lsa_aged}
 use Rattle.events.specs.declared.model.CoreError.TheVariants as error
-use Rattle.events.specs.Commands.{after_install, after_redistribute, after_withdraw, announce_as, end_want}
+use Rattle.events.specs.Commands.{after_install, after_redistribute, after_withdraw, announce_as}
+use Rattle.events.specs.Commands.{end_want}
 use Rattle.events.specs.Refusals.{is_clock_back}
-use Rattle.events.specs.Originations.{external_key, flush, interval_is_over, is_stale, originate_body}
+use Rattle.events.specs.Originations.{external_key, flush, interval_is_over, is_stale}
+use Rattle.events.specs.Originations.{originate_body}
 use Rattle.events.specs.Packing.{sent_lsa}
 use Rattle.events.specs.EventState.{EventState}
 use Rattle.conversations.specs.WorkedUpdates.{IsAtRest}

@@ -1,6 +1,7 @@
 -- Worked events of a router with one interface: an adjacency begins, is repeated and is begun again
 -- (RFC 2328, sections 10.5, 10.6 and 10.8).
-use Rattle.std.specs.Prelude.{◌≡◌, ℕ, ◌%◌, ◌^◌, ◌==◌, true, false, nat_lt, List, [], ◌∷◌, None, Some}
+use Rattle.std.specs.Prelude.{◌≡◌, ℕ, ◌%◌, ◌^◌, ◌==◌, true, false, nat_lt, List, [], ◌∷◌, None}
+use Rattle.std.specs.Prelude.{Some}
 use Rattle.std.specs.FinMap as finite
 use Rattle.std.specs.FinSet as set
 use Rattle.std.specs.List.{list_any}
@@ -9,7 +10,8 @@ use Rattle.packet.specs.declared.model.Body.TheVariants as body
 use Rattle.packet.specs.declared.model.Description.{Description}
 use Rattle.packet.specs.declared.model.Hello.{Hello}
 use Rattle.packet.specs.Text.{PacketText}
-use Rattle.adjacency.specs.Adjacencies.{next_dd_sequence_start, initial_description, requests_nothing, enter_exstart}
+use Rattle.adjacency.specs.Adjacencies.{next_dd_sequence_start, initial_description}
+use Rattle.adjacency.specs.Adjacencies.{requests_nothing, enter_exstart}
 use Rattle.adjacency.specs.Contents.{Content}
 use Rattle.adjacency.specs.Descriptions.{Verdict, verdict}
 use Rattle.adjacency.specs.declared.state.State.TheVariants.{ExStart, Loading}

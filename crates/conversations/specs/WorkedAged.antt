@@ -14,7 +14,8 @@ use Rattle.events.specs.declared.model.Out.{Out}
 use Rattle.events.specs.Events.{Happens}
 use Rattle.events.specs.Packing.{outs_of}
 use Rattle.events.specs.Routers.{Occurrence, Router}
-use Rattle.conversations.specs.WorkedUpdates.{HasBrought, HasFullNeighbor, IsAtRest, IsUpdateWith, WaitsAt, acknowledges_at_once}
+use Rattle.conversations.specs.WorkedUpdates.{HasBrought, HasFullNeighbor, IsAtRest, IsUpdateWith}
+use Rattle.conversations.specs.WorkedUpdates.{WaitsAt, acknowledges_at_once}
 
 -- the interface of this number has this link, whose neighbor is in Loading, and wasn't asked for an
 -- LSA of this key

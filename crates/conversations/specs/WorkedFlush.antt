@@ -4,7 +4,8 @@ use Rattle.std.specs.Prelude.{◌≡◌, ◌<◌, ℕ, pos, true, false, List, [
 use Rattle.std.specs.FinMap as finite
 use Rattle.std.specs.List.{list_any}
 use Rattle.words.specs.declared.key.Key.{Key}
-use Rattle.lsdb.specs.Copies.{DatabaseCopy, has_just_aged_out, installed_just_now, is_aged_out, newer_than_copy}
+use Rattle.lsdb.specs.Copies.{DatabaseCopy, has_just_aged_out, installed_just_now, is_aged_out}
+use Rattle.lsdb.specs.Copies.{newer_than_copy}
 use Rattle.lsdb.specs.Headers.{Header, Lsa, header_aged, key_of, lsa_aged, lsa_key}
 use Rattle.lsdb.specs.Instances.{ListEntry, same_as_listed}
 use Rattle.packet.specs.declared.model.Body.TheVariants as body

@@ -1,5 +1,5 @@
--- Worked events: LSInfinity, 16,777,215, as the metric that is answered withholds a destination, and
--- the largest metric below it announces it (RFC 2328, section 12.4.4 and appendix B).
+-- Worked events: LSInfinity, 16,777,215, as the metric that is answered withholds a destination,
+-- and the largest metric below it announces it (RFC 2328, section 12.4.4 and appendix B).
 use Rattle.std.specs.Prelude.{◌≡◌, ℕ, true, List, Option, None, Some}
 use Rattle.std.specs.FinMap as finite
 use Rattle.words.specs.Numbers.{Moment}

@@ -1,6 +1,7 @@
 -- Worked events of a router with one interface: its last request is met, and it tells of the new
 -- adjacency (RFC 2328, sections 10.9 and 12.4).
-use Rattle.std.specs.Prelude.{◌≡◌, ◌<◌, ℕ, ◌+◌, ◌+ℤ◌, pos, ◌==◌, true, false, List, [], ◌∷◌, None, Some}
+use Rattle.std.specs.Prelude.{◌≡◌, ◌<◌, ℕ, ◌+◌, ◌+ℤ◌, pos, ◌==◌, true, false, List, [], ◌∷◌, None}
+use Rattle.std.specs.Prelude.{Some}
 use Rattle.std.specs.FinMap as finite
 use Rattle.std.specs.FinSet as set
 use Rattle.std.specs.List.{list_any}
@@ -16,7 +17,8 @@ use Rattle.received.specs.Outcomes.{Send}
 use Rattle.events.specs.declared.model.Out.{Out}
 use Rattle.events.specs.Events.{Happens}
 use Rattle.events.specs.Hellos.{is_foreign}
-use Rattle.events.specs.Originations.{has_max_sequence, interval_is_over, new_instance, router_body, router_key}
+use Rattle.events.specs.Originations.{has_max_sequence, interval_is_over, new_instance, router_body}
+use Rattle.events.specs.Originations.{router_key}
 use Rattle.events.specs.Packing.{outs_of}
 use Rattle.events.specs.Routers.{Occurrence, Router, shown_at}
 use Rattle.conversations.specs.WorkedUpdates.{IsUpdateWith, WaitsAt}

@@ -12,7 +12,9 @@ use Rattle.received.specs.Links.{Link}
 use Rattle.received.specs.Outcomes.{Send, numbered}
 use Rattle.events.specs.declared.model.Out.{Out}
 use Rattle.events.specs.Events.{Happens}
-use Rattle.events.specs.Originations.{has_max_sequence, has_room, initial_sequence_number, interval_is_over, is_due, new_instance, next_sequence, router_body, router_key}
+use Rattle.events.specs.Originations.{has_max_sequence, has_room, initial_sequence_number}
+use Rattle.events.specs.Originations.{interval_is_over, is_due, new_instance, next_sequence}
+use Rattle.events.specs.Originations.{router_body, router_key}
 use Rattle.events.specs.Packing.{outs_of}
 use Rattle.events.specs.Routers.{Occurrence, Router}
 use Rattle.conversations.specs.WorkedFlush.{full}

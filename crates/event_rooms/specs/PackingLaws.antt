@@ -11,7 +11,8 @@ pub use Rattle.adjacency.specs.Rooms.{HasRoom}
 use Rattle.received.specs.Links.{Link}
 use Rattle.received.specs.Outcomes.{Send}
 use Rattle.events.specs.declared.model.Out.{Out}
-use Rattle.events.specs.Packing.{bodies, header_size, in_key_order, is_after, lsa_size, outs_of, packed}
+use Rattle.events.specs.Packing.{bodies, header_size, in_key_order, is_after, lsa_size, outs_of}
+use Rattle.events.specs.Packing.{packed}
 
 -- ---- in the order of the keys
 

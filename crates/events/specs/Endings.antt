@@ -1,5 +1,6 @@
 -- How each event begins and ends (RFC 2328, sections 10.3, 10.9, 12.4.1 and 14).
-use Rattle.std.specs.Prelude.{◌==◌, Bool, false, not, ◌&&◌, ◌||◌, if◌then◌else◌, List, [], map, Option, None, Some}
+use Rattle.std.specs.Prelude.{◌==◌, Bool, false, not, ◌&&◌, ◌||◌, if◌then◌else◌, List, [], map}
+use Rattle.std.specs.Prelude.{Option, None, Some}
 use Rattle.std.specs.List.{fold}
 use Rattle.std.specs.Cmp.Lexicographic.{slice_cmp}
 use Rattle.std.specs.FinMap as finite

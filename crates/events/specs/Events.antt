@@ -7,7 +7,8 @@ use Rattle.packet.specs.declared.model.Packet.{Packet}
 use Rattle.packet.specs.Text.{PacketText}
 use Rattle.events.specs.declared.model.Config.{Config}
 use Rattle.events.specs.declared.model.Out.{Out}
-use Rattle.events.specs.Commands.{after_install, after_link_down, after_redistribute, after_withdraw}
+use Rattle.events.specs.Commands.{after_install, after_link_down, after_redistribute}
+use Rattle.events.specs.Commands.{after_withdraw}
 use Rattle.events.specs.Endings.{start_event, end_event}
 use Rattle.events.specs.Originations.{originate_or_wait, router_key}
 use Rattle.events.specs.Packets.{after_packet}

@@ -1,6 +1,7 @@
 -- Hellos: which are accepted, when one is due, and what it says (RFC 2328, sections 8.2, 9.5 and
 -- 10.5).
-use Rattle.std.specs.Prelude.{ℕ, Bool, true, not, ◌&&◌, ◌==◌, bit_and, if◌then◌else◌, List, [], ◌∷◌, Option, None, Some}
+use Rattle.std.specs.Prelude.{ℕ, Bool, true, not, ◌&&◌, ◌==◌, bit_and, if◌then◌else◌, List, [], ◌∷◌}
+use Rattle.std.specs.Prelude.{Option, None, Some}
 use Rattle.std.specs.List.{list_any}
 use Rattle.words.specs.Numbers.{Moment, RouterNumber, Seconds}
 use Rattle.words.specs.Prefixes.{mask_of}

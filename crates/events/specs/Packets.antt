@@ -1,5 +1,6 @@
 -- What a received packet makes of the router (RFC 2328, sections 8.2, 10.5 to 10.7, 13 and 13.7).
-use Rattle.std.specs.Prelude.{ℕ, ◌==◌, Bool, true, false, ◌&&◌, ◌||◌, if◌then◌else◌, List, [], ◌∷◌, map, Option, None, Some}
+use Rattle.std.specs.Prelude.{ℕ, ◌==◌, Bool, true, false, ◌&&◌, ◌||◌, if◌then◌else◌, List, [], ◌∷◌}
+use Rattle.std.specs.Prelude.{map, Option, None, Some}
 use Rattle.std.specs.List.{filter_map, list_all}
 use Rattle.std.specs.FinMap as finite
 use Rattle.words.specs.Numbers.{InterfaceNumber, Moment, RouterNumber}

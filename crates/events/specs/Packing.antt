@@ -1,6 +1,7 @@
 -- What is sent as packets: in their order, packed, and as canonical texts (RFC 2328, sections 13.3,
 -- 13.5 and appendix A.3).
-use Rattle.std.specs.Prelude.{ℕ, ◌+◌, Bool, nat_le, ◌==◌, min, if◌then◌else◌, List, [], ◌∷◌, ◌++◌, map, Option, None, Some}
+use Rattle.std.specs.Prelude.{ℕ, ◌+◌, Bool, nat_le, ◌==◌, min, if◌then◌else◌, List, [], ◌∷◌, ◌++◌}
+use Rattle.std.specs.Prelude.{map, Option, None, Some}
 use Rattle.std.specs.List.{enumerate_from, filter_map, flat_map}
 use Rattle.std.specs.Ordering.{is_gt}
 use Rattle.words.specs.Constants.{largest_packet, max_age}

@@ -9,7 +9,8 @@ use Rattle.adjacency.specs.Descriptions.{without_old_description}
 use Rattle.adjacency.specs.Neighbors.{Neighbor}
 use Rattle.adjacency.specs.Retransmissions.{send_again}
 use Rattle.received.specs.Links.{Link}
-use Rattle.received.specs.Outcomes.{Outcome, Send, Stepping, each_neighbor, numbered, on_links, sending}
+use Rattle.received.specs.Outcomes.{Outcome, Send, Stepping, each_neighbor, numbered, on_links}
+use Rattle.received.specs.Outcomes.{sending}
 pub use Rattle.events.specs.Hellos.{with_hello_sent, hello_is_due, hello_on, is_due}
 use Rattle.events.specs.Originations.{due_keys, forget_originations, originate_due}
 use Rattle.events.specs.EventState.{EventState, on_area, on_router}

@@ -1,7 +1,8 @@
 -- Routers joined by links: what they send may be lost, repeated, reordered and late, and routers
 -- may begin anew, but nothing is forged. What an acknowledgment takes off a retransmission list was
 -- received, or originated, by the neighbor.
-use Rattle.std.specs.Prelude.{◌≡◌, ℕ, ◌==◌, Bool, true, not, ◌&&◌, List, [], ◌∷◌, ◌++◌, map, Option, None, Some, slice_get, slice_set}
+use Rattle.std.specs.Prelude.{◌≡◌, ℕ, ◌==◌, Bool, true, not, ◌&&◌, List, [], ◌∷◌, ◌++◌, map, Option}
+use Rattle.std.specs.Prelude.{None, Some, slice_get, slice_set}
 use Rattle.std.specs.List.{Contains, flat_map, list_all, list_any}
 use Rattle.std.specs.FinMap as finite
 use Rattle.words.specs.Numbers.{InterfaceNumber, RouterNumber}
@@ -13,7 +14,8 @@ use Rattle.received.specs.Links.{Link}
 use Rattle.events.specs.declared.model.Config.{Config}
 use Rattle.events.specs.declared.model.Out.{Out}
 use Rattle.events.specs.Events.{initial}
-use Rattle.events.specs.LsaInstances.{LsaInstance, instance_of_lsa, instance_of_header, instances_received, instances_advertised}
+use Rattle.events.specs.LsaInstances.{LsaInstance, instance_of_lsa, instance_of_header}
+use Rattle.events.specs.LsaInstances.{instances_received, instances_advertised}
 use Rattle.events.specs.Routers.{Occurrence, Router, in_profile}
 use Rattle.events.specs.Taken.{taken_by}
 

@@ -8,6 +8,7 @@ use Rattle.received.specs.Links.{Link}
 use Rattle.received.specs.Outcomes.{Send}
 use Rattle.events.specs.declared.model.Out.{Out}
 use Rattle.events.specs.Packing.{outs_at}
+use Rattle.flood_laws.specs.Keeping.{AreTextsAt}
 use Rattle.flooding.specs.Drafted.{drafted, drafted_from}
 use Rattle.flooding.specs.Links.{present}
 use Rattle.outs.specs.Drafts.{IsDraftAt, nothing_drafted}
@@ -39,15 +40,20 @@ nothing_of (l ∷ ls) = ap (λ ds. nothing_drafted ∷ ds) (nothing_of ls)
 abbrev outs_from : ℕ → List Send → ℕ → List Link → List Out
 outs_from own sends n links = flat_map (λ (e : ℕ × Link). outs_at own sends e.0 e.1) (enumerate_from n links)
 
+-- each is a text of what it says
+abbrev texts_from : ℕ → List Send → ℕ → List Link → Type 0
+texts_from own sends n links = AllByRecursion (λ (e : ℕ × Link). AreTextsAt own sends e.0 e.1) (enumerate_from n links)
+
 module _ (own : ℕ) (all : List Drafted) where
   -- what was sent, and the outs of the drafts from this number on, are those of all
   pub record IsSending (number : ℕ) (outs : List Out) (rest : List Drafted) : Type 0 where
     pub going : (links : List Link) (sends : List Send) → AreDraftsFrom 1 links sends all
         → (left : List Link) × AreDraftsFrom number left sends rest × (outs ++ outs_from own sends number left ≡ outs_from own sends 1 links)
+        × (texts_from own sends number left → texts_from own sends 1 links)
 
   pub sending_starts : (outs : List Out) (rest : List Drafted) → outs ≡ [] → rest ≡ all → IsSending 1 outs rest
   sending_starts outs rest none same = record {
-    going = λ links sends are. (links, subst (AreDraftsFrom 1 links sends) (sym same) are, ap (λ os. os ++ outs_from own sends 1 links) none);
+    going = λ links sends are. (links, subst (AreDraftsFrom 1 links sends) (sym same) are, ap (λ os. os ++ outs_from own sends 1 links) none, λ texts. texts);
   }
 
   split : (number : ℕ) (left : List Link) (sends : List Send) (d : Drafted) (rest : List Drafted) → AreDraftsFrom number left sends (d ∷ rest)
@@ -63,8 +69,9 @@ module _ (own : ℕ) (all : List Drafted) where
       (s.0, sends, s.3)
 
   pub one_sent : (number : ℕ) (outs sent : List Out) (before rest : List Drafted) (d : Drafted) → IsSending number outs before → before ≡ d ∷ rest
-      → ((link : Link) (sends : List Send) → IsDraftAt number link sends d → sent ≡ outs ++ outs_at own sends number link) → IsSending (number + 1) sent rest
-  one_sent number outs sent before rest d h e put = record {
+      → ((link : Link) (sends : List Send) → IsDraftAt number link sends d → sent ≡ outs ++ outs_at own sends number link)
+      → ((link : Link) (sends : List Send) → IsDraftAt number link sends d → AreTextsAt own sends number link) → IsSending (number + 1) sent rest
+  one_sent number outs sent before rest d h e put spelled = record {
     going = λ links sends are.
         let g = h.going links sends are in
         let s = split number g.0 sends d rest (subst (AreDraftsFrom number g.0 sends) e g.1) in (
@@ -74,6 +81,7 @@ module _ (own : ℕ) (all : List Drafted) where
               ∙ append_assoc outs (outs_at own sends number s.0) (outs_from own sends (number + 1) s.1)
               ∙ ap (λ ls. outs ++ outs_from own sends number ls) (sym s.2)
               ∙ g.2,
+          λ texts. g.3 (subst (λ ls. texts_from own sends number ls) (sym s.2) (spelled s.0 sends s.3, texts)),
         );
   }
 
@@ -87,3 +95,10 @@ module _ (own : ℕ) (all : List Drafted) where
       let g = h.going links sends are in
       let left : g.0 ≡ [] = none_drafted number g.0 sends (subst (AreDraftsFrom number g.0 sends) none g.1) in
       sym (ap (λ ls. outs ++ outs_from own sends number ls) left ∙ append-nil outs) ∙ g.2
+
+  pub all_spelled : (number : ℕ) (outs : List Out) (rest : List Drafted) → IsSending number outs rest → rest ≡ []
+      → (links : List Link) (sends : List Send) → AreDraftsFrom 1 links sends all → texts_from own sends 1 links
+  all_spelled number outs rest h none links sends are =
+      let g = h.going links sends are in
+      let left : g.0 ≡ [] = none_drafted number g.0 sends (subst (AreDraftsFrom number g.0 sends) none g.1) in
+      g.3 (subst (λ ls. texts_from own sends number ls) (sym left) tt)

@@ -6,3 +6,5 @@ pub mod Drafting
 pub mod Made
 pub mod Starting
 pub mod Offering
+pub mod Answering
+pub mod Kept

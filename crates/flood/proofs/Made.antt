@@ -22,6 +22,15 @@ pub if_ok : {A E : Type 0} {P Q : A → Type 0} (r : Result A E) → ((x : A) �
 if_ok (Ok a) f p = f a p
 if_ok (Err e) f p = tt
 
+-- beside what holds of it
+pub if_ok_with : {A E : Type 0} {P R : A → Type 0} {Q : Type 0} (r : Result A E) → ((x : A) → P x → Q → R x) → IfOk r P → OnOk r Q → IfOk r R
+if_ok_with (Ok a) f p q = f a p q
+if_ok_with (Err e) f p q = tt
+
+pub ok_if : {A E : Type 0} {P : A → Type 0} {Q : Type 0} (r : Result A E) → ((x : A) → P x → Q) → IfOk r P → OnOk r Q
+ok_if (Ok a) f p = f a p
+ok_if (Err e) f p = tt
+
 -- ages, the own part, and the end
 pub made_of_parts : (old aged parted new settled : Router) (moment before : ℕ) (p : Part) (d0 d1 d2 d3 : List Drafted)
     → before ≡ old.moment → settled ≡ old → Makes (on_area (with_ages before moment)) old aged d0 d1 → Makes (after_part p moment) aged parted d1 d2

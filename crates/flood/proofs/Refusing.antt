@@ -1,9 +1,9 @@
 -- Which refusal an event meets once its own part is read.
-use Rattle.std.proofs.Common.{◌≡◌, ℕ, true, false, None, Some, ◌∙◌, subst, sym}
+use Rattle.std.proofs.Common.{◌≡◌, ℕ, None, ◌∙◌}
 use Rattle.std.specs.Prelude.{Result, Ok, Err}
 use Rattle.events.specs.declared.model.CoreError.{CoreError}
 use Rattle.events.specs.declared.model.CoreError.TheVariants as error
-use Rattle.events.specs.Refusals.{Answers, MayRunOut, first_refusal}
+use Rattle.events.specs.Refusals.{Answers}
 use Rattle.events.specs.Routers.{Occurrence, Router}
 use Rattle.flood.specs.declared.part.Part.{Part}
 use Rattle.flood.specs.Early.{early_refusal}

@@ -1,5 +1,5 @@
--- What an event is to the router's rules, and how many bytes it holds.
-use Rattle.std.specs.Prelude.{ℕ, ◌^◌, ◌*◌, ◌-◌, List, length, map, min}
+-- What an event is to the router's rules.
+use Rattle.std.specs.Prelude.{ℕ, Bool, true, false, List, map}
 use Rattle.words.specs.declared.route.Route.{Route}
 use Rattle.hooks.specs.Questions.{RouteAnswer}
 use Rattle.events.specs.Routers.{Occurrence}
@@ -18,3 +18,12 @@ occurrence_of (event.Redistribute tag price) =
 occurrence_of (event.Withdraw prefix) = Occurrence.Withdraw prefix
 occurrence_of (event.Install answers) = Occurrence.Install (words_of answers)
 occurrence_of (event.LinkDown number) = Occurrence.LinkDown number
+
+-- it replaces the answers that let routes in
+abbrev pub brings_answers : Occurrence → Bool
+brings_answers (Occurrence.Packet number bytes) = false
+brings_answers Occurrence.Tick = false
+brings_answers (Occurrence.Redistribute tagged tag priced price) = false
+brings_answers (Occurrence.Withdraw prefix) = false
+brings_answers (Occurrence.Install answers) = true
+brings_answers (Occurrence.LinkDown number) = false

@@ -3,6 +3,7 @@ use Rattle.std.specs.Prelude.{List}
 use Rattle.words.specs.declared.route.Route.{Route}
 use Rattle.words.specs.declared.route.TableRow.{TableRow}
 use Rattle.events.specs.Routers.{Router}
+use Rattle.area_routes.specs.Kept.{AreKept, KeptRoutes}
 use Rattle.area_routes.specs.Offers.{AreCandidatesOf, AreOffered, IsStaleOf, IsTableOf}
 
 -- its candidates at the moment of its last event
@@ -20,3 +21,7 @@ IsOffered r candidates rows = AreOffered r.id r.area r.moment r.answers candidat
 -- a candidate stands in none of the answers of the last Install
 abbrev pub IsStaleNow : Router → Type 0
 IsStaleNow r = IsStaleOf r.id r.area r.moment r.answers
+
+-- what is kept for its routes is that of the moment of its last event
+abbrev pub AreKeptNow : Router → KeptRoutes → Type 0
+AreKeptNow r kept = AreKept r.id r.area r.moment r.answers kept

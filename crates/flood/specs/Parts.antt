@@ -1,11 +1,13 @@
 -- The own part of an event as the code has it, once bytes are read and answers are seen to agree.
-use Rattle.std.specs.Prelude.{◌≡◌, ℕ, ◌≤◌, true, false, List, [], Option, None, Some, Result, Ok, Err, if◌then◌else◌}
+use Rattle.std.specs.Prelude.{◌≡◌, ℕ, ◌≤◌, true, false, List, [], Option, None, Some, Result, Ok}
+use Rattle.std.specs.Prelude.{Err, if◌then◌else◌}
 use Rattle.words.specs.Numbers.{Moment}
 use Rattle.packet.specs.Reading.{fault_of}
 use Rattle.events.specs.declared.model.CoreError.{CoreError}
 use Rattle.events.specs.declared.model.CoreError.TheVariants as error
 use Rattle.events.specs.declared.model.Out.{Out}
-use Rattle.events.specs.Commands.{after_install, after_link_down, after_redistribute, after_withdraw}
+use Rattle.events.specs.Commands.{after_install, after_link_down, after_redistribute}
+use Rattle.events.specs.Commands.{after_withdraw}
 use Rattle.events.specs.Endings.{end_event, with_ages}
 use Rattle.events.specs.Events.{OwnPart}
 use Rattle.events.specs.EventState.{EventState, on_area}

@@ -1,5 +1,5 @@
 //! What a router is told.
-ghost use Rattle.std.specs.Prelude.{◌≡◌, IfOk};
+ghost use Rattle.std.specs.Prelude.{◌≡◌, ◌<◌, ◌^◌, IfOk};
 
 use hooks::{PriceAnswer, TagAnswer, VetoAnswer};
 use std::alloc::AllocError;
@@ -20,6 +20,14 @@ pub enum Event {
     Install(Sequence<VetoAnswer>),
     /// The interface of this number went down: so does its neighbor.
     LinkDown(u16),
+}
+
+/// Says that the address of the destination is in its range, as its type keeps it. It does nothing
+/// when the program runs.
+pub fn check_address(price: &PriceAnswer)
+    ensures { price.now.external.prefix.address < 2 ^ 32 }
+{
+    let _address = price.external().prefix.address().bits();
 }
 
 impl Event {

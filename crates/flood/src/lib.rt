@@ -7,6 +7,7 @@
 
 mod clash;
 mod event;
+mod keeping;
 pub mod laws;
 mod making;
 mod part;

@@ -1,14 +1,15 @@
 //! The own part of an event, once its bytes are read and its answers are seen to agree.
-ghost use Rattle.std.specs.Prelude.{◌≡◌, ◌≤◌, ℕ, IfOk, None, length};
+ghost use Rattle.std.specs.Prelude.{◌≡◌, ◌≤◌, ◌<◌, ◌^◌, ℕ, IfOk, None, length};
 ghost use Rattle.events.specs.Refusals.{bad_packet};
 ghost use Rattle.events.specs.Routers.{Occurrence};
 ghost use Rattle.packet.specs.Reading.{fault_of};
+ghost use Rattle.flood_laws.specs.Keeping.{AnnouncesAddress};
 ghost use Rattle.flood.specs.Early.{early_refusal_of};
 ghost use Rattle.flood.specs.Occurrences.{occurrence_of, words_of};
 ghost use Rattle.flood.specs.Parts.{HasInterface, IsPartOf, Tells, late_refusal};
 
 use crate::clash::clashes;
-use crate::event::Event;
+use crate::event::{Event, check_address};
 use events::CoreError;
 use hooks::{PriceAnswer, TagAnswer, VetoAnswer};
 use packet::{Packet, read};
@@ -50,7 +51,9 @@ fn read_answers(router: &Router, tag: &TagAnswer, price: &PriceAnswer) -> Result
     ensures interface { IfOk result (λ part. (count : ℕ) → HasInterface part count) }
     ensures tells { Tells (late_refusal router.now.present (Occurrence.Redistribute
         tag.now.external tag.now.word price.now.external price.now.word)) result }
+    ensures address { price.now.external.prefix.address < 2 ^ 32 }
 {
+    check_address(price);
     if clashes(router, tag.external(), price.external()) {
         return Err(CoreError::Clash);
     }
@@ -84,6 +87,7 @@ pub fn read_part(router: &Router, alloc: Global, event: &Event) -> Result<Part, 
     ensures interface { IfOk result (λ part. HasInterface part
         (length router.now.present.area.links)) }
     ensures tells { Tells (late_refusal router.now.present (occurrence_of event.now)) result }
+    ensures address { AnnouncesAddress (occurrence_of event.now) }
 {
     match event {
         Event::Packet(number, bytes) => read_packet(alloc, *number, bytes.as_slice()),

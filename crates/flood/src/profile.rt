@@ -1,5 +1,5 @@
 //! Which configurations a router takes, and its links at the start.
-ghost use Rattle.std.specs.Prelude.{◌≡◌, ◌==◌};
+ghost use Rattle.std.specs.Prelude.{◌≡◌, ◌==◌, ◌<◌, ◌^◌};
 ghost use Rattle.std.specs.List.{list_all, list_any};
 ghost use Rattle.events.specs.Routers.{are_distinct, in_profile, is_lawful};
 
@@ -47,7 +47,8 @@ fn are_distinct(interfaces: &[Interface]) -> bool
 
 /// Whether a router can run with this configuration.
 pub fn in_profile(config: &Config) -> bool
-    ensures { result ≡ in_profile config.now }
+    ensures profile { result ≡ in_profile config.now }
+    ensures router { config.now.router < 2 ^ 32 }
 {
     let interfaces = config.interfaces.as_slice();
     config.router.number() != 0

@@ -6,17 +6,19 @@ ghost use Rattle.events.specs.Events.{Happens, initial};
 ghost use Rattle.events.specs.Originations.{external_key};
 ghost use Rattle.events.specs.Refusals.{Answers};
 ghost use Rattle.events.specs.Routers.{in_profile, shown_at};
+ghost use Rattle.flood_laws.specs.Keeping.{KeepsWhatIsKnown};
 ghost use Rattle.flood.specs.Early.{early_refusal};
 ghost use Rattle.flood.specs.Offers.{AreCandidatesNow, IsOffered, IsStaleNow, IsTableNow};
 ghost use Rattle.flood.specs.Occurrences.{occurrence_of};
 
 use crate::clash::is_announced;
 use crate::event::Event;
+use crate::keeping::take_and_keep;
 use crate::profile::in_profile;
 use crate::start::begin;
-use crate::taking::{refuses, take};
+use crate::taking::refuses;
 use adjacency::State;
-use area_routes::{Offered, candidates_of, is_stale_at, offered_at, table_of};
+use area_routes::{AreaRoutes, Offered};
 use events::{Config, ConfigError, CoreError, Out};
 use lsdb::Lsdb;
 use router::Router;
@@ -30,6 +32,8 @@ use words::{Prefix, Route, RouterId, Second};
 pub struct Core {
     alloc: Global,
     router: Router,
+    // the walk of its database, and whether all candidates are known to be answered
+    routes: AreaRoutes,
 }
 
 impl Model for Core {
@@ -43,6 +47,9 @@ impl Model for Core {
     ghost use Rattle.event_rooms.specs.RoomLaws.{IsRoomy};
     ghost use Rattle.events.specs.Refusals.{exceeds};
     ghost use Rattle.events.specs.Routers.{Router as Shown};
+    ghost use Rattle.flood.specs.Offers.{AreKeptNow};
+    ghost use Rattle.flood_laws.specs.Keeping.{HoldsInstances};
+    ghost use Rattle.flood_laws.specs.Known.{AnnouncesItsOwn};
 
     ghost Value = { Shown };
 
@@ -59,11 +66,16 @@ impl Model for Core {
     ghost view = { λ a. a.router.present };
 
     // Between events nothing is to be taken back, all that may be sent has room in packets, and no
-    // limit is passed.
+    // limit is passed. The router announces under its own Router ID alone, and the numbers of the
+    // instances that it holds are in their ranges. What is kept for routes is that of the moment of
+    // the last event.
     ghost invariant = { λ a.
         (a.router.settled ≡ a.router.present)
         × IsRoomy a.router.present
-        × (exceeds a.router.present ≡ false) };
+        × (exceeds a.router.present ≡ false)
+        × AnnouncesItsOwn a.router.present
+        × HoldsInstances a.router.present
+        × AreKeptNow a.router.present a.routes };
 }
 
 impl Core {
@@ -81,7 +93,12 @@ impl Core {
         }
         let mut router = begin(alloc, config)?;
         router.settle();
-        Ok(Core { alloc, router })
+        let routes = AreaRoutes::new(alloc, router.id(), router.area(), router.moment())?;
+        Ok(Core {
+            alloc,
+            router,
+            routes,
+        })
     }
 
     /// One event at a moment: what it makes of the router, and what is to be sent, in the order in
@@ -97,11 +114,22 @@ impl Core {
     pub fn step(&mut self, moment: Second, event: &Event) -> Result<Vec<Out>, CoreError>
         ensures ok { IfOk result (λ outs. Happens self.old moment (occurrence_of event.now)
             outs.items self.new) }
+        // The Router ID stays, each packet that is sent is from this router, and each instance that
+        // it holds or tells afterwards was held before, came in the event's Update, or is a new one
+        // of its own LSAs. What the event's packet takes off a retransmission list, it tells.
+        ensures keeps { IfOk result (λ outs. KeepsWhatIsKnown self.old moment
+            (occurrence_of event.now) outs.items self.new) }
         // Which refusal it is; none stands where the event is taken.
         ensures refused { Answers self.old moment (occurrence_of event.now) result }
         ensures err { OnErr result (self.new ≡ self.old) }
     {
-        match take(&mut self.router, self.alloc, moment, event) {
+        match take_and_keep(
+            &mut self.router,
+            &mut self.routes,
+            self.alloc,
+            moment,
+            event,
+        ) {
             Ok(outs) => {
                 self.router.settle_at(self.alloc, moment);
                 Ok(outs)
@@ -121,14 +149,17 @@ impl Core {
         refuses(&self.router, moment, event)
     }
 
-    /// The same router once more. The only error is that an allocation was refused.
+    /// The same router once more, with a walk of its own. The only error is that an allocation was
+    /// refused.
     pub fn copy(&self) -> Result<Core, AllocError>
         ensures { IfOk result (λ copy. copy ≡ self.now) }
     {
         let router = self.router.copy(self.alloc)?;
+        let routes = AreaRoutes::new(self.alloc, router.id(), router.area(), router.moment())?;
         Ok(Core {
             alloc: self.alloc,
             router,
+            routes,
         })
     }
 
@@ -175,14 +206,17 @@ impl Core {
     }
 
     /// The candidates for the routing table at the moment of the last event (RFC 2328, section 16).
+    /// It takes the walk that the event left, and walks no more.
     ///
     /// # Errors
-    /// Where memory for the walk, the offers or the routes is refused.
+    /// Where memory for the offers or the routes is refused.
     pub fn candidates(&self) -> Result<Vec<Route>, AllocError>
         ensures { IfOk result (λ routes. AreCandidatesNow self.now routes.items) }
     {
         let router = &self.router;
-        let made = candidates_of(self.alloc, router.id(), router.area(), router.moment())?;
+        let made = self
+            .routes
+            .candidates(self.alloc, router.area(), router.moment())?;
         Ok(made)
     }
 
@@ -194,17 +228,11 @@ impl Core {
         ensures { IfOk result (λ table. IsTableNow self.now table.items) }
     {
         let router = &self.router;
-        let made = table_of(
-            self.alloc,
-            router.id(),
-            router.area(),
-            router.moment(),
-            router.answers(),
-        )?;
+        let made = self.routes.table(self.alloc, router.area(), router.moment(), router.answers())?;
         Ok(made)
     }
 
-    /// The candidates, and the rows of the table as programs see them, of one walk.
+    /// The candidates, and the rows of the table as programs see them.
     ///
     /// # Errors
     /// Where memory for the candidates, the table or the rows is refused.
@@ -212,9 +240,8 @@ impl Core {
         ensures { IfOk result (λ o. IsOffered self.now o.candidates.items o.rows.items) }
     {
         let router = &self.router;
-        let made = offered_at(
+        let made = self.routes.offered(
             self.alloc,
-            router.id(),
             router.area(),
             router.moment(),
             router.answers(),
@@ -223,7 +250,8 @@ impl Core {
     }
 
     /// Tells whether some candidate stands in none of the answers of the last Install, so that they are
-    /// to be asked for again.
+    /// to be asked for again. Where an Install has answered all of them, and no event since has changed
+    /// what an LSA says, no candidate is looked at.
     ///
     /// # Errors
     /// Where memory for the candidates, or for answers in order, is refused.
@@ -231,14 +259,20 @@ impl Core {
         ensures { IfOk result (λ b. IsTrue b ↔ IsStaleNow self.now) }
     {
         let router = &self.router;
-        let made = is_stale_at(
+        let made = self.routes.is_stale(
             self.alloc,
-            router.id(),
             router.area(),
             router.moment(),
             router.answers(),
         )?;
         Ok(made)
+    }
+
+    /// How many walks were made of its database since it began or was copied; it stays at its greatest
+    /// value. An event makes one at most, and only where an LSA of type 1 or 2 was installed, was
+    /// removed or has come to MaxAge.
+    pub fn walks(&self) -> u64 {
+        self.routes.walks()
     }
 
     /// Tells whether the external destination of this prefix is announced, or is to be as soon as an

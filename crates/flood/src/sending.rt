@@ -1,8 +1,9 @@
 //! From the drafts of an event to what is sent.
-ghost use Rattle.std.specs.Prelude.{◌≡◌, ◌≤◌, List, IfOk, length, map};
+ghost use Rattle.std.specs.Prelude.{◌≡◌, ◌≤◌, List, IfOk, OnOk, length, map};
 ghost use Rattle.received.specs.Links.{Link as LinkOfArea};
 ghost use Rattle.received.specs.Outcomes.{Send};
 ghost use Rattle.events.specs.Packing.{outs_of};
+ghost use Rattle.flood_laws.specs.Keeping.{AreTexts};
 ghost use Rattle.outs.specs.Drafts.{nothing_drafted};
 ghost use Rattle.flood.specs.Drafts.{AreDrafts, nothing_at};
 
@@ -38,8 +39,12 @@ pub fn outs(alloc: Global, own: RouterId, drafts: Vec<Draft>) -> Result<Vec<Out>
     requires drafts { (links : List LinkOfArea) × (sends : List Send)
         × AreDrafts links sends drafts.items }
     requires few { length drafts.items ≤ 63 }
-    ensures { (links : List LinkOfArea) (sends : List Send) → AreDrafts links sends drafts.items
+    ensures outs { (links : List LinkOfArea) (sends : List Send)
+        → AreDrafts links sends drafts.items
         → IfOk result (λ outs. outs.items ≡ outs_of own links sends) }
+    // Each is a text of what it says.
+    ensures texts { (links : List LinkOfArea) (sends : List Send)
+        → AreDrafts links sends drafts.items → OnOk result (AreTexts own links sends) }
 {
     let mut outs = Vec::new(alloc);
     let mut number = 1;

@@ -1,5 +1,5 @@
 -- What an event leaves in a router and what it sends is known: held before, brought by the event's Update, or new.
-use Rattle.std.proofs.Common.{◌≡◌, ℕ, zero, suc, ◌<◌, length, List, [], ◌∷◌, ◌++◌, map, Option, None, Some, refl, sym, ap, subst, ◌∙◌, arith}
+use Rattle.std.proofs.Common.{◌≡◌, ℕ, false, zero, suc, ◌<◌, length, List, [], ◌∷◌, ◌++◌, map, Option, None, Some, refl, sym, ap, subst, ◌∙◌, arith}
 use Rattle.std.specs.Prelude.{slice_index_or}
 use Rattle.std.specs.FinMap as finite
 use Rattle.std.specs.List.{AllByRecursion, Contains, cons_option, filter_map, flat_map}
@@ -29,7 +29,7 @@ use Rattle.events.specs.Endings.{end_event}
 use Rattle.events.specs.Events.{Happens, Run, Step, initial}
 use Rattle.flood_laws.specs.Known.{AnnouncesItsOwn, EventsHoldOnlyWhatIsKnown, HoldsWhatIsKnown, IsNewInstance, IsOutOf, instances_in_content, instances_in_send, instances_in_sends}
 use Rattle.events.specs.LsaInstances.{LsaInstance, instance_of_lsa, instance_of_header, instances_received, instances_in_update}
-use Rattle.events.specs.Originations.{new_instance}
+use Rattle.events.specs.Originations.{external_key, has_max_sequence, new_instance, router_key}
 use Rattle.events.specs.EventState.{EventState}
 use Rattle.events.specs.Routers.{Occurrence, Router, fresh_link, unannounced}
 use Rattle.events.specs.Worlds.{IsKnown, instances_stored, instances_on_link, instances_on_list}
@@ -54,11 +54,11 @@ of_members P (x ∷ xs) each =
     let first : 0 < suc (length xs) = omega arith in
     (each x (0, first, refl), of_members P xs (λ y c. each y (one_more x xs y c)))
 
-left_all : {X : Type 0} (P : X → Type 0) (xs ys : List X) → AllByRecursion P (xs ++ ys) → AllByRecursion P xs
+pub left_all : {X : Type 0} (P : X → Type 0) (xs ys : List X) → AllByRecursion P (xs ++ ys) → AllByRecursion P xs
 left_all P [] ys h = tt
 left_all P (x ∷ xs) ys h = (h.0, left_all P xs ys h.1)
 
-right_all : {X : Type 0} (P : X → Type 0) (xs ys : List X) → AllByRecursion P (xs ++ ys) → AllByRecursion P ys
+pub right_all : {X : Type 0} (P : X → Type 0) (xs ys : List X) → AllByRecursion P (xs ++ ys) → AllByRecursion P ys
 right_all P [] ys h = h
 right_all P (x ∷ xs) ys h = right_all P xs ys h.1
 
@@ -66,25 +66,30 @@ both_all : {X : Type 0} (P : X → Type 0) (xs ys : List X) → AllByRecursion P
 both_all P [] ys p q = q
 both_all P (x ∷ xs) ys p q = (p.0, both_all P xs ys p.1 q)
 
-each_all : {X : Type 0} (P Q : X → Type 0) → ((x : X) → P x → Q x) → (xs : List X) → AllByRecursion P xs → AllByRecursion Q xs
+pub each_all : {X : Type 0} (P Q : X → Type 0) → ((x : X) → P x → Q x) → (xs : List X) → AllByRecursion P xs → AllByRecursion Q xs
 each_all P Q so [] h = tt
 each_all P Q so (x ∷ xs) h = (so x h.0, each_all P Q so xs h.1)
 
-named_sends : (K : LsaInstance → Type 0) (sends : List Send) → AllByRecursion K (instances_in_sends sends) → AllByRecursion (λ (s : Send). AllByRecursion K (instances_in_content s.content)) sends
+pub paired_all : {X : Type 0} (P Q : X → Type 0) (xs : List X) → AllByRecursion P xs → AllByRecursion Q xs → AllByRecursion (λ x. P x × Q x) xs
+paired_all P Q [] p q = tt
+paired_all P Q (x ∷ xs) p q = ((p.0, q.0), paired_all P Q xs p.1 q.1)
+
+pub named_sends : (K : LsaInstance → Type 0) (sends : List Send) → AllByRecursion K (instances_in_sends sends) → AllByRecursion (λ (s : Send). AllByRecursion K (instances_in_content s.content)) sends
 named_sends K [] h = tt
 named_sends K (s ∷ sends) h = (left_all K (instances_in_send s) (instances_in_sends sends) h, named_sends K sends (right_all K (instances_in_send s) (instances_in_sends sends) h))
 
 -- ---- what is so of a name, of all that bears it
 
-module _ (K : LsaInstance → Type 0) (count : ℕ) where
+-- and what is so of its key
+module _ (K : LsaInstance → Type 0) (P : Key → Type 0) (so : (name : LsaInstance) → K name → P name.key) (count : ℕ) where
   abbrev pub named_by : Telling
   named_by = record {
     of_lsa = λ lsa. K (instance_of_lsa lsa);
     of_header = λ h. K (instance_of_header h);
-    of_key = λ key. Unit {0};
+    of_key = P;
     aged = λ age l le h. h;
     header = λ l h. h;
-    key = λ l h. tt;
+    key = λ l h. so (instance_of_lsa l) h;
     count = count;
   }
 
@@ -183,7 +188,7 @@ own_name : (key : Key) (copy : Option DatabaseCopy) (says : LsaBody) → (instan
 unfolding sealed_lsa
 own_name key copy says = refl
 
-own_if_new : (id : ℕ) (name : LsaInstance) → IsNewInstance id name → name.key.advertising_router ≡ id
+pub own_if_new : (id : ℕ) (name : LsaInstance) → IsNewInstance id name → name.key.advertising_router ≡ id
 own_if_new id name n = sym (ap (λ (m : LsaInstance). m.key.advertising_router) n.is) ∙ own_name n.key n.copy n.says ∙ n.own
 
 module _ (old : Router) (event : Occurrence) where
@@ -232,45 +237,119 @@ module _ (old : Router) (event : Occurrence) where
 -- ---- what is announced
 
 -- with what else holds of their keys
-pub all_own : (t : Telling) → ((key : Key) → t.of_key key) → (r : Router) → AnnouncesItsOwn r → AllIn (IsOwn t r.id) r.announced
-all_own t so r own key = found (finite.get r.announced key) (own key)
+pub all_own : (t : Telling) (r : Router) → AnnouncesItsOwn r → ((key : Key) (e : External) → finite.get r.announced key ≡ Some e → t.of_key key) → AllIn (IsOwn t r.id) r.announced
+all_own t r own so key = found (finite.get r.announced key) (own key) (so key)
   where
-    found : (o : Option External) → ((e : External) → o ≡ Some e → key.advertising_router ≡ r.id) → IfThere (IsOwn t r.id) key o
-    found None each = tt
-    found (Some e) each = (each e refl, so key)
+    found : (o : Option External) → ((e : External) → o ≡ Some e → key.advertising_router ≡ r.id) → ((e : External) → o ≡ Some e → t.of_key key) → IfThere (IsOwn t r.id) key o
+    found None each keys = tt
+    found (Some e) each keys = (each e refl, keys e refl)
 
 pub announces : (t : Telling) (r : Router) → AllIn (IsOwn t r.id) r.announced → AnnouncesItsOwn r
 announces t r all key e is = (subst (IfThere (IsOwn t r.id) key) is (all key)).0
 
 -- ---- an event
 
-event_known : (old : Router) (moment : ℕ) (event : Occurrence) (outs : List Out) (new : Router) → Happens old moment event outs new
+second_of : (E Q : LsaInstance → Type 0) (key : Key) (copy : Option DatabaseCopy) → IfThere (λ k c. E (instance_of_lsa c.lsa) × Q (instance_of_lsa c.lsa)) key copy
+    → IfThere (λ k c. Q (instance_of_lsa c.lsa)) key copy
+second_of E Q key None h = tt
+second_of E Q key (Some c) h = h.1
+
+-- beside why a name is known, what else is so of names and of their keys
+module _ (Q : LsaInstance → Type 0) (P : Key → Type 0) (so : (name : LsaInstance) → Q name → P name.key) where
+  -- it is so of what is there before the event, of what the event brings, and of new instances
+  pub record Enters (old : Router) (event : Occurrence) : Type 0 where
+    pub own : P (router_key old.id)
+    pub held : AllByRecursion Q (instances_stored old)
+    pub announced : (key : Key) (e : External) → finite.get old.announced key ≡ Some e → P key
+    pub brought : (number : ℕ) (bytes : List ℕ) (packet : Packet) → event ≡ Occurrence.Packet number bytes → PacketText bytes packet
+        → AllByRecursion Q (instances_received packet.body)
+    pub asked : (tagged : External) (tag : ℕ) (priced : External) (price : ℕ) → event ≡ Occurrence.Redistribute tagged tag priced price → P (external_key old.id priced.prefix)
+    pub new : (key : Key) (copy : Option DatabaseCopy) (says : LsaBody) → P key → IfThere (λ k c. Q (instance_of_lsa c.lsa)) key copy → has_max_sequence copy ≡ false
+        → Q (instance_of_lsa (new_instance key copy says))
+
+  -- so it is of what is there after it, and of what is sent
+  pub record Leaves (old : Router) (event : Occurrence) (p : EventState) : Type 0 where
+    pub originated : List LsaInstance
+    pub new_instances : AllByRecursion (IsNewInstance old.id) originated
+    pub known : AllByRecursion (λ name. IsKnown old event originated name × Q name) (instances_stored p.router ++ instances_in_sends p.sends)
+    pub same_router : p.router.id ≡ old.id
+    pub own : AnnouncesItsOwn p.router
+    pub announced : (key : Key) (e : External) → finite.get p.router.announced key ≡ Some e → P key
+
+  module _ (old : Router) (moment : ℕ) (event : Occurrence) (outs : List Out) (new : Router) (happens : Happens old moment event outs new) where
+    abbrev K : LsaInstance → Type 0
+    K name = IsExplained old event name × Q name
+
+    abbrev t : Telling
+    t = named_by K P (λ name k. so name k.1) (length old.area.links)
+
+    abbrev p : EventState
+    p = end_event old moment happens.after
+
+    abbrev names : List LsaInstance
+    names = instances_stored p.router ++ instances_in_sends p.sends
+
+    left : AnnouncesItsOwn old → Enters old event → OfEvent (told t old.id) p
+    left own enters =
+        event_told t old.id
+        (λ key copy says its wants. (
+          IsExplained.New (record { key = key; copy = copy; says = says; own = its.0; is = refl }),
+          enters.new key copy says its.1 (second_of (IsExplained old event) Q key copy wants.0) wants.1,
+        ))
+        enters.own old moment event happens.after
+        (record {
+          packet = λ number bytes packet is text.
+              body_brought K P (λ name k. so name k.1) (length old.area.links) packet.body
+              (paired_all (IsExplained old event) Q (instances_received packet.body)
+              (of_members (IsExplained old event) (instances_received packet.body) (λ name c. IsExplained.Brought number bytes packet is text c)) (enters.brought number bytes packet is text));
+          key = λ tagged tag priced price is. ((refl, enters.asked tagged tag priced price is), tt);
+        })
+        happens.own
+        (named_held K P (λ name k. so name k.1) (length old.area.links) old refl
+        (paired_all (IsExplained old event) Q (instances_stored old) (of_members (IsExplained old event) (instances_stored old) (λ name c. IsExplained.Held c)) enters.held))
+        refl (all_own t old own enters.announced)
+
+    pub event_leaves : AnnouncesItsOwn old → Enters old event → Leaves old event p
+    event_leaves own enters =
+        let end : OfEvent (told t old.id) p = left own enters in
+        let all : AllByRecursion K names = held_named K P (λ name k. so name k.1) (length old.area.links) p.router p.sends end.area in
+        let why : AllByRecursion (IsExplained old event) names = each_all K (IsExplained old event) (λ name k. k.0) names all in
+        let originated : List LsaInstance = new_ones old event names why in
+        record {
+          originated = originated;
+          new_instances = all_new old event names why;
+          known = paired_all (IsKnown old event originated) Q names (all_known old event names why) (each_all K Q (λ name k. k.1) names all);
+          same_router = end.announced.0;
+          own = announces t p.router (subst (λ id. AllIn (IsOwn t id) p.router.announced) (sym end.announced.0) end.announced.1);
+          announced = λ key e is. (subst (IfThere (IsOwn t old.id) key) is (end.announced.1 key)).1;
+        }
+
+abbrev Any : LsaInstance → Type 0
+Any name = Unit {0}
+
+pub event_known : (old : Router) (moment : ℕ) (event : Occurrence) (outs : List Out) (new : Router) → Happens old moment event outs new
     → AnnouncesItsOwn old → AnnouncesItsOwn new × HoldsWhatIsKnown old event outs new
 event_known old moment event outs new happens own =
     let p : EventState = end_event old moment happens.after in
-    let held : AllByRecursion (IsExplained old event) (instances_stored old) = of_members (IsExplained old event) (instances_stored old) (λ name c. IsExplained.Held c) in
-    let end : OfEvent (told (named_by (IsExplained old event) (length old.area.links)) old.id) p =
-    event_told (named_by (IsExplained old event) (length old.area.links)) old.id (λ key copy says its wants. IsExplained.New (record { key = key; copy = copy; says = says; own = its.0; is = refl })) tt
-    old moment event happens.after
+    let l : Leaves Any (λ key. Unit {0}) (λ name q. tt) old event p =
+    event_leaves Any (λ key. Unit {0}) (λ name q. tt) old moment event outs new happens own
     (record {
-      packet = λ number bytes packet is text.
-          body_brought (IsExplained old event) (length old.area.links) packet.body
-          (of_members (IsExplained old event) (instances_received packet.body) (λ name c. IsExplained.Brought number bytes packet is text c));
-      key = λ tagged tag priced price is. ((refl, tt), tt);
-    })
-    happens.own (named_held (IsExplained old event) (length old.area.links) old refl held) refl (all_own (named_by (IsExplained old event) (length old.area.links)) (λ key. tt) old own) in
-    let all : AllByRecursion (IsExplained old event) (instances_stored p.router ++ instances_in_sends p.sends) = held_named (IsExplained old event) (length old.area.links) p.router p.sends end.area in
-    let originated : List LsaInstance = new_ones old event (instances_stored p.router ++ instances_in_sends p.sends) all in
+      own = tt;
+      held = of_members Any (instances_stored old) (λ name c. tt);
+      announced = λ key e is. tt;
+      brought = λ number bytes packet is text. of_members Any (instances_received packet.body) (λ name c. tt);
+      asked = λ tagged tag priced price is. tt;
+      new = λ key copy says its there goes. tt;
+    }) in
+    let originated : List LsaInstance = l.originated in
     let known : AllByRecursion (IsKnown old event originated) (instances_stored p.router ++ instances_in_sends p.sends) =
-    all_known old event (instances_stored p.router ++ instances_in_sends p.sends) all in
-    let fresh : AllByRecursion (IsNewInstance old.id) originated = all_new old event (instances_stored p.router ++ instances_in_sends p.sends) all in (
-      subst AnnouncesItsOwn (sym happens.router)
-          (announces (named_by (IsExplained old event) (length old.area.links)) p.router (subst (λ id. AllIn (IsOwn (named_by (IsExplained old event) (length old.area.links)) id) p.router.announced) (sym end.announced.0) end.announced.1)),
+    each_all (λ name. IsKnown old event originated name × Any name) (IsKnown old event originated) (λ name k. k.0) (instances_stored p.router ++ instances_in_sends p.sends) l.known in (
+      subst AnnouncesItsOwn (sym happens.router) l.own,
       record {
         originated = originated;
-        new_instances = fresh;
-        same_router = ap (λ (r : Router). r.id) happens.router ∙ end.announced.0;
-        own = λ name c. own_if_new old.id name (of_member (IsNewInstance old.id) originated fresh name c);
+        new_instances = l.new_instances;
+        same_router = ap (λ (r : Router). r.id) happens.router ∙ l.same_router;
+        own = λ name c. own_if_new old.id name (of_member (IsNewInstance old.id) originated l.new_instances name c);
         held = λ name c.
             of_member (IsKnown old event originated) (instances_stored p.router) (left_all (IsKnown old event originated) (instances_stored p.router) (instances_in_sends p.sends) known) name
             (subst (λ (r : Router). Contains (instances_stored r) name) happens.router c);
@@ -291,7 +370,7 @@ none_on t [] = tt
 none_on t (i ∷ is) = (record { neighbor = tt; acknowledgments = none_in (OfWaiting t) }, none_on t is)
 
 abbrev anything : Config → Telling
-anything c = named_by (λ name. Unit {0}) (length (map fresh_link c.interfaces))
+anything c = named_by Any (λ key. Unit {0}) (λ name q. tt) (length (map fresh_link c.interfaces))
 
 first_own : (c : Config) → AnnouncesItsOwn (initial c)
 first_own c =

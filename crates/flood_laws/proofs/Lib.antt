@@ -4,6 +4,7 @@ pub mod Told
 pub mod Packed
 pub mod Known
 pub mod Read
+pub mod Keeping
 pub mod Lawful
 pub mod Worlds
 pub mod Invariants

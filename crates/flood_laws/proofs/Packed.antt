@@ -23,7 +23,7 @@ chosen_of {Y = Y} f R P each (c ∷ cs) p = in_front (f c) (each c p.0) (filter_
     in_front None q ys r = r
     in_front (Some y) q ys r = (q.0, r)
 
-at_number : (R : Content → Type 0) (n : ℕ) (sends : List Send) → AllByRecursion (λ (s : Send). R s.content) sends → AllByRecursion R (filter_map (at_interface n) sends)
+pub at_number : (R : Content → Type 0) (n : ℕ) (sends : List Send) → AllByRecursion (λ (s : Send). R s.content) sends → AllByRecursion R (filter_map (at_interface n) sends)
 at_number R n [] p = tt
 at_number R n (s ∷ sends) p = by_number (s.number == n) (at_number R n sends p.1)
   where
@@ -76,7 +76,7 @@ module _ (K : LsaInstance → Type 0) where
   texts_bear : (delay : ℕ) (lsas : List Lsa) → AllByRecursion OfLsa lsas → Bears K (update_of delay lsas)
   texts_bear delay lsas so = mapped_all (λ (l : Lsa). text (sent_lsa delay l)) OfLsa (IsTextOf K) (λ l k. record { lsa = sent_lsa delay l; is = refl; known = k }) lsas so
 
-  bodies_bear : (delay : ℕ) (cs : List Content) → AllByRecursion LsaInstances cs → AllByRecursion (Bears K) (bodies delay cs)
+  pub bodies_bear : (delay : ℕ) (cs : List Content) → AllByRecursion LsaInstances cs → AllByRecursion (Bears K) (bodies delay cs)
   bodies_bear delay cs so =
       let lsas : List Lsa = in_key_order lsa_key (filter_map updates cs) in
       let headers : List Header = in_key_order key_of (filter_map acknowledgments cs) in

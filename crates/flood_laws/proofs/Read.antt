@@ -16,7 +16,7 @@ abbrev NamedAs : Lsa → Option Lsa → Type 0
 NamedAs l None = Unit {0}
 NamedAs l (Some m) = instance_of_lsa l ≡ instance_of_lsa m
 
-abbrev read_unless : List ℕ → Option Fault → Option Lsa
+abbrev pub read_unless : List ℕ → Option Fault → Option Lsa
 read_unless bytes None = Some (lsa_of bytes)
 read_unless bytes (Some f) = None
 

@@ -17,7 +17,8 @@ use Rattle.received.specs.Outcomes.{Send}
 use Rattle.events.specs.declared.model.Config.{Config}
 use Rattle.events.specs.declared.model.Out.{Out}
 use Rattle.events.specs.Events.{Happens, Run, Step, initial}
-use Rattle.events.specs.LsaInstances.{LsaInstance, instance_of_lsa, instance_of_header, instances_in_update}
+use Rattle.events.specs.LsaInstances.{LsaInstance, instance_of_lsa, instance_of_header}
+use Rattle.events.specs.LsaInstances.{instances_in_update}
 use Rattle.events.specs.Originations.{new_instance}
 use Rattle.events.specs.Packing.{out_of}
 use Rattle.events.specs.Routers.{Occurrence, Router}

@@ -1,4 +1,5 @@
 pub mod Known
+pub mod Keeping
 pub mod Lawful
 pub mod NeighborLaws
 pub mod LimitLaws

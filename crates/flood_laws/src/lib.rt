@@ -3,6 +3,7 @@
 #![tactic(auto)]
 
 ghost use Rattle.flood_laws.specs.Known.{EventsHoldOnlyWhatIsKnown, UpdatesTellWhatTheyBear};
+ghost use Rattle.flood_laws.specs.Keeping.{EventsKeepWhatIsKnown, InstancesStayInRange};
 ghost use Rattle.flood_laws.specs.Lawful.{TextsAreLawful};
 ghost use Rattle.flood_laws.specs.LimitLaws.{OthersStayWithinLimits};
 ghost use Rattle.flood_laws.specs.NeighborLaws.{FullNeighborsRequestNothing, ListsAreSound, WhatIsLeftIsRequested};
@@ -82,6 +83,23 @@ pub fn updates_tell_what_they_bear()
 /// and there are at most 8,192 bytes.
 pub fn texts_are_lawful()
     ensures { TextsAreLawful }
+{}
+
+/// The numbers of the instances that a router holds, and of the keys that it announces, stay in
+/// their ranges: they are in them at the start, each event that announces an address in its range
+/// keeps them there, and so they are in every run.
+pub fn instances_stay_in_range()
+    ensures { InstancesStayInRange }
+{}
+
+/// A router's step keeps what acknowledgments rest on, where what is sent is written as texts: the
+/// Router ID stays, each packet that is sent is from this router, and each instance in the
+/// database, on the retransmission lists and among the delayed acknowledgments that it leaves, and
+/// each that an Update or an Acknowledgment tells that it sends, was held before, came in the
+/// event's Update, or is a new one of the router's own LSAs. What the event's packet takes off a
+/// retransmission list as acknowledged, it tells (RFC 2328, sections 13 and 13.7).
+pub fn events_keep_what_is_known()
+    ensures { EventsKeepWhatIsKnown }
 {}
 
 /// Over every history of routers whose steps keep what `Keeps` says, whatever is lost, repeated or

@@ -6,7 +6,8 @@ use Rattle.machine.specs.declared.helper.Helper.{Helper}
 use Rattle.machine.specs.declared.state.Content.{Content}
 use Rattle.machine.specs.Faults.{has, is_nothing, is_address, helper_reads, passes_too_much}
 
--- The first fault of a call of this helper, if there is one, in the machine's order: no such helper, an empty argument, a pointer, a number that is too large.
+-- The first fault of a call of this helper, if there is one, in the machine's order: no such
+-- helper, an empty argument, a pointer, a number that is too large.
 abbrev pub fault_of_call : Option Helper → Content → Content → Option Fault
 fault_of_call helper first second =
     if is_none helper then Some faults.Helper else
@@ -16,4 +17,5 @@ fault_of_call helper first second =
 
 -- the first fault of arguments that have to be numbers
 abbrev pub fault_of_arguments : List Content → Option Fault
-fault_of_arguments contents = if has is_nothing contents then Some faults.Empty else if has is_address contents then Some faults.Kind else None
+fault_of_arguments contents = if has is_nothing contents then Some faults.Empty
+    else if has is_address contents then Some faults.Kind else None

@@ -8,9 +8,10 @@ use Rattle.helpers.specs.Seats.{Makes}
 use Rattle.hooks.specs.declared.operation.Operation.{Operation}
 use Rattle.hooks.specs.Operations.{Answers}
 
--- The list that the asker knows now answers the input with the word. It begins with all that it knew before, and the
--- seat made just the steps of the run.
-pub record IsAnswered (before now : List Operation) (old new : SeatView) (input : Given) (word : ℕ) : Type 0 where
+-- The list that the asker knows now answers the input with the word. It begins with all that it
+-- knew before, and the seat made just the steps of the run.
+pub record IsAnswered (before now : List Operation) (old new : SeatView) (input : Given)
+    (word : ℕ) : Type 0 where
   pub labels : List Label
   pub begins : IsPrefix before now
   pub made : Makes old labels new

@@ -9,7 +9,8 @@ use Rattle.hooks.specs.declared.operation.Operation.{Operation}
 use Rattle.hooks.specs.Operations.{hook_of, outcome_of, leaves, default_of}
 use Rattle.hooks.specs.Questions.{tag_input, price_input}
 
--- after an operation at its own hook stands what it leaves there, and at the others what stood there
+-- after an operation at its own hook stands what it leaves there, and at the others what stood
+-- there
 abbrev pub LastDecides : Type 0
 LastDecides = (before : List Operation) (last : Operation) (hook : Hook)
     → (hook_of last ≡ hook → leaves hook (before ++ last ∷ []) ≡ outcome_of last)
@@ -19,4 +20,5 @@ LastDecides = (before : List Operation) (last : Operation) (hook : Hook)
 abbrev pub DefaultsAreConfigured : Type 0
 DefaultsAreConfigured = (external : External) (moment : Moment) (rows : List TableRow)
     → (external.tag < 2 ^ 32 → default_of Tag (tag_input external moment rows) ≡ external.tag)
-    × (external.metric < 2 ^ 32 → default_of Price (price_input external moment rows) ≡ external.metric)
+    × (external.metric < 2 ^ 32
+    → default_of Price (price_input external moment rows) ≡ external.metric)

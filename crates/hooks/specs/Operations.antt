@@ -1,5 +1,6 @@
 -- What a list of operations leaves at a hook, and what answers an input there.
-use Rattle.std.specs.Prelude.{◌≡◌, ℕ, ◌≤◌, ◌==◌, if◌then◌else◌, List, [], fold, Option, Some, None, MatchOption, slice_range}
+use Rattle.std.specs.Prelude.{◌≡◌, ℕ, ◌≤◌, ◌==◌, if◌then◌else◌, List, [], fold, Option, Some, None}
+use Rattle.std.specs.Prelude.{MatchOption, slice_range}
 use Rattle.isa.specs.declared.code.Slot.{Slot}
 use Rattle.isa.specs.declared.hook.Hook.{Hook}
 use Rattle.isa.specs.declared.hook.Hook.TheVariants.{Count, Tag, Price, Veto}
@@ -26,7 +27,8 @@ program_of p = record { code = p.code; hook = p.hook; bound = p.bound }
 
 -- the verifier accepts it
 abbrev pub IsAccepted : Program → Type 0
-IsAccepted p = verifier.IsAccepted (record { code = p.code; hook = p.hook; bound = p.bound; room = 0 })
+IsAccepted p =
+    verifier.IsAccepted (record { code = p.code; hook = p.hook; bound = p.bound; room = 0 })
 
 abbrev pub hook_of : Operation → Hook
 hook_of (Attach accepted) = accepted.hook
@@ -54,14 +56,15 @@ default_of Price input = number_of (slice_range input.context 12 16)
 default_of Veto input = 0
 
 -- the word of a run, with these labels, of an accepted program at its hook
-pub record RunsTo (program : Program) (input : Given) (labels : List Label) (word : ℕ) : Type 0 where
+pub record RunsTo (program : Program) (input : Given) (labels : List Label)
+    (word : ℕ) : Type 0 where
   pub accepted : IsAccepted program
   pub used : ℕ
   pub within : used ≤ program.bound
   pub ends : Ends (setting_of program.code program.hook input) used labels word
 
--- The word of a run, with these labels, of the program that the operations leave at the input's hook;
--- or, only where they leave none there, the default.
+-- The word of a run, with these labels, of the program that the operations leave at the input's
+-- hook; or, only where they leave none there, the default.
 abbrev pub Answers : List Operation → Given → List Label → ℕ → Type 0
 Answers operations input labels word =
     (hook : Hook) × IsOfHook hook input
@@ -71,4 +74,6 @@ Answers operations input labels word =
 
 -- the input is of some hook: its first four bytes are a hook's number
 abbrev pub IsAsked : Given → Type 0
-IsAsked input = (1 ≤ number_of (slice_range input.context 0 4)) × (number_of (slice_range input.context 0 4) ≤ 4)
+IsAsked input =
+    (1 ≤ number_of (slice_range input.context 0 4))
+    × (number_of (slice_range input.context 0 4) ≤ 4)

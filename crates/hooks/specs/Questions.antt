@@ -21,18 +21,22 @@ count_input interface moment packet = record {
 
 -- the others have the rows of a table and no packet
 abbrev pub tag_input : External → Moment → List TableRow → Given
-tag_input external moment rows = record { context = tag_context external moment; packet = []; rows = rows }
+tag_input external moment rows =
+    record { context = tag_context external moment; packet = []; rows = rows }
 
 abbrev pub price_input : External → Moment → List TableRow → Given
-price_input external moment rows = record { context = price_context external moment; packet = []; rows = rows }
+price_input external moment rows =
+    record { context = price_context external moment; packet = []; rows = rows }
 
 abbrev pub veto_input : Route → Moment → List TableRow → Given
-veto_input route moment rows = record { context = veto_context route moment; packet = []; rows = rows }
+veto_input route moment rows =
+    record { context = veto_context route moment; packet = []; rows = rows }
 
 -- the word of a run of an accepted program of the hook, or the default
 abbrev pub IsAnswer : Hook → Given → (word : ℕ) → Type 0
 IsAnswer hook input word =
-    ((program : Program) × (labels : List Label) × (program.hook ≡ hook) × RunsTo program input labels word)
+    ((program : Program) × (labels : List Label) × (program.hook ≡ hook)
+    × RunsTo program input labels word)
     ⊎ (word ≡ default_of hook input)
 
 -- an answer on an external destination, and one on a route

@@ -22,12 +22,22 @@ vacant front = record { count = None; tag = None; price = None; veto = None; fro
 
 -- each slot shows what the operations leave at its hook
 abbrev pub Stands : Programs → Type 0
-Stands p = (p.count ≡ leaves Count (listed p)) × (p.tag ≡ leaves Tag (listed p)) × (p.price ≡ leaves Price (listed p)) × (p.veto ≡ leaves Veto (listed p))
+Stands p =
+    (p.count ≡ leaves Count (listed p)) × (p.tag ≡ leaves Tag (listed p))
+    × (p.price ≡ leaves Price (listed p)) × (p.veto ≡ leaves Veto (listed p))
 
 -- the value after one more operation
 abbrev pub changed : Programs → Entry → Programs
-changed p e = record { count = after Count p.count e.operation; tag = after Tag p.tag e.operation; price = after Price p.price e.operation; veto = after Veto p.veto e.operation; front = e.front }
+changed p e =
+    record {
+      count = after Count p.count e.operation;
+      tag = after Tag p.tag e.operation;
+      price = after Price p.price e.operation;
+      veto = after Veto p.veto e.operation;
+      front = e.front;
+    }
 
 -- the value with these entries stays one that stands, of the same history
 abbrev pub Fits : Programs → List Entry → Type 0
-Fits p entries = Stands p → Stands (fold changed p entries) × (history (fold changed p entries) ≡ history p)
+Fits p entries =
+    Stands p → Stands (fold changed p entries) × (history (fold changed p entries) ≡ history p)

@@ -2,7 +2,9 @@
 use Rattle.std.specs.Prelude.{ℕ, ◌*◌, ◌<◌, ◌≤◌, ◌^◌, Bool, IsTrue, Option, IsSomeAnd, IfSome}
 use Rattle.isa.specs.declared.instruction.Width.{Width}
 use Rattle.isa.specs.declared.instruction.Test.{Test}
-use Rattle.isa.specs.declared.instruction.Test.TheVariants.{AnyBitSet, SignedGreater, SignedGreaterOrEqual, SignedLess, SignedLessOrEqual}
+use Rattle.isa.specs.declared.instruction.Test.TheVariants.{AnyBitSet, SignedGreater}
+use Rattle.isa.specs.declared.instruction.Test.TheVariants.{SignedGreaterOrEqual, SignedLess}
+use Rattle.isa.specs.declared.instruction.Test.TheVariants.{SignedLessOrEqual}
 use Rattle.isa.specs.Arithmetic.{bits, test_holds}
 use Rattle.interval.specs.declared.value.Interval.{Interval}
 use Rattle.interval.specs.Bounds.{IsIn, Bounds, bounds_of, IsBetween}

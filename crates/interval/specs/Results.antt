@@ -2,7 +2,9 @@
 use Rattle.std.specs.Prelude.{◌≡◌, ℕ, ◌+◌, ◌-◌, ◌*◌, ◌%◌, ◌<◌, ◌≤◌, ◌^◌, ◌⊎◌}
 use Rattle.isa.specs.declared.instruction.Width.{Width}
 use Rattle.isa.specs.declared.instruction.Operation.{Operation}
-use Rattle.isa.specs.declared.instruction.Operation.TheVariants.{Add, Subtract, Multiply, Divide, And, ShiftLeft, ShiftRight, Modulo, Move}
+use Rattle.isa.specs.declared.instruction.Operation.TheVariants.{Add, Subtract, Multiply, Divide}
+use Rattle.isa.specs.declared.instruction.Operation.TheVariants.{And, ShiftLeft, ShiftRight, Modulo}
+use Rattle.isa.specs.declared.instruction.Operation.TheVariants.{Move}
 use Rattle.isa.specs.Arithmetic.{bits, operate}
 use Rattle.absdom.specs.declared.unary.UnaryOperation.{UnaryOperation}
 use Rattle.absdom.specs.declared.unary.UnaryOperation.TheVariants.{Negate}

@@ -1,5 +1,7 @@
--- Why bytes aren't code, and at which slot. At one slot the refusals come in this order: opcode, register, reserved, half of a wide instruction.
-use Rattle.std.specs.Prelude.{◌≡◌, ◌≢◌, ℕ, ◌≤◌, ◌<◌, ◌/◌, ◌%◌, ◌⊎◌, List, ◌++◌, length, take, slice_index, IsTrue}
+-- Why bytes aren't code, and at which slot. At one slot the refusals come in this order: opcode,
+-- register, reserved, half of a wide instruction.
+use Rattle.std.specs.Prelude.{◌≡◌, ◌≢◌, ℕ, ◌≤◌, ◌<◌, ◌/◌, ◌%◌, ◌⊎◌, List, ◌++◌, length, take}
+use Rattle.std.specs.Prelude.{slice_index, IsTrue}
 use Rattle.isa.specs.declared.decoding.DecodeFault.{DecodeFault}
 use Rattle.isa.specs.declared.decoding.DecodeFault.TheVariants as faults
 use Rattle.isa.specs.declared.instruction.Instruction.{Instruction}
@@ -38,13 +40,17 @@ abbrev pub Fails : List ℕ → DecodeFault → Type 0
 Fails bytes faults.Opcode = (i : Instruction) → (fields_of i).opcode ≢ slice_index bytes 0
 -- the opcode is listed, and a register field is above 10
 Fails bytes faults.Register =
-    IsListed (slice_index bytes 0) × ((10 < slice_index bytes 1 % 16) ⊎ (10 < slice_index bytes 1 / 16))
--- opcode and registers are right, and another field isn't: of the first slot, or of the second, if there is one
+    IsListed (slice_index bytes 0)
+    × ((10 < slice_index bytes 1 % 16) ⊎ (10 < slice_index bytes 1 / 16))
+-- opcode and registers are right, and another field isn't: of the first slot, or of the second, if
+-- there is one
 Fails bytes faults.Reserved =
     IsListed (slice_index bytes 0) × HasRegisters bytes
-    × (((i : Instruction) → Begins i bytes → ⊥) ⊎ ((16 ≤ length bytes) × ((i : Instruction) → BeginsWhole i bytes → ⊥)))
+    × (((i : Instruction) → Begins i bytes → ⊥)
+    ⊎ ((16 ≤ length bytes) × ((i : Instruction) → BeginsWhole i bytes → ⊥)))
 -- the first slot of a wide instruction is right, and there is no second one
-Fails bytes faults.HalfWide = (length bytes < 16) × ((i : Instruction) × IsTrue (is_wide i) × Begins i bytes)
+Fails bytes faults.HalfWide = (length bytes < 16)
+    × ((i : Instruction) × IsTrue (is_wide i) × Begins i bytes)
 Fails bytes other = ⊥
 
 -- From 1 to 4096 whole slots.

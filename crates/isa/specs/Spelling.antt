@@ -29,7 +29,8 @@ use Rattle.isa.specs.declared.code.Slot.{Slot}
 
 -- The fields of a slot are the unsigned numbers of their bits.
 abbrev pub bytes_of_fields : Fields → List ℕ
-bytes_of_fields f = f.opcode ∷ (16 * f.source + f.target) ∷ to_le_bytes w16 f.offset ++ to_le_bytes w32 f.immediate
+bytes_of_fields f = f.opcode ∷ (16 * f.source + f.target) ∷ to_le_bytes w16 f.offset
+    ++ to_le_bytes w32 f.immediate
 
 -- ---- the tables
 
@@ -112,13 +113,22 @@ source_number (sources.Immediate number) = cast_unsigned w32 number
 source_number (sources.Register register) = 0
 
 abbrev pub fields : ℕ → ℕ → ℕ → ℕ → ℕ → Fields
-fields opcode target source offset immediate = record { opcode = opcode; target = target; source = source; offset = offset; immediate = immediate }
+fields opcode target source offset immediate =
+    record {
+      opcode = opcode;
+      target = target;
+      source = source;
+      offset = offset;
+      immediate = immediate;
+    }
 
 -- ---- the first, or only, slot of an instruction
 
 abbrev pub fields_of_extension : Extension → ℕ → ℕ → Fields
-fields_of_extension (extensions.Byte width) target source = fields (16 * 11 + 8 + arithmetic_class width) target source 8 0
-fields_of_extension (extensions.Half width) target source = fields (16 * 11 + 8 + arithmetic_class width) target source 16 0
+fields_of_extension (extensions.Byte width) target source =
+    fields (16 * 11 + 8 + arithmetic_class width) target source 8 0
+fields_of_extension (extensions.Half width) target source =
+    fields (16 * 11 + 8 + arithmetic_class width) target source 16 0
 fields_of_extension extensions.Word target source = fields (16 * 11 + 8 + 7) target source 32 0
 
 abbrev pub order_opcode : ByteOrder → ℕ
@@ -127,28 +137,39 @@ order_opcode orders.Big = 16 * 13 + 8 + 4
 order_opcode orders.Swap = 16 * 13 + 7
 
 abbrev pub fields_of_store : StoreSize → ℕ → ℤ → Source → Fields
-fields_of_store size base offset (sources.Immediate number) = fields (store_code size + 2) base 0 (cast_unsigned w16 offset) (cast_unsigned w32 number)
-fields_of_store size base offset (sources.Register register) = fields (store_code size + 3) base register (cast_unsigned w16 offset) 0
+fields_of_store size base offset (sources.Immediate number) =
+    fields (store_code size + 2) base 0 (cast_unsigned w16 offset) (cast_unsigned w32 number)
+fields_of_store size base offset (sources.Register register) =
+    fields (store_code size + 3) base register (cast_unsigned w16 offset) 0
 
 abbrev pub fields_of : Instruction → Fields
-fields_of (instructions.Arithmetic width operation target source) = fields (16 * operation_code operation + source_bit source + arithmetic_class width) target (source_register source) (operation_offset operation) (source_number source)
+fields_of (instructions.Arithmetic width operation target source) =
+    fields (16 * operation_code operation + source_bit source + arithmetic_class width) target
+    (source_register source) (operation_offset operation) (source_number source)
 fields_of (instructions.Negate width target) = fields (16 * 8 + arithmetic_class width) target 0 0 0
-fields_of (instructions.SignExtend extension target source) = fields_of_extension extension target source
-fields_of (instructions.Reorder order width target) = fields (order_opcode order) target 0 0 (swap_bits width)
+fields_of (instructions.SignExtend extension target source) =
+    fields_of_extension extension target source
+fields_of (instructions.Reorder order width target) =
+    fields (order_opcode order) target 0 0 (swap_bits width)
 fields_of (instructions.Jump distance) = fields 5 0 0 (cast_unsigned w16 distance) 0
 fields_of (instructions.LongJump distance) = fields 6 0 0 0 (cast_unsigned w32 distance)
-fields_of (instructions.Branch width test left right distance) = fields (16 * test_code test + source_bit right + jump_class width) left (source_register right) (cast_unsigned w16 distance) (source_number right)
+fields_of (instructions.Branch width test left right distance) =
+    fields (16 * test_code test + source_bit right + jump_class width) left (source_register right)
+    (cast_unsigned w16 distance) (source_number right)
 fields_of (instructions.Call helper) = fields (16 * 8 + 5) 0 0 0 (cast_unsigned w32 helper)
 fields_of instructions.Exit = fields (16 * 9 + 5) 0 0 0 0
-fields_of (instructions.Load size target base offset) = fields (load_code size + 1) target base (cast_unsigned w16 offset) 0
+fields_of (instructions.Load size target base offset) =
+    fields (load_code size + 1) target base (cast_unsigned w16 offset) 0
 fields_of (instructions.Store size base offset source) = fields_of_store size base offset source
 fields_of (instructions.LoadNumber target number) = fields 24 target 0 0 (number % 2 ^ 32)
 fields_of (instructions.LoadMap target map offset) = fields 24 target 6 0 (cast_unsigned w32 map)
 
 -- the second slot of a wide instruction, which is all zero but for its number
 abbrev pub second_half : Instruction → List ℕ
-second_half (instructions.LoadNumber target number) = bytes_of_fields (fields 0 0 0 0 (number / 2 ^ 32))
-second_half (instructions.LoadMap target map offset) = bytes_of_fields (fields 0 0 0 0 (cast_unsigned w32 offset))
+second_half (instructions.LoadNumber target number) =
+    bytes_of_fields (fields 0 0 0 0 (number / 2 ^ 32))
+second_half (instructions.LoadMap target map offset) =
+    bytes_of_fields (fields 0 0 0 0 (cast_unsigned w32 offset))
 second_half other = []
 
 -- A wide instruction spells both of its slots.

@@ -1,9 +1,11 @@
 -- Which bits of a result are known. What they are follows: the value has every result.
-use Rattle.std.specs.Prelude.{◌≡◌, ℕ, ◌+◌, ◌%◌, ◌<◌, ◌≤◌, ◌^◌, ◌⊎◌, ◌-◌, Bool, IsTrue, Option, Some, None, IfSome, bit_and, bit_or}
+use Rattle.std.specs.Prelude.{◌≡◌, ℕ, ◌+◌, ◌%◌, ◌<◌, ◌≤◌, ◌^◌, ◌⊎◌, ◌-◌, Bool, IsTrue, Option, Some}
+use Rattle.std.specs.Prelude.{None, IfSome, bit_and, bit_or}
 use Rattle.std.specs.Int.{bit_at}
 use Rattle.isa.specs.declared.instruction.Width.{Width}
 use Rattle.isa.specs.declared.instruction.Operation.{Operation}
-use Rattle.isa.specs.declared.instruction.Operation.TheVariants.{Add, Subtract, Or, And, ShiftLeft, ShiftRight, Xor, Move}
+use Rattle.isa.specs.declared.instruction.Operation.TheVariants.{Add, Subtract, Or, And, ShiftLeft}
+use Rattle.isa.specs.declared.instruction.Operation.TheVariants.{ShiftRight, Xor, Move}
 use Rattle.isa.specs.declared.instruction.Width.TheVariants.{Bits32, Bits64}
 use Rattle.isa.specs.declared.instruction.Test.{Test}
 use Rattle.isa.specs.declared.instruction.Test.TheVariants.{Equal}

@@ -1,5 +1,6 @@
--- What a body of a Rust value keeps by the types of its fields, and what they don't keep: a field of one, two or three
--- bytes may lie in a wider type, and a list may be longer than its count can say. Together they are `IsBody`.
+-- What a body of a Rust value keeps by the types of its fields, and what they don't keep: a field
+-- of one, two or three bytes may lie in a wider type, and a list may be longer than its count can
+-- say. Together they are `IsBody`.
 use Rattle.std.specs.Prelude.{ℕ, ◌<◌, ◌^◌, length}
 use Rattle.std.specs.List.{AllByRecursion}
 use Rattle.lsa.specs.declared.body.Link.{Link}

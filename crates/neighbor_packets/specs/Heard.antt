@@ -1,5 +1,6 @@
 -- What a Hello makes of the link that it came in at, and what is sent there.
-use Rattle.std.specs.Prelude.{Bool, true, not, ◌&&◌, ◌==◌, bit_and, if◌then◌else◌, List, [], Option, None, Some}
+use Rattle.std.specs.Prelude.{Bool, true, not, ◌&&◌, ◌==◌, bit_and, if◌then◌else◌, List, [], Option}
+use Rattle.std.specs.Prelude.{None, Some}
 use Rattle.words.specs.Numbers.{Moment, RouterNumber}
 use Rattle.packet.specs.declared.model.Hello.{Hello}
 use Rattle.adjacency.specs.Adjacencies.{after_hello}

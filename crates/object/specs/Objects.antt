@@ -17,7 +17,8 @@ slots_of o = length o.code / 8
 -- Statements in the order of their slots, each slot once, from one slot on and below another.
 abbrev pub AreStatements : ℕ → ℕ → List StatementParts → Type 0
 AreStatements least slots [] = Unit {0}
-AreStatements least slots (s ∷ ss) = IsStatement s × (least ≤ s.slot) × (s.slot < slots) × AreStatements (s.slot + 1) slots ss
+AreStatements least slots (s ∷ ss) = IsStatement s × (least ≤ s.slot) × (s.slot < slots)
+    × AreStatements (s.slot + 1) slots ss
 
 -- the first slot that a statement behind these may have, where the first may have `least`
 abbrev pub next_slot : ℕ → List StatementParts → ℕ

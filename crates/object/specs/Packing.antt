@@ -8,5 +8,6 @@ bit false = 0
 -- eight to a byte
 abbrev pub packed : List Bool → List ℕ
 packed (a ∷ b ∷ c ∷ d ∷ e ∷ f ∷ g ∷ h ∷ rest) =
-    (bit a + 2 * bit b + 4 * bit c + 8 * bit d + 16 * bit e + 32 * bit f + 64 * bit g + 128 * bit h) ∷ packed rest
+    (bit a + 2 * bit b + 4 * bit c + 8 * bit d + 16 * bit e + 32 * bit f + 64 * bit g + 128 * bit h)
+    ∷ packed rest
 packed other = []

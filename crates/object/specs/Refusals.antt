@@ -1,5 +1,6 @@
 -- Why bytes are no object file: the first refusal in the order of the tests.
-use Rattle.std.specs.Prelude.{◌≡◌, ◌≢◌, ℕ, ◌+◌, ◌*◌, ◌≤◌, ◌<◌, ◌⊎◌, List, ◌++◌, length, take, drop, slice_index}
+use Rattle.std.specs.Prelude.{◌≡◌, ◌≢◌, ℕ, ◌+◌, ◌*◌, ◌≤◌, ◌<◌, ◌⊎◌, List, ◌++◌, length, take, drop}
+use Rattle.std.specs.Prelude.{slice_index}
 use Rattle.std.specs.List.{flat_map}
 use Rattle.std.specs.Int.{w16, w32, from_le_bytes}
 use Rattle.isa.specs.declared.hook.Hook.{Hook}
@@ -71,7 +72,8 @@ pub record AreFieldsOf (bytes : List ℕ) (f : HeaderFields) : Type 0 where
 
 -- The slot in front of these bytes isn't above those before, or not in the code.
 abbrev pub IsOutOfOrder : ℕ → ℕ → List ℕ → Type 0
-IsOutOfOrder least slots bytes = (from_le_bytes w32 (take 4 bytes) < least) ⊎ (slots ≤ from_le_bytes w32 (take 4 bytes))
+IsOutOfOrder least slots bytes = (from_le_bytes w32 (take 4 bytes) < least)
+    ⊎ (slots ≤ from_le_bytes w32 (take 4 bytes))
 
 -- No statement is spelled by the first 484 bytes.
 abbrev pub IsNoStatement : List ℕ → Type 0
@@ -93,27 +95,34 @@ pub record FailsBehind (bytes : List ℕ) (slots count : ℕ) (error : ReadError
   pub fails : Fails (next_slot 0 statements) slots rest error
 
 -- The bytes spell so many statements.
-pub record AreSpelled (bytes : List ℕ) (slots count : ℕ) (statements : List StatementParts) : Type 0 where
+pub record AreSpelled (bytes : List ℕ) (slots count : ℕ)
+    (statements : List StatementParts) : Type 0 where
   pub are : AreStatements 0 slots statements
   pub text : flat_map statement_text statements ≡ bytes
   pub count_is : length statements ≡ count
 
--- Why statements aren't read of so many bytes: one fails, or memory ran out where all of them are spelled.
+-- Why statements aren't read of so many bytes: one fails, or memory ran out where all of them are
+-- spelled.
 abbrev pub StatementsFail : List ℕ → ℕ → ℕ → ReadError → Type 0
-StatementsFail bytes slots count errors.Memory = (statements : List StatementParts) × AreSpelled bytes slots count statements
+StatementsFail bytes slots count errors.Memory = (statements : List StatementParts)
+    × AreSpelled bytes slots count statements
 StatementsFail bytes slots count error = FailsBehind bytes slots count error
 
 pub record FailsAt (bytes : List ℕ) (error : ReadError) : Type 0 where
   pub begins : HasSize bytes
-  pub behind : FailsBehind (drop (16 + 8 * slots_in bytes) bytes) (slots_in bytes) (count_in bytes) error
+  pub behind : FailsBehind (drop (16 + 8 * slots_in bytes) bytes) (slots_in bytes)
+      (count_in bytes) error
 
 -- Why no object is read of the bytes. Want of memory is told only of bytes that spell an object.
 abbrev pub Refuses : List ℕ → ReadError → Type 0
-Refuses bytes errors.Short = (length bytes < 16) ⊎ (HasSlots bytes × (length bytes < announced bytes))
+Refuses bytes errors.Short = (length bytes < 16)
+    ⊎ (HasSlots bytes × (length bytes < announced bytes))
 Refuses bytes errors.Magic = (16 ≤ length bytes) × (take 4 bytes ≢ magic)
 Refuses bytes errors.Version = HasMagic bytes × (slice_index bytes 4 ≢ 1)
-Refuses bytes errors.Hook = HasVersion bytes × ((hook : Hook) → hook_number hook ≢ slice_index bytes 5)
+Refuses bytes errors.Hook = HasVersion bytes
+    × ((hook : Hook) → hook_number hook ≢ slice_index bytes 5)
 Refuses bytes errors.Order = FailsAt bytes errors.Order
-Refuses bytes errors.Field = (HasHook bytes × ((slots_in bytes ≡ 0) ⊎ (4096 < slots_in bytes))) ⊎ FailsAt bytes errors.Field
+Refuses bytes errors.Field = (HasHook bytes × ((slots_in bytes ≡ 0) ⊎ (4096 < slots_in bytes)))
+    ⊎ FailsAt bytes errors.Field
 Refuses bytes errors.Trailing = HasSlots bytes × (announced bytes < length bytes)
 Refuses bytes errors.Memory = (object : ObjectParts) × Spells bytes object

@@ -1,5 +1,6 @@
 -- Sets of stack bytes: 512 truth values, one for each byte of the stack.
-use Rattle.std.specs.Prelude.{◌≡◌, ℕ, ◌-◌, Bool, true, false, List, ◌++◌, length, take, drop, replicate, slice_index_or}
+use Rattle.std.specs.Prelude.{◌≡◌, ℕ, ◌-◌, Bool, true, false, List, ◌++◌, length, take, drop}
+use Rattle.std.specs.Prelude.{replicate, slice_index_or}
 
 abbrev pub stack_length : ℕ
 stack_length = 512

@@ -1,4 +1,5 @@
--- The bytes of an object file. Each object has one spelling; numbers stand with their lowest byte first.
+-- The bytes of an object file. Each object has one spelling; numbers stand with their lowest byte
+-- first.
 use Rattle.std.specs.Prelude.{◌≡◌, ℕ, List, [], ◌∷◌, ◌++◌, length, Option, Some, None}
 use Rattle.std.specs.List.{flat_map}
 use Rattle.std.specs.Int.{w16, w32, w64, to_le_bytes}
@@ -21,13 +22,24 @@ abbrev pub register_front : RegisterFields → List ℕ
 register_front f = f.kind ∷ f.map ∷ to_le_bytes w16 f.unused ++ to_le_bytes w32 f.offset
 
 abbrev pub register_numbers : RegisterFields → List ℕ
-register_numbers f = to_le_bytes w64 f.low ++ to_le_bytes w64 f.high ++ to_le_bytes w64 f.mask ++ to_le_bytes w64 f.value
+register_numbers f = to_le_bytes w64 f.low ++ to_le_bytes w64 f.high ++ to_le_bytes w64 f.mask
+    ++ to_le_bytes w64 f.value
 
 abbrev pub register_bytes : RegisterFields → List ℕ
 register_bytes f = register_front f ++ register_numbers f
 
 abbrev pub register_fields : ℕ → ℕ → ℕ → Numbers → RegisterFields
-register_fields kind map offset n = record { kind = kind; map = map; unused = 0; offset = offset; low = n.low; high = n.high; mask = n.mask; value = n.value }
+register_fields kind map offset n =
+    record {
+      kind = kind;
+      map = map;
+      unused = 0;
+      offset = offset;
+      low = n.low;
+      high = n.high;
+      mask = n.mask;
+      value = n.value;
+    }
 
 abbrev pub no_numbers : Numbers
 no_numbers = record { low = 0; high = 0; mask = 0; value = 0 }
@@ -46,7 +58,8 @@ kind_text kind = register_bytes (fields_of_kind kind)
 -- ---- the front of a statement: 20 bytes
 
 abbrev pub rank_bytes : RankFields → List ℕ
-rank_bytes f = to_le_bytes w32 f.slot ++ to_le_bytes w32 f.constant ++ f.first_register ∷ f.second_register ∷ to_le_bytes w16 f.unused
+rank_bytes f = to_le_bytes w32 f.slot ++ to_le_bytes w32 f.constant ++ f.first_register
+    ∷ f.second_register ∷ to_le_bytes w16 f.unused
     ++ to_le_bytes w32 f.first_coefficient ++ to_le_bytes w32 f.second_coefficient
 
 -- Where there is no term, its register and its coefficient are zero.
@@ -72,7 +85,8 @@ fields_of_rank slot rank = record {
 -- ---- a statement: 484 bytes
 
 abbrev pub statement_text : StatementParts → List ℕ
-statement_text s = rank_bytes (fields_of_rank s.slot s.rank) ++ packed s.stack ++ flat_map kind_text s.kinds
+statement_text s = rank_bytes (fields_of_rank s.slot s.rank) ++ packed s.stack
+    ++ flat_map kind_text s.kinds
 
 -- ---- the header: 16 bytes
 
@@ -82,15 +96,24 @@ magic = 0x42 ∷ 0x50 ∷ 0x46 ∷ 0x48 ∷ []
 
 -- what stands behind the first four bytes
 abbrev pub header_bytes : HeaderFields → List ℕ
-header_bytes f = f.version ∷ f.hook ∷ to_le_bytes w16 f.statements ++ to_le_bytes w32 f.entry_rank ++ to_le_bytes w32 f.slots
+header_bytes f = f.version ∷ f.hook ∷ to_le_bytes w16 f.statements ++ to_le_bytes w32 f.entry_rank
+    ++ to_le_bytes w32 f.slots
 
 abbrev pub fields_of_header : ObjectParts → HeaderFields
-fields_of_header o = record { version = 1; hook = hook_number o.hook; statements = length o.statements; entry_rank = o.entry_rank; slots = slots_of o }
+fields_of_header o =
+    record {
+      version = 1;
+      hook = hook_number o.hook;
+      statements = length o.statements;
+      entry_rank = o.entry_rank;
+      slots = slots_of o;
+    }
 
 -- ---- an object
 
 abbrev pub text : ObjectParts → List ℕ
-text o = magic ++ header_bytes (fields_of_header o) ++ o.code ++ flat_map statement_text o.statements
+text o = magic ++ header_bytes (fields_of_header o) ++ o.code
+    ++ flat_map statement_text o.statements
 
 -- The bytes spell the object.
 pub record Spells (bytes : List ℕ) (o : ObjectParts) : Type 0 where

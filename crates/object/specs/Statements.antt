@@ -1,5 +1,6 @@
 -- What a statement says at a slot of the code: of each register, of the stack and of the rank.
-use Rattle.std.specs.Prelude.{◌≡◌, ℕ, ◌≤◌, ◌<◌, ◌^◌, Bool, List, length, Option, Some, None, slice_get}
+use Rattle.std.specs.Prelude.{◌≡◌, ℕ, ◌≤◌, ◌<◌, ◌^◌, Bool, List, length, Option, Some, None}
+use Rattle.std.specs.Prelude.{slice_get}
 use Rattle.std.specs.List.{All}
 use Rattle.object.specs.declared.kind.Kind.{Kind}
 use Rattle.object.specs.declared.kind.Kind.TheVariants as kinds
@@ -25,7 +26,8 @@ pub record IsRank (rank : Rank) : Type 0 where
 
 -- The register is stated as a number.
 abbrev pub IsNumberAt : List Kind → ℕ → Type 0
-IsNumberAt registers register = (numbers : Numbers) × (slice_get registers register ≡ Some (kinds.Number numbers))
+IsNumberAt registers register = (numbers : Numbers)
+    × (slice_get registers register ≡ Some (kinds.Number numbers))
 
 -- A term's register is stated as a number.
 abbrev pub IsTermOver : List Kind → Option Term → Type 0
@@ -37,7 +39,8 @@ pub record IsRankOver (registers : List Kind) (rank : Rank) : Type 0 where
   pub first : IsTermOver registers rank.first
   pub second : IsTermOver registers rank.second
 
--- what a statement is made of: its slot, the rank there, what r0 to r9 hold, and the stack bytes that hold bytes
+-- what a statement is made of: its slot, the rank there, what r0 to r9 hold, and the stack bytes
+-- that hold bytes
 pub record StatementParts : Type 0 where
   pub slot : ℕ
   pub rank : Rank

@@ -18,11 +18,13 @@ pub record HoldsProgram (bytes : List ℕ) (object : ObjectParts) (slots : List 
   pub spells : objects.Spells bytes object
   pub decoded : code.Spells object.code slots
 
--- how many instructions a run of the object may take: all slots once, and once more for each rank below the entry's
+-- how many instructions a run of the object may take: all slots once, and once more for each rank
+-- below the entry's
 abbrev pub bound_of : ObjectParts → List Slot → ℕ
 bound_of object slots = (object.entry_rank + 1) * length slots
 
--- The program that the bytes hold is accepted, as it is and at its hook: each of its runs is never stuck and ends within its bound.
+-- The program that the bytes hold is accepted, as it is and at its hook: each of its runs is never
+-- stuck and ends within its bound.
 pub record Accepts (bytes : List ℕ) (accepted : Program) : Type 0 where
   pub object : ObjectParts
   pub holds : HoldsProgram bytes object accepted.code

@@ -1,5 +1,7 @@
--- Routers with a flag that ways lead to, and what area border routers tell (RFC 2328, sections 16.2 and 16.4).
-use Rattle.std.specs.Prelude.{◌≡◌, ◌≢◌, ℕ, ◌+◌, ◌<◌, ◌≤◌, Bool, false, true, List, Some, bit_and, slice_index_or}
+-- Routers with a flag that ways lead to, and what area border routers tell (RFC 2328, sections 16.2
+-- and 16.4).
+use Rattle.std.specs.Prelude.{◌≡◌, ◌≢◌, ℕ, ◌+◌, ◌<◌, ◌≤◌, Bool, false, true, List, Some, bit_and}
+use Rattle.std.specs.Prelude.{slice_index_or}
 use Rattle.std.specs.List.{AllPairs, Contains}
 use Rattle.words.specs.Prefixes.{IsUnder, Network, network_address}
 use Rattle.words.specs.declared.key.Key.{Key}
@@ -26,14 +28,16 @@ pub record IsFlagged (said : Said) (ways : Ways) (router flag : ℕ) (way : Way)
   pub reached : ways (ARouter router) ≡ Some way
 
 -- the summary counts: it is of another router, an area border router that this way leads to
-pub record IsCounted (said : Said) (root : Root) (ways : Ways) (originator : ℕ) (lsa : SummaryLsa) (border : Way) : Type 0 where
+pub record IsCounted (said : Said) (root : Root) (ways : Ways) (originator : ℕ) (lsa : SummaryLsa)
+    (border : Way) : Type 0 where
   pub reachable : lsa.metric < 16777215
   pub of_another : originator ≢ root.router
   pub reaches : IsFlagged said ways originator 1 border
 
 -- ---- AS boundary routers
 
--- the address of a router's name as a network of its own, by which routers stand in a list of routes
+-- the address of a router's name as a network of its own, by which routers stand in a list of
+-- routes
 abbrev pub host : ℕ → Network
 host router = record { address = network_address 32 router; length = 32 }
 
@@ -63,9 +67,11 @@ pub record IsFound (routes : List Route) (prefix : Network) (route : Route) : Ty
   pub is_for : route.prefix ≡ prefix
 
 -- within the area where there is such a way, else what is told
-pub data IsBoundary (said : Said) (ways : Ways) (told : List Route) (router : ℕ) (way : Way) : Type 0 where
+pub data IsBoundary (said : Said) (ways : Ways) (told : List Route) (router : ℕ)
+    (way : Way) : Type 0 where
   Inside : IsFlagged said ways router 2 way → IsBoundary said ways told router way
-  Outside : ((other : Way) → IsFlagged said ways router 2 other → ⊥) → (route : Route) → IsFound told (host router) route → way ≡ way_by route → IsBoundary said ways told router way
+  Outside : ((other : Way) → IsFlagged said ways router 2 other → ⊥) → (route : Route)
+      → IsFound told (host router) route → way ≡ way_by route → IsBoundary said ways told router way
 
 -- ---- forwarding addresses
 
@@ -77,17 +83,22 @@ pub record IsMatch (routes : List Route) (address length : ℕ) (route : Route) 
 
 -- the lengths of their prefixes are marked
 abbrev pub HasLengths : List Route → List Bool → Type 0
-HasLengths routes lengths = (route : Route) → Contains routes route → slice_index_or lengths route.prefix.length false ≡ true
+HasLengths routes lengths =
+    (route : Route) → Contains routes route
+    → slice_index_or lengths route.prefix.length false ≡ true
 
 -- the route of the longest prefix that the address lies in
 pub record IsLongest (routes : List Route) (address : ℕ) (route : Route) : Type 0 where
   pub among : Contains routes route
   pub under : IsUnder address route.prefix
-  pub longest : (other : Route) → Contains routes other → IsUnder address other.prefix → other.prefix.length ≤ route.prefix.length
+  pub longest : (other : Route) → Contains routes other → IsUnder address other.prefix
+      → other.prefix.length ≤ route.prefix.length
 
 -- the way to an external destination: by the originator, or by the forwarding address
-pub record IsOutward (said : Said) (ways : Ways) (told inner : List Route) (originator : ℕ) (lsa : ExternalLsa) (way : Way) : Type 0 where
+pub record IsOutward (said : Said) (ways : Ways) (told inner : List Route) (originator : ℕ)
+    (lsa : ExternalLsa) (way : Way) : Type 0 where
   pub boundary : Way
   pub reaches : IsBoundary said ways told originator boundary
   pub direct : lsa.forwarding ≡ 0 → way ≡ boundary
-  pub forwarded : lsa.forwarding ≢ 0 → (route : Route) × IsLongest inner lsa.forwarding route × (way ≡ way_by route)
+  pub forwarded : lsa.forwarding ≢ 0
+      → (route : Route) × IsLongest inner lsa.forwarding route × (way ≡ way_by route)

@@ -1,4 +1,5 @@
--- What the LSA of a key offers, where these are the ways to all nodes (RFC 2328, sections 16.1, 16.2 and 16.4).
+-- What the LSA of a key offers, where these are the ways to all nodes (RFC 2328, sections 16.1,
+-- 16.2 and 16.4).
 use Rattle.std.specs.Prelude.{◌≡◌, ◌≢◌, ℕ, ◌+◌, ◌<◌, List, Some, nat_eq, if◌then◌else◌}
 use Rattle.words.specs.Prefixes.{Network}
 use Rattle.words.specs.declared.key.Key.{Key}
@@ -56,7 +57,8 @@ pub record OfNetwork (said : Said) (ways : Ways) (key : Key) (o : Offer) : Type 
 
 -- ---- between areas (section 16.2)
 
-pub record OfSummary (said : Said) (root : Root) (ways : Ways) (key : Key) (o : Offer) : Type 0 where
+pub record OfSummary (said : Said) (root : Root) (ways : Ways) (key : Key)
+    (o : Offer) : Type 0 where
   pub is_type : key.ls_type ≡ 3
   pub lsa : SummaryLsa
   pub its : said key ≡ Some (body.NetworkSummary lsa)
@@ -74,7 +76,8 @@ pub data IsInner (said : Said) (root : Root) (ways : Ways) (key : Key) (o : Offe
 
 -- ---- external destinations (section 16.4)
 
-pub record OfExternal (said : Said) (root : Root) (ways : Ways) (told inner : List Route) (key : Key) (o : Offer) : Type 0 where
+pub record OfExternal (said : Said) (root : Root) (ways : Ways) (told inner : List Route)
+    (key : Key) (o : Offer) : Type 0 where
   pub is_type : key.ls_type ≡ 5
   pub lsa : ExternalLsa
   pub its : said key ≡ Some (body.External lsa)
@@ -84,4 +87,6 @@ pub record OfExternal (said : Said) (root : Root) (ways : Ways) (told inner : Li
   pub is_prefix : IsPrefix key.link_state_id lsa.mask prefix
   pub way : Way
   pub is_way : IsOutward said ways told inner key.advertising_router lsa way
-  pub is : o ≡ external_offer lsa.kind prefix lsa key.advertising_router (record { distance = way.distance; hops = way.hops })
+  pub is : o
+      ≡ external_offer lsa.kind prefix lsa key.advertising_router
+      (record { distance = way.distance; hops = way.hops })

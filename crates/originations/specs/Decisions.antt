@@ -6,9 +6,11 @@ use Rattle.lsa.specs.declared.body.Body.{Body}
 use Rattle.lsdb.specs.Copies.{DatabaseCopy}
 use Rattle.lsdb.specs.Headers.{Lsa}
 use Rattle.events.specs.EventState.{EventState, on_area, on_router}
-use Rattle.events.specs.Originations.{as_originated, flush, has_max_sequence, install_and_flood, interval_is_over, new_instance, wait}
+use Rattle.events.specs.Originations.{as_originated, flush, has_max_sequence, install_and_flood}
+use Rattle.events.specs.Originations.{interval_is_over, new_instance, wait}
 use Rattle.originations.specs.declared.origination.Origination.{Origination}
-use Rattle.originations.specs.declared.origination.Origination.TheVariants.{Flushes, Waits, Originates}
+use Rattle.originations.specs.declared.origination.Origination.TheVariants.{Flushes, Waits}
+use Rattle.originations.specs.declared.origination.Origination.TheVariants.{Originates}
 
 abbrev pub of_instance : Option Lsa → Origination
 of_instance None = Flushes

@@ -25,7 +25,8 @@ described i (Some router) = record {
   tos = [];
 } ∷ stub i ∷ []
 
--- ---- all interfaces: which neighbors are Full is what the router-LSA says beside the configuration
+-- ---- all interfaces: which neighbors are Full is what the router-LSA says beside the
+-- configuration
 
 abbrev pub interfaces : List Link → List Interface
 interfaces links = map (λ (link : Link). link.interface) links

@@ -19,8 +19,8 @@ abbrev pub finished : {X : Type 0} → (X → ℕ) → ℕ → ℕ → List (Lis
     → List (List X)
 finished size start used packets taken rest = packets ++ filled size start used taken rest
 
--- what was taken up of all items is packed, or in the packet that is being filled; the rest is still
--- to come, each with room in a packet of its own
+-- what was taken up of all items is packed, or in the packet that is being filled; the rest is
+-- still to come, each with room in a packet of its own
 pub record IsPackedSoFar {X : Type 0} (size : X → ℕ) (begin : ℕ) (all : List X) (start used : ℕ)
     (packets : List (List X)) (taken rest : List X) : Type 0 where
   pub filling : IsFilling start used taken

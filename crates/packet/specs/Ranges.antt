@@ -1,5 +1,6 @@
--- What a Rust value of a packet keeps by the types of its fields, and what they don't keep: that each LSA of an Update
--- has room for its header and the length that it says. Together they are `IsPacket`.
+-- What a Rust value of a packet keeps by the types of its fields, and what they don't keep: that
+-- each LSA of an Update has room for its header and the length that it says. Together they are
+-- `IsPacket`.
 use Rattle.std.specs.Prelude.{◌≡◌, ◌≤◌, ℕ, List, length}
 use Rattle.std.specs.List.{AllByRecursion}
 use Rattle.words.specs.Fields.{AreBytes, field}

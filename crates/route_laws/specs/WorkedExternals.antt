@@ -10,7 +10,8 @@ use Rattle.lsa.specs.declared.body.ExternalLsa.{ExternalLsa}
 use Rattle.lsdb.specs.Copies.{DatabaseCopy}
 use Rattle.lsdb.specs.Headers.{lsa_aged}
 use Rattle.routes.specs.Candidates.{AreCandidates}
-use Rattle.route_laws.specs.Worked.{Entries, database, dotted, mask_24, near_router, network_24, next_network, of_external, own_network, two_routers}
+use Rattle.route_laws.specs.Worked.{Entries, database, dotted, mask_24, near_router, network_24}
+use Rattle.route_laws.specs.Worked.{next_network, of_external, own_network, two_routers}
 use Rattle.routes.specs.Said.{said_at}
 
 abbrev pub external : ExternalType → ℕ → ℕ → ℕ → ExternalLsa

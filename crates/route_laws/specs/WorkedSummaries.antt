@@ -12,7 +12,8 @@ use Rattle.lsdb.specs.Copies.{DatabaseCopy}
 use Rattle.routes.specs.Candidates.{AreCandidates}
 use Rattle.routes.specs.Said.{said_at}
 use Rattle.routes.specs.declared.root.Root.{Root}
-use Rattle.route_laws.specs.Worked.{Entries, copy_of, database, dotted, key, mask_24, network_24, of_external, of_router, point_to_point}
+use Rattle.route_laws.specs.Worked.{Entries, copy_of, database, dotted, key, mask_24, network_24}
+use Rattle.route_laws.specs.Worked.{of_external, of_router, point_to_point}
 use Rattle.route_laws.specs.WorkedExternals.{external}
 
 abbrev pub summary : ℕ → SummaryLsa

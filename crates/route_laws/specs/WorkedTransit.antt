@@ -13,7 +13,8 @@ use Rattle.lsa.specs.declared.body.NetworkLsa.{NetworkLsa}
 use Rattle.lsa.specs.declared.body.RouterLsa.{RouterLsa}
 use Rattle.lsdb.specs.Copies.{DatabaseCopy}
 use Rattle.routes.specs.Candidates.{AreCandidates}
-use Rattle.route_laws.specs.Worked.{Entries, copy_of, database, dotted, key, mask_24, network_24, of_external, of_router, point_to_point, stub}
+use Rattle.route_laws.specs.Worked.{Entries, copy_of, database, dotted, key, mask_24, network_24}
+use Rattle.route_laws.specs.Worked.{of_external, of_router, point_to_point, stub}
 use Rattle.route_laws.specs.WorkedExternals.{external}
 use Rattle.routes.specs.declared.root.Root.{Root}
 use Rattle.routes.specs.Said.{said_at}

@@ -6,7 +6,8 @@ use Rattle.words.specs.declared.route.RouteKind.TheVariants.{Intra}
 use Rattle.lsa.specs.declared.body.Link.{Link}
 use Rattle.lsa.specs.declared.body.LinkKind.TheVariants.{Virtual}
 use Rattle.routes.specs.Candidates.{AreCandidates}
-use Rattle.route_laws.specs.Worked.{Entries, database, dotted, mask_24, near_router, network_24, of_router, point_to_point, stub}
+use Rattle.route_laws.specs.Worked.{Entries, database, dotted, mask_24, near_router, network_24}
+use Rattle.route_laws.specs.Worked.{of_router, point_to_point, stub}
 use Rattle.routes.specs.Said.{said_at}
 
 abbrev pub virtual : ℕ → ℕ → ℕ → Link

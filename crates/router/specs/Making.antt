@@ -7,8 +7,8 @@ use Rattle.flooding.specs.Drafted.{drafted}
 use Rattle.events.specs.EventState.{EventState}
 use Rattle.events.specs.Routers.{Router}
 
--- the router is that of the event as it is by now, and the drafts, which began as `first`, have what
--- was sent
+-- the router is that of the event as it is by now, and the drafts, which began as `first`, have
+-- what was sent
 pub record IsMaking (p : EventState) (first : List Drafted) (r : Router) (ds : List Drafted)
     : Type 0 where
   pub router : r ≡ p.router

@@ -13,4 +13,5 @@ pub record IsOwn (id : RouterNumber) (k : Key) (e : External) : Type 0 where
   pub metric : e.metric < 2 ^ 24
 
 abbrev pub AreOwn : RouterNumber → ByKey External → Type 0
-AreOwn id announced = (key : Key) (e : External) → finite.get announced key ≡ Some e → IsOwn id key e
+AreOwn id announced =
+    (key : Key) (e : External) → finite.get announced key ≡ Some e → IsOwn id key e

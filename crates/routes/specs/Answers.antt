@@ -11,10 +11,17 @@ use Rattle.routes.specs.Said.{Said}
 
 -- the way to a node, or none where no walk leads there
 abbrev pub IsNodeAnswer : Said → Root → Node → Option Way → Type 0
-IsNodeAnswer said root to None = (walk : List (Step Node)) → IsWalk (Leads said root) (ARouter root.router) walk to → ⊥
-IsNodeAnswer said root to (Some way) = IsWay (Leads said root) (ARouter root.router) to (record { distance = way.distance; hops = way.hops })
+IsNodeAnswer said root to None =
+    (walk : List (Step Node)) → IsWalk (Leads said root) (ARouter root.router) walk to → ⊥
+IsNodeAnswer said root to (Some way) =
+    IsWay (Leads said root) (ARouter root.router) to
+    (record { distance = way.distance; hops = way.hops })
 
--- where the graph's links are those of the database, its nodes at these places, its answers are those of the database
+-- where the graph's links are those of the database, its nodes at these places, its answers are
+-- those of the database
 abbrev pub GraphsCarryAnswers : Type 0
-GraphsCarryAnswers = (said : Said) (root : Root) (place : Node → Option ℕ) (g : Graph) → IsGraphOf (Leads said root) (λ node at. place node ≡ Some at) g
-    → (from to : ℕ) (node : Node) (answer : Option Way) → place (ARouter root.router) ≡ Some from → place node ≡ Some to → IsAnswer g from to answer → IsNodeAnswer said root node answer
+GraphsCarryAnswers =
+    (said : Said) (root : Root) (place : Node → Option ℕ) (g : Graph)
+    → IsGraphOf (Leads said root) (λ node at. place node ≡ Some at) g
+    → (from to : ℕ) (node : Node) (answer : Option Way) → place (ARouter root.router) ≡ Some from
+    → place node ≡ Some to → IsAnswer g from to answer → IsNodeAnswer said root node answer

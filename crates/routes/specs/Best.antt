@@ -1,4 +1,5 @@
--- How the routes of offers are made: the offers in an order in which the best one for a prefix comes first.
+-- How the routes of offers are made: the offers in an order in which the best one for a prefix
+-- comes first.
 use Rattle.std.specs.Prelude.{◌≡◌, bit_or}
 use Rattle.std.specs.Ordering.{nat_cmp, ordering_then}
 use Rattle.std.specs.declared.cmp.Ordering.{Ordering}
@@ -30,7 +31,15 @@ abbrev pub offer_cmp : Offer → Offer → Ordering
 offer_cmp a b = ordering_then (prefix_cmp a.prefix b.prefix) (kind_cmp a b)
 
 abbrev pub route_of : Offer → Route
-route_of o = record { prefix = o.prefix; kind = o.kind; cost = o.cost; distance = o.distance; hops = o.hops; tag = o.tag }
+route_of o =
+    record {
+      prefix = o.prefix;
+      kind = o.kind;
+      cost = o.cost;
+      distance = o.distance;
+      hops = o.hops;
+      tag = o.tag;
+    }
 
 -- the offer is as good as the route
 pub record AsGood (r : Route) (o : Offer) : Type 0 where

@@ -1,4 +1,5 @@
--- The candidates for the routing table (RFC 2328, sections 16.1 and 16.4): for each prefix the best offers as one route.
+-- The candidates for the routing table (RFC 2328, sections 16.1 and 16.4): for each prefix the best
+-- offers as one route.
 use Rattle.std.specs.Prelude.{◌≡◌, ◌≢◌, ℕ, ◌+◌, ◌<◌, List}
 use Rattle.words.specs.Prefixes.{Network}
 use Rattle.words.specs.declared.route.ExternalType.{ExternalType}
@@ -19,7 +20,8 @@ use Rattle.routes.specs.declared.root.Root.{Root}
 -- ---- the way to an external destination
 
 -- by the forwarding address, or by the originator where that is 0.0.0.0
-pub record IsExternalWay (said : Said) (root : Root) (originator : ℕ) (lsa : ExternalLsa) (way : Way) : Type 0 where
+pub record IsExternalWay (said : Said) (root : Root) (originator : ℕ) (lsa : ExternalLsa)
+    (way : Way) : Type 0 where
   pub boundary : Way
   pub reaches : IsBoundaryWay said root originator boundary
   pub direct : lsa.forwarding ≡ 0 → way ≡ boundary
@@ -27,16 +29,34 @@ pub record IsExternalWay (said : Said) (root : Root) (originator : ℕ) (lsa : E
 
 abbrev pub external_offer : ExternalType → Network → ExternalLsa → ℕ → Way → Offer
 external_offer Type1 prefix lsa originator way =
-    record { prefix = prefix; kind = External1; cost = way.distance + lsa.metric; distance = 0; hops = way.hops; tag = lsa.tag; originator = originator }
+    record {
+      prefix = prefix;
+      kind = External1;
+      cost = way.distance
+          + lsa.metric;
+      distance = 0;
+      hops = way.hops;
+      tag = lsa.tag;
+      originator = originator;
+    }
 external_offer Type2 prefix lsa originator way =
-    record { prefix = prefix; kind = External2; cost = lsa.metric; distance = way.distance; hops = way.hops; tag = lsa.tag; originator = originator }
+    record {
+      prefix = prefix;
+      kind = External2;
+      cost = lsa.metric;
+      distance = way.distance;
+      hops = way.hops;
+      tag = lsa.tag;
+      originator = originator;
+    }
 
 -- an external LSA below MaxAge and of a metric below LSInfinity, of another router
 pub record OffersExternal (said : Said) (root : Root) (o : Offer) : Type 0 where
   pub id : ℕ
   pub originator : ℕ
   pub lsa : ExternalLsa
-  pub its : Says said (record { ls_type = 5; link_state_id = id; advertising_router = originator }) (body.External lsa)
+  pub its : Says said (record { ls_type = 5; link_state_id = id; advertising_router = originator })
+      (body.External lsa)
   pub reachable : lsa.metric < 16777215
   pub of_another : originator ≢ root.router
   pub prefix : Network

@@ -1,4 +1,5 @@
--- There is one way, one candidate for a prefix, and one list of candidates (RFC 2328, sections 16.1 and 16.4).
+-- There is one way, one candidate for a prefix, and one list of candidates (RFC 2328, sections 16.1
+-- and 16.4).
 use Rattle.std.specs.Prelude.{◌≡◌, ◌≤◌, List}
 use Rattle.words.specs.declared.key.Key.{Key}
 use Rattle.words.specs.declared.route.Route.{Route}
@@ -11,15 +12,23 @@ use Rattle.routes.specs.Said.{Said}
 
 -- whatever links there are, a vertex has one way
 abbrev pub WaysAreDetermined : Type 0
-WaysAreDetermined = (said : Said) (root : Root) (from to : Node) (a b : Way) → IsWay (Leads said root) from to a → IsWay (Leads said root) from to b → a ≡ b
+WaysAreDetermined =
+    (said : Said) (root : Root) (from to : Node) (a b : Way) → IsWay (Leads said root) from to a
+    → IsWay (Leads said root) from to b → a ≡ b
 
 -- what LSAs of types 1 and 2 say decides all ways
 abbrev pub WaysRestOnLinks : Type 0
-WaysRestOnLinks = (old new : Said) (root : Root) → ((key : Key) → key.ls_type ≤ 2 → old key ≡ new key)
-    → (from to : Node) (way : Way) → IsWay (Leads old root) from to way → IsWay (Leads new root) from to way
+WaysRestOnLinks =
+    (old new : Said) (root : Root) → ((key : Key) → key.ls_type ≤ 2 → old key ≡ new key)
+    → (from to : Node) (way : Way) → IsWay (Leads old root) from to way
+    → IsWay (Leads new root) from to way
 
 abbrev pub OneCandidateForEachPrefix : Type 0
-OneCandidateForEachPrefix = (said : Said) (root : Root) (r s : Route) → IsCandidate said root r → IsCandidate said root s → r.prefix ≡ s.prefix → r ≡ s
+OneCandidateForEachPrefix =
+    (said : Said) (root : Root) (r s : Route) → IsCandidate said root r → IsCandidate said root s
+    → r.prefix ≡ s.prefix → r ≡ s
 
 abbrev pub CandidatesAreDetermined : Type 0
-CandidatesAreDetermined = (said : Said) (root : Root) (left right : List Route) → AreCandidates said root left → AreCandidates said root right → left ≡ right
+CandidatesAreDetermined =
+    (said : Said) (root : Root) (left right : List Route) → AreCandidates said root left
+    → AreCandidates said root right → left ≡ right

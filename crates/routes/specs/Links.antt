@@ -1,4 +1,5 @@
--- The links of a database that count (RFC 2328, section 16.1): routers and transit networks, each link with one back.
+-- The links of a database that count (RFC 2328, section 16.1): routers and transit networks, each
+-- link with one back.
 use Rattle.std.specs.Prelude.{◌≡◌, ℕ, ◌+◌, ◌<◌, Some, slice_get}
 use Rattle.std.specs.List.{Contains}
 use Rattle.words.specs.declared.key.Key.{Key}
@@ -43,27 +44,34 @@ pub record ListsRouter (said : Said) (id by router : ℕ) : Type 0 where
   pub its : IsNetworkLsa said id by lsa
   pub among : Contains lsa.attached router
 
--- A link of this kind and cost to this Link ID that may count: its metric isn't 0, and at the root its data is the address of an own
--- interface, by which the root sends; elsewhere the exit is 0.
-pub record Counts (said : Said) (root : Root) (router : ℕ) (kind : LinkKind) (id price exit : ℕ) : Type 0 where
+-- A link of this kind and cost to this Link ID that may count: its metric isn't 0, and at the root
+-- its data is the address of an own interface, by which the root sends; elsewhere the exit is 0.
+pub record Counts (said : Said) (root : Root) (router : ℕ) (kind : LinkKind)
+    (id price exit : ℕ) : Type 0 where
   pub link : Link
   pub its : HasLink said router link
   pub is_kind : link.kind ≡ kind
   pub is_id : link.link_id ≡ id
   pub costs : link.metric ≡ price
   pub not_free : 0 < price
-  pub by_interface : router ≡ root.router → (n : ℕ) × (exit ≡ n + 1) × (slice_get root.addresses n ≡ Some link.link_data)
+  pub by_interface : router ≡ root.router
+      → (n : ℕ) × (exit ≡ n + 1) × (slice_get root.addresses n ≡ Some link.link_data)
   pub elsewhere : ¬ (router ≡ root.router) → exit ≡ 0
 
 -- some link of this kind back to this Link ID
 abbrev pub LinksBack : Said → ℕ → LinkKind → ℕ → Type 0
-LinksBack said router kind id = (link : Link) × HasLink said router link × (link.kind ≡ kind) × (link.link_id ≡ id)
+LinksBack said router kind id =
+    (link : Link) × HasLink said router link × (link.kind ≡ kind) × (link.link_id ≡ id)
 
--- a link counts only where the other end links back; a network leads to each router that it lists at cost 0
+-- a link counts only where the other end links back; a network leads to each router that it lists
+-- at cost 0
 abbrev pub LeadsTo : Said → Root → Node → Node → ℕ → ℕ → Type 0
-LeadsTo said root (ARouter a) (ARouter b) price exit = Counts said root a PointToPoint b price exit × LinksBack said b PointToPoint a
-LeadsTo said root (ARouter a) (ANetwork id by) price exit = Counts said root a Transit id price exit × ListsRouter said id by a
-LeadsTo said root (ANetwork id by) (ARouter b) price exit = ListsRouter said id by b × LinksBack said b Transit id × (price ≡ 0) × (exit ≡ 0)
+LeadsTo said root (ARouter a) (ARouter b) price exit =
+    Counts said root a PointToPoint b price exit × LinksBack said b PointToPoint a
+LeadsTo said root (ARouter a) (ANetwork id by) price exit =
+    Counts said root a Transit id price exit × ListsRouter said id by a
+LeadsTo said root (ANetwork id by) (ARouter b) price exit =
+    ListsRouter said id by b × LinksBack said b Transit id × (price ≡ 0) × (exit ≡ 0)
 LeadsTo said root (ANetwork id by) (ANetwork other its) price exit = ⊥
 
 abbrev pub Leads : Said → Root → Node → Step Node → Type 0

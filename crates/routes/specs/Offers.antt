@@ -16,19 +16,35 @@ use Rattle.routes.specs.Said.{Said}
 
 -- the network of the address under the mask, whose ones stand in front
 abbrev pub IsPrefix : ℕ → ℕ → Network → Type 0
-IsPrefix address mask prefix = (prefix.length ≤ 32) × (mask ≡ mask_of prefix.length) × (prefix.address ≡ network_address prefix.length address)
+IsPrefix address mask prefix =
+    (prefix.length ≤ 32) × (mask ≡ mask_of prefix.length)
+    × (prefix.address ≡ network_address prefix.length address)
 
 abbrev pub intra : Network → ℕ → ℕ → Offer
-intra prefix cost hops = record { prefix = prefix; kind = Intra; cost = cost; distance = 0; hops = hops; tag = 0; originator = 0 }
+intra prefix cost hops =
+    record {
+      prefix = prefix;
+      kind = Intra;
+      cost = cost;
+      distance = 0;
+      hops = hops;
+      tag = 0;
+      originator = 0;
+    }
 
 -- ---- within the area (section 16.1)
 
--- the network is the node's own, or a stub link of the router leads to it, at this cost beyond the way to the node
+-- the network is the node's own, or a stub link of the router leads to it, at this cost beyond the
+-- way to the node
 abbrev pub Attaches : Said → Node → Network → ℕ → Type 0
-Attaches said (ANetwork id by) prefix more = (lsa : NetworkLsa) × IsNetworkLsa said id by lsa × IsPrefix id lsa.mask prefix × (more ≡ 0)
-Attaches said (ARouter router) prefix more = (link : Link) × HasLink said router link × (link.kind ≡ Stub) × IsPrefix link.link_id link.link_data prefix × (more ≡ link.metric)
+Attaches said (ANetwork id by) prefix more =
+    (lsa : NetworkLsa) × IsNetworkLsa said id by lsa × IsPrefix id lsa.mask prefix × (more ≡ 0)
+Attaches said (ARouter router) prefix more =
+    (link : Link) × HasLink said router link × (link.kind ≡ Stub)
+    × IsPrefix link.link_id link.link_data prefix × (more ≡ link.metric)
 
--- a reachable node offers what it attaches, by the hops of the way to it; the root itself by no other hop than 0
+-- a reachable node offers what it attaches, by the hops of the way to it; the root itself by no
+-- other hop than 0
 pub record OffersWithin (said : Said) (root : Root) (o : Offer) : Type 0 where
   pub node : Node
   pub prefix : Network
@@ -44,7 +60,8 @@ pub record OffersWithin (said : Said) (root : Root) (o : Offer) : Type 0 where
 -- ---- external destinations (section 16.4)
 
 -- the originator is reachable, and its flags have E
-pub record ReachesBoundaryRouter (said : Said) (root : Root) (originator : ℕ) (way : Way) : Type 0 where
+pub record ReachesBoundaryRouter (said : Said) (root : Root) (originator : ℕ)
+    (way : Way) : Type 0 where
   pub lsa : RouterLsa
   pub its : IsRouterLsa said originator lsa
   pub has_e : bit_and lsa.flags 2 ≡ 2

@@ -18,7 +18,8 @@ price_of [] = 0
 price_of (step ∷ rest) = step.price + price_of rest
 
 -- a walk that costs no more than any other between its ends
-pub record IsLeastWalk {V : Type 0} (leads : V → Step V → Type 0) (from : V) (walk : List (Step V)) (to : V) : Type 0 where
+pub record IsLeastWalk {V : Type 0} (leads : V → Step V → Type 0) (from : V) (walk : List (Step V))
+    (to : V) : Type 0 where
   pub is_walk : IsWalk leads from walk to
   pub least : (other : List (Step V)) → IsWalk leads from other to → price_of walk ≤ price_of other
 
@@ -29,5 +30,9 @@ pub record Way : Type 0 where
 
 -- the way to a vertex: its distance, and exactly the next hops
 pub record IsWay {V : Type 0} (leads : V → Step V → Type 0) (from to : V) (way : Way) : Type 0 where
-  pub distance : (walk : List (Step V)) × IsLeastWalk leads from walk to × (price_of walk ≡ way.distance)
-  pub hops : (interface : ℕ) → IsTrue (has_interface way.hops interface) ↔ ((first : Step V) × (rest : List (Step V)) × IsLeastWalk leads from (first ∷ rest) to × (first.exit ≡ interface))
+  pub distance : (walk : List (Step V)) × IsLeastWalk leads from walk to
+      × (price_of walk ≡ way.distance)
+  pub hops : (interface : ℕ)
+      → IsTrue (has_interface way.hops interface)
+      ↔ ((first : Step V) × (rest : List (Step V)) × IsLeastWalk leads from (first ∷ rest) to
+      × (first.exit ≡ interface))

@@ -1,4 +1,5 @@
--- Of the offers for each prefix the best ones, as one route (RFC 2328, sections 11, 16.1 and 16.4), whatever is offered.
+-- Of the offers for each prefix the best ones, as one route (RFC 2328, sections 11, 16.1 and 16.4),
+-- whatever is offered.
 use Rattle.std.specs.Prelude.{◌≡◌, ℕ, suc, ◌<◌, ◌≤◌, ◌↔◌, IsTrue, List}
 use Rattle.std.specs.List.{AllPairs, Contains}
 use Rattle.words.specs.Interfaces.{has_interface}
@@ -36,7 +37,8 @@ pub data IsNoLater (a b : Offer) : Type 0 where
 
 -- ---- routes
 
--- The route of a prefix: as good as the best of its offers, with the hops of all of these, and the least tag of their least originator.
+-- The route of a prefix: as good as the best of its offers, with the hops of all of these, and the
+-- least tag of their least originator.
 pub record IsRouteAmong (IsOffered : Offer → Type 0) (r : Route) : Type 0 where
   pub first : Offer
   pub is_best : IsBestAmong IsOffered r.prefix first
@@ -63,5 +65,6 @@ pub record IsForwarded (IsOffered : Offer → Type 0) (address : ℕ) (way : Way
   pub by : Route
   pub is_route : IsRouteAmong IsOffered by
   pub under : IsUnder address by.prefix
-  pub longest : (other : Route) → IsRouteAmong IsOffered other → IsUnder address other.prefix → other.prefix.length ≤ by.prefix.length
+  pub longest : (other : Route) → IsRouteAmong IsOffered other → IsUnder address other.prefix
+      → other.prefix.length ≤ by.prefix.length
   pub is : way ≡ record { distance = by.cost; hops = by.hops }

@@ -1,4 +1,5 @@
--- What area border routers tell of other areas (RFC 2328, sections 16.2 and 16.4): networks, and AS boundary routers.
+-- What area border routers tell of other areas (RFC 2328, sections 16.2 and 16.4): networks, and AS
+-- boundary routers.
 use Rattle.std.specs.Prelude.{◌≡◌, ◌≢◌, ℕ, ◌+◌, ◌<◌, ◌≤◌, ◌↔◌, ◌⊎◌, IsTrue, bit_and}
 use Rattle.words.specs.Interfaces.{has_interface}
 use Rattle.words.specs.Prefixes.{Network}
@@ -22,19 +23,31 @@ pub record ReachesBorderRouter (said : Said) (root : Root) (router : ℕ) (way :
   pub has_b : bit_and lsa.flags 1 ≡ 1
   pub reached : IsWay (Leads said root) (ARouter root.router) (ARouter router) way
 
--- a summary of a metric below LSInfinity, of another router, which is an area border router that is reached by this way
-pub record CountsAsSummary (said : Said) (root : Root) (originator : ℕ) (lsa : SummaryLsa) (border : Way) : Type 0 where
+-- a summary of a metric below LSInfinity, of another router, which is an area border router that is
+-- reached by this way
+pub record CountsAsSummary (said : Said) (root : Root) (originator : ℕ) (lsa : SummaryLsa)
+    (border : Way) : Type 0 where
   pub reachable : lsa.metric < 16777215
   pub of_another : originator ≢ root.router
   pub reaches : ReachesBorderRouter said root originator border
 
 abbrev pub summary_key : ℕ → ℕ → ℕ → Key
-summary_key ls_type id originator = record { ls_type = ls_type; link_state_id = id; advertising_router = originator }
+summary_key ls_type id originator =
+    record { ls_type = ls_type; link_state_id = id; advertising_router = originator }
 
 -- ---- networks (section 16.2)
 
 abbrev pub inter : Network → ℕ → ℕ → Offer
-inter prefix cost hops = record { prefix = prefix; kind = Inter; cost = cost; distance = 0; hops = hops; tag = 0; originator = 0 }
+inter prefix cost hops =
+    record {
+      prefix = prefix;
+      kind = Inter;
+      cost = cost;
+      distance = 0;
+      hops = hops;
+      tag = 0;
+      originator = 0;
+    }
 
 pub record OffersBetween (said : Said) (root : Root) (o : Offer) : Type 0 where
   pub id : ℕ
@@ -65,11 +78,14 @@ pub record IsToldOf (said : Said) (root : Root) (router distance : ℕ) (border 
 pub record IsWayBetween (said : Said) (root : Root) (router : ℕ) (way : Way) : Type 0 where
   pub border : Way
   pub told : IsToldOf said root router way.distance border
-  pub least : (distance : ℕ) (other : Way) → IsToldOf said root router distance other → way.distance ≤ distance
+  pub least : (distance : ℕ) (other : Way) → IsToldOf said root router distance other
+      → way.distance ≤ distance
   pub hops : (interface : ℕ) → IsTrue (has_interface way.hops interface)
-      ↔ ((other : Way) × IsToldOf said root router way.distance other × IsTrue (has_interface other.hops interface))
+      ↔ ((other : Way) × IsToldOf said root router way.distance other
+      × IsTrue (has_interface other.hops interface))
 
 -- within the area where there is such a way, else between areas
 pub data IsBoundaryWay (said : Said) (root : Root) (router : ℕ) (way : Way) : Type 0 where
   Inside : ReachesBoundaryRouter said root router way → IsBoundaryWay said root router way
-  Outside : ((other : Way) → ReachesBoundaryRouter said root router other → ⊥) → IsWayBetween said root router way → IsBoundaryWay said root router way
+  Outside : ((other : Way) → ReachesBoundaryRouter said root router other → ⊥)
+      → IsWayBetween said root router way → IsBoundaryWay said root router way

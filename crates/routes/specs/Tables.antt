@@ -1,4 +1,5 @@
--- The routing table: the candidates that the operator's program let in when it was last asked about all of them.
+-- The routing table: the candidates that the operator's program let in when it was last asked about
+-- all of them.
 use Rattle.std.specs.Prelude.{ℕ, List, ◌↔◌}
 use Rattle.std.specs.List.{AllPairs, Contains}
 use Rattle.words.specs.declared.route.Route.{Route}
@@ -7,7 +8,8 @@ use Rattle.routes.specs.declared.root.Root.{Root}
 use Rattle.routes.specs.Said.{Said}
 use Rattle.routes.specs.Routes.{IsBefore}
 
--- routes with the words that were answered of them, 0 to let the route in; there are none before the first answers
+-- routes with the words that were answered of them, 0 to let the route in; there are none before
+-- the first answers
 abbrev pub Answers : Type 0
 Answers = List (Route × ℕ)
 
@@ -20,7 +22,8 @@ abbrev pub IsAnswered : Answers → Route → Type 0
 IsAnswered answers r = (word : ℕ) × Contains answers (r, word)
 
 -- exactly the candidates that are let in, in the order of their prefixes
-pub record IsTable (said : Said) (root : Root) (answers : Answers) (table : List Route) : Type 0 where
+pub record IsTable (said : Said) (root : Root) (answers : Answers)
+    (table : List Route) : Type 0 where
   pub each : (r : Route) → Contains table r ↔ (IsCandidate said root r × IsLetIn answers r)
   pub ascending : AllPairs (λ (a : Route) (b : Route). IsBefore a.prefix b.prefix) table
 

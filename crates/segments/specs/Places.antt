@@ -1,5 +1,6 @@
 -- Where the instruction at a slot may lead, by the code and the statements.
-use Rattle.std.specs.Prelude.{◌≡◌, ℕ, ◌+◌, Bool, true, false, List, Option, None, Some, IsSome, IfSome, slice_index_or, unwrap_or}
+use Rattle.std.specs.Prelude.{◌≡◌, ℕ, ◌+◌, Bool, true, false, List, Option, None, Some, IsSome}
+use Rattle.std.specs.Prelude.{IfSome, slice_index_or, unwrap_or}
 use Rattle.isa.specs.declared.code.Slot.{Slot}
 use Rattle.isa.specs.declared.instruction.Instruction.{Instruction}
 use Rattle.isa.specs.declared.instruction.Instruction.TheVariants as instructions
@@ -23,12 +24,14 @@ segment_of targets entry None = entry
 segment_of targets entry (Some slot) = unwrap_or (target_at targets slot) entry
 
 -- an instruction with a statement begins at the slot
-pub record IsEntry {D : Type 0} (code : List Slot) (targets : List (Option (Target D))) (slot : ℕ) : Type 0 where
+pub record IsEntry {D : Type 0} (code : List Slot) (targets : List (Option (Target D)))
+    (slot : ℕ) : Type 0 where
   pub begins : Begins code slot
   pub stated : IsSome (target_at targets slot)
 
--- The slots that may come after the instruction are as they should be: a jump's has a statement, and
--- the one behind is in the code.
-pub record IsWellPlaced {D : Type 0} (code : List Slot) (targets : List (Option (Target D))) (slot : ℕ) (i : Instruction) : Type 0 where
+-- The slots that may come after the instruction are as they should be: a jump's has a statement,
+-- and the one behind is in the code.
+pub record IsWellPlaced {D : Type 0} (code : List Slot) (targets : List (Option (Target D)))
+    (slot : ℕ) (i : Instruction) : Type 0 where
   pub jump : IfSome (jump_target slot i) (IsEntry code targets)
   pub on : goes_on i ≡ true → Begins code (slot + size i)

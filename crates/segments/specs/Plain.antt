@@ -1,6 +1,7 @@
 -- What an instruction of a plain program finds known at its slot, and what may be asked where it
 -- leads.
-use Rattle.std.specs.Prelude.{◌≡◌, ◌⊎◌, ℕ, ◌+◌, ◌≤◌, Bool, true, false, nat_le, if◌then◌else◌, List, Option, Some, length}
+use Rattle.std.specs.Prelude.{◌≡◌, ◌⊎◌, ℕ, ◌+◌, ◌≤◌, Bool, true, false, nat_le, if◌then◌else◌, List}
+use Rattle.std.specs.Prelude.{Option, Some, length}
 use Rattle.isa.specs.declared.instruction.Instruction.{Instruction}
 use Rattle.isa.specs.Flow.{jump_target, register_written, slot_after}
 use Rattle.machine.specs.Faults.{writes_frame}

@@ -1,5 +1,6 @@
 -- Where the rules are broken that are said of the code and its statements alone.
-use Rattle.std.specs.Prelude.{◌≡◌, ◌⊎◌, ℕ, ℤ, ◌+◌, ◌*◌, ◌<◌, Bool, true, false, List, length, Some, None, IsSome}
+use Rattle.std.specs.Prelude.{◌≡◌, ◌⊎◌, ℕ, ℤ, ◌+◌, ◌*◌, ◌<◌, Bool, true, false, List, length, Some}
+use Rattle.std.specs.Prelude.{None, IsSome}
 use Rattle.object.specs.Statements.{StatementParts}
 use Rattle.isa.specs.declared.code.Slot.{Slot}
 use Rattle.isa.specs.declared.hook.Hook.{Hook}
@@ -54,14 +55,16 @@ pub record IsCutOff (code : List Slot) (slot : ℕ) : Type 0 where
   pub behind : slot_after before instruction ≡ slot
   pub leaves : goes_on instruction ≡ false
 
-pub record IsUnreached (code : List Slot) (statements : List StatementParts) (slot : ℕ) : Type 0 where
+pub record IsUnreached (code : List Slot) (statements : List StatementParts)
+    (slot : ℕ) : Type 0 where
   pub begins : Begins code slot
   pub cut_off : IsCutOff code slot
   pub unstated : statement_at statements slot ≡ None
 
 -- ---- rule 4: a jump to a slot without a statement
 
-pub record IsUnstated (code : List Slot) (statements : List StatementParts) (slot : ℕ) : Type 0 where
+pub record IsUnstated (code : List Slot) (statements : List StatementParts)
+    (slot : ℕ) : Type 0 where
   pub instruction : Instruction
   pub at : BeginsAt instruction code slot
   pub to : ℕ
@@ -105,7 +108,8 @@ MayRefuse hook code entry_rank statements slot other = Begins code slot
 -- ---- the order
 
 -- the rules on jumps, statements and the code's end are met at the slot
-pub record IsWellMade (code : List Slot) (statements : List StatementParts) (slot : ℕ) : Type 0 where
+pub record IsWellMade (code : List Slot) (statements : List StatementParts)
+    (slot : ℕ) : Type 0 where
   pub target : IsBadTarget code statements slot → ⊥
   pub ends : FallsOff code slot → ⊥
   pub reached : IsUnreached code statements slot → ⊥
@@ -156,8 +160,8 @@ IsOfEdge rules.NotWithin = Unit {0}
 IsOfEdge rules.Rank = Unit {0}
 IsOfEdge other = ⊥
 
--- An instruction may be refused by the rule where its slot is well made: the rules on helpers and on
--- r10 only where they are broken, and none on jumps, statements, the bound and memory.
+-- An instruction may be refused by the rule where its slot is well made: the rules on helpers and
+-- on r10 only where they are broken, and none on jumps, statements, the bound and memory.
 abbrev pub MayFollow : Hook → Instruction → Rule → Type 0
 MayFollow hook instruction rules.Helper = LacksHelper hook instruction
 MayFollow hook instruction rules.Frame = writes_frame instruction ≡ true

@@ -1,5 +1,6 @@
 -- The segments of a run: each goes from the entry or a statement up to the next statement.
-use Rattle.std.specs.Prelude.{◌≡◌, ℕ, ◌+◌, ◌≤◌, ◌⊎◌, Bool, true, nat_le, if◌then◌else◌, List, Option, Some, None, IsSomeAnd}
+use Rattle.std.specs.Prelude.{◌≡◌, ℕ, ◌+◌, ◌≤◌, ◌⊎◌, Bool, true, nat_le, if◌then◌else◌, List}
+use Rattle.std.specs.Prelude.{Option, Some, None, IsSomeAnd}
 use Rattle.isa.specs.declared.code.Slot.{Slot}
 use Rattle.isa.specs.declared.hook.Hook.{Hook}
 use Rattle.isa.specs.declared.instruction.Instruction.{Instruction}
@@ -20,59 +21,87 @@ use Rattle.segments.specs.Places.{target_at}
 
 -- ---- the machine's side: no abstract state is mentioned
 
--- A segment that starts at one state of the machine visits another: it starts at the entry, where slot 0 has no statement, or at a statement, and goes on from
--- an instruction to the one behind it, as long as that has no statement.
-pub data Visits {D : Type 0} (contains : D → ℕ → Type 0) (setting : Setting) (targets : List (Option (Target D))) (entry : Target D) : Target D → Machine → Machine → Type 0 where
-  at_entry : {start : Machine} → start.slot ≡ 0 → target_at targets start.slot ≡ None → TargetHolds contains entry start
+-- A segment that starts at one state of the machine visits another: it starts at the entry, where
+-- slot 0 has no statement, or at a statement, and goes on from an instruction to the one behind it,
+-- as long as that has no statement.
+pub data Visits {D : Type 0} (contains : D → ℕ → Type 0) (setting : Setting)
+    (targets : List (Option (Target D))) (entry : Target D) : Target D
+    → Machine → Machine → Type 0 where
+  at_entry : {start : Machine} → start.slot ≡ 0 → target_at targets start.slot ≡ None
+      → TargetHolds contains entry start
       → Visits contains setting targets entry entry start start
-  at_target : {target : Target D} {start : Machine} → target_at targets start.slot ≡ Some target → TargetHolds contains target start
+  at_target : {target : Target D} {start : Machine} → target_at targets start.slot ≡ Some target
+      → TargetHolds contains target start
       → Visits contains setting targets entry target start start
-  falls : {segment : Target D} {start next : Machine} (now : Machine) (label : Label) (i : Instruction) → Visits contains setting targets entry segment start now
-      → IsAt setting now i → Does i setting now label next → next.slot ≡ now.slot + size i → target_at targets next.slot ≡ None
+  falls : {segment : Target D} {start next : Machine} (now : Machine) (label : Label)
+      (i : Instruction)
+      → Visits contains setting targets entry segment start now
+      → IsAt setting now i → Does i setting now label next → next.slot ≡ now.slot + size i
+      → target_at targets next.slot ≡ None
       → Visits contains setting targets entry segment start next
 
--- The machine is as the target's statement says, and the rank there is not above the one at the start of the segment, on a back jump less.
-pub record Enters {D : Type 0} (contains : D → ℕ → Type 0) (back : Bool) (segment target : Target D) (start next : Machine) : Type 0 where
+-- The machine is as the target's statement says, and the rank there is not above the one at the
+-- start of the segment, on a back jump less.
+pub record Enters {D : Type 0} (contains : D → ℕ → Type 0) (back : Bool) (segment target : Target D)
+    (start next : Machine) : Type 0 where
   pub holds : TargetHolds contains target next
-  pub rank : rank_value target.statement.now.rank next + (if back then 1 else 0) ≤ rank_value segment.statement.now.rank start
+  pub rank : rank_value target.statement.now.rank next + (if back then 1 else 0)
+      ≤ rank_value segment.statement.now.rank start
 
--- a step from the slot leads to a statement and enters it; to its own or an earlier slot it is a back jump
-abbrev pub EntersNext : {D : Type 0} → (D → ℕ → Type 0) → List (Option (Target D)) → Target D → ℕ → Machine → Machine → Type 0
+-- a step from the slot leads to a statement and enters it; to its own or an earlier slot it is a
+-- back jump
+abbrev pub EntersNext : {D : Type 0} → (D → ℕ → Type 0) → List (Option (Target D)) → Target D → ℕ
+    → Machine → Machine → Type 0
 EntersNext contains targets segment slot start next =
-    IsSomeAnd (target_at targets next.slot) (λ target. Enters contains (nat_le next.slot slot) segment target start next)
+    IsSomeAnd (target_at targets next.slot)
+    (λ target. Enters contains (nat_le next.slot slot) segment target start next)
 
--- where a step of the segment leads: to an instruction, whose statement it enters, or which is the one behind and has none
-pub record LeadsOn {D : Type 0} (contains : D → ℕ → Type 0) (code : List Slot) (targets : List (Option (Target D))) (segment : Target D) (slot : ℕ) (i : Instruction) (start next : Machine) : Type 0 where
+-- where a step of the segment leads: to an instruction, whose statement it enters, or which is the
+-- one behind and has none
+pub record LeadsOn {D : Type 0} (contains : D → ℕ → Type 0) (code : List Slot)
+    (targets : List (Option (Target D))) (segment : Target D) (slot : ℕ) (i : Instruction)
+    (start next : Machine) : Type 0 where
   pub begins : Begins code next.slot
-  pub leads : EntersNext contains targets segment slot start next ⊎ ((next.slot ≡ slot + size i) × (target_at targets next.slot ≡ None))
+  pub leads : EntersNext contains targets segment slot start next
+      ⊎ ((next.slot ≡ slot + size i) × (target_at targets next.slot ≡ None))
 
 -- No visit of the slot is stuck, and each step from it leads on, with any input.
-pub record IsFine {D : Type 0} (contains : D → ℕ → Type 0) (code : List Slot) (hook : Hook) (targets : List (Option (Target D))) (entry : Target D) (slot : ℕ) : Type 0 where
-  pub free : (input : Given) (segment : Target D) (start now : Machine) (fault : Fault) → Visits contains (setting_of code hook input) targets entry segment start now
+pub record IsFine {D : Type 0} (contains : D → ℕ → Type 0) (code : List Slot) (hook : Hook)
+    (targets : List (Option (Target D))) (entry : Target D) (slot : ℕ) : Type 0 where
+  pub free : (input : Given) (segment : Target D) (start now : Machine) (fault : Fault)
+      → Visits contains (setting_of code hook input) targets entry segment start now
       → now.slot ≡ slot → Stuck (setting_of code hook input) now fault → ⊥
-  pub leads_on : (input : Given) (segment : Target D) (start now next : Machine) (label : Label) (i : Instruction) → Visits contains (setting_of code hook input) targets entry segment start now
-      → now.slot ≡ slot → IsAt (setting_of code hook input) now i → Does i (setting_of code hook input) now label next
+  pub leads_on : (input : Given) (segment : Target D) (start now next : Machine) (label : Label)
+      (i : Instruction)
+      → Visits contains (setting_of code hook input) targets entry segment start now
+      → now.slot ≡ slot → IsAt (setting_of code hook input) now i
+      → Does i (setting_of code hook input) now label next
       → LeadsOn contains code targets segment slot i start next
 
 -- ---- what the verifier knows
 
 -- a state of the machine in the segment, of all that is known
-pub record IsKnown {D : Type 0} (contains : D → ℕ → Type 0) (segment : Target D) (state : State D) (start now : Machine) : Type 0 where
+pub record IsKnown {D : Type 0} (contains : D → ℕ → Type 0) (segment : Target D) (state : State D)
+    (start now : Machine) : Type 0 where
   pub begins : TargetHolds contains segment start
   pub holds : StateHolds contains state start now
 
 -- the same, where the slot may be reached
-pub record Knows {D : Type 0} (contains : D → ℕ → Type 0) (segment : Target D) (known : Known D) (start now : Machine) : Type 0 where
+pub record Knows {D : Type 0} (contains : D → ℕ → Type 0) (segment : Target D) (known : Known D)
+    (start now : Machine) : Type 0 where
   pub live : known.is_live ≡ true
   pub is_known : IsKnown contains segment known.state start now
 
 -- a step leads to the slot behind, which has no statement, and what comes of it is known
-pub record FallsThrough {D : Type 0} (contains : D → ℕ → Type 0) (targets : List (Option (Target D))) (segment : Target D) (slot : ℕ) (i : Instruction) (after : Known D) (start next : Machine) : Type 0 where
+pub record FallsThrough {D : Type 0} (contains : D → ℕ → Type 0)
+    (targets : List (Option (Target D))) (segment : Target D) (slot : ℕ) (i : Instruction)
+    (after : Known D) (start next : Machine) : Type 0 where
   pub behind : next.slot ≡ slot + size i
   pub unstated : target_at targets next.slot ≡ None
   pub knows : Knows contains segment after start next
 
--- a step to the slot behind enters the statement there, or there is none and what comes of it is known
+-- a step to the slot behind enters the statement there, or there is none and what comes of it is
+-- known
 abbrev pub PassesTo : {D : Type 0} → (D → ℕ → Type 0) → List (Option (Target D)) → Target D → ℕ → ℕ
     → Known D → Machine → Machine → Type 0
 PassesTo contains targets segment slot next_slot after start next =
@@ -80,23 +109,36 @@ PassesTo contains targets segment slot next_slot after start next =
     ⊎ ((target_at targets next_slot ≡ None) × Knows contains segment after start next)
 
 -- where a step from what is known leads
-pub record GoesOn {D : Type 0} (contains : D → ℕ → Type 0) (code : List Slot) (targets : List (Option (Target D))) (segment : Target D) (slot : ℕ) (i : Instruction) (after : Known D) (start next : Machine) : Type 0 where
+pub record GoesOn {D : Type 0} (contains : D → ℕ → Type 0) (code : List Slot)
+    (targets : List (Option (Target D))) (segment : Target D) (slot : ℕ) (i : Instruction)
+    (after : Known D) (start next : Machine) : Type 0 where
   pub begins : Begins code next.slot
-  pub goes : EntersNext contains targets segment slot start next ⊎ FallsThrough contains targets segment slot i after start next
+  pub goes : EntersNext contains targets segment slot start next
+      ⊎ FallsThrough contains targets segment slot i after start next
 
--- From what is known at the slot the instruction is never stuck, and each step goes on as it should.
-pub record IsFollowed {D : Type 0} (contains : D → ℕ → Type 0) (code : List Slot) (hook : Hook) (targets : List (Option (Target D))) (segment : Target D) (slot : ℕ) (i : Instruction) (state : State D) (after : Known D) : Type 0 where
-  pub free : (input : Given) (start now : Machine) (fault : Fault) → now.slot ≡ slot → StateHolds contains state start now
+-- From what is known at the slot the instruction is never stuck, and each step goes on as it
+-- should.
+pub record IsFollowed {D : Type 0} (contains : D → ℕ → Type 0) (code : List Slot) (hook : Hook)
+    (targets : List (Option (Target D))) (segment : Target D) (slot : ℕ) (i : Instruction)
+    (state : State D) (after : Known D) : Type 0 where
+  pub free : (input : Given) (start now : Machine) (fault : Fault) → now.slot ≡ slot
+      → StateHolds contains state start now
       → Stuck (setting_of code hook input) now fault → ⊥
-  pub goes_on : (input : Given) (start now next : Machine) (label : Label) → now.slot ≡ slot → IsKnown contains segment state start now
-      → Does i (setting_of code hook input) now label next → GoesOn contains code targets segment slot i after start next
+  pub goes_on : (input : Given) (start now next : Machine) (label : Label) → now.slot ≡ slot
+      → IsKnown contains segment state start now
+      → Does i (setting_of code hook input) now label next
+      → GoesOn contains code targets segment slot i after start next
 
 -- Every visit of the slot, with any input, is in this segment and known.
-pub record IsCurrent {D : Type 0} (contains : D → ℕ → Type 0) (code : List Slot) (hook : Hook) (targets : List (Option (Target D))) (entry : Target D) (slot : ℕ) (segment : Target D) (known : Known D) : Type 0 where
-  pub visits : (input : Given) (other : Target D) (start now : Machine) → Visits contains (setting_of code hook input) targets entry other start now
+pub record IsCurrent {D : Type 0} (contains : D → ℕ → Type 0) (code : List Slot) (hook : Hook)
+    (targets : List (Option (Target D))) (entry : Target D) (slot : ℕ) (segment : Target D)
+    (known : Known D) : Type 0 where
+  pub visits : (input : Given) (other : Target D) (start now : Machine)
+      → Visits contains (setting_of code hook input) targets entry other start now
       → now.slot ≡ slot → (segment ≡ other) × Knows contains segment known start now
 
 -- the same, unless the slot has a statement
-abbrev pub IsCurrentUnlessStated : {D : Type 0} → (D → ℕ → Type 0) → List Slot → Hook → List (Option (Target D)) → Target D → ℕ → Target D → Known D → Type 0
+abbrev pub IsCurrentUnlessStated : {D : Type 0} → (D → ℕ → Type 0) → List Slot → Hook
+    → List (Option (Target D)) → Target D → ℕ → Target D → Known D → Type 0
 IsCurrentUnlessStated contains code hook targets entry slot segment known =
     target_at targets slot ≡ None → IsCurrent contains code hook targets entry slot segment known

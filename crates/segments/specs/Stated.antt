@@ -1,5 +1,6 @@
 -- What is stated at a slot, and the list of targets that says it once more.
-use Rattle.std.specs.Prelude.{◌≡◌, ℕ, ◌<◌, ◌==◌, if◌then◌else◌, List, [], ◌∷◌, Option, Some, None, length, slice_index_or}
+use Rattle.std.specs.Prelude.{◌≡◌, ℕ, ◌<◌, ◌==◌, if◌then◌else◌, List, [], ◌∷◌, Option, Some, None}
+use Rattle.std.specs.Prelude.{length, slice_index_or}
 use Rattle.object.specs.Statements.{StatementParts}
 use Rattle.object.specs.declared.kind.Kind.TheVariants as said
 use Rattle.kinds.specs.declared.state.Kind.TheVariants as kinds
@@ -18,14 +19,17 @@ pub record IsTargetOf {D : Type 0} (contains : D → ℕ → Type 0) (statement 
   pub same : target.statement.now ≡ statement
   pub ten : length target.kinds.items ≡ 10
   pub read : (r : ℕ) → r < 10
-      → IsRead contains (slice_index_or statement.kinds r said.Empty) (slice_index_or target.kinds.items r kinds.Empty)
+      → IsRead contains (slice_index_or statement.kinds r said.Empty)
+      (slice_index_or target.kinds.items r kinds.Empty)
 
-abbrev pub Agrees : {D : Type 0} → (D → ℕ → Type 0) → Option StatementParts → Option (Target D) → Type 0
+abbrev pub Agrees : {D : Type 0} → (D → ℕ → Type 0) → Option StatementParts → Option (Target D)
+    → Type 0
 Agrees contains None None = Unit {0}
 Agrees contains (Some statement) (Some target) = IsTargetOf contains statement target
 Agrees contains stated found = ⊥
 
 -- at each slot the list has the statement's target, where there is a statement, and else none
-abbrev pub AreTargets : {D : Type 0} → (D → ℕ → Type 0) → List StatementParts → List (Option (Target D)) → Type 0
+abbrev pub AreTargets : {D : Type 0} → (D → ℕ → Type 0) → List StatementParts
+    → List (Option (Target D)) → Type 0
 AreTargets contains statements targets =
     (slot : ℕ) → Agrees contains (statement_at statements slot) (target_at targets slot)

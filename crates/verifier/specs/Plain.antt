@@ -1,7 +1,8 @@
 -- Plain programs: they work on numbers in registers alone, and their statements ask for no more
 -- than that registers hold numbers. The verifier accepts each of them, whatever the precision of
 -- its domain.
-use Rattle.std.specs.Prelude.{◌≡◌, ◌⊎◌, ℕ, ◌+◌, ◌≤◌, ◌<◌, Bool, nat_le, if◌then◌else◌, List, Some, None, slice_index_or}
+use Rattle.std.specs.Prelude.{◌≡◌, ◌⊎◌, ℕ, ◌+◌, ◌≤◌, ◌<◌, Bool, nat_le, if◌then◌else◌, List, Some}
+use Rattle.std.specs.Prelude.{None, slice_index_or}
 use Rattle.std.specs.List.{AllByRecursion}
 use Rattle.isa.specs.declared.code.Slot.{Slot}
 use Rattle.isa.specs.declared.instruction.Instruction.{Instruction}

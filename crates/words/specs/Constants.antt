@@ -1,4 +1,5 @@
--- The constants of OSPF by their names in RFC 2328, appendix B, and beside them this project's own limits.
+-- The constants of OSPF by their names in RFC 2328, appendix B, and beside them this project's own
+-- limits.
 use Rattle.std.specs.Prelude.{ℕ, ◌^◌, ℤ, pos, negsuc}
 
 -- MaxAge: at this age an LSA is no longer used, in seconds

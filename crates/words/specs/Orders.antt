@@ -11,7 +11,8 @@ use Rattle.words.specs.Prefixes.{Network}
 abbrev pub key_cmp : Key → Key → Ordering
 key_cmp a b =
     ordering_then (nat_cmp a.ls_type b.ls_type)
-    (ordering_then (nat_cmp a.link_state_id b.link_state_id) (nat_cmp a.advertising_router b.advertising_router))
+    (ordering_then (nat_cmp a.link_state_id b.link_state_id) (nat_cmp a.advertising_router
+    b.advertising_router))
 
 -- by address, then length
 abbrev pub network_cmp : Network → Network → Ordering

@@ -1,6 +1,6 @@
 //! Writers that fail, and words that can't be read.
 
-use super::{ADDS, path_for, run};
+use super::{ADDS, Echo, path_for, run};
 use commands::program::{end_without_words, program};
 use std::rt::Files;
 use std::test::Fail;
@@ -38,6 +38,7 @@ fn status_with<R: Files + AllocGlobal + Threads + Sync>(
     let mut input: &[u8] = &[];
     program(
         rt,
+        &Echo {},
         words,
         &mut input,
         &mut Failing { left: output },

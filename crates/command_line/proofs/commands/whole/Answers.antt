@@ -17,12 +17,13 @@ returns c =
     let two = c.in_ok-subcommand-2.ensures.shape c.in_ok-run.ensures.local ∙ ap₂ with_subcommand one c.in_ok-run.ensures.app in
     let three = c.in_ok-subcommand-3.ensures.shape c.in_ok-asm.ensures.local ∙ ap₂ with_subcommand two c.in_ok-asm.ensures.app in
     let four = c.in_ok-subcommand-4.ensures.shape c.in_ok-list.ensures.local ∙ ap₂ with_subcommand three c.in_ok-list.ensures.app in
-    IfOk-weaker c.subcommand-5.result _ _ (λ command adds. (
+    let five = c.in_ok-subcommand-5.ensures.shape c.in_ok-verify.ensures.local ∙ ap₂ with_subcommand four c.in_ok-verify.ensures.app in
+    IfOk-weaker c.subcommand-6.result _ _ (λ command adds. (
       raw.0,
       raw.1,
       raw.2,
       raw.3,
       raw.4,
       raw.5,
-      adds.shape c.in_ok-verify.ensures.local ∙ ap₂ with_subcommand four c.in_ok-verify.ensures.app,
-    )) c.subcommand-5.ensures
+      adds.shape c.in_ok-route.ensures.local ∙ ap₂ with_subcommand five c.in_ok-route.ensures.app,
+    )) c.subcommand-6.ensures

@@ -7,9 +7,7 @@ use Rattle.commands.specs.RawRuns.{Ran, setting_of}
 use Rattle.commands.proofs.raw.report_of.Goals as goal
 
 pub run_each-requires-after_bounds : goal.run_each-requires-after_bounds
-run_each-requires-after_bounds g c lifetimes within i x lt =
-    let few : i < c.args.seats = omega (arith, lt, ap length c.in_ok-shared.ensures.fresh, length-map-range_with_len (fresh c.in_ok-shared.shared.table) 0 c.args.seats) in
-    ap (λ (s : SeatView). s.table) (ap (λ (l : List SeatView). get_or l i x) c.in_ok-shared.ensures.fresh ∙ get_or-map-range_with_len (fresh c.in_ok-shared.shared.table) 0 c.args.seats i i x few (omega arith))
+run_each-requires-after_bounds g c lifetimes within i x lt = c.in_ok-shared.ensures.own i x lt
 
 pub close-totals-requires-clause-all : goal.close-totals-requires-clause-all
 close-totals-requires-clause-all g c =

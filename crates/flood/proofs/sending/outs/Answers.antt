@@ -1,8 +1,8 @@
-use Rattle.std.proofs.Common.{◌≡◌, ◌≤◌, ◌+◌, length, refl, sym, ap, ◌∙◌, subst, arith}
+use Rattle.std.proofs.Common.{length, refl, sym, ap, ◌∙◌, subst, arith}
 use Rattle.std.specs.Vec.Iter.{into_iter_items, into_iter_len}
 use Rattle.outs.proofs.Packs.{none_left}
 use Rattle.flood.specs.Drafts.{AreDraftsFrom}
-use Rattle.flood.proofs.Drafting.{all_sent, next_draft, one_sent, sending_starts}
+use Rattle.flood.proofs.Drafting.{all_sent, all_spelled, next_draft, one_sent, sending_starts}
 use Rattle.flood.proofs.sending.outs.Goals as goal
 
 pub loop-draft-init : goal.loop-draft-init
@@ -35,15 +35,23 @@ loop-draft-preserved c =
     let gone = steps.1 in
     let short = ap length steps.0 in (
       one_sent c.args.own (into_iter_items c.into_iter-draft-iterator.result) c.loop-draft.number c.loop-draft.outs.items c.put_outs.new.outs.items (into_iter_items c.loop-draft.draft-iterator) (into_iter_items c.next.new.self) c.in-Some.draft
-          c.loop-draft.invariant.0 steps.0 c.in_ok-put_outs.ensures.outs,
+          c.loop-draft.invariant.0 steps.0 c.in_ok-put_outs.ensures.outs c.in_ok-put_outs.ensures.texts,
       omega arith,
       omega arith,
     )
 
-pub returns : goal.returns
-returns c = λ links sends are.
+pub returns-clause-outs : goal.returns-clause-outs
+returns-clause-outs c = λ links sends are.
     let rest = into_iter_items c.loop-draft.draft-iterator in
     let gives = c.into_iter-draft-iterator.ensures.into_iter_gives in
     let none = none_left rest (into_iter_len c.loop-draft.draft-iterator) c.loop-draft.invariant.1 c.in-None.ensures.steps.0 in
     all_sent c.args.own (into_iter_items c.into_iter-draft-iterator.result) c.loop-draft.number c.loop-draft.outs.items rest c.loop-draft.invariant.0 none links sends
+    (subst (AreDraftsFrom 1 links sends) (sym gives.0) are.from)
+
+pub returns-clause-texts : goal.returns-clause-texts
+returns-clause-texts c = λ links sends are.
+    let rest = into_iter_items c.loop-draft.draft-iterator in
+    let gives = c.into_iter-draft-iterator.ensures.into_iter_gives in
+    let none = none_left rest (into_iter_len c.loop-draft.draft-iterator) c.loop-draft.invariant.1 c.in-None.ensures.steps.0 in
+    all_spelled c.args.own (into_iter_items c.into_iter-draft-iterator.result) c.loop-draft.number c.loop-draft.outs.items rest c.loop-draft.invariant.0 none links sends
     (subst (AreDraftsFrom 1 links sends) (sym gives.0) are.from)

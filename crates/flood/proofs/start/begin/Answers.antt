@@ -1,4 +1,4 @@
-use Rattle.std.proofs.Common.{◌≡◌, [], map, sym, ap, ◌∙◌}
+use Rattle.std.proofs.Common.{[], map, ap, ◌∙◌}
 use Rattle.events.specs.Originations.{originate_or_wait}
 use Rattle.events.specs.Routers.{with_links}
 use Rattle.flooding.specs.Links.{present}

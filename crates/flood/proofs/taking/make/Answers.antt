@@ -5,6 +5,7 @@ use Rattle.lsdb.specs.Limits.{exceeds as database_exceeds}
 use Rattle.flooding.specs.Kept.{RouterArea}
 use Rattle.events.specs.Packing.{outs_of}
 use Rattle.events.specs.Refusals.{exceeds}
+use Rattle.flood_laws.specs.Keeping.{AreTexts}
 use Rattle.flood.specs.Drafts.{AreDrafts}
 use Rattle.flood.specs.Parts.{made}
 use Rattle.flood.proofs.Happening.{made_has_room}
@@ -50,9 +51,24 @@ returns-clause-made c =
     record {
       router = made_router old c.make_event.new.router.present c.args.moment c.args.part c.deref_mut.result.now c.make_event.new.drafts m none;
       outs =
-          c.in_ok-outs.ensures old.area.links sends (subst (AreDrafts old.area.links sends) (sym back) are)
+          c.in_ok-outs.ensures.outs old.area.links sends (subst (AreDrafts old.area.links sends) (sym back) are)
           ∙ ap (λ own. outs_of own old.area.links sends) c.id-own.ensures;
     }
+
+pub returns-clause-texts : goal.returns-clause-texts
+returns-clause-texts c =
+    let old = c.args.router.now.present in
+    let none = c.deref_mut.ensures.value ∙ c.in_ok-drafts.ensures in
+    let m = c.in_ok-make_event.ensures.makes in
+    let room = made_has_room old c.args.moment c.requires.part.0 c.args.part c.requires.part.1 c.requires.roomy in
+    let are = made_drafts old c.make_event.new.router.present c.args.moment c.args.part c.deref_mut.result.now c.make_event.new.drafts m none room in
+    let kept = c.make_event.auto.drafts in
+    let seen = ap length c.deref_mut.ensures.value in
+    let count = c.in_ok-drafts.drafts.ok.0 in
+    let full : c.in_ok-drafts.drafts.len ≡ length c.make_event.new.drafts = omega arith in
+    let back = ap (λ n. take n (c.make_event.new.drafts ++ drop (length c.make_event.new.drafts) c.in_ok-drafts.drafts.items)) full ∙ take-append_seam c.make_event.new.drafts _ in
+    let sends = (made old c.args.moment c.args.part).sends in
+    subst (λ own. AreTexts own old.area.links sends) c.id-own.ensures (c.in_ok-outs.ensures.texts old.area.links sends (subst (AreDrafts old.area.links sends) (sym back) are))
 
 pub returns-clause-limit : goal.returns-clause-limit
 returns-clause-limit c =

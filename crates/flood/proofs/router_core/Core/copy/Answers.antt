@@ -1,6 +1,12 @@
-use Rattle.std.proofs.Common.{ap, sym, subst, ◌∙◌}
+use Rattle.std.proofs.Common.{◌≤◌, length, ap, sym, subst, ◌∙◌}
+use Rattle.std.specs.FinMap as finite
+use Rattle.area_routes.proofs.Limits.{within}
 use Rattle.event_rooms.specs.RoomLaws.{IsRoomy}
 use Rattle.events.specs.Refusals.{exceeds}
+use Rattle.flooding.specs.Kept.{RouterArea}
+use Rattle.flood.proofs.Kept.{begun}
+use Rattle.flood_laws.specs.Keeping.{HoldsInstances}
+use Rattle.flood_laws.specs.Known.{AnnouncesItsOwn}
 use Rattle.flood.proofs.router_core.Core.copy.Goals as goal
 
 pub invariant_of-result : goal.invariant_of-result
@@ -9,4 +15,17 @@ invariant_of-result c =
       ap (λ k. k.settled) c.in_ok-router.ensures ∙ sym present,
       subst IsRoomy (sym present) c.self.invariant.1,
       ap exceeds present ∙ c.self.invariant.2,
+      subst AnnouncesItsOwn (sym present) c.self.invariant.3,
+      subst HoldsInstances (sym present) c.self.invariant.4,
+      begun c.in_ok-router.router.present c.id.result c.area.result.now.present c.moment.result c.in_ok-routes.routes
+          c.id.ensures (ap (λ (a : RouterArea). a.present) c.area.ensures.parts) c.moment.ensures c.in_ok-routes.ensures.walk c.in_ok-routes.ensures.root c.in_ok-routes.ensures.answered,
     )
+
+pub new-requires-clause-few : goal.new-requires-clause-few
+new-requires-clause-few c = subst (λ (a : RouterArea). length a.present.links ≤ 63) (sym c.area.ensures.parts) c.area.ensures.few
+
+pub new-requires-clause-size : goal.new-requires-clause-size
+new-requires-clause-size c =
+    let present = ap (λ k. k.present) c.in_ok-router.ensures in
+    subst (λ (a : RouterArea). finite.len a.present.database ≤ 16384) (sym c.area.ensures.parts)
+    (within c.in_ok-router.router.present.id c.in_ok-router.router.present.area.database (ap exceeds present ∙ c.self.invariant.2))

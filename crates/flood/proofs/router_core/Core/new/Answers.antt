@@ -1,13 +1,40 @@
-use Rattle.std.proofs.Common.{◌≡◌, true, rules, sym, ap, ◌∙◌, subst}
+use Rattle.std.proofs.Common.{◌≡◌, ◌≤◌, true, length, rules, sym, ap, ◌∙◌, subst}
+use Rattle.std.specs.FinMap as finite
+use Rattle.area_routes.proofs.Limits.{within}
 use Rattle.event_rooms.specs.RoomLaws.{IsRoomy}
 use Rattle.event_rooms.proofs.Roomy.{every_packet_has_room}
 use Rattle.events.specs.Refusals.{exceeds}
 use Rattle.events.specs.Routers.{in_profile}
+use Rattle.flood_laws.specs.Keeping.{HoldsInstances}
+use Rattle.flood_laws.specs.Known.{AnnouncesItsOwn}
+use Rattle.flood_laws.proofs.Keeping.{instances_stay_in_range}
+use Rattle.flood_laws.proofs.Known.{only_what_is_known}
 use Rattle.flood_laws.proofs.Limits.{others_stay_within_limits}
+use Rattle.flooding.specs.Kept.{RouterArea}
+use Rattle.flood.proofs.Kept.{begun}
 use Rattle.flood.proofs.router_core.Core.new.Goals as goal
 
 pub invariant_of-result : goal.invariant_of-result
 invariant_of-result c =
     let fine : in_profile c.args.config.now ≡ true = search rules in
     let is = ap (λ k. k.present) c.settle.ensures ∙ c.in_ok-router.ensures in
-    (ap (λ k. k.settled) c.settle.ensures ∙ sym (ap (λ k. k.present) c.settle.ensures), subst IsRoomy (sym is) (every_packet_has_room.first c.args.config.now fine), ap exceeds is ∙ others_stay_within_limits.start c.args.config.now)
+    let settled = ap (λ k. k.settled) c.settle.ensures ∙ sym (ap (λ k. k.present) c.settle.ensures) in
+    let router = c.in_profile.ensures.router in (
+      settled,
+      subst IsRoomy (sym is) (every_packet_has_room.first c.args.config.now fine),
+      ap exceeds is ∙ others_stay_within_limits.start c.args.config.now,
+      subst AnnouncesItsOwn (sym is) (only_what_is_known.first c.args.config.now),
+      subst HoldsInstances (sym is) (instances_stay_in_range.first c.args.config.now router),
+      begun c.settle.new.self.present c.id.result c.area.result.now.present c.moment.result c.in_ok-routes.routes
+          c.id.ensures (ap (λ (a : RouterArea). a.present) c.area.ensures.parts) c.moment.ensures c.in_ok-routes.ensures.walk c.in_ok-routes.ensures.root c.in_ok-routes.ensures.answered,
+    )
+
+pub new-requires-clause-few : goal.new-requires-clause-few
+new-requires-clause-few c = subst (λ (a : RouterArea). length a.present.links ≤ 63) (sym c.area.ensures.parts) c.area.ensures.few
+
+pub new-requires-clause-size : goal.new-requires-clause-size
+new-requires-clause-size c =
+    let is = ap (λ k. k.present) c.settle.ensures ∙ c.in_ok-router.ensures in
+    let fine = ap exceeds is ∙ others_stay_within_limits.start c.args.config.now in
+    subst (λ (a : RouterArea). finite.len a.present.database ≤ 16384) (sym c.area.ensures.parts)
+    (within c.settle.new.self.present.id c.settle.new.self.present.area.database fine)

@@ -1,27 +1,24 @@
-use Rattle.std.proofs.Common.{◌≡◌, ℕ, ◌≤◌, length, refl, ap, subst, sym}
-use Rattle.std.specs.Prelude.{◌↔◌, IsTrue}
-use Rattle.std.specs.FinMap as finite
-use Rattle.area_routes.specs.Offers.{IsTableOf}
-use Rattle.area_routes.proofs.Limits.{within}
+use Rattle.std.proofs.Common.{ap, subst}
+use Rattle.area_routes.specs.Offers.{root_by}
 use Rattle.events.specs.Routers.{Router}
 use Rattle.flooding.specs.Kept.{RouterArea}
-use Rattle.received.specs.Links.{Area}
-use Rattle.routes.specs.Tables.{Answers}
-use Rattle.flood.proofs.Offering.{of_router}
+use Rattle.kept_routes.specs.Kept.{IsWalkOf}
+use Rattle.routes.specs.Said.{Said, said_at}
+use Rattle.routes.specs.Tables.{Answers, IsTable}
+use Rattle.routes.specs.declared.root.Root.{Root}
+use Rattle.flood.proofs.Offering.{of_router, said_in_parts}
 use Rattle.flood.proofs.router_core.Core.rows.Goals as goal
 
-pub table_of-requires-clause-few : goal.table_of-requires-clause-few
-table_of-requires-clause-few c = subst (λ (a : RouterArea). length a.present.links ≤ 63) (sym c.area.ensures.parts) c.area.ensures.few
-
-pub table_of-requires-clause-size : goal.table_of-requires-clause-size
-table_of-requires-clause-size c =
-    subst (λ (a : RouterArea). finite.len a.present.database ≤ 16384) (sym c.area.ensures.parts)
-    (within c.self.inside.router.present.id c.self.inside.router.present.area.database c.self.invariant.2)
+pub table-requires : goal.table-requires
+table-requires c =
+    let r = c.self.inside.router.present in
+    said_in_parts (λ said. IsWalkOf said c.self.inside.routes.walk) r c.area.result.now.present c.moment.result
+    (ap (λ (a : RouterArea). a.present) c.area.ensures.parts) c.moment.ensures c.self.invariant.5.walk
 
 pub returns : goal.returns
 returns c =
-    let P : ℕ → Area → ℕ → Answers → Type 0 = λ i a m w. IsTableOf i a m w c.in_ok-made.made.items in
+    let P : Said → Root → Answers → Type 0 = λ said root w. IsTable said root w c.in_ok-made.made.items in
     let r = c.self.inside.router.present in
-    subst (λ (s : Router). P s.id s.area s.moment s.answers) c.self.view_is
-    (of_router P r c.id.result c.area.result.now.present c.moment.result c.answers.result.now
-    c.id.ensures (ap (λ (a : RouterArea). a.present) c.area.ensures.parts) c.moment.ensures c.answers.ensures c.in_ok-made.ensures)
+    subst (λ (s : Router). P (said_at s.moment s.area.database) (root_by s.id s.area.links) s.answers) c.self.view_is
+    (of_router P r c.area.result.now.present c.moment.result c.self.inside.routes.walk.root c.answers.result.now
+    (ap (λ (a : RouterArea). a.present) c.area.ensures.parts) c.moment.ensures c.self.invariant.5.root c.answers.ensures c.in_ok-made.ensures)

@@ -1,7 +1,11 @@
-use Rattle.std.proofs.Common.{◌≡◌, sym, ap, ◌∙◌, subst}
+use Rattle.std.proofs.Common.{sym, ap, ◌∙◌, subst}
 use Rattle.event_rooms.specs.RoomLaws.{IsRoomy}
 use Rattle.events.specs.Refusals.{exceeds}
+use Rattle.events.specs.Routers.{Router}
+use Rattle.flood_laws.specs.Keeping.{HoldsInstances}
+use Rattle.flood_laws.specs.Known.{AnnouncesItsOwn}
 use Rattle.flood.specs.Occurrences.{occurrence_of}
+use Rattle.flood.specs.Offers.{AreKeptNow}
 use Rattle.flood.proofs.Happening.{stays_roomy}
 use Rattle.flood.proofs.router_core.Core.step.Goals as goal
 
@@ -10,6 +14,9 @@ invariant_of-self c =
     let is = ap (λ k. k.present) c.settle_at.ensures in (
       ap (λ k. k.settled) c.settle_at.ensures ∙ sym is,
       subst IsRoomy (sym is)
-          (stays_roomy c.self.inside.router.present c.args.moment (occurrence_of c.args.event.now) c.in-Ok.outs.items c.take.new.router.present c.in-Ok.ensures.ok c.self.invariant.1),
+          (stays_roomy c.self.inside.router.present c.args.moment (occurrence_of c.args.event.now) c.in-Ok.outs.items c.take_and_keep.new.router.present c.in-Ok.ensures.ok c.self.invariant.1),
       ap exceeds is ∙ c.in-Ok.ensures.limit,
+      subst AnnouncesItsOwn (sym is) c.in-Ok.ensures.own,
+      subst HoldsInstances (sym is) c.in-Ok.ensures.holds,
+      subst (λ (s : Router). AreKeptNow s c.take_and_keep.new.routes) (sym is) c.in-Ok.ensures.kept,
     )

@@ -1,8 +1,0 @@
-use Rattle.std.proofs.Common.{◌≡◌, map, take}
-use Rattle.adjacency.specs.Kept.{Kept}
-use Rattle.received.specs.Links.{Link}
-use Rattle.flooding.specs.Links.{present}
-use Rattle.area_routes.proofs.addresses_of.Given as goal
-
-abbrev pub invariant-loop-link : goal.invariant-loop-link
-invariant-loop-link l = l.addresses.items ≡ map (λ (k : Kept Link). (present k).interface.address) (take l.link-index l.links)

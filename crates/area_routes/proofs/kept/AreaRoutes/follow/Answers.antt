@@ -1,0 +1,26 @@
+use Rattle.std.proofs.Common.{subst, sym}
+use Rattle.area_routes.specs.Kept.{KeptRoutes}
+use Rattle.kept_routes.specs.Kept.{IsWalkOf}
+use Rattle.routes.specs.Said.{said_at}
+use Rattle.area_routes.proofs.kept.AreaRoutes.follow.Goals as goal
+
+pub returns-then-branch-clause-walk : goal.returns-then-branch-clause-walk
+returns-then-branch-clause-walk c =
+    let old = said_at c.args.before c.args.area.now.settled.database in
+    let new = said_at c.args.moment c.args.area.now.present.database in
+    let same = c.in_ok-says_the_same.ensures c.if-branch.true in
+    c.walks_are_kept.ensures old new c.args.self.now.walk (λ key low. same key tt) c.requires.walk
+
+pub returns-then-branch-clause-answered : goal.returns-then-branch-clause-answered
+returns-then-branch-clause-answered c = λ answers knows answered stale.
+    let old = said_at c.args.before c.args.area.now.settled.database in
+    let new = said_at c.args.moment c.args.area.now.present.database in
+    let same = c.in_ok-says_the_same.ensures c.if-branch.true in
+    knows answered ((c.routes_are_kept.ensures.stale old new c.args.self.now.walk.root answers same).1 stale)
+
+pub returns-then-branch-2-clause-walk : goal.returns-then-branch-2-clause-walk
+returns-then-branch-2-clause-walk c =
+    let old = said_at c.args.before c.args.area.now.settled.database in
+    let new = said_at c.args.moment c.args.area.now.present.database in
+    c.walks_are_kept.ensures old new c.self.inside.walk (c.in_ok-says_the_same-2.ensures c.if-branch-2.true)
+    (subst (λ (k : KeptRoutes). IsWalkOf old k.walk) (sym c.self.view_is) c.requires.walk)

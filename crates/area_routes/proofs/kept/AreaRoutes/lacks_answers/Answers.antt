@@ -1,0 +1,13 @@
+use Rattle.std.proofs.Common.{subst, sym}
+use Rattle.std.specs.Prelude.{List}
+use Rattle.words.specs.declared.route.Route.{Route}
+use Rattle.routes.specs.Candidates.{AreCandidates}
+use Rattle.routes.specs.Said.{said_at}
+use Rattle.area_routes.proofs.kept.AreaRoutes.lacks_answers.Goals as goal
+
+pub returns : goal.returns
+returns c =
+    let said = said_at c.args.moment c.args.area.now.present.database in
+    let root = c.args.self.now.walk.root in
+    let are = subst (λ (xs : List Route). AreCandidates said root xs) (sym c.deref.ensures.value) c.in_ok-candidates.ensures in
+    c.in_ok-lacks.ensures said root are

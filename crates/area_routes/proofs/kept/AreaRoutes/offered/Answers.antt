@@ -1,0 +1,19 @@
+use Rattle.std.proofs.Common.{◌∙◌, ap, subst, sym}
+use Rattle.std.specs.Prelude.{List}
+use Rattle.words.specs.declared.route.Route.{Route}
+use Rattle.routes.specs.Candidates.{AreCandidates}
+use Rattle.routes.specs.Said.{said_at}
+use Rattle.tables.specs.Rows.{rows_of}
+use Rattle.area_routes.proofs.kept.AreaRoutes.offered.Goals as goal
+
+pub returns : goal.returns
+returns c =
+    let said = said_at c.args.moment c.args.area.now.present.database in
+    let root = c.args.self.now.walk.root in
+    let are = subst (λ (xs : List Route). AreCandidates said root xs) (sym c.deref.ensures.value) c.in_ok-candidates.ensures in
+    record {
+      are_candidates = c.in_ok-candidates.ensures;
+      table = c.in_ok-table.table.items;
+      is_table = c.in_ok-table.ensures said root are;
+      are_rows = c.in_ok-rows.ensures ∙ ap rows_of c.deref-2.ensures.value;
+    }

@@ -1,0 +1,8 @@
+use Rattle.std.proofs.Common.{◌≡◌, map, take}
+use Rattle.adjacency.specs.Kept.{Kept}
+use Rattle.received.specs.Links.{Link}
+use Rattle.flooding.specs.Links.{present}
+use Rattle.area_routes.proofs.root.are_addresses.Given as goal
+
+abbrev pub invariant-loop-at : goal.invariant-loop-at
+invariant-loop-at l = take l.at l.addresses ≡ map (λ (k : Kept Link). (present k).interface.address) (take l.at l.links)

@@ -1,0 +1,32 @@
+-- A journal with one more event.
+use Rattle.std.proofs.Common.{◌≡◌, List, [], ◌∷◌, ◌++◌, map, sym, subst, refl, ap, ◌∙◌}
+use Rattle.std.proofs.lemmas.List.{map-append}
+use Rattle.events.specs.declared.model.Out.{Out}
+use Rattle.events.specs.Events.{Happens, Run, Step}
+use Rattle.events.specs.Routers.{Router}
+use Rattle.flood.specs.Occurrences.{occurrence_of}
+use Rattle.book.specs.declared.entry.Entry.{Entry}
+use Rattle.book.specs.Replay.{Replays, entered, happened}
+
+abbrev step : Entry → List Out → Step
+step e outs = record { moment = e.moment; event = occurrence_of e.event; outs = outs }
+
+run_on : (steps : List Step) (old middle new : Router) (s : Step)
+    → Run old steps middle → Happens middle s.moment s.event s.outs new → Run old (steps ++ s ∷ []) new
+run_on [] old middle new s same now =
+    (new, subst (λ (r : Router). Happens r s.moment s.event s.outs new) same now, refl)
+run_on (x ∷ steps) old middle new s earlier now =
+    (earlier.0, earlier.1, run_on steps earlier.0 middle new s earlier.2 now)
+
+same_on : (steps : List Step) (journal : List Entry) (s : Step) (e : Entry)
+    → map happened steps ≡ map entered journal → happened s ≡ entered e
+    → map happened (steps ++ s ∷ []) ≡ map entered (journal ++ e ∷ [])
+same_on steps journal s e same one =
+    map-append happened steps (s ∷ []) ∙ ap (λ l. l ++ happened s ∷ []) same
+    ∙ ap (λ x. map entered journal ++ x ∷ []) one ∙ sym (map-append entered journal (e ∷ []))
+
+pub replays_on : (start : Router) (journal : List Entry) (before after : Router) (e : Entry) (outs : List Out)
+    → Replays start journal before → Happens before e.moment (occurrence_of e.event) outs after
+    → Replays start (journal ++ e ∷ []) after
+replays_on start journal before after e outs (steps, same, run) now =
+    (steps ++ step e outs ∷ [], same_on steps journal (step e outs) e same refl, run_on steps start before after (step e outs) run now)

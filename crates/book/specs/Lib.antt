@@ -1,0 +1,3 @@
+pub mod Replay
+pub mod Refusals
+pub mod Numbers

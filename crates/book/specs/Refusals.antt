@@ -1,0 +1,34 @@
+-- When a book takes no event.
+use Rattle.std.specs.Prelude.{◌≡◌, ◌⊎◌, length, Result, Ok, Err}
+use Rattle.words.specs.Numbers.{Moment}
+use Rattle.events.specs.Refusals as router
+use Rattle.flood.specs.declared.event.Event.{Event}
+use Rattle.flood.specs.Occurrences.{occurrence_of}
+use Rattle.book.specs.declared.error.BookError.{BookError}
+use Rattle.book.specs.declared.error.BookError.TheVariants as refusing
+use Rattle.book.specs.Replay.{BookView}
+
+-- no more events may be taken
+abbrev pub IsSpent : BookView → Type 0
+IsSpent b = b.taken ≡ 9223372036854775808
+
+-- the journal has no place left, or no more events may be taken
+abbrev pub IsFull : BookView → Type 0
+IsFull b = (length b.journal ≡ 65536) ⊎ IsSpent b
+
+-- A book that is refused for itself says so, and only such a one; else the router's answer stands.
+abbrev pub AnswersWhere : {X : Type 0} → (IsRefused : BookView → Type 0)
+    → BookView → Moment → Event → Result X BookError → Type 0
+AnswersWhere IsRefused b moment e (Ok x) =
+    (IsRefused b → ⊥) × router.Answers b.current moment (occurrence_of e) (Ok x)
+AnswersWhere IsRefused b moment e (Err refusing.Journal) = IsRefused b
+AnswersWhere IsRefused b moment e (Err (refusing.Core x)) =
+    (IsRefused b → ⊥) × router.Answers {X = Unit {0}} b.current moment (occurrence_of e) (Err x)
+
+-- a full book says so
+abbrev pub Answers : {X : Type 0} → BookView → Moment → Event → Result X BookError → Type 0
+Answers b moment e r = AnswersWhere IsFull b moment e r
+
+-- a book that starts anew where its journal is full
+abbrev pub AnswersAnew : {X : Type 0} → BookView → Moment → Event → Result X BookError → Type 0
+AnswersAnew b moment e r = AnswersWhere IsSpent b moment e r

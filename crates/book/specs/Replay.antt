@@ -1,0 +1,45 @@
+-- A journal, and what it says of a router.
+use Rattle.std.specs.Prelude.{◌≡◌, ℕ, ◌≤◌, List, [], length, map}
+use Rattle.words.specs.Numbers.{Moment}
+use Rattle.events.specs.Events.{Run, Step}
+use Rattle.events.specs.Routers.{Occurrence, Router}
+use Rattle.flood.specs.declared.event.Event.{Event}
+use Rattle.flood.specs.Occurrences.{occurrence_of}
+use Rattle.book.specs.declared.entry.Entry.{Entry}
+
+abbrev pub entry : Moment → Event → Entry
+entry moment event = record { moment = moment; event = event }
+
+-- what came, and when: of an entry, and of a step of a run
+abbrev pub entered : Entry → Moment × Occurrence
+entered e = (e.moment, occurrence_of e.event)
+
+abbrev pub happened : Step → Moment × Occurrence
+happened s = (s.moment, s.event)
+
+-- a run over just the journal's events, whatever they sent, leads from one router to the other
+abbrev pub Replays : (start : Router) → List Entry → (now : Router) → Type 0
+Replays start journal now =
+    (steps : List Step) × (map happened steps ≡ map entered journal) × Run start steps now
+
+-- what contracts see of a book
+pub record BookView : Type 0 where
+  pub start : Router
+  -- the events since the start, the oldest first
+  pub journal : List Entry
+  -- the router as it is now
+  pub current : Router
+  -- how many events were taken in all
+  pub taken : ℕ
+
+-- a book that has taken nothing
+abbrev pub started : Router → BookView
+started core = record { start = core; journal = []; current = core; taken = 0 }
+
+-- what holds of the fields of every book, beside the total of its ledger
+pub record IsKept (start : Router) (journal : List Entry) (now : Router) (taken total : ℕ)
+    : Type 0 where
+  pub replays : Replays start journal now
+  pub room : length journal ≤ 65536
+  pub few : taken ≤ 9223372036854775808
+  pub counted : taken ≡ total

@@ -1,0 +1,250 @@
+//! The book itself: an event is taken, and the book starts anew.
+ghost use Rattle.std.specs.Prelude.{◌≡◌, ℕ, ◌+◌, ◌^◌, ◌<◌, ◌≤◌, [], ◌∷◌, ◌++◌, length, IfOk, OnOk, OnErr};
+ghost use Rattle.events.specs.Events.{Happens};
+ghost use Rattle.flood.specs.Occurrences.{occurrence_of};
+ghost use Rattle.book.specs.Refusals.{Answers, AnswersAnew};
+ghost use Rattle.book.specs.Replay.{Replays, entry, started};
+
+use crate::entry::Entry;
+use crate::error::BookError;
+use flood::{Core, Event, Out};
+use std::alloc::{AllocError, Global};
+use std::marker::Model;
+use std::sync::ledger;
+use std::sync::ledger::{Blank, Ledger, Share};
+use words::Second;
+
+/// The most events in a journal.
+pub const JOURNAL: usize = 65_536;
+
+/// The most events that a book takes in all, 2^63.
+pub const TAKEN: u64 = 1 << 63;
+
+/// How many bytes the journal's events may hold before [`Book::apply_anew`] starts it anew, 64 MiB.
+pub const NOTED: u64 = 64 << 20;
+
+/// The bytes that an entry takes beside what its event holds elsewhere, or more.
+const ENTRY: u64 = 256;
+
+/// A router with its past: the router at the start, the events since, and the router as it is now.
+///
+/// Clauses see these and how many events were taken in all, before the start too. `L` is the ledger
+/// in which every event counts once, for the share that it was taken with.
+#[derive(Drop)]
+pub struct Book<L: Ledger> {
+    alloc: Global,
+    start: Core,
+    current: Core,
+    journal: Vec<Entry>,
+    // The bytes of the journal, or more.
+    noted: u64,
+    taken: u64,
+    total: ledger::Book<L>,
+}
+
+impl<L: Ledger> Model for Book<L> {
+    ghost use Rattle.std.specs.Prelude.{ℕ};
+    ghost use Rattle.std.specs.Coded.{codes};
+    ghost use Rattle.std.specs.FinMap as finite;
+    ghost use Rattle.words.specs.declared.route.External.{External as Destination};
+    ghost use Rattle.lsdb.specs.Copies.{DatabaseCopy};
+    ghost use Rattle.lsdb.specs.Keys.{coded_key, key_cmp};
+    ghost use Rattle.adjacency.specs.Codes.{coded_headers, coded_keys, coded_lists};
+    ghost use Rattle.book.specs.Replay.{BookView, IsKept};
+
+    ghost Value = { BookView };
+
+    ghost coded = { Prim.hlevel (
+      codes,
+      coded_lists,
+      coded_keys,
+      coded_headers,
+      finite.code {X = DatabaseCopy} {R = key_cmp} coded_key (Prim.hlevel codes),
+      finite.code {X = Destination} {R = key_cmp} coded_key (Prim.hlevel codes),
+      finite.code {X = ℕ} {R = key_cmp} coded_key (Prim.hlevel codes),
+    ) };
+
+    ghost view = { λ b. record {
+      start = b.start;
+      journal = b.journal.items;
+      current = b.current;
+      taken = b.taken;
+    } };
+
+    ghost invariant = { λ b. IsKept b.start b.journal.items b.current b.taken b.total.total };
+}
+
+impl<L: Ledger> Book<L> {
+    /// A book that starts with this router and has taken nothing, and the share that has every part
+    /// of the ledger.
+    ///
+    /// `AllocError` comes where an allocation was refused: the start is a copy.
+    pub fn new(alloc: Global, blank: Blank, core: Core) -> Result<(Book<L>, Share<L>), AllocError>
+        requires name { blank.name ≡ L.name }
+        requires parts { blank.parts ≡ L.parts }
+        ensures book { IfOk result (λ r. r.0 ≡ started core) }
+        ensures share { IfOk result (λ r. (r.1.parts ≡ L.parts) × (r.1.amount ≡ 0)) }
+    {
+        let start = core.copy()?;
+        let (total, share) = blank.open::<L>();
+        let book = Book {
+            alloc,
+            start,
+            current: core,
+            journal: Vec::new(alloc),
+            noted: 0,
+            taken: 0,
+            total,
+        };
+        Ok((book, share))
+    }
+
+    /// Takes an event at a moment: what it makes of the router, and what is to be sent. The event
+    /// stands last in the journal then, and counts once in the book and once in the share.
+    ///
+    /// Refused, in this order: `Journal` where the journal holds 65,536 events or 2^63 were taken in
+    /// all; what the router refuses, in its own order; `Core(Memory)` only where neither the journal
+    /// nor the clock nor the interface is refused, and an allocation was. A refusal leaves the book
+    /// and the share as they were.
+    #[tactic(auto, using(flood::proofs::Early::may_run_out, flood::proofs::Early::early_answers))]
+    pub fn apply(
+        &mut self,
+        mine: &mut Share<L>,
+        moment: Second,
+        event: &Event,
+    ) -> Result<Vec<Out>, BookError>
+        requires { 0 < mine.old.parts }
+        ensures ok { IfOk result (λ outs. Happens
+            self.old.current moment (occurrence_of event.now) outs.items self.new.current) }
+        ensures book { OnOk result (self.new ≡ record self.old {
+          journal = self.old.journal ++ entry moment event.now ∷ [];
+          current = self.new.current;
+          taken = self.old.taken + 1;
+        }) }
+        ensures share { OnOk result (mine.new.amount ≡ mine.old.amount + 1) }
+        ensures parts { mine.new.parts ≡ mine.old.parts }
+        ensures refused { Answers self.old moment event.now result }
+        ensures err { OnErr result
+            ((self.new ≡ self.old) × (mine.new.amount ≡ mine.old.amount)) }
+    {
+        if self.journal.len() == JOURNAL || self.taken == TAKEN {
+            return Err(BookError::Journal);
+        }
+        if let Some(error) = self.current.refuses(moment, event) {
+            return Err(BookError::Core(error));
+        }
+        // What needs memory comes before the step, after which nothing may fail.
+        self.journal.reserve(1)?;
+        let event_copy = event.copy()?;
+        let outs = self.current.step(moment, event)?;
+        self.noted = self
+            .noted
+            .saturating_add(event.weight())
+            .saturating_add(ENTRY);
+        self.journal.push_reserved(Entry {
+            moment,
+            event: event_copy,
+        });
+        self.total.add(mine, 1);
+        self.taken += 1;
+        Ok(outs)
+    }
+
+    /// The book starts from the router as it is now, with an empty journal. It has taken no more and
+    /// no less than before.
+    ///
+    /// `AllocError` comes where an allocation was refused; the book is as it was then.
+    pub fn mark(&mut self) -> Result<(), AllocError>
+        ensures ok { OnOk result (self.new ≡ record self.old {
+          start = self.old.current;
+          journal = [];
+        }) }
+        ensures err { OnErr result (self.new ≡ self.old) }
+    {
+        self.start = self.current.copy()?;
+        self.journal.clear();
+        self.noted = 0;
+        Ok(())
+    }
+
+    /// Takes an event as [`apply`](Book::apply) does, in a book that is marked first where its journal
+    /// is full, or where its events hold more than 64 MiB. So `Journal` is answered only where 2^63
+    /// events were taken.
+    ///
+    /// A mark stands, whether the event is taken or not. A mark that is made for the journal's bytes
+    /// alone refuses nothing where it gets no memory: the journal grows on.
+    pub fn apply_anew(
+        &mut self,
+        mine: &mut Share<L>,
+        moment: Second,
+        event: &Event,
+    ) -> Result<Vec<Out>, BookError>
+        requires { 0 < mine.old.parts }
+        ensures ok { IfOk result (λ outs. Happens
+            self.old.current moment (occurrence_of event.now) outs.items self.new.current) }
+        ensures taken { OnOk result (self.new.taken ≡ self.old.taken + 1) }
+        ensures share { OnOk result (mine.new.amount ≡ mine.old.amount + 1) }
+        ensures parts { mine.new.parts ≡ mine.old.parts }
+        ensures refused { AnswersAnew self.old moment event.now result }
+        ensures err { OnErr result
+            ((self.new.current ≡ self.old.current) × (self.new.taken ≡ self.old.taken)
+            × (mine.new.amount ≡ mine.old.amount)) }
+    {
+        if self.taken == TAKEN {
+            return Err(BookError::Journal);
+        }
+        // These two come before any want of memory, of the mark's too.
+        if let Some(error) = self.now().refuses(moment, event) {
+            return Err(BookError::Core(error));
+        }
+        if self.journal.len() == JOURNAL {
+            self.mark()?;
+        } else if self.noted > NOTED {
+            let _marked = self.mark();
+        }
+        self.apply(mine, moment, event)
+    }
+
+    /// Whoever brings every part of the ledger, as one share, learns that the book has taken just as
+    /// many events as the share counts. It changes nothing.
+    pub fn audit(&mut self, all: &mut Share<L>)
+        requires { all.old.parts ≡ L.parts }
+        ensures sum { self.old.taken ≡ all.old.amount }
+        ensures book { self.new ≡ self.old }
+        ensures share { (all.new.amount ≡ all.old.amount) × (all.new.parts ≡ all.old.parts) }
+    {
+        self.total.audit(all);
+    }
+
+    /// The router at the start.
+    pub fn start(&self) -> &Core
+        ensures { result.now ≡ self.now.start }
+    {
+        &self.start
+    }
+
+    /// The router as it is now.
+    pub fn now(&self) -> &Core
+        ensures { result.now ≡ self.now.current }
+    {
+        &self.current
+    }
+
+    /// The events since the start, the oldest first. Replayed from there they give the router as it
+    /// is now.
+    pub fn journal(&self) -> &[Entry]
+        ensures journal { result.now ≡ self.now.journal }
+        ensures replays { Replays self.now.start self.now.journal self.now.current }
+        ensures room { length self.now.journal ≤ 65536 }
+    {
+        &self.journal
+    }
+
+    /// How many events were taken in all, before the start too.
+    pub fn taken(&self) -> u64
+        ensures taken { result ≡ self.now.taken }
+        ensures few { self.now.taken ≤ 2 ^ 63 }
+    {
+        self.taken
+    }
+}

@@ -1,0 +1,10 @@
+//! An event in the journal.
+use flood::Event;
+use words::Second;
+
+/// An event and the moment at which it came.
+#[derive(Debug, Drop)]
+pub struct Entry {
+    pub moment: Second,
+    pub event: Event,
+}

@@ -1,0 +1,52 @@
+//! Why a book takes no event.
+ghost use Rattle.std.specs.Prelude.{◌≡◌};
+ghost use Rattle.book.specs.Numbers.{book_error_number};
+
+use flood::CoreError;
+use std::alloc::AllocError;
+use thiserror::Error;
+
+/// Why a book refused an event, which then changed nothing.
+#[derive(Clone, Copy, Debug, PartialEq, Eq, Error)]
+pub enum BookError {
+    /// The router refused it, or an allocation was refused (`CoreError::Memory`).
+    #[error("{0}")]
+    Core(CoreError),
+    /// The journal holds [`JOURNAL`](crate::JOURNAL) events, or the book has taken
+    /// [`TAKEN`](crate::TAKEN). It is tried first.
+    #[error("the journal is full")]
+    Journal,
+}
+
+impl BookError {
+    /// The number of the refusal: 1 to 6 as the router's, 7 for `Journal`.
+    pub fn number(self) -> u8
+        ensures { result ≡ book_error_number self }
+    {
+        match self {
+            BookError::Core(error) => error.number(),
+            BookError::Journal => 7,
+        }
+    }
+}
+
+impl From<AllocError> for BookError {
+    ghost use Rattle.events.specs.declared.model.CoreError.TheVariants.{Memory};
+    ghost use Rattle.book.specs.declared.error.BookError.TheVariants.{Core};
+
+    ghost from_gives = { λ _ e. e ≡ Core Memory };
+
+    fn from(_e: AllocError) -> BookError {
+        BookError::Core(CoreError::Memory)
+    }
+}
+
+impl From<CoreError> for BookError {
+    ghost use Rattle.book.specs.declared.error.BookError.TheVariants.{Core};
+
+    ghost from_gives = { λ r e. e ≡ Core r };
+
+    fn from(e: CoreError) -> BookError {
+        BookError::Core(e)
+    }
+}

@@ -1,0 +1,73 @@
+//! The command `route`: the configuration, the console's streams and the status go to the router and back.
+
+use super::{path_for, run};
+use commands::Routing;
+use commands::program::program;
+use std::alloc::Global;
+use std::io::{BufRead, Write};
+use std::test::Fail;
+use std::{fs, process};
+
+// In the place of a router: prints the configuration and the console's first line.
+#[derive(Drop)]
+struct OneLine {
+    alloc: Global,
+    status: u8,
+}
+
+impl Routing for OneLine {
+    fn route<I: BufRead, O: Write>(&self, text: &str, input: &mut I, output: &mut O) -> u8 {
+        let mut line = String::new(self.alloc);
+        if input.read_line(&mut line).is_err() || write!(output, "{text}{line}").is_err() {
+            return 3;
+        }
+        if self.status <= 4 { self.status } else { 4 }
+    }
+}
+
+#[test]
+fn a_router_has_its_configuration_and_the_console(rt: HostRuntime) -> Result<(), Fail> {
+    let path = path_for(&rt, process::id(rt.process()), "one.conf")?;
+    let path = path.as_str();
+    fs::write(&rt, path, "router 1.1.1.1\n")?;
+    for status in [0, 1, 3, 4] {
+        let mut input: &[u8] = b"quit\n".as_slice();
+        let mut output = Vec::new(rt.alloc());
+        let mut errors = Vec::new(rt.alloc());
+        let router = OneLine {
+            alloc: rt.alloc(),
+            status,
+        };
+        let words = ["routerd", "route", path];
+        let got = program(&rt, &router, &words, &mut input, &mut output, &mut errors);
+        assert_eq!(rt; got, status);
+        assert!(rt; output.as_slice() == b"router 1.1.1.1\nquit\n".as_slice());
+        assert!(rt; errors.is_empty());
+    }
+    fs::remove_file(&rt, path)?;
+    Ok(())
+}
+
+#[test]
+fn a_configuration_that_is_no_text_cant_be_read(rt: HostRuntime) -> Result<(), Fail> {
+    let path = path_for(&rt, process::id(rt.process()), "bytes.conf")?;
+    let path = path.as_str();
+    let line = format!(in rt.alloc(); "cannot read {path}\n")?;
+    let missing = run(&rt, &["routerd", "route", path])?;
+    assert!(rt; missing.status == 3 && missing.lines.as_str() == line.as_str());
+    fs::write(&rt, path, [0xff, 0xfe].as_slice())?;
+    let bytes = run(&rt, &["routerd", "route", path])?;
+    fs::remove_file(&rt, path)?;
+    assert!(rt; bytes.status == 3 && bytes.lines.as_str() == line.as_str());
+    assert!(rt; bytes.usage.as_str() == "");
+    Ok(())
+}
+
+#[test]
+fn help_of_route_has_an_example(rt: HostRuntime) -> Result<(), Fail> {
+    let outcome = run(&rt, &["routerd", "route", "--help"])?;
+    assert_eq!(rt; outcome.status, 0);
+    let help = outcome.usage.as_str();
+    assert!(rt; help.contains("Example: routerd route one.conf"), "{help}");
+    Ok(())
+}

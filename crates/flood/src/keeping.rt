@@ -1,0 +1,92 @@
+//! What is kept for routes from one event to the next.
+ghost use Rattle.std.specs.Prelude.{◌≡◌, ◌≤◌, IfOk, OnErr, OnOk, false};
+ghost use Rattle.area_routes.specs.Kept.{KnowsAnswered};
+ghost use Rattle.event_rooms.specs.RoomLaws.{IsRoomy};
+ghost use Rattle.events.specs.Events.{Happens};
+ghost use Rattle.events.specs.Refusals.{Answers, exceeds};
+ghost use Rattle.flood_laws.specs.Keeping.{HoldsInstances, KeepsWhatIsKnown};
+ghost use Rattle.flood_laws.specs.Known.{AnnouncesItsOwn};
+ghost use Rattle.flood.specs.Occurrences.{brings_answers, occurrence_of};
+ghost use Rattle.flood.specs.Offers.{AreKeptNow};
+ghost use Rattle.kept_routes.specs.Kept.{IsWalkOf};
+ghost use Rattle.routes.specs.Said.{said_at};
+
+use crate::event::Event;
+use crate::taking::take;
+use area_routes::AreaRoutes;
+use events::{CoreError, Out};
+use router::Router;
+use std::alloc::{AllocError, Global};
+use words::Second;
+
+fn brings_answers(event: &Event) -> bool
+    ensures { result ≡ brings_answers (occurrence_of event.now) }
+{
+    match event {
+        Event::Packet(_, _) => false,
+        Event::Tick => false,
+        Event::Redistribute(_, _) => false,
+        Event::Withdraw(_) => false,
+        Event::Install(_) => true,
+        Event::LinkDown(_) => false,
+    }
+}
+
+// The routes follow the router over an event that isn't final yet.
+fn keep(
+    router: &Router,
+    routes: &mut AreaRoutes,
+    alloc: Global,
+    before: Second,
+    event: &Event,
+) -> Result<(), AllocError>
+    requires fine { exceeds router.now.present ≡ false }
+    requires order { before ≤ router.now.present.moment }
+    requires walk { IsWalkOf (said_at before router.now.settled.area.database) routes.old.walk }
+    requires answered { KnowsAnswered (said_at before router.now.settled.area.database)
+        router.now.settled.answers routes.old }
+    requires answers { brings_answers (occurrence_of event.now) ≡ false
+        → router.now.present.answers ≡ router.now.settled.answers }
+    ensures kept { OnOk result (AreKeptNow router.now.present routes.new) }
+    ensures err { OnErr result (routes.new ≡ routes.old) }
+{
+    let area = router.area();
+    let moment = router.moment();
+    routes.follow(alloc, router.id(), area, before, moment)?;
+    if brings_answers(event) {
+        routes.take_answers(alloc, area, moment, router.answers());
+    }
+    Ok(())
+}
+
+/// One event, and what is kept for routes. After a refusal the router is to be rolled back; the
+/// routes are as they were.
+pub fn take_and_keep(
+    router: &mut Router,
+    routes: &mut AreaRoutes,
+    alloc: Global,
+    moment: Second,
+    event: &Event,
+) -> Result<Vec<Out>, CoreError>
+    requires settled { router.old.settled ≡ router.old.present }
+    requires roomy { IsRoomy router.old.present }
+    requires own { AnnouncesItsOwn router.old.present }
+    requires holds { HoldsInstances router.old.present }
+    requires kept { AreKeptNow router.old.present routes.old }
+    ensures ok { IfOk result (λ outs. Happens router.old.present moment (occurrence_of event.now)
+        outs.items router.new.present) }
+    ensures keeps { IfOk result (λ outs. KeepsWhatIsKnown router.old.present moment
+        (occurrence_of event.now) outs.items router.new.present) }
+    ensures own { OnOk result (AnnouncesItsOwn router.new.present) }
+    ensures holds { OnOk result (HoldsInstances router.new.present) }
+    ensures refused { Answers router.old.present moment (occurrence_of event.now) result }
+    ensures limit { IfOk result (λ outs. exceeds router.new.present ≡ false) }
+    ensures settled { router.new.settled ≡ router.old.settled }
+    ensures kept { IfOk result (λ outs. AreKeptNow router.new.present routes.new) }
+    ensures err { OnErr result (routes.new ≡ routes.old) }
+{
+    let before = router.moment();
+    let outs = take(router, alloc, moment, event)?;
+    keep(router, routes, alloc, before, event)?;
+    Ok(outs)
+}

@@ -1,0 +1,106 @@
+-- A router's step keeps what acknowledgments rest on: what it holds and what it tells was held
+-- before, came in the event's Update, or is a new one of its own LSAs; and what it takes off a
+-- retransmission list as acknowledged, the event's packet tells.
+use Rattle.std.specs.Prelude.{◌≡◌, ◌<◌, ◌^◌, ℕ, List, FitsSigned, Some}
+use Rattle.std.specs.Int.{w32}
+use Rattle.std.specs.FinMap as finite
+use Rattle.std.specs.List.{AllByRecursion, Contains, enumerate_from, filter_map}
+use Rattle.words.specs.Numbers.{InterfaceNumber, Moment, RouterNumber}
+use Rattle.words.specs.declared.key.Key.{Key}
+use Rattle.words.specs.declared.route.External.{External}
+use Rattle.packet.specs.declared.model.Body.{Body}
+use Rattle.packet.specs.declared.model.Packet.{Packet}
+use Rattle.packet.specs.Text.{PacketText, canonical}
+use Rattle.received.specs.Links.{Link}
+use Rattle.received.specs.Outcomes.{Send}
+use Rattle.events.specs.declared.model.Config.{Config}
+use Rattle.events.specs.declared.model.Out.{Out}
+use Rattle.events.specs.Endings.{end_event}
+use Rattle.events.specs.Events.{Happens, Run, Step, initial}
+use Rattle.events.specs.LsaInstances.{LsaInstance, instances_advertised}
+use Rattle.events.specs.Packing.{at_interface, bodies, packet_of}
+use Rattle.events.specs.Routers.{Occurrence, Router}
+use Rattle.events.specs.Taken.{taken_by}
+use Rattle.events.specs.Worlds.{Keeps, instances_stored}
+use Rattle.flood_laws.specs.Known.{AnnouncesItsOwn, IsNewInstance}
+
+-- ---- what a step keeps
+
+pub record KeepsWhatIsKnown (old : Router) (moment : Moment) (event : Occurrence)
+    (outs : List Out) (new : Router) : Type 0 where
+  -- what the event originates
+  pub originated : List LsaInstance
+  pub new_instances : AllByRecursion (IsNewInstance old.id) originated
+  pub keeps : Keeps old moment event outs new originated
+  -- what the event's packet takes off, it tells
+  pub taken : (number : ℕ) (bytes : List ℕ) (packet : Packet)
+      → event ≡ Occurrence.Packet number bytes → PacketText bytes packet
+      → (name : LsaInstance) → Contains (taken_by moment number packet old) name
+      → Contains (instances_advertised packet.body) name
+
+-- ---- A Rust value's numbers are in their ranges; a clause's may be any.
+
+pub record IsLsaKey (key : Key) : Type 0 where
+  pub ls_type : key.ls_type < 2 ^ 8
+  pub link_state_id : key.link_state_id < 2 ^ 32
+  pub advertising_router : key.advertising_router < 2 ^ 32
+
+pub record IsInstance (name : LsaInstance) : Type 0 where
+  pub key : IsLsaKey name.key
+  pub sequence : FitsSigned w32 name.sequence
+  pub checksum : name.checksum < 2 ^ 16
+
+-- those of what a router holds, and of what it announces
+pub record HoldsInstances (r : Router) : Type 0 where
+  pub id : r.id < 2 ^ 32
+  pub held : (name : LsaInstance) → Contains (instances_stored r) name → IsInstance name
+  pub announced : (key : Key) (e : External) → finite.get r.announced key ≡ Some e → IsLsaKey key
+
+-- the address that a Redistribute announces
+abbrev pub AnnouncesAddress : Occurrence → Type 0
+AnnouncesAddress (Occurrence.Packet number bytes) = Unit {0}
+AnnouncesAddress Occurrence.Tick = Unit {0}
+AnnouncesAddress (Occurrence.Redistribute tagged tag priced price) =
+    priced.prefix.address < 2 ^ 32
+AnnouncesAddress (Occurrence.Withdraw prefix) = Unit {0}
+AnnouncesAddress (Occurrence.Install answers) = Unit {0}
+AnnouncesAddress (Occurrence.LinkDown number) = Unit {0}
+
+pub record InstancesStayInRange : Type 0 where
+  -- at the start
+  pub first : (c : Config) → c.router < 2 ^ 32 → HoldsInstances (initial c)
+  -- after each event, where it held before it
+  pub event : (old : Router) (moment : Moment) (event : Occurrence) (outs : List Out)
+      (new : Router) → Happens old moment event outs new → AnnouncesAddress event
+      → AnnouncesItsOwn old → HoldsInstances old → HoldsInstances new
+  -- so after every run from the start, whatever happens in it
+  pub run : (c : Config) (steps : List Step) (new : Router) → c.router < 2 ^ 32
+      → AllByRecursion (λ (s : Step). AnnouncesAddress s.event) steps
+      → Run (initial c) steps new → HoldsInstances new
+
+-- ---- the law
+
+-- what is written for it is a text of a packet of this router that says so
+abbrev pub IsText : RouterNumber → Body → Type 0
+IsText own says = PacketText (canonical (packet_of own says)) (packet_of own says)
+
+-- so for all that goes out at an interface
+abbrev pub AreTextsAt : RouterNumber → List Send → InterfaceNumber → Link → Type 0
+AreTextsAt own sends number link =
+    AllByRecursion (IsText own)
+    (bodies link.interface.delay (filter_map (at_interface number) sends))
+
+-- at every interface
+abbrev pub AreTexts : RouterNumber → List Link → List Send → Type 0
+AreTexts own links sends =
+    AllByRecursion (λ (e : ℕ × Link). AreTextsAt own sends e.0 e.1) (enumerate_from 1 links)
+
+-- of a router that announces under its own Router ID alone, whose instances have their numbers in
+-- their ranges, where what is sent is written as texts
+abbrev pub EventsKeepWhatIsKnown : Type 0
+EventsKeepWhatIsKnown =
+    (old : Router) (moment : Moment) (event : Occurrence) (outs : List Out) (new : Router)
+    → (happens : Happens old moment event outs new) → AnnouncesAddress event
+    → AnnouncesItsOwn old → HoldsInstances old
+    → AreTexts old.id old.area.links (end_event old moment happens.after).sends
+    → KeepsWhatIsKnown old moment event outs new

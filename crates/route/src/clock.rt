@@ -1,0 +1,38 @@
+//! The clock of a thread.
+ghost use Rattle.std.specs.Prelude.{◌≤◌};
+
+use std::time::{Clock, SystemTime, UNIX_EPOCH};
+use words::Second;
+use worker::Seconds;
+
+/// The system clock's whole seconds since 1970, as one thread sees them: they never go back.
+#[derive(Drop)]
+pub struct SystemSeconds<'a, R: Clock> {
+    rt: &'a R,
+    last: u64,
+}
+
+impl<'a, R: Clock> SystemSeconds<'a, R> {
+    /// A clock that has shown 0.
+    pub fn new(rt: &'a R) -> SystemSeconds<'a, R> {
+        SystemSeconds { rt, last: 0 }
+    }
+}
+
+/// The whole seconds since 1970, if the clock can be read.
+fn whole_seconds<R: Clock>(rt: &R) -> Option<u64> {
+    let now = SystemTime::now(rt).ok()?;
+    let since = now.duration_since(UNIX_EPOCH).ok()?;
+    Some(since.as_secs())
+}
+
+impl<'a, R: Clock> Seconds for SystemSeconds<'a, R> {
+    fn second(&mut self) -> Second {
+        if let Some(now) = whole_seconds(self.rt) {
+            if now > self.last {
+                self.last = now;
+            }
+        }
+        Second::new(self.last)
+    }
+}

@@ -1,0 +1,141 @@
+//! The workers on threads of their own, the console beside them, and back.
+ghost use Rattle.std.specs.Prelude.{◌≡◌, ◌<◌, All, length, vec_len, IfOk};
+ghost use Rattle.maps.specs.Words.{IsOf};
+ghost use Rattle.worker.specs.Opening.{IsSetUpFor};
+
+use crate::labor::{Workers, work};
+use crate::operator::Operator;
+use crate::sockets::Sockets;
+use book::Book;
+use flood::Core;
+use log::Log;
+use std::alloc::{AllocError, Global};
+use std::io::{BufRead, Write};
+use std::rt::Files;
+use std::sync::Wait;
+use std::sync::atomic::Ordering;
+use std::thread;
+use std::thread::{Scope, Threads};
+use std::time::Clock;
+use worker::{Hub, Port, Returned, Settled, Setup, Site, open_hub, settle};
+
+/// Lets each worker run on a thread with a port of its own, and the operator on this thread at port
+/// 0, until the operator is done. Every thread is joined before it answers, whatever it answers.
+///
+/// `AllocError` comes where an allocation was refused, or where a thread couldn't be started.
+pub fn side_by_side<
+    L: Site + Send + Sync,
+    R: Threads + Wait + Clock + Log + Sync,
+    S: Wait + Drop + Clock + Files + AllocGlobal,
+    Q: Wait + Drop,
+    I: BufRead,
+    O: Write,
+>(
+    rt: &R,
+    alloc: Global,
+    setup: Setup,
+    core: Core,
+    workers: &Workers<'_, R>,
+    links: Vec<Sockets<'_>>,
+    operator: &mut Operator<'_, L, S, Q, I, O>,
+) -> Result<Returned<L>, AllocError>
+    requires { IsSetUpFor L.name L.parts L.words L.history setup }
+    ensures seats { IfOk result (λ r.
+        (length r.seats.items ≡ r.shared.seats) × All (IsOf r.shared) r.seats.items) }
+{
+    let (hub, ports, rest) = open_hub::<L>(alloc, setup, core)?;
+    let ports = in_scope(rt, &hub, ports, workers, links, operator)?;
+    let (mut book, shared) = hub.into_parts();
+    let Settled { share, seats } = settle(alloc, &mut book, rest, ports)?;
+    Ok(Returned {
+        book,
+        share,
+        shared,
+        seats,
+    })
+}
+
+// Starts the threads in a scope, so that they borrow the hub.
+fn in_scope<
+    L: Site + Send + Sync,
+    R: Threads + Wait + Clock + Log + Sync,
+    S: Wait + Drop + Clock + Files + AllocGlobal,
+    Q: Wait + Drop,
+    I: BufRead,
+    O: Write,
+>(
+    rt: &R,
+    hub: &Hub<L, Book<L>>,
+    ports: Vec<Port<L>>,
+    workers: &Workers<'_, R>,
+    links: Vec<Sockets<'_>>,
+    operator: &mut Operator<'_, L, S, Q, I, O>,
+) -> Result<Vec<Port<L>>, AllocError>
+    requires { 0 < vec_len ports }
+    ensures { IfOk result (λ back. vec_len back ≡ vec_len ports) }
+{
+    thread::scope(
+        thread::scope_env(),
+        rt,
+        |scope| -> Result<Vec<Port<L>>, AllocError>
+            requires { 0 < vec_len ports }
+            ensures { IfOk result (λ back. vec_len back ≡ vec_len ports) }
+        { crew(scope, rt, hub, workers, links, operator, ports) },
+    )
+}
+
+// Starts a thread for each port but the last, which is the operator's, each with the last link, and
+// joins them after it.
+fn crew<
+    's,
+    E,
+    L: Site + Send + Sync,
+    R: Threads + Wait + Clock + Log + Sync,
+    S: Wait + Drop + Clock + Files + AllocGlobal,
+    Q: Wait + Drop,
+    I: BufRead,
+    O: Write,
+>(
+    scope: &Scope<'s, E>,
+    rt: &R,
+    hub: &'s Hub<L, Book<L>>,
+    workers: &'s Workers<'_, R>,
+    links: Vec<Sockets<'s>>,
+    operator: &mut Operator<'_, L, S, Q, I, O>,
+    ports: Vec<Port<L>>,
+) -> Result<Vec<Port<L>>, AllocError>
+    requires { 0 < vec_len ports }
+    ensures { IfOk result (λ back. vec_len back ≡ vec_len ports) }
+{
+    let alloc = *ports.allocator();
+    let (mut ports, mut links) = (ports, links);
+    let mut back = Vec::with_capacity(alloc, ports.len())?;
+    let mut running = Vec::with_capacity(alloc, ports.len())?;
+    let Some(first) = ports.pop() else {
+        unreachable!()
+    };
+    let (clock, memory) = (workers.rt, workers.alloc);
+    let (quit, failed) = (&workers.quit, &workers.failed);
+    while let Some(port) = ports.pop() {
+        let Some(link) = links.pop() else {
+            quit.store(true, Ordering::SeqCst);
+            return Err(AllocError);
+        };
+        let life = move || work(clock, memory, link, quit, failed, hub, port);
+        let Ok(thread) = scope.spawn(life) else {
+            workers.quit.store(true, Ordering::SeqCst);
+            return Err(AllocError);
+        };
+        if running.push(thread).is_err() {
+            workers.quit.store(true, Ordering::SeqCst);
+            return Err(AllocError);
+        }
+    }
+    let first = operator.talk(hub, first);
+    workers.quit.store(true, Ordering::SeqCst);
+    back.push(first)?;
+    while let Some(thread) = running.pop() {
+        back.push(thread.join(rt))?;
+    }
+    Ok(back)
+}

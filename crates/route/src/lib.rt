@@ -1,0 +1,17 @@
+//! A router that runs: UDP sockets, a thread for each interface, and a console, over the workers' turns at one book.
+//!
+//! Nothing is said here of what sockets, files and the terminal give or take. What each turn does is the contract of [`worker::turn`], how a
+//! worker ends that of [`worker::run`], what the configuration and the console's lines are that of `console`.
+#![tactic(auto)]
+
+mod clock;
+mod crew;
+mod error;
+mod labor;
+mod operator;
+mod programs;
+mod running;
+mod sockets;
+
+pub use error::RouteError;
+pub use running::{route, run_router};

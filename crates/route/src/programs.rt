@@ -1,0 +1,83 @@
+//! Programs from object files.
+use object_verdicts::{VerifyError, verify_object};
+use std::alloc::{AllocError, AllocFailed};
+use std::fs;
+use std::io::{ErrorKind, Read};
+use std::rt::Files;
+use thiserror::Error;
+use verifier::{Accepted, Rule};
+
+/// No object file is longer than this.
+const MOST_BYTES: u64 = 16_777_216;
+
+/// Why no program is attached. The text is the line that is printed.
+#[derive(Debug, Drop, Error)]
+pub enum AttachError<'a> {
+    /// The file can't be opened or read.
+    #[error("cannot read {0}")]
+    Read(&'a str),
+    /// It is no object file: the number of the refusal.
+    #[error("object refusal {0}")]
+    Object(u8),
+    /// Its code doesn't decode: the number of the refusal, and the slot.
+    #[error("code refusal {number} slot {slot}")]
+    Code { number: u8, slot: u64 },
+    /// The verifier refuses it: the slot, and the number of the rule.
+    #[error("refused slot {slot} rule {rule}")]
+    Refused { slot: u64, rule: u8 },
+    /// Memory was refused.
+    #[error("out of memory")]
+    Memory,
+}
+
+impl<'a> From<AllocError> for AttachError<'a> {
+    fn from(_error: AllocError) -> AttachError<'a> {
+        AttachError::Memory
+    }
+}
+
+impl<'a, T: Drop> From<AllocFailed<T>> for AttachError<'a> {
+    fn from(_error: AllocFailed<T>) -> AttachError<'a> {
+        AttachError::Memory
+    }
+}
+
+impl<'a> From<VerifyError> for AttachError<'a> {
+    fn from(error: VerifyError) -> AttachError<'a> {
+        match error {
+            VerifyError::Object(object::ReadError::Memory) => AttachError::Memory,
+            VerifyError::Object(error) => AttachError::Object(error.number()),
+            VerifyError::Code(error) if error.kind == isa::DecodeFault::Memory => {
+                AttachError::Memory
+            }
+            VerifyError::Code(error) => AttachError::Code {
+                number: error.kind.number(),
+                slot: error.slot as u64,
+            },
+            VerifyError::Refused(refusal) if refusal.rule == Rule::Memory => AttachError::Memory,
+            VerifyError::Refused(refusal) => AttachError::Refused {
+                slot: refusal.slot as u64,
+                rule: refusal.rule.number(),
+            },
+        }
+    }
+}
+
+/// The program of the object file at this path, once it is verified.
+pub fn read_program<'a, R: Files + AllocGlobal>(
+    rt: &R,
+    path: &'a str,
+) -> Result<Accepted, AttachError<'a>> {
+    let Ok(file) = fs::open(rt, path) else {
+        return Err(AttachError::Read(path));
+    };
+    let mut bytes = Vec::new(rt.alloc());
+    match file.take(MOST_BYTES).read_to_end(&mut bytes) {
+        Ok(_) => {}
+        Err(error) if matches!(error.kind(), ErrorKind::OutOfMemory) => {
+            return Err(AttachError::Memory);
+        }
+        Err(_) => return Err(AttachError::Read(path)),
+    }
+    Ok(verify_object(rt.alloc(), &bytes)?)
+}

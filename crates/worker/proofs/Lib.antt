@@ -1,0 +1,3 @@
+mod FromSome
+mod FreshSeats
+mod Vetoes

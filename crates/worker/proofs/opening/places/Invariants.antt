@@ -1,0 +1,16 @@
+use Rattle.std.specs.Prelude.{◌≡◌, ◌+◌, vec_len}
+use Rattle.std.specs.List.{All}
+use Rattle.maps.specs.Words.{IsOf}
+use Rattle.hooks.specs.Known.{asks_of}
+use Rattle.worker.proofs.opening.places.Given as goal
+
+abbrev pub invariant-loop-place : goal.invariant-loop-place
+invariant-loop-place g l = record {
+  pairs : vec_len l.askers ≡ vec_len l.seats;
+  count : vec_len l.seats + vec_len l.places ≡ vec_len l.initial.seats;
+  seated : All (IsOf g.L.Site.words) l.seats.items;
+  asks : All (λ a. asks_of a ≡ g.L.Site.history) l.askers.items;
+}
+
+abbrev pub decreases-loop-place : goal.decreases-loop-place
+decreases-loop-place g l = vec_len l.seats

@@ -1,0 +1,9 @@
+use Rattle.std.specs.Prelude.{◌≡◌, ◌+◌, vec_len}
+use Rattle.worker.proofs.opening.ports.Given as goal
+
+abbrev pub invariant-loop-place : goal.invariant-loop-place
+invariant-loop-place g l =
+    (l.all.parts ≡ vec_len l.places) × (l.all.amount ≡ 0) × (vec_len l.ports + vec_len l.places ≡ vec_len l.initial.places)
+
+abbrev pub decreases-loop-place : goal.decreases-loop-place
+decreases-loop-place g l = vec_len l.places

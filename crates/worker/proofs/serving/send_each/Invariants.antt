@@ -1,0 +1,5 @@
+use Rattle.std.specs.Prelude.{◌≡◌, ℕ}
+use Rattle.worker.proofs.serving.send_each.Given as goal
+
+abbrev pub invariant-loop-out : goal.invariant-loop-out
+invariant-loop-out g l = ◌≡◌ {A = ℕ} (g.K.Link.faults l.link) (g.K.Link.faults l.initial.link)

@@ -1,0 +1,6 @@
+use Rattle.worker.proofs.FromSome.{offered_by_some}
+use Rattle.worker.proofs.taker.BookTaker.offered.Goals as goal
+
+pub returns : goal.returns
+returns g c =
+    offered_by_some (λ o. o.candidates.items) (λ o. o.rows.items) c.now.result.now c.offered.result c.offered.ensures

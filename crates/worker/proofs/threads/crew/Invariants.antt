@@ -1,0 +1,15 @@
+use Rattle.std.specs.Prelude.{◌≡◌, ◌+◌, vec_len}
+use Rattle.worker.proofs.threads.crew.Given as goal
+
+abbrev pub invariant-loop-port : goal.invariant-loop-port
+invariant-loop-port g l =
+    (vec_len l.back ≡ 0) × (vec_len l.ports + vec_len l.running + 1 ≡ vec_len l.fn.ports)
+
+abbrev pub decreases-loop-port : goal.decreases-loop-port
+decreases-loop-port g l = vec_len l.ports
+
+abbrev pub invariant-loop-thread : goal.invariant-loop-thread
+invariant-loop-thread g l = vec_len l.back + vec_len l.running ≡ vec_len l.fn.ports
+
+abbrev pub decreases-loop-thread : goal.decreases-loop-thread
+decreases-loop-thread g l = vec_len l.running

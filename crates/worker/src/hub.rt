@@ -1,0 +1,126 @@
+//! The book under its lock.
+ghost use Rattle.std.specs.Prelude.{◌≡◌, ◌+◌, ◌<◌, IfOk, OnOk, OnErr};
+
+use crate::port::Port;
+use crate::site::Site;
+use crate::taker::Taker;
+use book::{Book, BookError};
+use flood::{Event, Offered, Out, State};
+use maps::Shared;
+use std::alloc::AllocError;
+use std::marker::PhantomData;
+use std::sync::ledger::Share;
+use std::sync::{Mutex, Wait};
+use words::{Prefix, RouterId, Second};
+
+/// The router's book, at which workers take turns, and the words that their programs share.
+#[derive(Drop)]
+pub struct Hub<L: Site, B: Taker<L>> {
+    book: Mutex<B>,
+    of: PhantomData<L>,
+    pub(crate) shared: Shared,
+    pub ghost words: { shared ≡ L.words },
+}
+
+/// What the book gave, and whether it left the router stale.
+#[derive(Drop)]
+pub(crate) struct Taken {
+    pub(crate) outs: Vec<Out>,
+    pub(crate) stale: bool,
+}
+
+impl<L: Site, B: Taker<L>> Hub<L, B> {
+    /// A hub with this book and these words.
+    pub fn new(book: B, shared: Shared) -> Hub<L, B>
+        requires { shared ≡ L.words }
+    {
+        Hub {
+            book: Mutex::new(book),
+            of: PhantomData,
+            shared,
+        }
+    }
+
+    /// The book and the shared words, once the workers are done.
+    pub fn into_parts(self) -> (B, Shared)
+        ensures { result.1 ≡ L.words }
+    {
+        let Hub {
+            book,
+            of: _,
+            shared,
+        } = self;
+        (book.into_inner(), shared)
+    }
+
+    /// The number in one of the 256 counters that the programs share, as the port's seat reads it.
+    pub fn counter(&self, port: &mut Port<L>, index: usize) -> u64
+        requires { index < 256 }
+        ensures { port.new.share ≡ port.old.share }
+    {
+        self.shared.read(&mut port.seat, index)
+    }
+
+    /// Takes an event under the lock. Where it isn't told whether the router is stale, for want of
+    /// memory, it counts as not stale: the next turn tells again.
+    pub(crate) fn take<R: Wait>(
+        &self,
+        rt: &R,
+        mine: &mut Share<L>,
+        moment: Second,
+        event: &Event,
+    ) -> Result<Taken, BookError>
+        requires { 0 < mine.old.parts }
+        ensures ok { IfOk result (λ r. B.took moment event.now r.outs.items) }
+        ensures share { OnOk result (mine.new.amount ≡ mine.old.amount + 1) }
+        ensures parts { mine.new.parts ≡ mine.old.parts }
+        ensures err { OnErr result (mine.new.amount ≡ mine.old.amount) }
+    {
+        let mut guard = self.book.lock(rt);
+        let book = &mut *guard;
+        let outs = book.take(mine, moment, event)?;
+        let stale = match book.stale() {
+            Ok(stale) => stale,
+            Err(_) => false,
+        };
+        Ok(Taken { outs, stale })
+    }
+
+    /// The candidates now and the rows of the table now, of one moment under the lock.
+    pub fn offered<R: Wait>(&self, rt: &R) -> Result<Offered, AllocError>
+        ensures { IfOk result (λ o. B.offers o.candidates.items o.rows.items) }
+    {
+        let guard = self.book.lock(rt);
+        let book: &B = &*guard;
+        book.offered()
+    }
+}
+
+impl<L: Site> Hub<L, Book<L>> {
+    /// The neighbor at the interface of this number and its state, or None where it is Down or there is
+    /// no such interface.
+    pub fn neighbor<R: Wait>(&self, rt: &R, interface: u16) -> Option<(RouterId, State)> {
+        let guard = self.book.lock(rt);
+        let book: &Book<L> = &*guard;
+        book.now().neighbor(interface)
+    }
+
+    /// Tells whether this destination is announced.
+    pub fn wants<R: Wait>(&self, rt: &R, prefix: Prefix) -> bool {
+        let guard = self.book.lock(rt);
+        let book: &Book<L> = &*guard;
+        book.now().wants(prefix)
+    }
+
+    /// How many events the book has taken, for whoever brings every share: just as many as they count.
+    pub fn taken<R: Wait>(&self, rt: &R, all: &mut Share<L>) -> u64
+        requires { all.old.parts ≡ L.parts }
+        ensures taken { result ≡ all.old.amount }
+        ensures share { (all.new.amount ≡ all.old.amount) × (all.new.parts ≡ all.old.parts) }
+    {
+        let mut guard = self.book.lock(rt);
+        let book = &mut *guard;
+        book.audit(all);
+        book.taken()
+    }
+}

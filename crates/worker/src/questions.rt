@@ -1,0 +1,191 @@
+//! What a turn asks the programs, and the event that it makes of the answers.
+ghost use Rattle.std.specs.Prelude.{◌≡◌, IfOk, IfSome};
+ghost use Rattle.maps.specs.Words.{IsOf};
+ghost use Rattle.hooks.specs.Known.{asks_of};
+ghost use Rattle.worker.specs.Turns.{AreVetoes, IsFor, IsInstall, IsPriceOn, IsTagOn, IsVetoOn};
+
+use crate::hub::Hub;
+use crate::site::Site;
+use crate::taker::Taker;
+use crate::turned::TurnError;
+use crate::work::Work;
+use flood::{Event, Offered};
+use hooks::{Asker, PriceAnswer, TagAnswer, VetoAnswer};
+use maps::{Seat, Shared};
+use std::alloc::AllocError;
+use std::sync::Wait;
+use words::{External, Route, Second, Sequence, TableRow};
+
+/// The event of the work, with the answers that it needs.
+pub fn asked<L: Site, B: Taker<L>, R: Wait>(
+    rt: &R,
+    hub: &Hub<L, B>,
+    asker: &mut Asker,
+    seat: &mut Seat,
+    moment: Second,
+    work: &Work,
+) -> Result<Event, TurnError>
+    requires { IsOf L.words seat.old }
+    ensures event { IfOk result (λ event. IsFor B.offers work.now moment event) }
+    ensures seat { IsOf L.words seat.new }
+    ensures history { asks_of asker.new ≡ asks_of asker.old }
+{
+    match work {
+        Work::Datagram(number, bytes) => {
+            // Where the programs give no reading, the datagram passes by.
+            let _passed = asker.count(*number, moment, bytes.as_slice(), &hub.shared, seat);
+            Ok(Event::Packet(*number, bytes.copy()?))
+        }
+        Work::Tick => Ok(Event::Tick),
+        Work::Add(external) => redistribution(rt, hub, asker, seat, moment, external),
+        Work::Withdraw(prefix) => Ok(Event::Withdraw(*prefix)),
+        Work::Down(number) => Ok(Event::LinkDown(*number)),
+        Work::Refresh => installation(rt, hub, asker, seat, moment),
+    }
+}
+
+// A destination that is to be announced, with its tag and its metric.
+fn redistribution<L: Site, B: Taker<L>, R: Wait>(
+    rt: &R,
+    hub: &Hub<L, B>,
+    asker: &mut Asker,
+    seat: &mut Seat,
+    moment: Second,
+    external: &External,
+) -> Result<Event, TurnError>
+    requires { IsOf L.words seat.old }
+    ensures event { IfOk result (λ event. IsFor B.offers (Work.Add external.now) moment event) }
+    ensures seat { IsOf L.words seat.new }
+    ensures history { asks_of asker.new ≡ asks_of asker.old }
+{
+    let offered = hub.offered(rt)?;
+    let (tagged, priced) = answers(&hub.shared, asker, seat, moment, external, &offered)?;
+    Ok(Event::Redistribute(tagged, priced))
+}
+
+// The tag and the metric that a destination is announced with, beside the rows of the table.
+fn answers(
+    shared: &Shared,
+    asker: &mut Asker,
+    seat: &mut Seat,
+    moment: Second,
+    external: &External,
+    offered: &Offered,
+) -> Result<(TagAnswer, PriceAnswer), TurnError>
+    requires { IsOf shared.now seat.old }
+    ensures tag { IfOk result (λ r. IsTagOn external.now moment offered.now.rows.items r.0) }
+    ensures price { IfOk result (λ r. IsPriceOn external.now moment offered.now.rows.items r.1) }
+    ensures seat { IsOf shared.now seat.new }
+    ensures history { asks_of asker.new ≡ asks_of asker.old }
+{
+    let rows = offered.rows.as_slice();
+    let tagged = tag(asker, external, moment, rows, shared, seat)?;
+    match price(asker, external, moment, rows, shared, seat) {
+        Ok(priced) => Ok((tagged, priced)),
+        Err(error) => Err(error),
+    }
+}
+
+fn tag(
+    asker: &mut Asker,
+    external: &External,
+    moment: Second,
+    rows: &[TableRow],
+    shared: &Shared,
+    seat: &mut Seat,
+) -> Result<TagAnswer, TurnError>
+    requires { IsOf shared.now seat.old }
+    ensures answer { IfOk result (λ a. IsTagOn external.now moment rows.now a) }
+    ensures seat { IsOf shared.now seat.new }
+    ensures history { asks_of asker.new ≡ asks_of asker.old }
+{
+    match asker.tag(external, moment, rows, shared, seat) {
+        Some(answer) => Ok(answer),
+        None => Err(TurnError::Away),
+    }
+}
+
+fn price(
+    asker: &mut Asker,
+    external: &External,
+    moment: Second,
+    rows: &[TableRow],
+    shared: &Shared,
+    seat: &mut Seat,
+) -> Result<PriceAnswer, TurnError>
+    requires { IsOf shared.now seat.old }
+    ensures answer { IfOk result (λ a. IsPriceOn external.now moment rows.now a) }
+    ensures seat { IsOf shared.now seat.new }
+    ensures history { asks_of asker.new ≡ asks_of asker.old }
+{
+    match asker.price(external, moment, rows, shared, seat) {
+        Some(answer) => Ok(answer),
+        None => Err(TurnError::Away),
+    }
+}
+
+/// An installation: of each candidate now, whether it is kept out of the table.
+pub fn installation<L: Site, B: Taker<L>, R: Wait>(
+    rt: &R,
+    hub: &Hub<L, B>,
+    asker: &mut Asker,
+    seat: &mut Seat,
+    moment: Second,
+) -> Result<Event, TurnError>
+    requires { IsOf L.words seat.old }
+    ensures event { IfOk result (λ event. IsInstall B.offers moment event) }
+    ensures seat { IsOf L.words seat.new }
+    ensures history { asks_of asker.new ≡ asks_of asker.old }
+{
+    let offered = hub.offered(rt)?;
+    let answers = vetoes(&hub.shared, asker, seat, moment, &offered)?;
+    Ok(Event::Install(Sequence::from_vec(answers)))
+}
+
+// The answers on the candidates, in their order.
+fn vetoes(
+    shared: &Shared,
+    asker: &mut Asker,
+    seat: &mut Seat,
+    moment: Second,
+    offered: &Offered,
+) -> Result<Vec<VetoAnswer>, TurnError>
+    requires { IsOf shared.now seat.old }
+    ensures answers { IfOk result (λ answers. AreVetoes
+        moment offered.now.rows.items offered.now.candidates.items answers.items) }
+    ensures seat { IsOf shared.now seat.new }
+    ensures history { asks_of asker.new ≡ asks_of asker.old }
+{
+    let rows = offered.rows.as_slice();
+    let mut answers = Vec::with_capacity(
+        *offered.candidates.allocator(),
+        offered.candidates.len(),
+    )?;
+    for route in &offered.candidates {
+        let answer = veto(asker, route, moment, rows, shared, seat)?;
+        match answers.push(answer) {
+            Ok(()) => {}
+            Err(e) => return Err(AllocError::from(e).into()),
+        }
+    }
+    Ok(answers)
+}
+
+fn veto(
+    asker: &mut Asker,
+    route: &Route,
+    moment: Second,
+    rows: &[TableRow],
+    shared: &Shared,
+    seat: &mut Seat,
+) -> Result<VetoAnswer, TurnError>
+    requires { IsOf shared.now seat.old }
+    ensures answer { IfOk result (λ a. (a.route ≡ route.now) × IsVetoOn moment rows.now a) }
+    ensures seat { IsOf shared.now seat.new }
+    ensures history { asks_of asker.new ≡ asks_of asker.old }
+{
+    match asker.veto(route, moment, rows, shared, seat) {
+        Some(answer) => Ok(answer),
+        None => Err(TurnError::Away),
+    }
+}

@@ -1,0 +1,139 @@
+//! A link and a clock that play lists, for tests.
+ghost use Rattle.std.specs.Prelude.{◌≡◌, ◌≢◌, ℕ, ◌<◌, ◌≤◌};
+ghost use Rattle.worker.specs.declared.script.Played.TheVariants.{Fault};
+
+use crate::link::{Link, LinkFault, Seconds};
+use std::sync::atomic::{AtomicBool, Ordering};
+use words::{Second, Sequence};
+
+/// What a call of the link answers.
+#[derive(Debug, Drop)]
+pub enum Answer {
+    /// These bytes came, or what was to be sent was sent.
+    Datagram(Sequence<u8>),
+    /// Nothing came, or a send would have waited.
+    Nothing,
+    /// The link failed.
+    Fault,
+}
+
+// An answer without its bytes, which stand at this place.
+#[derive(Clone, Copy, Debug, PartialEq, Eq)]
+enum Played {
+    Datagram(usize),
+    Nothing,
+    Fault,
+}
+
+/// Plays the answers, one a call, whether it receives or sends, and tells the worker to end at the
+/// first call after the last one.
+#[derive(Drop)]
+pub struct Script<'a> {
+    answers: Vec<Answer>,
+    played: usize,
+    /// How many calls failed.
+    pub faults: usize,
+    /// How many datagrams were sent.
+    pub sent: usize,
+    quit: &'a AtomicBool,
+    ghost counted: { faults ≤ played },
+}
+
+impl<'a> Script<'a> {
+    /// A script of these answers, which sets `quit` after the last one.
+    pub fn new(answers: Vec<Answer>, quit: &'a AtomicBool) -> Script<'a>
+        ensures { result.faults ≡ 0 }
+    {
+        Script {
+            answers,
+            played: 0,
+            faults: 0,
+            sent: 0,
+            quit,
+        }
+    }
+
+    fn next(&mut self) -> Played
+        ensures fine { result ≢ Fault → self.new.faults ≡ self.old.faults }
+        ensures fault { result ≡ Fault → self.old.faults < self.new.faults }
+    {
+        let at = self.played;
+        if at >= self.answers.len() {
+            self.quit.store(true, Ordering::SeqCst);
+            return Played::Nothing;
+        }
+        self.played += 1;
+        match self.answers[at] {
+            Answer::Datagram(_) => Played::Datagram(at),
+            Answer::Nothing => Played::Nothing,
+            Answer::Fault => {
+                self.faults += 1;
+                Played::Fault
+            }
+        }
+    }
+
+    // Copies the datagram at this place, and tells its length.
+    fn put(&self, at: usize, buffer: &mut [u8; 8193]) -> usize
+        ensures { result ≤ 8193 }
+    {
+        let Some(Answer::Datagram(bytes)) = self.answers.get(at) else {
+            return 0;
+        };
+        let length = bytes.as_slice().len().min(8193);
+        buffer[..length].copy_from_slice(&bytes.as_slice()[..length]);
+        length
+    }
+}
+
+impl<'a> Link for Script<'a> {
+    ghost faults = { λ s. s.faults };
+
+    fn receive(&mut self, buffer: &mut [u8; 8193]) -> Result<Option<usize>, LinkFault> {
+        match self.next() {
+            Played::Datagram(at) => Ok(Some(self.put(at, buffer))),
+            Played::Nothing => Ok(None),
+            Played::Fault => Err(LinkFault {}),
+        }
+    }
+
+    fn send(&mut self, _interface: u16, _bytes: &[u8]) -> Result<bool, LinkFault> {
+        match self.next() {
+            Played::Datagram(_) => {
+                self.sent = self.sent.saturating_add(1);
+                Ok(true)
+            }
+            Played::Nothing => Ok(false),
+            Played::Fault => Err(LinkFault {}),
+        }
+    }
+}
+
+/// Plays moments, one a call, and stays at the last one; without any it stays at 0.
+#[derive(Drop)]
+pub struct Times {
+    moments: Vec<u64>,
+    played: usize,
+}
+
+impl Times {
+    /// A clock that shows these moments.
+    pub fn new(moments: Vec<u64>) -> Times {
+        Times { moments, played: 0 }
+    }
+}
+
+impl Seconds for Times {
+    fn second(&mut self) -> Second {
+        let at = self.played;
+        self.played = at.saturating_add(1);
+        let count = match self.moments.get(at) {
+            Some(count) => *count,
+            None => match self.moments.last() {
+                Some(count) => *count,
+                None => 0,
+            },
+        };
+        Second::new(count)
+    }
+}

@@ -1,0 +1,172 @@
+//! The loop of a worker.
+ghost use Rattle.std.specs.Prelude.{◌≡◌, ℕ, ◌<◌, ◌↔◌, OnOk, OnErr};
+ghost use Rattle.worker.specs.declared.serving.Ended.TheVariants.{Fault};
+
+use crate::hub::Hub;
+use crate::link::{Link, LinkFault, Seconds};
+use crate::port::{Gate, Port};
+use crate::site::Site;
+use crate::taker::Taker;
+use crate::turned::{TurnError, Turned};
+use crate::turns::turn;
+use crate::work::Work;
+use book::BookError;
+use flood::{CoreError, Out};
+use std::alloc::Global;
+use std::sync::Wait;
+use std::sync::atomic::{AtomicBool, Ordering};
+use words::{Second, Sequence};
+
+/// How a worker ended.
+#[derive(Clone, Copy, Debug, PartialEq, Eq)]
+pub enum Ended {
+    /// It was told to end.
+    Quit,
+    /// Its link failed.
+    Fault,
+}
+
+impl Ended {
+    /// The status of the program: 0, or 3 where a link failed.
+    pub fn status(self) -> u8
+        ensures { (result ≡ 3) ↔ (self ≡ Fault) }
+    {
+        match self {
+            Ended::Quit => 0,
+            Ended::Fault => 3,
+        }
+    }
+}
+
+/// A worker's life: each round it makes a Tick's turn where the second has changed, and a turn with
+/// the datagram that its link gave, and sends the outs. It ends when `quit` is set, which it looks at
+/// once a round, or when its link fails, and with a fault then alone.
+///
+/// A refused turn sends nothing. After a fault in the midst of a turn's outs the event stands, and the
+/// later outs aren't sent.
+pub fn run<L: Site, B: Taker<L>, G: Gate, K: Link, S: Seconds, R: Wait>(
+    rt: &R,
+    alloc: Global,
+    hub: &Hub<L, B>,
+    port: &mut Port<L>,
+    gate: &G,
+    link: &mut K,
+    clock: &mut S,
+    quit: &AtomicBool,
+) -> Ended
+    ensures { (result ≡ Fault) ↔ (K.faults link.old < K.faults link.new) }
+{
+    let mut ticked = None;
+    let mut buffer = [0u8; 8193];
+    for _ in rt.forever() {
+        if quit.load(Ordering::SeqCst) {
+            break;
+        }
+        let now = clock.second();
+        if ticked != Some(now) {
+            ticked = Some(now);
+            if serve(rt, hub, port, gate, link, clock, now, &Work::Tick).is_err() {
+                return Ended::Fault;
+            }
+        }
+        match link.receive(&mut buffer) {
+            Ok(None) => {}
+            Ok(Some(length)) => {
+                let heard = &buffer[..length];
+                if hear(rt, alloc, hub, port, gate, link, clock, heard).is_err() {
+                    return Ended::Fault;
+                }
+            }
+            Err(_) => return Ended::Fault,
+        }
+    }
+    Ended::Quit
+}
+
+// A turn with a datagram. Without memory it is lost.
+fn hear<L: Site, B: Taker<L>, G: Gate, K: Link, S: Seconds, R: Wait>(
+    rt: &R,
+    alloc: Global,
+    hub: &Hub<L, B>,
+    port: &mut Port<L>,
+    gate: &G,
+    link: &mut K,
+    clock: &mut S,
+    heard: &[u8],
+) -> Result<(), LinkFault>
+    ensures fine { OnOk result (K.faults link.new ≡ K.faults link.old) }
+    ensures fault { OnErr result (K.faults link.old < K.faults link.new) }
+{
+    let Ok(bytes) = Vec::from_slice(alloc, heard) else {
+        return Ok(());
+    };
+    let work = Work::Datagram(port.number, Sequence::from_vec(bytes));
+    let now = clock.second();
+    serve(rt, hub, port, gate, link, clock, now, &work)
+}
+
+// A turn, and its outs are sent. Where the turn is refused, nothing is.
+fn serve<L: Site, B: Taker<L>, G: Gate, K: Link, S: Seconds, R: Wait>(
+    rt: &R,
+    hub: &Hub<L, B>,
+    port: &mut Port<L>,
+    gate: &G,
+    link: &mut K,
+    clock: &mut S,
+    now: Second,
+    work: &Work,
+) -> Result<(), LinkFault>
+    ensures fine { OnOk result (K.faults link.new ≡ K.faults link.old) }
+    ensures fault { OnErr result (K.faults link.old < K.faults link.new) }
+{
+    let Ok(turned) = tried(rt, hub, port, gate, clock, now, work) else {
+        return Ok(());
+    };
+    send_all(link, &turned)
+}
+
+/// A turn that is tried again, at most three times, each at a new moment, where the clock of the
+/// router is ahead of this one.
+pub fn tried<L: Site, B: Taker<L>, G: Gate, S: Seconds, R: Wait>(
+    rt: &R,
+    hub: &Hub<L, B>,
+    port: &mut Port<L>,
+    gate: &G,
+    clock: &mut S,
+    now: Second,
+    work: &Work,
+) -> Result<Turned, TurnError> {
+    let mut moment = now;
+    for _again in 0..3u32 {
+        match turn(rt, hub, port, gate, moment, work) {
+            Err(TurnError::Book(BookError::Core(CoreError::ClockBack))) => {
+                moment = clock.second();
+            }
+            other => return other,
+        }
+    }
+    turn(rt, hub, port, gate, moment, work)
+}
+
+/// Sends what a turn sends, and then what its refresh sends. An out that would wait is dropped; after
+/// a fault the later ones aren't sent.
+pub fn send_all<K: Link>(link: &mut K, turned: &Turned) -> Result<(), LinkFault>
+    ensures fine { OnOk result (K.faults link.new ≡ K.faults link.old) }
+    ensures fault { OnErr result (K.faults link.old < K.faults link.new) }
+{
+    send_each(link, &turned.outs)?;
+    match &turned.refreshed {
+        Some(outs) => send_each(link, outs),
+        None => Ok(()),
+    }
+}
+
+fn send_each<K: Link>(link: &mut K, outs: &Vec<Out>) -> Result<(), LinkFault>
+    ensures fine { OnOk result (K.faults link.new ≡ K.faults link.old) }
+    ensures fault { OnErr result (K.faults link.old < K.faults link.new) }
+{
+    for out in outs {
+        let _ = link.send(out.interface, out.bytes.as_slice())?;
+    }
+    Ok(())
+}

@@ -1,0 +1,61 @@
+//! What all workers of one router have in common, by which their types know one another.
+ghost use Rattle.std.specs.Prelude.{◌≡◌, []};
+ghost use Rattle.logbook.specs.Pages.{Book as History};
+ghost use Rattle.maps.specs.Words.{IsOf, SharedWords};
+ghost use Rattle.hooks.specs.Known.{asks_of};
+
+use hooks::Asker;
+use maps::Seat;
+use std::marker::{Brand, PhantomData};
+use std::sync::ledger::Ledger;
+
+/// Which ledger counts the events, which table of shared words the seats are of and how many it gave,
+/// and whose published programs the askers run.
+///
+/// A hub's type and its ports' types name it. Who starts workers picks it, by `Brand`.
+pub trait Site: Ledger {
+    ghost words: { SharedWords };
+
+    ghost history: { History };
+}
+
+impl Site for Brand {
+    ghost words = { record {
+      table = record {
+        words = 0;
+        slots = 0;
+        views_name = 0;
+        atom = 0;
+        block = 0;
+        offset = 0;
+        slot_names = [];
+      };
+      seats = 0;
+    } };
+
+    ghost history = { record { number = 0; log_name = 0; cells_name = 0 } };
+}
+
+/// A seat of the table, and an asker of the published programs.
+#[derive(Drop)]
+pub struct Place<L: Site> {
+    pub(crate) seat: Seat,
+    pub(crate) asker: Asker,
+    pub(crate) of: PhantomData<L>,
+    pub ghost seated: { IsOf L.words seat },
+    pub ghost asks: { asks_of asker ≡ L.history },
+}
+
+impl<L: Site> Place<L> {
+    /// A place with these.
+    pub fn new(seat: Seat, asker: Asker) -> Place<L>
+        requires seated { IsOf L.words seat }
+        requires asks { asks_of asker ≡ L.history }
+    {
+        Place {
+            seat,
+            asker,
+            of: PhantomData,
+        }
+    }
+}

@@ -1,0 +1,62 @@
+//! What comes of a turn.
+ghost use Rattle.std.specs.Prelude.{◌≡◌};
+ghost use Rattle.worker.specs.Numbers.{turn_error_number};
+
+use book::BookError;
+use flood::{CoreError, Out};
+use std::alloc::AllocError;
+use thiserror::Error;
+
+/// What a turn sends, and after it what the refresh sends that followed it, if one did.
+///
+/// They stand apart: to put them together could want memory after both events stand.
+#[derive(Debug, Drop)]
+pub struct Turned {
+    pub outs: Vec<Out>,
+    pub refreshed: Option<Vec<Out>>,
+}
+
+/// Why a turn gave the router no event.
+#[derive(Clone, Copy, Debug, PartialEq, Eq, Error)]
+pub enum TurnError {
+    /// The book refused the event, or an allocation was refused (`CoreError::Memory`).
+    #[error("{0}")]
+    Book(BookError),
+    /// `tag`, `price` or `veto` got no reading of the published programs.
+    #[error("no reading of the programs")]
+    Away,
+}
+
+impl TurnError {
+    /// The number of the refusal: 1 to 7 as the book's, 8 for `Away`.
+    pub fn number(self) -> u8
+        ensures { result ≡ turn_error_number self }
+    {
+        match self {
+            TurnError::Book(error) => error.number(),
+            TurnError::Away => 8,
+        }
+    }
+}
+
+impl From<BookError> for TurnError {
+    ghost use Rattle.worker.specs.declared.turned.TurnError.TheVariants.{Book};
+
+    ghost from_gives = { λ r e. e ≡ Book r };
+
+    fn from(e: BookError) -> TurnError {
+        TurnError::Book(e)
+    }
+}
+
+impl From<AllocError> for TurnError {
+    ghost use Rattle.events.specs.declared.model.CoreError.TheVariants.{Memory};
+    ghost use Rattle.book.specs.declared.error.BookError.TheVariants.{Core};
+    ghost use Rattle.worker.specs.declared.turned.TurnError.TheVariants.{Book};
+
+    ghost from_gives = { λ _ e. e ≡ Book (Core Memory) };
+
+    fn from(_e: AllocError) -> TurnError {
+        TurnError::Book(BookError::Core(CoreError::Memory))
+    }
+}

@@ -1,0 +1,72 @@
+//! A turn of a worker.
+ghost use Rattle.std.specs.Prelude.{◌≡◌, ◌+◌, IfOk, OnOk, OnErr, MatchOption};
+ghost use Rattle.worker.specs.Turns.{TakesFor};
+
+use crate::hub::Hub;
+use crate::port::{Gate, Port};
+use crate::questions::{asked, installation};
+use crate::site::Site;
+use crate::taker::Taker;
+use crate::turned::{TurnError, Turned};
+use crate::work::Work;
+use flood::Out;
+use std::sync::Wait;
+use words::Second;
+
+/// A turn: it asks the programs what the work's event needs, passes the gate once, and gives the
+/// event to the book under the lock. Where that left the router stale, a refresh follows, which
+/// passes no gate. It may wait for the lock.
+///
+/// At a [`Book`](book::Book) the outs are those that the event gives, by the rules of a whole event,
+/// from some router to some router; which router it was, only the book knows.
+///
+/// Refused: `Away` where `tag`, `price` or `veto` got no reading; else as the book refuses it
+/// ([`Book::apply_anew`](book::Book::apply_anew)): its journal first, then the router's order. `Memory`
+/// may come before any of them, while the programs are asked. A refused turn gave the book nothing;
+/// the steps that the programs made on the shared words stand, and so does a mark. A refusal of the
+/// refresh leaves the turn's outs as they are: the next turn tries again.
+pub fn turn<L: Site, B: Taker<L>, G: Gate, R: Wait>(
+    rt: &R,
+    hub: &Hub<L, B>,
+    port: &mut Port<L>,
+    gate: &G,
+    moment: Second,
+    work: &Work,
+) -> Result<Turned, TurnError>
+    ensures outs { IfOk result (λ r. TakesFor B.offers B.took moment work.now r.outs.items) }
+    ensures refreshed { IfOk result (λ r. MatchOption r.refreshed
+        (port.new.share.amount ≡ port.old.share.amount + 1)
+        (λ outs. TakesFor B.offers B.took moment Work.Refresh outs.items
+        × (port.new.share.amount ≡ port.old.share.amount + 2))) }
+    ensures err { OnErr result (port.new.share.amount ≡ port.old.share.amount) }
+{
+    let event = asked(rt, hub, &mut port.asker, &mut port.seat, moment, work)?;
+    gate.pass(port.number);
+    let taken = hub.take(rt, &mut port.share, moment, &event)?;
+    let refreshed = if taken.stale {
+        refresh(rt, hub, port, moment).ok()
+    } else {
+        None
+    };
+    Ok(Turned {
+        outs: taken.outs,
+        refreshed,
+    })
+}
+
+// A refresh that passes no gate.
+fn refresh<L: Site, B: Taker<L>, R: Wait>(
+    rt: &R,
+    hub: &Hub<L, B>,
+    port: &mut Port<L>,
+    moment: Second,
+) -> Result<Vec<Out>, TurnError>
+    ensures outs { IfOk result (λ outs.
+        TakesFor B.offers B.took moment Work.Refresh outs.items) }
+    ensures share { OnOk result (port.new.share.amount ≡ port.old.share.amount + 1) }
+    ensures err { OnErr result (port.new.share.amount ≡ port.old.share.amount) }
+{
+    let event = installation(rt, hub, &mut port.asker, &mut port.seat, moment)?;
+    let taken = hub.take(rt, &mut port.share, moment, &event)?;
+    Ok(taken.outs)
+}
