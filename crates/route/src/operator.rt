@@ -172,26 +172,40 @@ impl<
         counters_text(self.alloc, &sums)
     }
 
-    // Carries out a line. Tells whether there is more to come.
-    fn obey(&mut self, hub: &Hub<L, Book<L>>, port: &mut Port<L>, line: &str) -> bool {
-        match read_command(self.alloc, line) {
-            Ok(Some(Command::Attach(path))) => self.attach(hub, port, path),
-            Ok(Some(Command::Detach(hook))) => self.detach(hub, port, hook),
-            Ok(Some(Command::Add(external))) => self.add(hub, port, external),
-            Ok(Some(Command::Withdraw(prefix))) => self.withdraw(hub, port, prefix),
-            Ok(Some(Command::Table)) => {
+    // Carries out a command. Tells whether there is more to come.
+    fn carry_out(
+        &mut self,
+        hub: &Hub<L, Book<L>>,
+        port: &mut Port<L>,
+        command: &Command<'_>,
+    ) -> bool {
+        match command {
+            Command::Attach(path) => self.attach(hub, port, path),
+            Command::Detach(hook) => self.detach(hub, port, *hook),
+            Command::Add(external) => self.add(hub, port, *external),
+            Command::Withdraw(prefix) => self.withdraw(hub, port, *prefix),
+            Command::Table => {
                 let made = self.table(hub);
                 self.tell_made(made);
             }
-            Ok(Some(Command::Neighbors)) => {
+            Command::Neighbors => {
                 let made = self.neighbors(hub);
                 self.tell_made(made);
             }
-            Ok(Some(Command::Counters)) => {
+            Command::Counters => {
                 let made = self.counters(hub, port);
                 self.tell_made(made);
             }
-            Ok(Some(Command::Quit)) => return false,
+            Command::Quit => return false,
+        }
+        !self.mute
+    }
+
+    // Carries out a line. Tells whether there is more to come.
+    fn obey(&mut self, hub: &Hub<L, Book<L>>, port: &mut Port<L>, line: &str) -> bool {
+        let read = read_command(self.alloc, line);
+        match &read {
+            Ok(Some(command)) => return self.carry_out(hub, port, command),
             Ok(None) => self.tell("unknown\n"),
             Err(_) => self.tell("out of memory\n"),
         }
