@@ -107,13 +107,7 @@ pub fn hook_of(word: &str) -> Option<Hook>
     ensures value { result ≡ hook_of word.now }
     ensures found { IfSome result (λ found. word.now ≡ hook_word found) }
 {
-    match word {
-        "count" => Some(Hook::Count),
-        "tag" => Some(Hook::Tag),
-        "price" => Some(Hook::Price),
-        "veto" => Some(Hook::Veto),
-        _ => None,
-    }
+    Hook::from_name(word)
 }
 
 /// What stands before the address of a load.
