@@ -1,5 +1,5 @@
 //! The workers on threads of their own, the console beside them, and back.
-ghost use Rattle.std.specs.Prelude.{◌≡◌, ◌<◌, All, length, vec_len, IfOk};
+ghost use Rattle.std.specs.Prelude.{◌≡◌, ◌+◌, All, length, vec_len, IfOk};
 ghost use Rattle.maps.specs.Words.{IsOf};
 ghost use Rattle.worker.specs.Opening.{IsSetUpFor};
 
@@ -21,6 +21,8 @@ use worker::{Hub, Port, Returned, Settled, Setup, Site, open_hub, settle};
 
 /// Lets each worker run on a thread with a port of its own, and the operator on this thread at port
 /// 0, until the operator is done. Every thread is joined before it answers, whatever it answers.
+/// There is a link for each port but the operator's. The book has taken just as many events as all
+/// shares count.
 ///
 /// `AllocError` comes where an allocation was refused, or where a thread couldn't be started.
 pub fn side_by_side<
@@ -39,7 +41,10 @@ pub fn side_by_side<
     links: Vec<Sockets<'_>>,
     operator: &mut Operator<'_, L, S, Q, I, O>,
 ) -> Result<Returned<L>, AllocError>
-    requires { IsSetUpFor L.name L.parts L.words L.history setup }
+    requires setup { IsSetUpFor L.name L.parts L.words L.history setup }
+    requires links { vec_len setup.seats ≡ vec_len links + 1 }
+    ensures taken { IfOk result (λ r.
+        (r.book.taken ≡ r.share.amount) × (r.share.parts ≡ L.parts)) }
     ensures seats { IfOk result (λ r.
         (length r.seats.items ≡ r.shared.seats) × All (IsOf r.shared) r.seats.items) }
 {
@@ -71,14 +76,14 @@ fn in_scope<
     links: Vec<Sockets<'_>>,
     operator: &mut Operator<'_, L, S, Q, I, O>,
 ) -> Result<Vec<Port<L>>, AllocError>
-    requires { 0 < vec_len ports }
+    requires { vec_len ports ≡ vec_len links + 1 }
     ensures { IfOk result (λ back. vec_len back ≡ vec_len ports) }
 {
     thread::scope(
         thread::scope_env(),
         rt,
         |scope| -> Result<Vec<Port<L>>, AllocError>
-            requires { 0 < vec_len ports }
+            requires { vec_len ports ≡ vec_len links + 1 }
             ensures { IfOk result (λ back. vec_len back ≡ vec_len ports) }
         { crew(scope, rt, hub, workers, links, operator, ports) },
     )
@@ -104,7 +109,7 @@ fn crew<
     operator: &mut Operator<'_, L, S, Q, I, O>,
     ports: Vec<Port<L>>,
 ) -> Result<Vec<Port<L>>, AllocError>
-    requires { 0 < vec_len ports }
+    requires { vec_len ports ≡ vec_len links + 1 }
     ensures { IfOk result (λ back. vec_len back ≡ vec_len ports) }
 {
     let alloc = *ports.allocator();
@@ -118,8 +123,7 @@ fn crew<
     let (quit, failed) = (&workers.quit, &workers.failed);
     while let Some(port) = ports.pop() {
         let Some(link) = links.pop() else {
-            quit.store(true, Ordering::SeqCst);
-            return Err(AllocError);
+            unreachable!()
         };
         let life = move || work(clock, memory, link, quit, failed, hub, port);
         let Ok(thread) = scope.spawn(life) else {

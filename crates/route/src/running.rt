@@ -1,5 +1,5 @@
 //! A router from its configuration to its end.
-ghost use Rattle.std.specs.Prelude.{◌≡◌, ◌⊎◌, ◌≤◌, IfOk};
+ghost use Rattle.std.specs.Prelude.{◌≡◌, ◌⊎◌, ◌≤◌, ◌+◌, IfOk, length, vec_len};
 ghost use Rattle.hooks.specs.Known.{history_of};
 ghost use Rattle.worker.specs.Opening.{IsSetUpFor};
 
@@ -50,7 +50,9 @@ fn listening<'x, R: Net>(
     rt: &R,
     alloc: Global,
     wires: &'x [Wire],
-) -> Result<Vec<Sockets<'x>>, RouteError> {
+) -> Result<Vec<Sockets<'x>>, RouteError>
+    ensures { IfOk result (λ links. vec_len links ≡ length wires.now) }
+{
     let mut links = Vec::with_capacity(alloc, wires.len())?;
     for before in 0..wires.len() {
         match Sockets::of_interface(rt, alloc, wires, wires.len() - 1 - before) {
@@ -81,6 +83,7 @@ fn run_all<
 ) -> Result<u8, RouteError>
     requires setup { IsSetUpFor L.name L.parts L.words L.history setup }
     requires history { history_of loader ≡ L.history }
+    requires wires { vec_len setup.seats ≡ length wires.now + 1 }
     ensures ended { IfOk result (λ status. (status ≡ 0) ⊎ (status ≡ 3)) }
 {
     let interfaces = if wires.len() <= 63 {

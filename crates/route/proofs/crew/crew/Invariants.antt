@@ -4,6 +4,7 @@ use Rattle.route.proofs.crew.crew.Given as goal
 abbrev pub invariant-loop-port : goal.invariant-loop-port
 invariant-loop-port g l =
     (vec_len l.back ≡ 0) × (vec_len l.ports + vec_len l.running + 1 ≡ vec_len l.fn.ports)
+    × (vec_len l.links ≡ vec_len l.ports)
 
 abbrev pub decreases-loop-port : goal.decreases-loop-port
 decreases-loop-port g l = vec_len l.ports

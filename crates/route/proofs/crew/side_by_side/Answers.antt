@@ -3,11 +3,11 @@ use Rattle.std.proofs.lemmas.Grind.{common_steps}
 use Rattle.maps.specs.Words.{IsOf, SharedWords}
 use Rattle.route.proofs.crew.side_by_side.Goals as goal
 
-pub returns : goal.returns
-returns g c =
+pub returns-clause-seats : goal.returns-clause-seats
+returns-clause-seats g c =
     let ours = c.into_parts-book.ensures in
     let brought = c.in_ok-share.ensures.seats in
-    let named = c.requires.2 in
+    let named = c.requires.setup.2 in
     let every = c.args.setup.every in
     let opened = c.in_ok-hub.ensures.ports in
     let back = c.in_ok-ports.ensures in
