@@ -9,15 +9,27 @@ use crate::sockets::Sockets;
 use book::Book;
 use flood::Core;
 use log::Log;
+use maps::{Seat, Shared};
 use std::alloc::{AllocError, Global};
 use std::io::{BufRead, Write};
 use std::rt::Files;
 use std::sync::Wait;
 use std::sync::atomic::Ordering;
+use std::sync::ledger::Share;
 use std::thread;
 use std::thread::{Scope, Threads};
 use std::time::Clock;
-use worker::{Hub, Port, Returned, Settled, Setup, Site, open_hub, settle};
+use worker::{Hub, Port, Settled, Setup, Site, open_hub, settle};
+
+/// What comes back from all workers: the book, the share that counts all its events, and the shared
+/// words with all their seats, as [`Shared::close`](maps::Shared::close) asks for them.
+#[derive(Drop)]
+pub struct Returned<L: Site> {
+    pub book: Book<L>,
+    pub share: Share<L>,
+    pub shared: Shared,
+    pub seats: Vec<Seat>,
+}
 
 /// Lets each worker run on a thread with a port of its own, and the operator on this thread at port
 /// 0, until the operator is done. Every thread is joined before it answers, whatever it answers.

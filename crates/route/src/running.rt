@@ -4,7 +4,7 @@ ghost use Rattle.hooks.specs.Known.{history_of};
 ghost use Rattle.worker.specs.Opening.{IsSetUpFor};
 
 use crate::clock::SystemSeconds;
-use crate::crew::side_by_side;
+use crate::crew::{Returned, side_by_side};
 use crate::error::RouteError;
 use crate::labor::Workers;
 use crate::operator::Operator;
@@ -24,7 +24,7 @@ use std::sync::atomic::{AtomicBool, Ordering};
 use std::thread::Threads;
 use std::time::Clock;
 use words::Sequence;
-use worker::{Returned, Seconds, Setup, Site};
+use worker::{Seconds, Setup, Site};
 
 // The core of a configuration, at the clock's second.
 fn core_of<R: Clock>(rt: &R, alloc: Global, configured: &Configured) -> Result<Core, RouteError> {
