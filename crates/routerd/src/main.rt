@@ -2,44 +2,47 @@
 #![tactic(auto)]
 
 use commands::{Routing, program};
-use log::Log;
+use route::RouteError;
 use std::alloc::{AllocError, Global};
+use std::cell::OnceCell;
 use std::io::{BufRead, Write};
-use std::net::Net;
 use std::process::ExitCode;
-use std::rt::Files;
-use std::sync::Wait;
-use std::thread::Threads;
-use std::time::Clock;
 use std::{env, io};
 
-/// Routers by this machine's sockets, threads, clock and files.
+/// The configuration of the router that the words ask for. `main` runs it, which alone has this machine's threads.
 #[derive(Drop)]
-struct Routers<'a, R> {
-    rt: &'a R,
+struct Asked {
+    alloc: Global,
+    configuration: OnceCell<String>,
 }
 
-impl<'a, R: Net + Threads + Wait + Clock + Log + Files + AllocGlobal + Sync + Drop> Routing
-    for Routers<'a, R> {
-    fn route<I: BufRead, O: Write>(&self, text: &str, input: &mut I, output: &mut O) -> u8 {
-        route::route(self.rt, text, input, output)
+impl Routing for Asked {
+    fn route<I: BufRead, O: Write>(&self, text: &str, _input: &mut I, output: &mut O) -> u8 {
+        let mut kept = String::new(self.alloc);
+        if kept.push_str(text).is_ok() && self.configuration.set(kept).is_ok() {
+            return 0;
+        }
+        match writeln!(output, "{}", RouteError::Memory) {
+            Ok(()) => RouteError::Memory.status(),
+            Err(_) => RouteError::Output.status(),
+        }
     }
 }
 
-/// Hands the arguments and the standard streams to the program, and ends with its status.
+/// Hands the arguments and the standard streams to the program, runs the router that they ask for, if they do, and ends with the status.
 fn main(rt: HostRuntime) -> ExitCode {
+    let mut input = rt.reader();
     let mut output = io::writer(&rt);
     let mut errors = rt.stderr();
+    let asked = Asked {
+        alloc: rt.alloc(),
+        configuration: OnceCell::new(),
+    };
     let status = match arguments(&rt) {
         Ok(words) => match texts_of(rt.alloc(), &words) {
-            Ok(texts) => program::program(
-                &rt,
-                &Routers { rt: &rt },
-                &texts,
-                &mut rt.reader(),
-                &mut output,
-                &mut errors,
-            ),
+            Ok(texts) => {
+                program::program(&rt, &asked, &texts, &mut input, &mut output, &mut errors)
+            }
             Err(error) => program::end_without_words(
                 rt.alloc(),
                 &io::Error::from(error),
@@ -48,6 +51,10 @@ fn main(rt: HostRuntime) -> ExitCode {
             ),
         },
         Err(error) => { program::end_without_words(rt.alloc(), &error, &mut output, &mut errors) }
+    };
+    let status = match asked.configuration.get() {
+        Some(text) => route::route(&rt, text.as_str(), &mut input, &mut output),
+        None => status,
     };
     ExitCode::from(status)
 }
