@@ -1,11 +1,14 @@
 //! The command `route`: the configuration, the console's streams and the status go to the router and back.
 
-use super::{path_for, run};
+use super::{Step, path_for, play, run};
 use commands::Routing;
 use commands::program::program;
 use std::alloc::Global;
 use std::io::{BufRead, Write};
+use std::process::Abort;
+use std::rt::Files;
 use std::test::Fail;
+use std::thread::Threads;
 use std::{fs, process};
 
 // In the place of a router: prints the configuration and the console's first line.
@@ -25,42 +28,43 @@ impl Routing for OneLine {
     }
 }
 
+// The status of a router that ends so, which has the configuration and the console's first line.
+fn expect_status<R: Files + AllocGlobal + Threads + Sync + Abort>(rt: &R, path: &str, status: u8) {
+    let mut input: &[u8] = b"quit\n".as_slice();
+    let mut output = Vec::new(rt.alloc());
+    let mut errors = Vec::new(rt.alloc());
+    let router = OneLine {
+        alloc: rt.alloc(),
+        status,
+    };
+    let words = ["routerd", "route", path];
+    let got = program(rt, &router, &words, &mut input, &mut output, &mut errors);
+    assert_eq!(rt; got, status);
+    assert!(rt; output.as_slice() == b"router 1.1.1.1\nquit\n".as_slice());
+    assert!(rt; errors.is_empty());
+}
+
 #[test]
 fn a_router_has_its_configuration_and_the_console(rt: HostRuntime) -> Result<(), Fail> {
     let path = path_for(&rt, process::id(rt.process()), "one.conf")?;
-    let path = path.as_str();
-    fs::write(&rt, path, "router 1.1.1.1\n")?;
+    fs::write(&rt, path.as_str(), "router 1.1.1.1\n")?;
     for status in [0, 1, 3, 4] {
-        let mut input: &[u8] = b"quit\n".as_slice();
-        let mut output = Vec::new(rt.alloc());
-        let mut errors = Vec::new(rt.alloc());
-        let router = OneLine {
-            alloc: rt.alloc(),
-            status,
-        };
-        let words = ["routerd", "route", path];
-        let got = program(&rt, &router, &words, &mut input, &mut output, &mut errors);
-        assert_eq!(rt; got, status);
-        assert!(rt; output.as_slice() == b"router 1.1.1.1\nquit\n".as_slice());
-        assert!(rt; errors.is_empty());
+        expect_status(&rt, path.as_str(), status);
     }
-    fs::remove_file(&rt, path)?;
+    fs::remove_file(&rt, path.as_str())?;
     Ok(())
 }
 
 #[test]
 fn a_configuration_that_is_no_text_cant_be_read(rt: HostRuntime) -> Result<(), Fail> {
-    let path = path_for(&rt, process::id(rt.process()), "bytes.conf")?;
-    let path = path.as_str();
-    let line = format!(in rt.alloc(); "cannot read {path}\n")?;
-    let missing = run(&rt, &["routerd", "route", path])?;
-    assert!(rt; missing.status == 3 && missing.lines.as_str() == line.as_str());
-    fs::write(&rt, path, [0xff, 0xfe].as_slice())?;
-    let bytes = run(&rt, &["routerd", "route", path])?;
-    fs::remove_file(&rt, path)?;
-    assert!(rt; bytes.status == 3 && bytes.lines.as_str() == line.as_str());
-    assert!(rt; bytes.usage.as_str() == "");
-    Ok(())
+    let words = ["route", "@bytes.conf"];
+    let steps = [
+        Step::Run(&words, 3, "cannot read @bytes.conf\n"),
+        Step::Write("bytes.conf", &[0xff, 0xfe]),
+        Step::Run(&words, 3, "cannot read @bytes.conf\n"),
+        Step::Remove("bytes.conf"),
+    ];
+    play(&rt, process::id(rt.process()), &steps)
 }
 
 #[test]
