@@ -8,6 +8,7 @@ use crate::programs::{AttachError, read_program};
 use crate::sockets::Sockets;
 use book::Book;
 use console::{Command, counters_text, neighbors_text, read_command, table_text};
+use flood::Offered;
 use hooks::Loader;
 use isa::Hook;
 use std::alloc::{AllocError, Global};
@@ -140,15 +141,9 @@ impl<
         }
     }
 
-    // The routes of the table: the candidates that have a row. There is one candidate for a prefix.
     fn table(&mut self, hub: &Hub<L, Book<L>>) -> Result<String, AllocError> {
         let offered = hub.offered(self.rt)?;
-        let mut routes = Vec::new(self.alloc);
-        for route in &offered.candidates {
-            if offered.rows.iter().any(|row| row.prefix == route.prefix) {
-                routes.push(*route)?;
-            }
-        }
+        let routes = routes_of(self.alloc, &offered)?;
         table_text(self.alloc, &routes)
     }
 
@@ -232,6 +227,21 @@ impl<
             Ok(_) => self.obey(hub, port, without_line_feed(line.as_str())),
         }
     }
+}
+
+// The routes of the table: the candidates that have a row. Both are ordered by their prefixes, of which each has one.
+fn routes_of(alloc: Global, offered: &Offered) -> Result<Vec<Route>, AllocError> {
+    let mut rows = offered.rows.as_slice();
+    let mut routes = Vec::with_capacity(alloc, rows.len())?;
+    for route in &offered.candidates {
+        if let [row, later @ ..] = rows {
+            if row.prefix == route.prefix {
+                routes.push(*route)?;
+                rows = later;
+            }
+        }
+    }
+    Ok(routes)
 }
 
 fn without_line_feed(line: &str) -> &str {

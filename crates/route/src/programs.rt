@@ -13,7 +13,7 @@ const MOST_BYTES: u64 = 16_777_216;
 /// Why no program is attached. The text is the line that is printed.
 #[derive(Debug, Drop, Error)]
 pub enum AttachError<'a> {
-    /// The file can't be opened or read.
+    /// The file can't be opened or read, or is longer than 16 MiB.
     #[error("cannot read {0}")]
     Read(&'a str),
     /// It is no object file: the number of the refusal.
@@ -72,8 +72,9 @@ pub fn read_program<'a, R: Files + AllocGlobal>(
         return Err(AttachError::Read(path));
     };
     let mut bytes = Vec::new(rt.alloc());
-    match file.take(MOST_BYTES).read_to_end(&mut bytes) {
-        Ok(_) => {}
+    match file.take(MOST_BYTES + 1).read_to_end(&mut bytes) {
+        Ok(_) if bytes.len() as u64 <= MOST_BYTES => {}
+        Ok(_) => return Err(AttachError::Read(path)),
         Err(error) if matches!(error.kind(), ErrorKind::OutOfMemory) => {
             return Err(AttachError::Memory);
         }

@@ -1,3 +1,4 @@
 mod FromSome
 mod FreshSeats
+mod Sending
 mod Vetoes

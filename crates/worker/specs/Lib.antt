@@ -1,3 +1,4 @@
 pub mod Turns
+pub mod Sending
 pub mod Opening
 pub mod Numbers

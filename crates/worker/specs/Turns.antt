@@ -99,3 +99,7 @@ IsFor offers work.Refresh moment e = IsInstall offers moment e
 abbrev pub TakesFor : Offers → Took → Moment → Work → List Out → Type 0
 TakesFor offers took moment w outs =
     (e : Event) × IsFor offers w moment e × took moment e outs
+
+-- it was at some moment
+abbrev pub TakesOnce : Offers → Took → Work → List Out → Type 0
+TakesOnce offers took w outs = (moment : Moment) × TakesFor offers took moment w outs

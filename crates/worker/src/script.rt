@@ -87,7 +87,12 @@ impl<'a> Script<'a> {
 }
 
 impl<'a> Link for Script<'a> {
+    ghost use Rattle.std.specs.Prelude.{◌≤◌};
+
     ghost faults = { λ s. s.faults };
+
+    // At most one datagram more was sent.
+    ghost gives = { λ s interface bytes t. t.sent ≤ suc s.sent };
 
     fn receive(&mut self, buffer: &mut [u8; 8193]) -> Result<Option<usize>, LinkFault> {
         match self.next() {

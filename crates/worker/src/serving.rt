@@ -1,5 +1,7 @@
 //! The loop of a worker.
-ghost use Rattle.std.specs.Prelude.{◌≡◌, ℕ, ◌<◌, ◌↔◌, OnOk, OnErr};
+ghost use Rattle.std.specs.Prelude.{◌≡◌, ℕ, ◌+◌, ◌<◌, ◌++◌, ◌↔◌, IfOk, MatchOption, OnOk, OnErr};
+ghost use Rattle.worker.specs.Sending.{IsGivenEach};
+ghost use Rattle.worker.specs.Turns.{TakesOnce};
 ghost use Rattle.worker.specs.declared.serving.Ended.TheVariants.{Fault};
 
 use crate::hub::Hub;
@@ -126,7 +128,7 @@ fn serve<L: Site, B: Taker<L>, G: Gate, K: Link, S: Seconds, R: Wait>(
 }
 
 /// A turn that is tried again, at most three times, each at a new moment, where the clock of the
-/// router is ahead of this one.
+/// router is ahead of this one. What it gives and how it is refused is as the last [`turn`] says.
 pub fn tried<L: Site, B: Taker<L>, G: Gate, S: Seconds, R: Wait>(
     rt: &R,
     hub: &Hub<L, B>,
@@ -135,7 +137,14 @@ pub fn tried<L: Site, B: Taker<L>, G: Gate, S: Seconds, R: Wait>(
     clock: &mut S,
     now: Second,
     work: &Work,
-) -> Result<Turned, TurnError> {
+) -> Result<Turned, TurnError>
+    ensures outs { IfOk result (λ r. TakesOnce B.offers B.took work.now r.outs.items) }
+    ensures refreshed { IfOk result (λ r. MatchOption r.refreshed
+        (port.new.share.amount ≡ port.old.share.amount + 1)
+        (λ outs. TakesOnce B.offers B.took Work.Refresh outs.items
+        × (port.new.share.amount ≡ port.old.share.amount + 2))) }
+    ensures err { OnErr result (port.new.share.amount ≡ port.old.share.amount) }
+{
     let mut moment = now;
     for _again in 0..3u32 {
         match turn(rt, hub, port, gate, moment, work) {
@@ -148,9 +157,13 @@ pub fn tried<L: Site, B: Taker<L>, G: Gate, S: Seconds, R: Wait>(
     turn(rt, hub, port, gate, moment, work)
 }
 
-/// Sends what a turn sends, and then what its refresh sends. An out that would wait is dropped; after
-/// a fault the later ones aren't sent.
+/// Sends what a turn sends, and then what its refresh sends: each out once, in their order, at its
+/// interface. An out that would wait is dropped; after a fault the later ones aren't sent.
+#[tactic(auto, using(crate::proofs::Sending::given_both))]
 pub fn send_all<K: Link>(link: &mut K, turned: &Turned) -> Result<(), LinkFault>
+    ensures each { OnOk result (MatchOption turned.now.refreshed
+        (IsGivenEach K.gives link.old turned.now.outs.items link.new)
+        (λ outs. IsGivenEach K.gives link.old (turned.now.outs.items ++ outs.items) link.new)) }
     ensures fine { OnOk result (K.faults link.new ≡ K.faults link.old) }
     ensures fault { OnErr result (K.faults link.old < K.faults link.new) }
 {
@@ -162,6 +175,7 @@ pub fn send_all<K: Link>(link: &mut K, turned: &Turned) -> Result<(), LinkFault>
 }
 
 fn send_each<K: Link>(link: &mut K, outs: &Vec<Out>) -> Result<(), LinkFault>
+    ensures each { OnOk result (IsGivenEach K.gives link.old outs.now.items link.new) }
     ensures fine { OnOk result (K.faults link.new ≡ K.faults link.old) }
     ensures fault { OnErr result (K.faults link.old < K.faults link.new) }
 {

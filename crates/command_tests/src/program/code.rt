@@ -1,6 +1,6 @@
 //! Bare code by `raw`: answers, traps, refusals, counters.
 
-use super::{ADDS, Step, play};
+use super::{ADDS, Step, expect, play, write_file};
 use std::process;
 use std::process::Abort;
 use std::rt::{Env, Files};
@@ -36,12 +36,9 @@ fn expect_cases<R: Files + AllocGlobal + Threads + Sync + Env + Abort>(
     cases: &[Case<'_>],
 ) -> Result<(), Fail> {
     for (bytes, hook, seats, status, lines) in cases.iter().copied() {
-        let steps = [
-            Step::Write("code", bytes),
-            Step::Run(&["raw", hook, "@code", seats], status, lines),
-            Step::Remove("code"),
-        ];
-        play(rt, id, &steps)?;
+        write_file(rt, id, "code", bytes)?;
+        expect(rt, id, &["raw", hook, "@code", seats], status, lines)?;
+        play(rt, id, &[Step::Remove("code")])?;
     }
     Ok(())
 }

@@ -1,6 +1,6 @@
 //! Texts and objects as files: what `asm` writes and `list` prints, what can't be read or written.
 
-use super::{EXIT_SLOT, Step, counting, play, run, small};
+use super::{EXIT_SLOT, Step, counting, expect, play, run, small, write_file};
 use std::process;
 use std::test::Fail;
 
@@ -117,19 +117,18 @@ fn code_that_is_none_is_not_listed(rt: HostRuntime) -> Result<(), Fail> {
     play(&rt, process::id(rt.process()), &steps)
 }
 
+const LONG: &[&str] = &["raw", "count", "@long", "1"];
+
 #[test]
 fn a_file_of_16_mib_is_read_and_a_longer_one_is_not(rt: HostRuntime) -> Result<(), Fail> {
     let bytes = vec![in rt.alloc(); 0u8; 16_777_217]?;
     let (most, _) = bytes.as_slice().split_at(16_777_216);
-    let words = ["raw", "count", "@long", "1"];
-    let steps = [
-        Step::Write("long", most),
-        Step::Run(&words, 1, "code refusal 6 slot 0\n"),
-        Step::Write("long", bytes.as_slice()),
-        Step::Run(&words, 3, "cannot read @long\n"),
-        Step::Remove("long"),
-    ];
-    play(&rt, process::id(rt.process()), &steps)
+    let id = process::id(rt.process());
+    write_file(&rt, id, "long", most)?;
+    expect(&rt, id, LONG, 1, "code refusal 6 slot 0\n")?;
+    write_file(&rt, id, "long", bytes.as_slice())?;
+    expect(&rt, id, LONG, 3, "cannot read @long\n")?;
+    play(&rt, id, &[Step::Remove("long")])
 }
 
 #[test]

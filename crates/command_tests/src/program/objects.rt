@@ -1,6 +1,6 @@
 //! Object files by `run`: answers, traps, refusals.
 
-use super::{EXIT_SLOT, Step, counting, play, run, small};
+use super::{EXIT_SLOT, Step, counting, expect, play, run, small, write_file};
 use std::process;
 use std::process::Abort;
 use std::rt::{Env, Files};
@@ -16,12 +16,9 @@ fn expect_cases<R: Files + AllocGlobal + Threads + Sync + Env + Abort>(
     cases: &[Case<'_>],
 ) -> Result<(), Fail> {
     for (bytes, context, packet, status, lines) in cases.iter().copied() {
-        let steps = [
-            Step::Write("object", bytes),
-            Step::Run(&["run", "@object", context, packet], status, lines),
-            Step::Remove("object"),
-        ];
-        play(rt, id, &steps)?;
+        write_file(rt, id, "object", bytes)?;
+        expect(rt, id, &["run", "@object", context, packet], status, lines)?;
+        play(rt, id, &[Step::Remove("object")])?;
     }
     Ok(())
 }
