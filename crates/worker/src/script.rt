@@ -1,5 +1,5 @@
 //! A link and a clock that play lists, for tests.
-ghost use Rattle.std.specs.Prelude.{◌≡◌, ◌≢◌, ℕ, ◌<◌, ◌≤◌};
+ghost use Rattle.std.specs.Prelude.{◌≡◌, ◌≢◌, ℕ, ◌+◌, ◌<◌, ◌≤◌};
 ghost use Rattle.worker.specs.declared.script.Played.TheVariants.{Fault};
 
 use crate::link::{Link, LinkFault, Seconds};
@@ -54,6 +54,7 @@ impl<'a> Script<'a> {
     }
 
     fn next(&mut self) -> Played
+        ensures sent { self.new.sent ≡ self.old.sent }
         ensures fine { result ≢ Fault → self.new.faults ≡ self.old.faults }
         ensures fault { result ≡ Fault → self.old.faults < self.new.faults }
     {
@@ -87,12 +88,10 @@ impl<'a> Script<'a> {
 }
 
 impl<'a> Link for Script<'a> {
-    ghost use Rattle.std.specs.Prelude.{◌≤◌};
-
     ghost faults = { λ s. s.faults };
 
     // At most one datagram more was sent.
-    ghost gives = { λ s interface bytes t. t.sent ≤ suc s.sent };
+    ghost gives = { λ s interface bytes t. t.sent ≤ s.sent + 1 };
 
     fn receive(&mut self, buffer: &mut [u8; 8193]) -> Result<Option<usize>, LinkFault> {
         match self.next() {
