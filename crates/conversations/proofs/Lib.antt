@@ -12,3 +12,8 @@ pub mod WorkedExchange
 pub mod WorkedRun
 pub mod WorkedHello
 pub mod WorkedMetrics
+pub mod TableTests
+pub mod CarriedOut
+pub mod TakenOff
+pub mod RequestsMet
+pub mod SentInOrder

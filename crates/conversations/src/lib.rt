@@ -2,6 +2,11 @@
 //! body: each holds for every router that meets the named conditions.
 #![tactic(auto)]
 
+ghost use Rattle.conversations.specs.CarriedOut.{EachCaseIsCarriedOut};
+ghost use Rattle.conversations.specs.RequestsMet.{RequestsAreMetByFlooding};
+ghost use Rattle.conversations.specs.SentInOrder.{WhatIsSentStandsInOrder};
+ghost use Rattle.conversations.specs.TableTests.{EachTestOfTheTableCounts};
+ghost use Rattle.conversations.specs.TakenOff.{AcknowledgmentsTakeOffWhatTheyName};
 ghost use Rattle.conversations.specs.Worked.{WorkedEvents};
 ghost use Rattle.conversations.specs.WorkedAdjacency.{AnAdjacencyBegins};
 ghost use Rattle.conversations.specs.WorkedAged.{AnAgedLsaComes};
@@ -85,4 +90,34 @@ pub fn a_new_lsa_comes_twice()
 /// aren't at MaxAge stay as they were.
 pub fn answers_change_no_database()
     ensures { AnswersChangeNoDatabase }
+{}
+
+/// Further rows of the table of received LSAs, in each of which one test alone decides: whether a copy is there, is young, was installed
+/// by flooding, has the last number, is at MaxAge (RFC 2328, section 13).
+pub fn each_test_of_the_table_counts()
+    ensures { EachTestOfTheTableCounts }
+{}
+
+/// What is done with an LSA of an Update in each of the ten cases, whatever the router is and has sent in this event: what goes out, what
+/// changes in the database and in the sender's lists, and that the LSAs behind it are taken but for a bad request (RFC 2328, section 13).
+pub fn each_case_is_carried_out()
+    ensures { EachCaseIsCarriedOut }
+{}
+
+/// What an Acknowledgment takes off a retransmission list: just the entries of whose instances it has a header, and nothing else of the
+/// neighbor changes (RFC 2328, section 13.7).
+pub fn acknowledgments_take_off_what_they_name()
+    ensures { AcknowledgmentsTakeOffWhatTheyName }
+{}
+
+/// Three instances of an LSA, flooded to a neighbor that is asked for the middle one: the older one leaves the request and isn't sent, the
+/// same one meets it and isn't sent, the newer one meets it and is sent, unless it came from this neighbor (RFC 2328, section 13.3).
+pub fn requests_are_met_by_flooding()
+    ensures { RequestsAreMetByFlooding }
+{}
+
+/// The packets of an interface are Hellos, Descriptions, Requests, Updates and Acknowledgments, in this order. The Updates say all LSAs
+/// that are sent by type, then Link State ID, then Advertising Router, and the Acknowledgments so all headers.
+pub fn what_is_sent_stands_in_order()
+    ensures { WhatIsSentStandsInOrder }
 {}

@@ -1,4 +1,4 @@
--- The worked offers: of two tags the least, of two distances the nearer.
+-- The worked offers: of two tags the least, of two distances the nearer, of two metrics the lesser.
 use Rattle.std.proofs.Common.{◌≡◌, ℕ, ◌⊎◌, inl, inr, IsTrue, [], ◌∷◌, arith, refl, sym, ◌∙◌, subst}
 use Rattle.std.specs.List.{Contains}
 use Rattle.words.specs.Interfaces.{has_interface}
@@ -10,7 +10,7 @@ use Rattle.routes.specs.Routes.IsNoWorse.{ByCost, ByDistance, ByKind}
 use Rattle.routes.specs.declared.offer.Offer.{Offer}
 use Rattle.routes.proofs.Determined.{one_route}
 use Rattle.routes.proofs.Lists.{first_is, of_cons, of_empty}
-use Rattle.route_laws.specs.WorkedOffers.{WorkedOffers, inter_15, intra_100, offer_of, route_to, two_distances, two_kinds, two_tags, within_100}
+use Rattle.route_laws.specs.WorkedOffers.{WorkedOffers, by_metric_10, inter_15, intra_100, metric_10, metric_20, offer_of, route_to, two_distances, two_kinds, two_metrics, two_tags, within_100}
 use Rattle.route_laws.proofs.Alone.{IsAloneAmong, alone_among, no_worse_itself}
 
 -- one of two
@@ -96,6 +96,20 @@ near_alone : IsAloneAmong IsEither near
 near_alone o offered e =
     either (λ x. (x ≡ near) ⊎ (IsNoWorse near x × (IsNoWorse x near → ⊥))) near farther (inl refl) (inr (ByDistance refl refl (omega arith), not_better)) o offered
 
+-- ---- two metrics
+
+no_cheaper : IsNoWorse metric_20 metric_10 → ⊥
+no_cheaper (ByKind p) = omega (arith, p)
+no_cheaper (ByCost p q) = omega (arith, q)
+no_cheaper (ByDistance p q r) = omega (arith, q)
+
+abbrev IsOfMetric : Offer → Type 0
+IsOfMetric o = Contains two_metrics o
+
+lesser_alone : IsAloneAmong IsOfMetric metric_10
+lesser_alone o offered e =
+    either (λ x. (x ≡ metric_10) ⊎ (IsNoWorse metric_10 x × (IsNoWorse x metric_10 → ⊥))) metric_20 metric_10 (inr (ByCost refl (omega arith), no_cheaper)) (inl refl) o offered
+
 -- ---- two kinds
 
 no_kinder : IsNoWorse inter_15 intra_100 → ⊥
@@ -116,6 +130,9 @@ worked = record {
   nearer =
       only IsEither (route_to External2 10 2 0) (alone_among IsEither near (first_is near (farther ∷ [])) near_alone)
       (λ o t. either (λ x. x.prefix ≡ near.prefix) near farther refl refl o t);
+  metric_first =
+      only IsOfMetric by_metric_10 (alone_among IsOfMetric metric_10 (1, omega arith, refl) lesser_alone)
+      (λ o t. either (λ x. x.prefix ≡ metric_10.prefix) metric_20 metric_10 refl refl o t);
   within_first =
       only IsOfKind within_100 (alone_among IsOfKind intra_100 (1, omega arith, refl) inner_alone)
       (λ o t. either (λ x. x.prefix ≡ intra_100.prefix) inter_15 intra_100 refl refl o t);

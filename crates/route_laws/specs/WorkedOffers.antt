@@ -39,6 +39,19 @@ two_tags = offer_of External1 0 2 5 ∷ offer_of External1 0 2 3 ∷ []
 abbrev pub two_distances : List Offer
 two_distances = offer_of External2 10 2 0 ∷ offer_of External2 20 4 0 ∷ []
 
+-- of type 2, the metric 10 at distance 30, and the metric 20 at distance 5
+abbrev pub metric_10 : Offer
+metric_10 = record (offer_of External2 30 2 0) { cost = 10 }
+
+abbrev pub metric_20 : Offer
+metric_20 = offer_of External2 5 4 0
+
+abbrev pub two_metrics : List Offer
+two_metrics = metric_20 ∷ metric_10 ∷ []
+
+abbrev pub by_metric_10 : Route
+by_metric_10 = record (route_to External2 30 2 0) { cost = 10 }
+
 -- the network 198.51.100.0/24 within the area at 100, and between areas at 15
 abbrev pub intra_100 : Offer
 intra_100 = record (offer_of Intra 0 2 0) { prefix = network_24 198 51 100; cost = 100 }
@@ -57,5 +70,7 @@ pub record WorkedOffers : Type 0 where
   pub least_tag : AreRoutesAmong (λ o. Contains two_tags o) (route_to External1 0 2 3 ∷ [])
   -- the nearer one alone
   pub nearer : AreRoutesAmong (λ o. Contains two_distances o) (route_to External2 10 2 0 ∷ [])
+  -- the one of the lesser metric alone, though it is farther
+  pub metric_first : AreRoutesAmong (λ o. Contains two_metrics o) (by_metric_10 ∷ [])
   -- the one within the area, though it is dearer
   pub within_first : AreRoutesAmong (λ o. Contains two_kinds o) (within_100 ∷ [])

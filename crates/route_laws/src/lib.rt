@@ -65,8 +65,8 @@ pub fn worked_uncounted()
 {}
 
 /// Of two offers of one originator at one cost, with the tags 5 and 3, comes one route with the tag 3; of two external ones of type 2 and one
-/// metric, at the distances 10 and 20, the nearer one alone; of one network within the area at 100 and between areas at 15, the one within
-/// (RFC 2328, sections 11 and 16.4).
+/// metric, at the distances 10 and 20, the nearer one alone; of two of the metrics 10 and 20, the first farther, that first one alone; of one
+/// network within the area at 100 and between areas at 15, the one within (RFC 2328, sections 11 and 16.4).
 pub fn worked_offers()
     ensures { WorkedOffers }
 {}

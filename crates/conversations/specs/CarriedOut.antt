@@ -1,0 +1,114 @@
+-- What is done with an LSA of an Update in each of the ten cases, and whether the LSAs behind it are
+-- taken (RFC 2328, section 13). In the first seven the interface is any; in the last three it is the
+-- router's only one.
+use Rattle.std.specs.Prelude.{◌≡◌, ℕ, ◌==◌, false, List, [], ◌∷◌, ◌++◌, None, Some}
+use Rattle.std.specs.FinMap as finite
+use Rattle.words.specs.Numbers.{InterfaceNumber}
+use Rattle.words.specs.declared.key.Key.{Key}
+use Rattle.lsa.specs.Reading.{lsa_in}
+use Rattle.lsdb.specs.Copies.{DatabaseCopy, install_flooded, lsa_now, mark_sent}
+use Rattle.lsdb.specs.Headers.{Lsa, lsa_key}
+use Rattle.adjacency.specs.Adjacencies.{enter_exstart, initial_description}
+use Rattle.adjacency.specs.Adjacencies.{next_dd_sequence_start}
+use Rattle.adjacency.specs.Contents.{Content}
+use Rattle.adjacency.specs.Neighbors.{Neighbor}
+use Rattle.received.specs.Cases.{Case}
+use Rattle.received.specs.Links.{Link}
+use Rattle.received.specs.Outcomes.{Send}
+use Rattle.received.specs.Updates.{case_at}
+use Rattle.events.specs.EventState.{EventState}
+use Rattle.events.specs.Packets.{after_lsas}
+use Rattle.events.specs.Routers.{Router}
+use Rattle.conversations.specs.WorkedFlush.{full}
+use Rattle.conversations.specs.WorkedOwn.{beside, loading}
+
+-- ---- words
+
+-- the bytes are this LSA's text, and it is in this case
+pub record IsInCase (moment number : ℕ) (bytes : List ℕ) (lsa : Lsa) (p : EventState)
+    (case : Case) : Type 0 where
+  pub is_read : lsa_in bytes ≡ Some lsa
+  pub is_case : case_at moment number lsa p.router.area ≡ case
+
+-- this goes out besides, at the interface of this number
+abbrev pub sending_too : InterfaceNumber → Content → EventState → EventState
+sending_too number content p =
+    record p { sends = p.sends ++ (record { number = number; content = content } ∷ []) }
+
+-- the copy of this key counts as sent at this moment
+abbrev pub counting_as_sent : ℕ → Key → EventState → EventState
+counting_as_sent moment key p = record p {
+  router = record p.router {
+    area = record p.router.area { database = mark_sent moment key p.router.area.database };
+  };
+}
+
+-- the router's only interface has this neighbor, and so much was sent in this event
+abbrev pub having_sent : List Send → Router → Link → Neighbor → EventState
+having_sent sends r link n = record { router = beside r link n; sends = sends }
+
+-- nothing is done, and the LSAs behind it are taken
+abbrev pub IsSkipped : Case → Type 0
+IsSkipped case =
+    (moment number : ℕ) (bytes : List ℕ) (rest : List (List ℕ)) (lsa : Lsa) (p : EventState)
+    → IsInCase moment number bytes lsa p case
+    → after_lsas moment number (bytes ∷ rest) p ≡ after_lsas moment number rest p
+
+-- an Acknowledgment with its header as it came goes to the sender, and nothing else is done
+abbrev pub IsAcknowledgedAtOnce : Case → Type 0
+IsAcknowledgedAtOnce case =
+    (moment number : ℕ) (bytes : List ℕ) (rest : List (List ℕ)) (lsa : Lsa) (p : EventState)
+    → IsInCase moment number bytes lsa p case
+    → after_lsas moment number (bytes ∷ rest) p
+    ≡ after_lsas moment number rest (sending_too number (Content.Acknowledges lsa.header) p)
+
+-- ---- the ten cases
+
+pub record EachCaseIsCarriedOut : Type 0 where
+  pub unreadable : (moment number : ℕ) (bytes : List ℕ) (rest : List (List ℕ)) (p : EventState)
+      → lsa_in bytes ≡ None
+      → after_lsas moment number (bytes ∷ rest) p ≡ after_lsas moment number rest p
+  pub nothing_to_flush : IsAcknowledgedAtOnce Case.NothingToFlush
+  pub too_soon : IsSkipped Case.TooSoon
+  pub duplicate : IsAcknowledgedAtOnce Case.Duplicate
+  pub sequence_wraps : IsSkipped Case.SequenceWraps
+  pub sent_just_now : IsSkipped Case.SentJustNow
+  -- the copy goes to the sender with its age now, and counts as sent; it goes on no list
+  pub older : (moment number : ℕ) (bytes : List ℕ) (rest : List (List ℕ)) (lsa : Lsa)
+      (p : EventState) (c : DatabaseCopy)
+      → IsInCase moment number bytes lsa p Case.Older
+      → finite.get p.router.area.database (lsa_key lsa) ≡ Some c
+      → after_lsas moment number (bytes ∷ rest) p ≡ after_lsas moment number rest
+      (counting_as_sent moment (lsa_key c.lsa)
+      (sending_too number (Content.Updates (lsa_now moment c)) p))
+  -- of another router, from a Full neighbor: the database has it, its acknowledgment waits for a
+  -- Tick, the old instance leaves the sender's retransmission list, and nothing goes to the sender
+  pub newer : (moment : ℕ) (bytes : List ℕ) (rest : List (List ℕ)) (lsa : Lsa) (r : Router)
+      (link : Link) (n : Neighbor) (sends : List Send)
+      → IsInCase moment 1 bytes lsa (having_sent sends r link (full n)) Case.Newer
+      → (lsa.header.advertising_router == r.id) ≡ false
+      → after_lsas moment 1 (bytes ∷ rest) (having_sent sends r link (full n))
+      ≡ after_lsas moment 1 rest (having_sent sends
+      (record r {
+        area = record r.area { database = install_flooded moment lsa r.area.database };
+      })
+      (record link {
+        acknowledgments = finite.insert link.acknowledgments (lsa_key lsa) lsa.header;
+      })
+      (record (full n) { retransmissions = finite.remove n.retransmissions (lsa_key lsa) }))
+  -- the entry leaves the sender's retransmission list, and nothing is sent
+  pub implied_acknowledgment : (moment : ℕ) (bytes : List ℕ) (rest : List (List ℕ)) (lsa : Lsa)
+      (r : Router) (link : Link) (n : Neighbor) (sends : List Send)
+      → IsInCase moment 1 bytes lsa (having_sent sends r link n) Case.ImpliedAcknowledgment
+      → after_lsas moment 1 (bytes ∷ rest) (having_sent sends r link n)
+      ≡ after_lsas moment 1 rest (having_sent sends r link
+      (record n { retransmissions = finite.remove n.retransmissions (lsa_key lsa) }))
+  -- from a neighbor in Loading: the exchange begins anew, by an opening Description of the next
+  -- number, and the LSAs behind it are dropped
+  pub bad_request : (moment : ℕ) (bytes : List ℕ) (rest : List (List ℕ)) (lsa : Lsa) (r : Router)
+      (link : Link) (n : Neighbor) (sends : List Send)
+      → IsInCase moment 1 bytes lsa (having_sent sends r link (loading n)) Case.BadRequest
+      → after_lsas moment 1 (bytes ∷ rest) (having_sent sends r link (loading n))
+      ≡ sending_too 1
+      (Content.Describes (initial_description (next_dd_sequence_start moment n.dd_sequence_start)))
+      (having_sent sends r link (enter_exstart moment (loading n)).neighbor)

@@ -1,0 +1,89 @@
+-- Flooding's request half (RFC 2328, section 13.3, step 1b): an LSA that is flooded at moment 100,
+-- and comes from interface 1, against what is requested under its key of the neighbor at interface
+-- 2.
+use Rattle.std.specs.Prelude.{◌≡◌, ℤ, pos, true, false, [], ◌∷◌, None, Some}
+use Rattle.std.specs.FinMap as finite
+use Rattle.std.specs.FinSet as set
+use Rattle.words.specs.declared.key.Key.{Key}
+use Rattle.lsa.specs.declared.body.Body.{Body}
+use Rattle.lsdb.specs.Headers.{Lsa, lsa_key}
+use Rattle.lsdb.specs.Instances.{ListEntry}
+use Rattle.adjacency.specs.Contents.{Step, Updates}
+use Rattle.adjacency.specs.Neighbors.{Neighbor, is_exchange_or_later}
+use Rattle.adjacency.specs.declared.state.State.{State}
+use Rattle.adjacency.specs.declared.state.State.TheVariants.{Exchange, Full, Loading}
+use Rattle.received.specs.Flooding.{flood_to}
+use Rattle.received.specs.Links.{Link}
+use Rattle.received.specs.WorkedTable.{external_lsa}
+
+-- the LSA with this sequence number
+abbrev pub instance : Body → ℤ → Lsa
+instance says sequence = external_lsa says sequence 10
+
+-- the neighbor told of number 5 at moment 100, and is asked for it
+abbrev pub told : Body → ListEntry
+told says = record { header = (instance says (pos 5)).header; at = 100 }
+
+abbrev pub its_key : Body → Key
+its_key says = lsa_key (instance says (pos 5))
+
+pub record IsAskedFor (says : Body) (state : State) (n : Neighbor) : Type 0 where
+  pub is_in : n.state ≡ state
+  pub is_requested : finite.get n.requests (its_key says) ≡ Some (told says)
+
+-- it is flooded to the neighbor at interface 2
+abbrev pub flooded_on : Body → ℤ → Link → Neighbor → Step
+flooded_on says sequence link n = flood_to 100 (Some 1) (instance says sequence) 2 link n
+
+-- ---- what becomes of the request, and of the LSA
+
+-- it is on the request list as it was
+abbrev pub IsStillRequested : Body → Step → Type 0
+IsStillRequested says s = finite.get s.neighbor.requests (its_key says) ≡ Some (told says)
+
+-- it has left the request list, and is outstanding no more
+abbrev pub IsMet : Body → Step → Type 0
+IsMet says s =
+    (finite.get s.neighbor.requests (its_key says) ≡ None)
+    × (set.contains s.neighbor.outstanding (its_key says) ≡ false)
+
+-- the LSA is neither sent nor on the retransmission list
+abbrev pub IsNotSent : Body → Step → Type 0
+IsNotSent says s =
+    (s.sends ≡ []) × (finite.get s.neighbor.retransmissions (its_key says) ≡ None)
+
+-- the LSA is sent, and on the retransmission list
+abbrev pub IsSentOn : Body → Lsa → Step → Type 0
+IsSentOn says lsa s =
+    (s.sends ≡ Updates lsa ∷ [])
+    × (finite.get s.neighbor.retransmissions (its_key says)
+    ≡ Some (record { header = lsa.header; at = 100 }))
+
+-- in a state where requests count
+pub record RequestsCountIn (state : State) : Type 0 where
+  -- number 4 is less recent than what is requested
+  pub less_recent : (b : Body) (link : Link) (n : Neighbor) → IsAskedFor b state n
+      → IsStillRequested b (flooded_on b (pos 4) link n)
+      × IsNotSent b (flooded_on b (pos 4) link n)
+  -- number 5 is the same instance
+  pub the_same : (b : Body) (link : Link) (n : Neighbor) → IsAskedFor b state n
+      → IsMet b (flooded_on b (pos 5) link n) × IsNotSent b (flooded_on b (pos 5) link n)
+  -- number 6 is more recent
+  pub more_recent : (b : Body) (link : Link) (n : Neighbor) → IsAskedFor b state n
+      → IsMet b (flooded_on b (pos 6) link n)
+      × IsSentOn b (instance b (pos 6)) (flooded_on b (pos 6) link n)
+  -- number 6 from this neighbor itself
+  pub from_it : (b : Body) (link : Link) (n : Neighbor) → IsAskedFor b state n
+      → IsMet b (flood_to 100 (Some 2) (instance b (pos 6)) 2 link n)
+      × IsNotSent b (flood_to 100 (Some 2) (instance b (pos 6)) 2 link n)
+
+pub record RequestsAreMetByFlooding : Type 0 where
+  pub in_exchange : RequestsCountIn Exchange
+  pub in_loading : RequestsCountIn Loading
+  -- a Full neighbor gets each LSA, whatever stands on its request list
+  pub full : (b : Body) (sequence : ℤ) (link : Link) (n : Neighbor) → n.state ≡ Full
+      → IsSentOn b (instance b sequence) (flooded_on b sequence link n)
+  -- one that isn't asked for it gets it too
+  pub not_asked : (b : Body) (sequence : ℤ) (link : Link) (n : Neighbor)
+      → is_exchange_or_later n.state ≡ true → finite.get n.requests (its_key b) ≡ None
+      → IsSentOn b (instance b sequence) (flooded_on b sequence link n)
