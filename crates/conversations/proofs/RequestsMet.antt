@@ -6,7 +6,7 @@ use Rattle.lsdb.proofs.Keys.{keys_total}
 use Rattle.lsa.specs.declared.body.Body.{Body}
 use Rattle.adjacency.specs.Neighbors.{Neighbor, is_exchange_or_loading, is_exchange_or_later}
 use Rattle.adjacency.specs.declared.state.State.{State}
-use Rattle.adjacency.specs.declared.state.State.TheVariants.{Exchange, Loading}
+use Rattle.adjacency.specs.declared.state.State.TheVariants.{Exchange, Full, Loading}
 use Rattle.received.specs.Links.{Link}
 use Rattle.conversations.specs.RequestsMet.{IsSentOn, RequestsAreMetByFlooding, RequestsCountIn, flooded_on, instance, its_key}
 use Rattle.conversations.proofs.WorkedUpdates.{inserted, taken_off}
@@ -53,10 +53,13 @@ not_asked_by b sequence link n part none true is = (
 )
 not_asked_by b sequence link n part none false is = (rw (part, is) refl, rw (part, is) (on_list b sequence n))
 
+full_gets_it : (b : Body) (sequence : ℤ) (link : Link) (n : Neighbor) → n.state ≡ Full → IsSentOn b (instance b sequence) (flooded_on b sequence link n)
+full_gets_it b sequence link n is = (rw is refl, rw is (on_list b sequence n))
+
 pub requests_met : RequestsAreMetByFlooding
 requests_met = record {
   in_exchange = counts Exchange refl refl;
   in_loading = counts Loading refl refl;
-  full = λ b sequence link n is. (rw is refl, rw is (on_list b sequence n));
+  full = full_gets_it;
   not_asked = λ b sequence link n part none. not_asked_by b sequence link n part none (is_exchange_or_loading n.state) refl;
 }

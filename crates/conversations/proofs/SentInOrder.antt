@@ -9,6 +9,7 @@ use Rattle.std.proofs.lemmas.List.{map-append}
 use Rattle.std.proofs.lemmas.List.Concat.{flat_map-append}
 use Rattle.words.specs.declared.key.Key.{Key}
 use Rattle.lsa.specs.Text.{text}
+use Rattle.lsa.specs.declared.body.Body.{Body as LsaBody}
 use Rattle.lsdb.specs.Headers.{Header, Lsa, key_of, lsa_key}
 use Rattle.packet.specs.declared.model.Body.{Body}
 use Rattle.packet.specs.declared.model.Body.TheVariants as body
@@ -19,7 +20,7 @@ use Rattle.events.specs.Packing.{acknowledgments, bodies, descriptions, first_ke
 use Rattle.event_rooms.specs.PackingLaws.{IsAscending}
 use Rattle.event_rooms.proofs.Packings.{headers_fit, ordered, packs}
 use Rattle.event_rooms.proofs.Rooms.{order_all}
-use Rattle.conversations.specs.SentInOrder.{AreAscending, AreInOrder, IsNoLater, WhatIsSentStandsInOrder, headers_told, lsas_told}
+use Rattle.conversations.specs.SentInOrder.{AreAscending, AreInOrder, IsNoLater, WhatIsSentStandsInOrder, arising, headers_told, lsa_of, lsas_told, named, told_in_order}
 use Rattle.conversations.specs.SentInOrder.IsNoLater.{ByType, ById, ByRouter}
 
 -- ---- the order of keys
@@ -148,6 +149,24 @@ module _ (delay : ℕ) (cs : List Content) where
       ∙ map-id (flat_map (λ p. p) (packed header_size 24 headers))
       ∙ (packs header_size 24 headers (headers_fit headers)).all
 
+-- ---- worked
+
+four_lsas_in_order : (b : LsaBody) → bodies 1 (map Content.Updates (arising b)) ≡ body.Update (map text (told_in_order b)) ∷ []
+four_lsas_in_order b = refl
+
+four_headers_in_order : (b : LsaBody)
+    → bodies 1 (map (λ (l : Lsa). Content.Acknowledges l.header) (arising b)) ≡ body.Acknowledgment (map (λ (l : Lsa). record l.header { age = 10 }) (told_in_order b)) ∷ []
+four_headers_in_order b = refl
+
+one_key_in_order : (a b : LsaBody)
+    → bodies 1 (map (λ c. Content.Updates (lsa_of 10 c (named 1 2 7))) (a ∷ b ∷ [])) ≡ body.Update (map (λ c. text (lsa_of 11 c (named 1 2 7))) (a ∷ b ∷ [])) ∷ []
+one_key_in_order a b = refl
+
+kinds_in_order : (hello : Hello) (d : Description) (keys : List Key) (lsa : Lsa) (h : Header)
+    → bodies 1 (Content.Acknowledges h ∷ Content.Updates lsa ∷ Content.Requests keys ∷ Content.Describes d ∷ Content.SendsHello hello ∷ [])
+    ≡ body.Hello hello ∷ body.Description d ∷ body.Request keys ∷ body.Update (text (sent_lsa 1 lsa) ∷ []) ∷ body.Acknowledgment (h ∷ []) ∷ []
+kinds_in_order hello d keys lsa h = refl
+
 pub sent_in_order : WhatIsSentStandsInOrder
 sent_in_order = record {
   lsas = λ delay contents fit. record {
@@ -160,7 +179,8 @@ sent_in_order = record {
     in_order = in_order key_of (filter_map acknowledgments contents);
     told = acknowledgments_told delay contents;
   };
-  four_lsas = λ b. refl;
-  four_headers = λ b. refl;
-  kinds = λ hello d keys lsa h. refl;
+  four_lsas = four_lsas_in_order;
+  four_headers = four_headers_in_order;
+  one_key = one_key_in_order;
+  kinds = kinds_in_order;
 }

@@ -109,6 +109,10 @@ pub record WhatIsSentStandsInOrder : Type 0 where
   pub four_headers : (b : LsaBody)
       → bodies 1 (map (λ (l : Lsa). Content.Acknowledges l.header) (arising b))
       ≡ body.Acknowledgment (map (λ (l : Lsa). record l.header { age = 10 }) (told_in_order b)) ∷ []
+  -- two of one key stay in the order in which they arose
+  pub one_key : (a b : LsaBody)
+      → bodies 1 (map (λ c. Content.Updates (lsa_of 10 c (named 1 2 7))) (a ∷ b ∷ []))
+      ≡ body.Update (map (λ c. text (lsa_of 11 c (named 1 2 7))) (a ∷ b ∷ [])) ∷ []
   -- first Hellos, then Descriptions, Requests, Updates and Acknowledgments
   pub kinds : (hello : Hello) (d : Description) (keys : List Key) (lsa : Lsa) (h : Header)
       → bodies 1
