@@ -84,30 +84,49 @@ fn play<R: Files + AllocGlobal + Threads + Sync + Env + Abort>(
     steps: &[Step<'_>],
 ) -> Result<(), Fail> {
     for step in steps.iter().copied() {
-        match step {
-            Step::Run(words, status, lines) => expect(rt, id, words, status, lines)?,
-            Step::Write(name, bytes) => write_file(rt, id, name, bytes)?,
-            Step::Holds(name, bytes) => holds(rt, id, name, bytes)?,
-            Step::Folder(name)
-            | Step::Nothing(name)
-            | Step::Remove(name)
-            | Step::RemoveFolder(name) => {
-                let path = path_for(rt, id, name)?;
-                at_path(rt, step, path.as_str())?;
-            }
-        }
+        take(rt, id, step)?;
     }
     Ok(())
 }
 
-// A step that needs no more than a path.
-fn at_path<R: Files + AllocGlobal + Abort>(rt: &R, step: Step<'_>, path: &str) -> Result<(), Fail> {
+fn take<R: Files + AllocGlobal + Threads + Sync + Env + Abort>(
+    rt: &R,
+    id: u32,
+    step: Step<'_>,
+) -> Result<(), Fail> {
     match step {
-        Step::Folder(_) => fs::create_dir(rt, path)?,
-        Step::Remove(_) => fs::remove_file(rt, path)?,
-        Step::RemoveFolder(_) => fs::remove_dir(rt, path)?,
-        _ => assert!(rt; !fs::exists(rt, path)?, "{path}"),
+        Step::Run(words, status, lines) => expect(rt, id, words, status, lines),
+        Step::Write(name, bytes) => write_file(rt, id, name, bytes),
+        Step::Holds(name, bytes) => holds(rt, id, name, bytes),
+        Step::Nothing(name) => nothing(rt, id, name),
+        Step::Folder(name) => make_folder(rt, id, name),
+        Step::Remove(name) => remove(rt, id, name),
+        Step::RemoveFolder(name) => remove_folder(rt, id, name),
     }
+}
+
+fn nothing<R: Files + AllocGlobal + Env + Abort>(rt: &R, id: u32, name: &str) -> Result<(), Fail> {
+    let path = path_for(rt, id, name)?;
+    let is_there = fs::exists(rt, path.as_str())?;
+    assert!(rt; !is_there, "{name}");
+    Ok(())
+}
+
+fn make_folder<R: Files + AllocGlobal + Env>(rt: &R, id: u32, name: &str) -> Result<(), Fail> {
+    let path = path_for(rt, id, name)?;
+    fs::create_dir(rt, path.as_str())?;
+    Ok(())
+}
+
+fn remove<R: Files + AllocGlobal + Env>(rt: &R, id: u32, name: &str) -> Result<(), Fail> {
+    let path = path_for(rt, id, name)?;
+    fs::remove_file(rt, path.as_str())?;
+    Ok(())
+}
+
+fn remove_folder<R: Files + AllocGlobal + Env>(rt: &R, id: u32, name: &str) -> Result<(), Fail> {
+    let path = path_for(rt, id, name)?;
+    fs::remove_dir(rt, path.as_str())?;
     Ok(())
 }
 

@@ -81,7 +81,7 @@ fn bare_code_prints_its_answers_and_the_exact_sums(rt: HostRuntime) -> Result<()
 fn bare_code_at_the_limits(rt: HostRuntime) -> Result<(), Fail> {
     let id = process::id(rt.process());
     let code = long_code(&rt, 4097)?;
-    let (whole, _) = code.as_slice().split_at(8 * 4096);
+    let whole = code.get(..8 * 4096).expect(&rt, "4,096 slots");
     let cases: [Case<'_>; 2] = [
         (whole, "veto", "1", 0, "seat 1 answer 0 used 2\n"),
         (code.as_slice(), "veto", "1", 1, "code refusal 6 slot 0\n"),
