@@ -159,7 +159,7 @@ pub enum Instruction {
 
 impl Instruction {
     ghost use Rattle.std.specs.Prelude.{◌≡◌};
-    ghost use Rattle.isa.specs.Code.{is_wide, IsInstruction, IsSource};
+    ghost use Rattle.isa.specs.Code.{is_wide, IsAccess, IsInstruction, IsSource};
 
     /// Whether it takes two slots.
     pub fn is_wide(&self) -> bool
@@ -196,6 +196,26 @@ impl Instruction {
                 let _ = left.number();
                 right.check_ranges();
             }
+            Instruction::Load { .. }
+            | Instruction::Store { .. }
+            | Instruction::LoadNumber { .. }
+            | Instruction::LoadMap { .. } => self.check_access_ranges(),
+            Instruction::Jump {
+                distance: _distance,
+            } => {}
+            Instruction::LongJump {
+                distance: _distance,
+            } => {}
+            Instruction::Call { helper: _helper } => {}
+            Instruction::Exit => {}
+        }
+    }
+
+    /// Says so of an instruction that loads or stores, and of any other nothing.
+    fn check_access_ranges(&self)
+        ensures { IsAccess self.now }
+    {
+        match *self {
             Instruction::Load {
                 target,
                 base,
@@ -227,14 +247,7 @@ impl Instruction {
             } => {
                 let _ = target.number();
             }
-            Instruction::Jump {
-                distance: _distance,
-            } => {}
-            Instruction::LongJump {
-                distance: _distance,
-            } => {}
-            Instruction::Call { helper: _helper } => {}
-            Instruction::Exit => {}
+            _ => {}
         }
     }
 }
