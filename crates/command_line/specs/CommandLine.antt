@@ -5,6 +5,8 @@ use Rattle.clap.specs.Simple.{App, Shape, new_rule, new_shape}
 use Rattle.clap.specs.Walk.{Rule, Text}
 use Rattle.clap.specs.declared.builder.value_parser.ValueParser.{ValueParser}
 use Rattle.clap.specs.declared.builder.value_parser.ValueParser.TheVariants as parsers
+use Rattle.isa.specs.Hooks.{hook_name}
+use Rattle.isa.specs.declared.hook.Hook.TheVariants as hook
 
 -- a word that has to be there
 abbrev pub required : Text → Rule
@@ -20,8 +22,10 @@ command name rules = record (new_shape name) { rules = rules }
 -- the names of the hooks, wherever they lie
 abbrev pub hook_names : ℕ × ℕ → ℕ × ℕ → ℕ × ℕ → ℕ × ℕ → List (Bor Text)
 hook_names a b c d =
-    record { ref_ptr = a; now = codes "count" } ∷ record { ref_ptr = b; now = codes "tag" }
-    ∷ record { ref_ptr = c; now = codes "price" } ∷ record { ref_ptr = d; now = codes "veto" } ∷ []
+    record { ref_ptr = a; now = hook_name hook.Count }
+    ∷ record { ref_ptr = b; now = hook_name hook.Tag }
+    ∷ record { ref_ptr = c; now = hook_name hook.Price }
+    ∷ record { ref_ptr = d; now = hook_name hook.Veto } ∷ []
 
 -- raw HOOK FILE SEATS
 abbrev pub raw : Bor (List (Bor Text)) → Shape

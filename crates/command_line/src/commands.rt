@@ -56,6 +56,7 @@ const ROUTE_EXAMPLE: &str =
 const WORKED: &str =
     "Examples:\n  routerd raw count adds.bin 2  prints seat 1 answer 0 used 4, seat 2 answer 0 used 4, counter 5 6\n  routerd asm sum.s sum.o       prints ok 6\n  routerd list sum.o            prints hook price, rank 10, r1 = 10 and the other lines of the text\n  routerd verify sum.o          prints accepted bound 66\n  routerd run sum.o - -         prints answer 55 used 33\n  routerd route one.conf        runs a router with a console\n\nStatuses: 0 done, 1 refused or stuck, 2 usage, 3 file, socket or stream, 4 memory.";
 
+// The names of the hooks, `Hook::name`'s: a `static` can't call it, and the clause of `hook` holds of no others.
 static HOOKS: [&str; 4] = ["count", "tag", "price", "veto"];
 
 fn required<'a>(alloc: Global, name: &'a str, help: &'a str) -> Arg<'a>
