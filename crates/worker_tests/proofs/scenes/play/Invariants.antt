@@ -1,0 +1,10 @@
+use Rattle.hooks.specs.Known.{history_of}
+use Rattle.worker_tests.proofs.scenes.play.Given as goal
+
+-- the ledger is that of the setup
+abbrev pub ghosts-play_at-L-Ledger : goal.ghosts-play_at-L-Ledger
+ghosts-play_at-L-Ledger g a = record { name = a.setup.blank.name; parts = a.setup.blank.parts }
+
+-- and the workers share its words, and ask the programs of the loader
+abbrev pub ghosts-play_at-L-Site : goal.ghosts-play_at-L-Site
+ghosts-play_at-L-Site g a = record { words = a.setup.shared; history = history_of a.loader }

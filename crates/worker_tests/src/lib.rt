@@ -1,0 +1,20 @@
+//! Tests of the router's book and of its workers, by their public calls. They stand above, since a crate
+//! is proved once more for its tests.
+//!
+//! A test is a list of steps, which a player carries out at a router with three ports.
+#![tactic(auto)]
+
+#[cfg(test)]
+mod failing_links;
+#[cfg(test)]
+mod journals;
+#[cfg(test)]
+mod samples;
+#[cfg(test)]
+mod scenes;
+#[cfg(test)]
+mod side_by_side;
+#[cfg(test)]
+mod stage;
+#[cfg(test)]
+mod steps;

@@ -1,0 +1,126 @@
+//! What is played at a router, and what its book holds in the end.
+ghost use Rattle.std.specs.Prelude.{◌≡◌};
+ghost use Rattle.hooks.specs.Known.{history_of};
+ghost use Rattle.worker.specs.Opening.{IsSetUpFor};
+
+use crate::failing_links::serve;
+use crate::samples::{destination, first};
+use crate::side_by_side::{hold, tick};
+use crate::stage::{Stage, Step};
+use book::Book;
+use flood::Core;
+use hooks::Loader;
+use std::alloc::Global;
+use std::marker::Brand;
+use std::process::Abort;
+use std::sync::Wait;
+use std::test::Fail;
+use std::thread::Threads;
+use std::time::Clock;
+use words::{External, ExternalType};
+use worker::{Hub, Port, Setup, Site, open_hub};
+
+/// What is played at a router with the ports 0, 1 and 2.
+#[derive(Clone, Copy, Debug)]
+pub enum Scene<'a> {
+    /// One step after the other.
+    Steps(&'a [Step]),
+    /// The worker at interface 1 runs over a link whose call of this number fails.
+    FailingLink(usize),
+    /// Port 1 makes a Tick's turn at each moment below this.
+    Ticks(u64),
+    /// A Hello at moment 5 is held at the gate of port 1, until port 2 has ticked at each moment from 5
+    /// to below this.
+    Held(u64),
+}
+
+/// What is seen in the end.
+#[derive(Clone, Copy, Debug, PartialEq, Eq)]
+pub struct End {
+    /// The number of the turn's refusal or of a refusal among the turns, or the worker's status.
+    pub status: u8,
+    /// How many datagrams were sent.
+    pub sent: usize,
+    /// How many events stand in the journal, and how many the book took.
+    pub journal: usize,
+    pub taken: u64,
+}
+
+// The ports 0, 1 and 2.
+fn three<L: Site>(ports: Vec<Port<L>>) -> Option<(Port<L>, Port<L>, Port<L>)> {
+    let mut ports = ports;
+    Some((ports.pop()?, ports.pop()?, ports.pop()?))
+}
+
+// Plays it: the status, and how many datagrams were sent.
+fn act<L: Site + Send + Sync, R: Threads + Wait + Clock + Abort + Sync, Q: Wait + Drop>(
+    rt: &R,
+    alloc: Global,
+    hub: &Hub<L, Book<L>>,
+    stage: &mut Stage<L, Q>,
+    scene: Scene<'_>,
+) -> Result<(u8, usize), Fail> {
+    match scene {
+        Scene::Steps(steps) => stage.play(rt, alloc, hub, steps)?,
+        Scene::FailingLink(fails) => {
+            return Ok(serve(rt, alloc, hub, &mut stage.first, fails)?);
+        }
+        Scene::Ticks(until) => return Ok((tick(rt, hub, &mut stage.first, 0, until), 0)),
+        Scene::Held(until) => return Ok((hold(rt, alloc, hub, stage, until)?, 0)),
+    }
+    Ok((0, 0))
+}
+
+// Opens the hub, plays the scene, and looks into the book.
+fn play_at<L: Site + Send + Sync, R: Threads + Wait + Clock + Abort + Sync, Q: Wait + Drop>(
+    rt: &R,
+    alloc: Global,
+    setup: Setup,
+    loader: Loader<Q>,
+    core: Core,
+    destination: External,
+    scene: Scene<'_>,
+) -> Result<End, Fail>
+    requires setup { IsSetUpFor L.name L.parts L.words L.history setup }
+    requires history { history_of loader ≡ L.history }
+{
+    let (hub, ports, rest) = open_hub::<L>(alloc, setup, core)?;
+    let (console, first, second) = three(ports).ok_or("three ports")?;
+    let mut stage = Stage {
+        console,
+        first,
+        second,
+        loader,
+        destination,
+    };
+    let (status, sent) = act(rt, alloc, &hub, &mut stage, scene)?;
+    drop((stage, rest));
+    Ok(ended(hub, status, sent))
+}
+
+fn kept<L: Site>(book: &Book<L>) -> (usize, u64) {
+    (book.journal().len(), book.taken())
+}
+
+fn ended<L: Site>(hub: Hub<L, Book<L>>, status: u8, sent: usize) -> End {
+    let parts = hub.into_parts();
+    let (journal, taken) = kept(&parts.0);
+    End {
+        status,
+        sent,
+        journal,
+        taken,
+    }
+}
+
+/// Plays the scene at a new router.
+#[tactic(auto, using(crate::proofs::Fresh::all_ask))]
+pub fn play<R: Threads + Wait + Clock + Abort + Sync>(
+    rt: &R,
+    alloc: Global,
+    scene: Scene<'_>,
+) -> Result<End, Fail> {
+    let (core, destination) = (first(alloc)?, destination(ExternalType::Type2)?);
+    let (loader, setup) = Setup::new(alloc, rt, 3)?;
+    play_at::<Brand, R, &R>(rt, alloc, setup, loader, core, destination, scene)
+}

@@ -1,0 +1,128 @@
+//! Turns of one port while another is held at its gate.
+use crate::samples::hello;
+use crate::scenes::{End, Scene, play};
+use crate::stage::{Open, Stage};
+use book::Book;
+use std::alloc::Global;
+use std::sync::Wait;
+use std::sync::atomic::{AtomicBool, Ordering};
+use std::test::Fail;
+use std::thread::{Threads, join, sleep};
+use std::time::{Clock, Duration};
+use words::Second;
+use worker::{Gate, Hub, Port, Site, TurnError, Turned, Work, turn};
+
+// Holds a turn until it is released, or gives up after 10,000 tries of a millisecond.
+#[derive(Drop)]
+struct Held<'a, R: Clock> {
+    rt: &'a R,
+    released: &'a AtomicBool,
+    gave_up: &'a AtomicBool,
+}
+
+impl<'a, R: Clock> Gate for Held<'a, R> {
+    fn pass(&self, _port: u16) {
+        for _attempt in 0..10_000u32 {
+            if self.released.load(Ordering::SeqCst) {
+                return;
+            }
+            sleep(self.rt, Duration::from_millis(1));
+        }
+        self.gave_up.store(true, Ordering::SeqCst);
+    }
+}
+
+/// The number of a turn's refusal, or 0.
+pub fn number_of(turned: Result<Turned, TurnError>) -> u8 {
+    match turned {
+        Ok(_) => 0,
+        Err(error) => error.number(),
+    }
+}
+
+/// A Tick's turn at each of these moments: the number of a refusal, 0 where there was none.
+pub fn tick<L: Site, R: Wait>(
+    rt: &R,
+    hub: &Hub<L, Book<L>>,
+    port: &mut Port<L>,
+    from: u64,
+    until: u64,
+) -> u8 {
+    let mut refused = 0;
+    for moment in from..until {
+        let turned = turn(rt, hub, port, &Open {}, Second::new(moment), &Work::Tick);
+        refused = number_of(turned).max(refused);
+    }
+    refused
+}
+
+/// Holds the Hello of port 1 at moment 5 until port 2 has ticked at each moment from 5 to below this:
+/// what it is answered, 9 where the gate gave up or a Tick was refused.
+pub fn hold<L: Site + Send + Sync, R: Threads + Wait + Clock + Sync, Q: Wait + Drop>(
+    rt: &R,
+    alloc: Global,
+    hub: &Hub<L, Book<L>>,
+    stage: &mut Stage<L, Q>,
+    until: u64,
+) -> Result<u8, Fail> {
+    let work = hello(alloc, 1, 0)?;
+    let (released, gave_up) = (AtomicBool::new(false), AtomicBool::new(false));
+    let gate = Held {
+        rt,
+        released: &released,
+        gave_up: &gave_up,
+    };
+    let (first, second) = (&mut stage.first, &mut stage.second);
+    let (answer, refused) = join(
+        rt,
+        || -> u8 { number_of(turn(rt, hub, first, &gate, Second::new(5), &work)) },
+        || -> u8 {
+            let refused = tick(rt, hub, second, 5, until);
+            released.store(true, Ordering::SeqCst);
+            refused
+        },
+    );
+    if refused > 0 || gave_up.load(Ordering::SeqCst) {
+        return Ok(9);
+    }
+    Ok(answer)
+}
+
+// The first Tick is followed by a refresh, and the Hello comes third.
+#[test]
+fn a_worker_is_answered_while_another_is_held(rt: HostRuntime) -> Result<(), Fail> {
+    let wanted = End {
+        status: 0,
+        sent: 0,
+        journal: 3,
+        taken: 3,
+    };
+    assert_eq!(rt; play(&rt, rt.alloc(), Scene::Held(6))?, wanted);
+    Ok(())
+}
+
+// 996 Ticks, and the refresh that follows the first: the Hello's moment has passed.
+#[test]
+fn a_turn_whose_moment_has_passed_is_refused(rt: HostRuntime) -> Result<(), Fail> {
+    let wanted = End {
+        status: 4,
+        sent: 0,
+        journal: 997,
+        taken: 997,
+    };
+    assert_eq!(rt; play(&rt, rt.alloc(), Scene::Held(1_001))?, wanted);
+    Ok(())
+}
+
+// The first Tick is followed by a refresh; the journal is full after 65,536 events, and starts anew.
+#[test]
+fn no_turn_is_refused_for_its_journal(rt: HostRuntime) -> Result<(), Fail> {
+    let wanted = End {
+        status: 0,
+        sent: 0,
+        journal: 2,
+        taken: 65_538,
+    };
+    assert_eq!(rt; play(&rt, rt.alloc(), Scene::Ticks(65_537))?, wanted);
+    Ok(())
+}
