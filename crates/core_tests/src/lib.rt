@@ -1,0 +1,30 @@
+//! Tests of the router as a whole by its public calls: bytes and moments in, bytes out. Each is a
+//! list of steps that one loop plays.
+#![tactic(auto)]
+
+#[cfg(test)]
+mod destinations;
+#[cfg(test)]
+mod exchanges;
+#[cfg(test)]
+mod floods;
+#[cfg(test)]
+mod hello_packets;
+#[cfg(test)]
+mod hellos;
+#[cfg(test)]
+mod limits;
+#[cfg(test)]
+mod made;
+#[cfg(test)]
+mod operator;
+#[cfg(test)]
+mod packets;
+#[cfg(test)]
+mod refusals;
+#[cfg(test)]
+mod steps;
+#[cfg(test)]
+mod trial;
+#[cfg(test)]
+mod walks;

@@ -1,0 +1,68 @@
+//! What a router keeps for its routes from one event to the next (RFC 2328, section 16).
+use crate::exchanges::{FULL, LOADING};
+use crate::packets::PEER_LSA_WITHOUT_LINKS;
+use crate::steps::{Step, What, play};
+use std::test::Fail;
+
+/// After 100 external LSAs nothing was walked.
+const EXTERNALS: &[Step] = &[
+    Step::Candidates(1),
+    Step::Sends(10, What::Lsas(1, 0, 100), &[]),
+    Step::Holds(102),
+    Step::Candidates(101),
+    Step::Walks(0),
+];
+
+/// A link that is gone is walked once more, and so are LSAs that are renewed or come to MaxAge.
+const LINKS: &[Step] = &[
+    Step::Sends(10, What::Packet(1, PEER_LSA_WITHOUT_LINKS), &[]),
+    Step::Walks(1),
+    Step::Candidates(1),
+    Step::Counts(11, What::Tick, 1),
+    Step::Sends(12, What::LinkDown(1), &[]),
+    Step::Walks(1),
+    Step::Counts(3600, What::Tick, 1),
+    Step::Walks(1),
+    Step::Sends(3609, What::Tick, &[]),
+    Step::Walks(1),
+    Step::Candidates(1),
+    Step::Holds(1),
+];
+
+/// Answers to all candidates last until an LSA says something else.
+const ANSWERS: &[Step] = &[
+    Step::Stale(true),
+    Step::Offers(1, 0),
+    Step::Sends(10, What::LetAllIn, &[]),
+    Step::Stale(false),
+    Step::Offers(1, 1),
+    Step::Sends(11, What::Tick, &[]),
+    Step::Stale(false),
+    Step::Sends(12, What::Lsas(1, 0, 1), &[]),
+    Step::Stale(true),
+    Step::Offers(2, 1),
+    Step::Sends(12, What::LetAllIn, &[]),
+    Step::Stale(false),
+    Step::Offers(2, 2),
+    Step::Sends(13, What::AnswerNothing, &[]),
+    Step::Stale(true),
+    Step::Offers(2, 0),
+];
+
+/// The walks of the exchange don't count.
+const LOOKED: &[Step] = &[Step::CountWalks];
+
+#[test]
+fn external_destinations_leave_the_walk(rt: HostRuntime) -> Result<(), Fail> {
+    play(rt.alloc(), &rt, 1, &[LOADING, FULL, LOOKED, EXTERNALS])
+}
+
+#[test]
+fn links_that_change_are_walked_again(rt: HostRuntime) -> Result<(), Fail> {
+    play(rt.alloc(), &rt, 1, &[LOADING, FULL, LOOKED, LINKS])
+}
+
+#[test]
+fn answers_last_until_an_lsa_changes(rt: HostRuntime) -> Result<(), Fail> {
+    play(rt.alloc(), &rt, 1, &[LOADING, FULL, ANSWERS])
+}
