@@ -5,7 +5,7 @@ use lsdb::Lsdb;
 use routes::Root;
 use std::alloc::{AllocError, Global};
 use std::test::Fail;
-use words::{Address, Prefix, Route, RouteKind, RouterId, Second, Sequence};
+use words::{Address, Route, RouteKind, RouterId, Second, Sequence};
 
 /// When every LSA came in, and when the routes are asked for.
 pub fn moment() -> Second {
@@ -16,10 +16,15 @@ pub fn moment() -> Second {
 pub fn database(alloc: Global, lsas: &[Lsa]) -> Result<Lsdb, AllocError> {
     let mut db = Lsdb::new(alloc, RouterId::new(0x0101_0101));
     for lsa in lsas {
-        db.install_flooded(moment(), lsa.copy()?)?;
-        db.settle();
+        install(&mut db, lsa)?;
     }
     Ok(db)
+}
+
+fn install(db: &mut Lsdb, lsa: &Lsa) -> Result<(), AllocError> {
+    db.install_flooded(moment(), lsa.copy()?)?;
+    db.settle();
+    Ok(())
 }
 
 /// The router of this Router ID, whose interfaces have these addresses.
@@ -34,17 +39,22 @@ pub fn root(alloc: Global, router: u32, addresses: &[u32]) -> Result<Root, Alloc
     })
 }
 
-/// The candidates of the database of these LSAs.
-pub fn routes(alloc: Global, lsas: &[Lsa], root: &Root) -> Result<Vec<Route>, Fail> {
-    let db = database(alloc, lsas)?;
+/// The candidates of a database.
+pub fn routes_of(alloc: Global, db: &Lsdb, root: &Root) -> Result<Vec<Route>, Fail> {
     if db.len() > 16384 || root.addresses.as_slice().len() > 63 {
         return Err(Fail::from("a database or a router that is too large"));
     }
-    Ok(candidates(alloc, &db, root, moment())?)
+    Ok(candidates(alloc, db, root, moment())?)
+}
+
+/// The candidates of the database of these LSAs.
+pub fn routes(alloc: Global, lsas: &[Lsa], root: &Root) -> Result<Vec<Route>, Fail> {
+    let db = database(alloc, lsas)?;
+    routes_of(alloc, &db, root)
 }
 
 /// A route as a row of numbers, to compare with.
-#[derive(Clone, Copy, Debug, PartialEq, Eq, PartialOrd, Ord)]
+#[derive(Clone, Copy, PartialEq, Eq, PartialOrd, Ord)]
 pub struct Row {
     pub address: u32,
     pub length: u8,
@@ -55,19 +65,29 @@ pub struct Row {
     pub tag: u32,
 }
 
+fn row_of(route: &Route) -> Row {
+    Row {
+        address: route.prefix.address().bits(),
+        length: route.prefix.length(),
+        kind: route.kind,
+        cost: route.cost,
+        distance: route.distance,
+        hops: route.hops.bits(),
+        tag: route.tag,
+    }
+}
+
 /// The routes as rows.
 pub fn rows(alloc: Global, routes: &[Route]) -> Result<Vec<Row>, AllocError> {
     let mut rows = Vec::new(alloc);
     for route in routes {
-        rows.push(Row {
-            address: route.prefix.address().bits(),
-            length: route.prefix.length(),
-            kind: route.kind,
-            cost: route.cost,
-            distance: route.distance,
-            hops: route.hops.bits(),
-            tag: route.tag,
-        })?;
+        rows.push(row_of(route))?;
     }
     Ok(rows)
+}
+
+/// The candidates of the database of these LSAs, as rows.
+pub fn rows_of_lsas(alloc: Global, lsas: &[Lsa], root: &Root) -> Result<Vec<Row>, Fail> {
+    let routes = routes(alloc, lsas, root)?;
+    Ok(rows(alloc, &routes)?)
 }

@@ -1,7 +1,8 @@
 //! Walks that are kept, and what makes LSAs say something else.
-use crate::area::{Row, database, moment, root, routes, rows};
-use crate::texts::{ExternalText, LinkText, Name, external, router};
-use crate::worked::two_routers;
+use crate::area::{Row, database, moment, root, rows, rows_of_lsas};
+use crate::lines::{announced, lsas_of};
+use crate::texts::{LinkText, Name, router};
+use crate::worked::{TWO, TWO_ADDRESSES};
 use kept_routes::{Routes, say_the_same};
 use lsa::Lsa;
 use lsdb::Lsdb;
@@ -9,6 +10,23 @@ use routes::Root;
 use std::alloc::Global;
 use std::test::Fail;
 use words::{Key, LinkStateId, RouterId, Second};
+
+// What is done with the database of two routers, a second after it was settled.
+#[derive(Clone, Copy)]
+enum Step {
+    // the router-LSA of the other router comes in with this metric of its only link
+    Install(u16),
+    // so many external destinations come in
+    Announce(u32),
+    // the LSA of the other router is sent, flushed, removed
+    Send,
+    Flush,
+    Remove,
+    // all of this is taken back
+    RollBack,
+    // so many seconds after it was settled, the LSAs of types 1 and 2 say the same or don't, and so do all
+    Same(u64, bool, bool),
+}
 
 fn later(seconds: u64) -> Second {
     Second::new(moment().count().saturating_add(seconds))
@@ -23,18 +41,32 @@ fn other_key() -> Key {
     }
 }
 
-// The settled database of two routers.
-fn two(alloc: Global) -> Result<Lsdb, Fail> {
-    let lsas = two_routers(alloc, 2)?;
-    Ok(database(alloc, &lsas)?)
+fn other_router(alloc: Global, metric: u16) -> Result<Lsa, Fail> {
+    let name = Name {
+        age: 1,
+        ls_type: 1,
+        id: 0x0202_0202,
+        by: 0x0202_0202,
+    };
+    let link = LinkText {
+        kind: 1,
+        id: 0x0101_0101,
+        data: 0x0a00_0102,
+        metric,
+    };
+    router(alloc, name, 2, &[link])
 }
 
-fn first(alloc: Global) -> Result<Root, Fail> {
-    Ok(root(alloc, 0x0101_0101, &[0x0a00_0101])?)
+fn announce(alloc: Global, db: &mut Lsdb, count: u32) -> Result<(), Fail> {
+    for number in 0..count {
+        let network = 0xcb00_0000_u32.wrapping_add(number.wrapping_mul(256));
+        db.install_flooded(later(1), announced(alloc, network, 0x0202_0202, true)?)?;
+    }
+    Ok(())
 }
 
 // Whether the LSAs of types 1 and 2, and whether all LSAs, say so many seconds later what those of the settled database said at first.
-fn same_later(alloc: Global, db: &Lsdb, seconds: u64) -> Result<[bool; 2], Fail> {
+fn same_later(alloc: Global, db: &Lsdb, seconds: u64) -> Result<(bool, bool), Fail> {
     let before = moment();
     let now = later(seconds);
     if now.count() < before.count() {
@@ -42,89 +74,72 @@ fn same_later(alloc: Global, db: &Lsdb, seconds: u64) -> Result<[bool; 2], Fail>
     }
     let links = say_the_same(alloc, db, Some(2), before, now)?;
     let all = say_the_same(alloc, db, None, before, now)?;
-    Ok([links, all])
+    Ok((links, all))
 }
 
-fn destination(alloc: Global, number: u32) -> Result<Lsa, Fail> {
-    let name = Name {
-        age: 1,
-        ls_type: 5,
-        id: 0xcb00_0000_u32.wrapping_add(number.wrapping_mul(256)),
-        by: 0x0202_0202,
-    };
-    let says = ExternalText {
-        mask: 0xffff_ff00,
-        is_type_2: true,
-        metric: 20,
-        forwarding: 0,
-        tag: 0,
-    };
-    external(alloc, name, says)
-}
-
-#[test]
-fn nothing_new_says_the_same(rt: HostRuntime) -> Result<(), Fail> {
-    let db = two(rt.alloc())?;
-    assert_eq!(rt; same_later(rt.alloc(), &db, 0)?, [true, true]);
-    assert_eq!(rt; same_later(rt.alloc(), &db, 100)?, [true, true]);
-    Ok(())
-}
-
-#[test]
-fn external_destinations_leave_links_alone(rt: HostRuntime) -> Result<(), Fail> {
-    let mut db = two(rt.alloc())?;
-    for number in 0..100 {
-        db.install_flooded(later(1), destination(rt.alloc(), number)?)?;
+// Does the step; false where LSAs say the same and were expected not to, or the other way round.
+fn took(alloc: Global, db: &mut Lsdb, step: Step) -> Result<bool, Fail> {
+    match step {
+        Step::Install(metric) => db.install_flooded(later(1), other_router(alloc, metric)?)?,
+        Step::Announce(count) => announce(alloc, db, count)?,
+        Step::Send => db.mark_sent(later(1), &other_key())?,
+        Step::Flush => db.age_out(later(1), &other_key())?,
+        Step::Remove => db.remove(&other_key())?,
+        Step::RollBack => db.roll_back(),
+        Step::Same(seconds, links, all) => {
+            return Ok(same_later(alloc, db, seconds)? == (links, all));
+        }
     }
-    assert_eq!(rt; same_later(rt.alloc(), &db, 1)?, [true, false]);
-    Ok(())
+    Ok(true)
 }
 
+// The first step after which something else was expected.
+fn first_wrong(alloc: Global, db: &mut Lsdb, steps: &[Step]) -> Result<Option<usize>, Fail> {
+    for at in 0..steps.len() {
+        if !took(alloc, db, steps[at])? {
+            return Ok(Some(at));
+        }
+    }
+    Ok(None)
+}
+
+// The settled database of two routers.
+fn two(alloc: Global) -> Result<Lsdb, Fail> {
+    let lsas = lsas_of(alloc, &TWO, &[])?;
+    Ok(database(alloc, &lsas)?)
+}
+
+const STEPS: [Step; 20] = [
+    // nothing is new; the LSAs were of age 1 when they came in, and are of MaxAge 3599 seconds later
+    Step::Same(0, true, true),
+    Step::Same(100, true, true),
+    Step::Same(3598, true, true),
+    Step::Same(3599, false, false),
+    // that one is sent changes nothing
+    Step::Send,
+    Step::Same(1, true, true),
+    Step::RollBack,
+    // external destinations leave links alone
+    Step::Announce(100),
+    Step::Same(1, true, false),
+    Step::RollBack,
+    Step::Same(1, true, true),
+    // an LSA of type 1 is installed, and that is taken back; it is flushed; it is removed
+    Step::Install(3),
+    Step::Same(1, false, false),
+    Step::RollBack,
+    Step::Same(1, true, true),
+    Step::Flush,
+    Step::Same(1, false, false),
+    Step::RollBack,
+    Step::Remove,
+    Step::Same(1, false, false),
+];
+
 #[test]
-fn a_copy_that_is_sent_says_the_same(rt: HostRuntime) -> Result<(), Fail> {
+fn what_makes_lsas_say_something_else(rt: HostRuntime) -> Result<(), Fail> {
     let mut db = two(rt.alloc())?;
-    db.mark_sent(later(1), &other_key())?;
-    assert_eq!(rt; same_later(rt.alloc(), &db, 1)?, [true, true]);
-    Ok(())
-}
-
-#[test]
-fn links_that_change_are_told(rt: HostRuntime) -> Result<(), Fail> {
-    // installed
-    let mut db = two(rt.alloc())?;
-    let link = LinkText {
-        kind: 1,
-        id: 0x0101_0101,
-        data: 0x0a00_0102,
-        metric: 3,
-    };
-    let name = Name {
-        age: 1,
-        ls_type: 1,
-        id: 0x0202_0202,
-        by: 0x0202_0202,
-    };
-    db.install_flooded(later(1), router(rt.alloc(), name, 2, &[link])?)?;
-    assert_eq!(rt; same_later(rt.alloc(), &db, 1)?, [false, false]);
-    // taken back
-    db.roll_back();
-    assert_eq!(rt; same_later(rt.alloc(), &db, 1)?, [true, true]);
-    // flushed
-    db.age_out(later(1), &other_key())?;
-    assert_eq!(rt; same_later(rt.alloc(), &db, 1)?, [false, false]);
-    db.roll_back();
-    // removed
-    db.remove(&other_key())?;
-    assert_eq!(rt; same_later(rt.alloc(), &db, 1)?, [false, false]);
-    Ok(())
-}
-
-#[test]
-fn links_that_come_of_age_are_told(rt: HostRuntime) -> Result<(), Fail> {
-    // their age was 1 when they came in
-    let db = two(rt.alloc())?;
-    assert_eq!(rt; same_later(rt.alloc(), &db, 3598)?, [true, true]);
-    assert_eq!(rt; same_later(rt.alloc(), &db, 3599)?, [false, false]);
+    assert_eq!(rt; first_wrong(rt.alloc(), &mut db, &STEPS)?, None);
     Ok(())
 }
 
@@ -140,15 +155,18 @@ fn walked_twice(alloc: Global, db: &Lsdb, root: &Root) -> Result<(Vec<Row>, u64)
     Ok((rows(alloc, &found)?, kept.walks()))
 }
 
+// Whether a second walk gives the candidates of these LSAs, and counts.
+fn second_walk_serves(alloc: Global, lsas: &[Lsa]) -> Result<bool, Fail> {
+    let root = root(alloc, 0x0101_0101, &TWO_ADDRESSES)?;
+    let db = database(alloc, lsas)?;
+    let (found, walks) = walked_twice(alloc, &db, &root)?;
+    let anew = rows_of_lsas(alloc, lsas, &root)?;
+    Ok(walks == 2 && found.as_slice() == anew.as_slice())
+}
+
 #[test]
 fn a_kept_walk_gives_the_candidates(rt: HostRuntime) -> Result<(), Fail> {
-    let lsas = two_routers(rt.alloc(), 2)?;
-    let root = first(rt.alloc())?;
-    let anew = routes(rt.alloc(), &lsas, &root)?;
-    let anew = rows(rt.alloc(), &anew)?;
-    let db = database(rt.alloc(), &lsas)?;
-    let (found, walks) = walked_twice(rt.alloc(), &db, &root)?;
-    assert_eq!(rt; found.as_slice(), anew.as_slice());
-    assert_eq!(rt; walks, 2);
+    let lsas = lsas_of(rt.alloc(), &TWO, &[])?;
+    assert!(rt; second_walk_serves(rt.alloc(), &lsas)?);
     Ok(())
 }

@@ -6,6 +6,8 @@ mod area;
 #[cfg(test)]
 mod kept;
 #[cfg(test)]
+mod lines;
+#[cfg(test)]
 mod plain;
 #[cfg(test)]
 mod random;

@@ -267,17 +267,26 @@ fn longer(walk: Walk, step: Step) -> Walk {
     }
 }
 
-// All walks by one link more.
-fn all_longer(alloc: Global, walks: &[Walk], steps: &[Step]) -> Result<Vec<Walk>, AllocError> {
-    let mut next = Vec::new(alloc);
-    for walk in walks {
-        for step in steps {
-            if step.from == walk.to {
-                next.push(longer(*walk, *step))?;
-            }
+// Adds the walks by one link more than the last ones, which stand from this place on.
+fn push_longer(walks: &mut Vec<Walk>, first: usize, steps: &[Step]) -> Result<(), AllocError> {
+    for at in first..walks.len() {
+        push_next(walks, at, steps)?;
+    }
+    Ok(())
+}
+
+// Adds the walks by one link more than that at a place.
+fn push_next(walks: &mut Vec<Walk>, at: usize, steps: &[Step]) -> Result<(), AllocError> {
+    let Some(walk) = walks.get(at) else {
+        return Ok(());
+    };
+    let walk = *walk;
+    for step in steps {
+        if step.from == walk.to {
+            walks.push(longer(walk, *step))?;
         }
     }
-    Ok(next)
+    Ok(())
 }
 
 fn start(root: &Root) -> Walk {
@@ -288,17 +297,21 @@ fn start(root: &Root) -> Walk {
 }
 
 // All walks from the root, those of the fewest links first. The first has none, and no hops.
+fn walks_by(alloc: Global, root: &Root, steps: &[Step]) -> Result<Vec<Walk>, AllocError> {
+    let mut walks = Vec::new(alloc);
+    walks.push(start(root))?;
+    let mut first = 0;
+    for _links in 0..MOST_LINKS {
+        let last = walks.len();
+        push_longer(&mut walks, first, steps)?;
+        first = last;
+    }
+    Ok(walks)
+}
+
 fn walks_of(alloc: Global, lsas: &[Lsa], root: &Root) -> Result<Vec<Walk>, AllocError> {
     let steps = steps_of(alloc, lsas, root)?;
-    let mut all = Vec::new(alloc);
-    all.push(start(root))?;
-    let mut last = Vec::new(alloc);
-    last.push(start(root))?;
-    for _links in 0..MOST_LINKS {
-        last = all_longer(alloc, &last, &steps)?;
-        all.extend_from_slice(&last)?;
-    }
-    Ok(all)
+    walks_by(alloc, root, &steps)
 }
 
 // The nearer of two ways, or both together.
@@ -649,20 +662,50 @@ fn push_external(
     }
 }
 
-/// The candidates of the LSAs, each of a key of its own, for the router that calculates, by address and length.
-pub fn plain_rows(alloc: Global, lsas: &[Lsa], root: &Root) -> Result<Vec<Row>, AllocError> {
-    let walks = walks_of(alloc, lsas, root)?;
+fn inner_offers(
+    alloc: Global,
+    lsas: &[Lsa],
+    root: &Root,
+    walks: &[Walk],
+) -> Result<Vec<Offer>, AllocError> {
     let mut offers = Vec::new(alloc);
     for lsa in lsas {
         if lsa.header().age < MAX_AGE {
-            push_inner(lsas, root, &walks, lsa, &mut offers)?;
+            push_inner(lsas, root, walks, lsa, &mut offers)?;
         }
     }
-    let rows = rows_of(alloc, &offers)?;
+    Ok(offers)
+}
+
+fn push_externals(
+    lsas: &[Lsa],
+    root: &Root,
+    walks: &[Walk],
+    rows: &[Row],
+    offers: &mut Vec<Offer>,
+) -> Result<(), AllocError> {
     for lsa in lsas {
         if lsa.header().age < MAX_AGE {
-            push_external(lsas, root, &walks, &rows, lsa, &mut offers)?;
+            push_external(lsas, root, walks, rows, lsa, offers)?;
         }
     }
+    Ok(())
+}
+
+fn rows_by(
+    alloc: Global,
+    lsas: &[Lsa],
+    root: &Root,
+    walks: &[Walk],
+) -> Result<Vec<Row>, AllocError> {
+    let mut offers = inner_offers(alloc, lsas, root, walks)?;
+    let rows = rows_of(alloc, &offers)?;
+    push_externals(lsas, root, walks, &rows, &mut offers)?;
     rows_of(alloc, &offers)
+}
+
+/// The candidates of the LSAs, each of a key of its own, for the router that calculates, by address and length.
+pub fn plain_rows(alloc: Global, lsas: &[Lsa], root: &Root) -> Result<Vec<Row>, AllocError> {
+    let walks = walks_of(alloc, lsas, root)?;
+    rows_by(alloc, lsas, root, &walks)
 }

@@ -1,136 +1,140 @@
 //! Tables of candidates and answers.
-use crate::area::{Row, root, routes, rows};
-use crate::worked::{announced, square, two_routers};
-use std::alloc::Global;
+use crate::area::{root, routes};
+use crate::lines::{Line, lsas_of};
+use crate::worked::{SQUARE, SQUARE_ADDRESSES, TWO, TWO_ADDRESSES};
+use std::alloc::{AllocError, Global};
 use std::test::Fail;
 use tables::{is_stale, rows_of, table};
-use words::{Route, RouteKind};
+use words::Route;
 
-// The one candidate of the square.
-fn of_square(alloc: Global) -> Result<Vec<Route>, Fail> {
-    let lsas = square(alloc)?;
-    let root = root(alloc, 0x0101_0101, &[0x0a00_0101, 0x0a00_0201])?;
-    routes(alloc, &lsas, &root)
+// An answer: which of the candidates was asked about, the word, and by how much the cost was another.
+type Answer = (usize, u64, u32);
+
+#[derive(Clone, Copy)]
+struct Case<'a> {
+    name: &'a str,
+    area: &'a [Line],
+    others: &'a [Line],
+    addresses: &'a [u32],
+    answers: &'a [Answer],
+    // which of the candidates are in the table
+    table: &'a [usize],
+    is_stale: bool,
 }
 
-// The candidates of the first of two routers, the last of them an external destination of type 2.
-fn of_two(alloc: Global) -> Result<Vec<Route>, Fail> {
-    let mut lsas = two_routers(alloc, 2)?;
-    lsas.push(announced(alloc, 0x0202_0202, true)?)?;
-    let root = root(alloc, 0x0101_0101, &[0x0a00_0101])?;
-    routes(alloc, &lsas, &root)
-}
-
-// Each of the routes, answered by the word.
-fn answered(alloc: Global, routes: &[Route], word: u64) -> Result<Vec<(Route, u64)>, Fail> {
-    let mut answers = Vec::new(alloc);
-    for route in routes {
-        answers.push((*route, word))?;
+fn of_square(
+    name: &'static str,
+    answers: &'static [Answer],
+    lets_in: bool,
+    is_stale: bool,
+) -> Case<'static> {
+    Case {
+        name,
+        area: &SQUARE,
+        others: &[],
+        addresses: &SQUARE_ADDRESSES,
+        answers,
+        table: if lets_in { &[0] } else { &[] },
+        is_stale,
     }
-    Ok(answers)
 }
 
-// The rows of the table, to compare with.
-fn table_rows(alloc: Global, routes: &[Route], answers: &[(Route, u64)]) -> Result<Vec<Row>, Fail> {
-    let table = table(alloc, routes, answers)?;
-    Ok(rows(alloc, &table)?)
+// Of two routers, with an external destination of type 2.
+fn of_two(
+    name: &'static str,
+    answers: &'static [Answer],
+    table: &'static [usize],
+    is_stale: bool,
+) -> Case<'static> {
+    Case {
+        name,
+        area: &TWO,
+        others: &[Line::External(0x0202_0202, true)],
+        addresses: &TWO_ADDRESSES,
+        answers,
+        table,
+        is_stale,
+    }
 }
 
-const BEHIND_THE_SQUARE: Row = Row {
-    address: 0xc000_0200,
-    length: 24,
-    kind: RouteKind::Intra,
-    cost: 20,
-    distance: 0,
-    hops: 6,
-    tag: 0,
-};
+fn routes_in(alloc: Global, case: &Case<'_>) -> Result<Vec<Route>, Fail> {
+    let lsas = lsas_of(alloc, case.area, case.others)?;
+    let root = root(alloc, 0x0101_0101, case.addresses)?;
+    routes(alloc, &lsas, &root)
+}
+
+fn answered(
+    alloc: Global,
+    routes: &[Route],
+    answers: &[Answer],
+) -> Result<Vec<(Route, u64)>, AllocError> {
+    let mut made = Vec::new(alloc);
+    for (at, word, more) in answers {
+        if let Some(route) = routes.get(*at) {
+            let cost = route.cost.wrapping_add(*more);
+            made.push((Route { cost, ..*route }, *word))?;
+        }
+    }
+    Ok(made)
+}
+
+// Whether the table has just these of the candidates.
+fn is_table(table: &[Route], routes: &[Route], places: &[usize]) -> bool {
+    if table.len() != places.len() {
+        return false;
+    }
+    for at in 0..table.len() {
+        if routes.get(places[at]) != Some(&table[at]) {
+            return false;
+        }
+    }
+    true
+}
+
+fn holds(alloc: Global, routes: &[Route], case: &Case<'_>) -> Result<bool, AllocError> {
+    let answers = answered(alloc, routes, case.answers)?;
+    let table = table(alloc, routes, &answers)?;
+    let stale = is_stale(alloc, routes, &answers)?;
+    Ok(is_table(&table, routes, case.table) && stale == case.is_stale)
+}
 
 #[test]
-fn a_veto_keeps_a_route_out(rt: HostRuntime) -> Result<(), Fail> {
-    let routes = of_square(rt.alloc())?;
-    let let_in = answered(rt.alloc(), &routes, 0)?;
-    let found = table_rows(rt.alloc(), &routes, &let_in)?;
-    assert_eq!(rt; found.as_slice(), [BEHIND_THE_SQUARE].as_slice());
-    assert!(rt; !is_stale(rt.alloc(), &routes, &let_in)?);
-    let vetoed = answered(rt.alloc(), &routes, 1)?;
-    let found = table_rows(rt.alloc(), &routes, &vetoed)?;
-    assert_eq!(rt; found.len(), 0);
-    assert!(rt; !is_stale(rt.alloc(), &routes, &vetoed)?);
-    Ok(())
-}
-
-#[test]
-fn without_answers_the_table_is_empty_and_stale(rt: HostRuntime) -> Result<(), Fail> {
-    let routes = of_square(rt.alloc())?;
-    let found = table_rows(rt.alloc(), &routes, &[])?;
-    assert_eq!(rt; found.len(), 0);
-    assert!(rt; is_stale(rt.alloc(), &routes, &[])?);
+fn answers_let_candidates_in(rt: HostRuntime) -> Result<(), Fail> {
+    let cases = [
+        of_square("an answer of 0", &[(0, 0, 0)], true, false),
+        of_square("a veto", &[(0, 1, 0)], false, false),
+        of_square("no answer", &[], false, true),
+        of_square("0 before 1", &[(0, 0, 0), (0, 1, 0)], true, false),
+        of_square("1 before 0", &[(0, 1, 0), (0, 0, 0)], true, false),
+        of_square("an answer for another cost", &[(0, 0, 1)], false, true),
+        of_two("all", &[(0, 0, 0), (1, 0, 0), (2, 0, 0)], &[0, 1, 2], false),
+        of_two(
+            "in another order",
+            &[(2, 0, 0), (1, 0, 0), (0, 0, 0)],
+            &[0, 1, 2],
+            false,
+        ),
+        of_two("without the least", &[(2, 0, 0), (1, 0, 0)], &[1, 2], true),
+    ];
+    for case in &cases {
+        let routes = routes_in(rt.alloc(), case)?;
+        assert!(rt; holds(rt.alloc(), &routes, case)?, "{}", case.name);
+    }
     assert!(rt; !is_stale(rt.alloc(), &[], &[])?);
     Ok(())
 }
 
 #[test]
-fn answers_serve_in_any_order(rt: HostRuntime) -> Result<(), Fail> {
-    let routes = of_two(rt.alloc())?;
-    let whole = rows(rt.alloc(), &routes)?;
-    let mut answers = answered(rt.alloc(), &routes, 0)?;
-    let found = table_rows(rt.alloc(), &routes, &answers)?;
-    assert_eq!(rt; found.as_slice(), whole.as_slice());
-    answers.reverse();
-    let found = table_rows(rt.alloc(), &routes, &answers)?;
-    assert_eq!(rt; found.as_slice(), whole.as_slice());
-    assert!(rt; !is_stale(rt.alloc(), &routes, &answers)?);
-    // the last one, in this order the route of the least prefix, is left out
-    let _least = answers.pop();
-    let found = table_rows(rt.alloc(), &routes, &answers)?;
-    assert_eq!(rt; found.len(), 2);
-    assert!(rt; is_stale(rt.alloc(), &routes, &answers)?);
-    Ok(())
-}
-
-#[test]
-fn one_answer_of_0_lets_a_route_in(rt: HostRuntime) -> Result<(), Fail> {
-    let routes = of_square(rt.alloc())?;
-    for words in [[0, 1], [1, 0]] {
-        let mut answers = Vec::new(rt.alloc());
-        for word in words {
-            for route in &routes {
-                answers.push((*route, word))?;
-            }
-        }
-        let found = table_rows(rt.alloc(), &routes, &answers)?;
-        assert_eq!(rt; found.as_slice(), [BEHIND_THE_SQUARE].as_slice());
-    }
-    Ok(())
-}
-
-#[test]
-fn an_answer_for_another_cost_is_none(rt: HostRuntime) -> Result<(), Fail> {
-    let routes = of_square(rt.alloc())?;
-    let mut answers = Vec::new(rt.alloc());
-    for route in &routes {
-        answers.push((Route { cost: 21, ..*route }, 0))?;
-    }
-    let found = table_rows(rt.alloc(), &routes, &answers)?;
-    assert_eq!(rt; found.len(), 0);
-    assert!(rt; is_stale(rt.alloc(), &routes, &answers)?);
-    Ok(())
-}
-
-#[test]
 fn rows_have_the_prefix_and_the_cost(rt: HostRuntime) -> Result<(), Fail> {
-    let routes = of_two(rt.alloc())?;
-    let mut seen = Vec::new(rt.alloc());
-    for row in &rows_of(rt.alloc(), &routes)? {
-        seen.push((row.prefix.address().bits(), row.prefix.length(), row.cost))?;
-    }
+    let routes = routes_in(rt.alloc(), &of_two("", &[], &[], true))?;
     // of the external destination of type 2 the metric alone
-    let expected = [
-        (0x0a00_0100, 24, 10),
-        (0x0a00_0200, 24, 15),
-        (0xcb00_7100, 24, 20),
-    ];
-    assert_eq!(rt; seen.as_slice(), expected.as_slice());
+    let expected = [(0x0a00_0100, 10), (0x0a00_0200, 15), (0xcb00_7100, 20)];
+    let rows = rows_of(rt.alloc(), &routes)?;
+    assert_eq!(rt; rows.len(), 3);
+    for (at, row) in rows.iter().enumerate() {
+        let seen = (row.prefix.address().bits(), row.cost);
+        assert_eq!(rt; Some(&seen), expected.get(at));
+        assert_eq!(rt; row.prefix.length(), 24);
+    }
     Ok(())
 }

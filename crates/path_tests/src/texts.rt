@@ -2,7 +2,6 @@
 use lsa::{Lsa, read, seal};
 use std::alloc::{AllocError, Global};
 use std::test::Fail;
-use words::{put_u8, put_u16, put_u24, put_u32};
 
 /// A link of a router-LSA: its type is 1 to another router, 2 to a transit network, 3 to a stub network, 4 over another area.
 #[derive(Clone, Copy)]
@@ -22,18 +21,46 @@ pub struct Name {
     pub by: u32,
 }
 
+// A header with the first sequence number and no checksum.
+fn header(name: Name, length: u16) -> [u8; 20] {
+    let [age0, age1] = name.age.to_be_bytes();
+    let [id0, id1, id2, id3] = name.id.to_be_bytes();
+    let [by0, by1, by2, by3] = name.by.to_be_bytes();
+    let [length0, length1] = length.to_be_bytes();
+    [
+        age0,
+        age1,
+        2,
+        name.ls_type,
+        id0,
+        id1,
+        id2,
+        id3,
+        by0,
+        by1,
+        by2,
+        by3,
+        0x80,
+        0,
+        0,
+        1,
+        0,
+        0,
+        length0,
+        length1,
+    ]
+}
+
+fn text(alloc: Global, name: Name, body: &[u8]) -> Result<Vec<u8>, AllocError> {
+    let length = u16::try_from(body.len()).unwrap_or(0).wrapping_add(20);
+    let mut bytes = Vec::from_slice(alloc, &header(name, length))?;
+    bytes.extend_from_slice(body)?;
+    Ok(bytes)
+}
+
 // The LSA of this body, with the first sequence number.
 fn with_body(alloc: Global, name: Name, body: &[u8]) -> Result<Lsa, Fail> {
-    let mut bytes = Vec::new(alloc);
-    put_u16(&mut bytes, name.age)?;
-    put_u8(&mut bytes, 2)?;
-    put_u8(&mut bytes, name.ls_type)?;
-    put_u32(&mut bytes, name.id)?;
-    put_u32(&mut bytes, name.by)?;
-    put_u32(&mut bytes, 0x8000_0001)?;
-    put_u16(&mut bytes, 0)?;
-    put_u16(&mut bytes, u16::try_from(body.len())?.saturating_add(20))?;
-    bytes.extend_from_slice(body)?;
+    let mut bytes = text(alloc, name, body)?;
     if bytes.len() < 20 || bytes.len() > 65535 {
         return Err(Fail::from("an LSA has 20 to 65,535 bytes"));
     }
@@ -41,42 +68,49 @@ fn with_body(alloc: Global, name: Name, body: &[u8]) -> Result<Lsa, Fail> {
     Ok(read(alloc, &bytes)?)
 }
 
-fn put_link(out: &mut Vec<u8>, link: LinkText) -> Result<(), AllocError> {
-    put_u32(out, link.id)?;
-    put_u32(out, link.data)?;
-    put_u8(out, link.kind)?;
-    put_u8(out, 0)?;
-    put_u16(out, link.metric)
+fn link_text(link: LinkText) -> [u8; 12] {
+    let [id0, id1, id2, id3] = link.id.to_be_bytes();
+    let [data0, data1, data2, data3] = link.data.to_be_bytes();
+    let [metric0, metric1] = link.metric.to_be_bytes();
+    [
+        id0, id1, id2, id3, data0, data1, data2, data3, link.kind, 0, metric0, metric1,
+    ]
+}
+
+fn router_body(alloc: Global, flags: u8, links: &[LinkText]) -> Result<Vec<u8>, AllocError> {
+    let [count0, count1] = u16::try_from(links.len()).unwrap_or(0).to_be_bytes();
+    let mut body = Vec::from_slice(alloc, &[flags, 0, count0, count1])?;
+    for link in links {
+        body.extend_from_slice(&link_text(*link))?;
+    }
+    Ok(body)
 }
 
 /// A router-LSA (RFC 2328, A.4.2).
 pub fn router(alloc: Global, name: Name, flags: u8, links: &[LinkText]) -> Result<Lsa, Fail> {
-    let mut body = Vec::new(alloc);
-    put_u8(&mut body, flags)?;
-    put_u8(&mut body, 0)?;
-    put_u16(&mut body, u16::try_from(links.len())?)?;
-    for link in links {
-        put_link(&mut body, *link)?;
-    }
+    let body = router_body(alloc, flags, links)?;
     with_body(alloc, Name { ls_type: 1, ..name }, &body)
+}
+
+fn network_body(alloc: Global, mask: u32, attached: &[u32]) -> Result<Vec<u8>, AllocError> {
+    let mut body = Vec::from_slice(alloc, &mask.to_be_bytes())?;
+    for router in attached {
+        body.extend_from_slice(&router.to_be_bytes())?;
+    }
+    Ok(body)
 }
 
 /// A network-LSA (RFC 2328, A.4.3).
 pub fn network(alloc: Global, name: Name, mask: u32, attached: &[u32]) -> Result<Lsa, Fail> {
-    let mut body = Vec::new(alloc);
-    put_u32(&mut body, mask)?;
-    for router in attached {
-        put_u32(&mut body, *router)?;
-    }
+    let body = network_body(alloc, mask, attached)?;
     with_body(alloc, Name { ls_type: 2, ..name }, &body)
 }
 
 /// A summary-LSA of type 3 or 4 (RFC 2328, A.4.4).
 pub fn summary(alloc: Global, name: Name, mask: u32, metric: u32) -> Result<Lsa, Fail> {
-    let mut body = Vec::new(alloc);
-    put_u32(&mut body, mask)?;
-    put_u8(&mut body, 0)?;
-    put_u24(&mut body, metric)?;
+    let [mask0, mask1, mask2, mask3] = mask.to_be_bytes();
+    let [_, metric0, metric1, metric2] = metric.to_be_bytes();
+    let body = [mask0, mask1, mask2, mask3, 0, metric0, metric1, metric2];
     with_body(alloc, name, &body)
 }
 
@@ -92,11 +126,14 @@ pub struct ExternalText {
 
 /// An AS-external-LSA (RFC 2328, A.4.5).
 pub fn external(alloc: Global, name: Name, says: ExternalText) -> Result<Lsa, Fail> {
-    let mut body = Vec::new(alloc);
-    put_u32(&mut body, says.mask)?;
-    put_u8(&mut body, if says.is_type_2 { 0x80 } else { 0 })?;
-    put_u24(&mut body, says.metric)?;
-    put_u32(&mut body, says.forwarding)?;
-    put_u32(&mut body, says.tag)?;
+    let [mask0, mask1, mask2, mask3] = says.mask.to_be_bytes();
+    let [_, metric0, metric1, metric2] = says.metric.to_be_bytes();
+    let [to0, to1, to2, to3] = says.forwarding.to_be_bytes();
+    let [tag0, tag1, tag2, tag3] = says.tag.to_be_bytes();
+    let kind = if says.is_type_2 { 0x80 } else { 0 };
+    let body = [
+        mask0, mask1, mask2, mask3, kind, metric0, metric1, metric2, to0, to1, to2, to3, tag0,
+        tag1, tag2, tag3,
+    ];
     with_body(alloc, Name { ls_type: 5, ..name }, &body)
 }
