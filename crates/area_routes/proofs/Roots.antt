@@ -27,6 +27,12 @@ root_is router kept links addresses shown is =
     let same = is ∙ addresses_are kept ∙ ap (map (λ (l : Link). l.interface.address)) shown in
     λ i. record { router = router; addresses = same i }
 
+-- and the other way round
+pub root_was : (router : ℕ) (kept : List (Kept Link)) (links : List Link) (root : Root) → map present kept ≡ links → root ≡ root_by router links
+    → root.addresses ≡ map (λ (l : Kept Link). (present l).interface.address) kept
+root_was router kept links root shown is =
+    ap (λ (r : Root). r.addresses) is ∙ sym (ap (map (λ (l : Link). l.interface.address)) shown) ∙ sym (addresses_are kept)
+
 -- a root whose router is this one
 pub begins_here : (root : Root) (router : ℕ) → root.router ≡ router → root ≡ record { router = router; addresses = root.addresses }
 begins_here root router is = λ i. record { router = is i; addresses = root.addresses }

@@ -1,9 +1,10 @@
 -- The routes of a router as they are kept from one event to the next (RFC 2328, section 16).
-use Rattle.std.specs.Prelude.{◌≡◌, Bool, true}
+use Rattle.std.specs.Prelude.{◌≡◌, ℕ, ◌+◌, min, Bool, true, Option, Some}
 use Rattle.words.specs.Numbers.{Moment, RouterNumber}
 use Rattle.received.specs.Links.{Area}
 use Rattle.area_routes.specs.Offers.{root_by}
 use Rattle.kept_routes.specs.Kept.{IsWalkOf, KeptWalk}
+use Rattle.kept_routes.specs.Sameness.{AreLeft}
 use Rattle.routes.specs.Said.{Said, said_at}
 use Rattle.routes.specs.Tables.{Answers, IsStale}
 
@@ -17,6 +18,21 @@ pub record KeptRoutes : Type 0 where
 abbrev pub KnowsAnswered : Said → Answers → KeptRoutes → Type 0
 KnowsAnswered said answers kept =
     kept.answered ≡ true → IsStale said kept.walk.root answers → ⊥
+
+-- All that a walk rests on has stayed since the moment before: it begins where it began, and of
+-- the LSAs of the types up to this one, of all types where there is none, none was installed, was
+-- removed or has come to MaxAge.
+pub record HasStayed (last_type : Option ℕ) (before : Moment) (moment : Moment)
+    (router : RouterNumber) (old : Area) (new : Area) (walk : KeptWalk) : Type 0 where
+  pub root : walk.root ≡ root_by router new.links
+  pub lsas : AreLeft last_type before moment old.database new.database
+
+-- the walk stays where that has, and elsewhere it is another one, and counted
+pub record WalksAgainOnlyThen (before : Moment) (moment : Moment) (router : RouterNumber)
+    (old : Area) (new : Area) (walk : KeptWalk) (next : KeptWalk) : Type 0 where
+  pub stays : HasStayed (Some 2) before moment router old new walk → next ≡ walk
+  pub again : (HasStayed (Some 2) before moment router old new walk → ⊥)
+      → next.walks ≡ min (walk.walks + 1) 18446744073709551615
 
 -- they are the router's at the moment
 pub record AreKept (router : RouterNumber) (area : Area) (moment : Moment) (answers : Answers)

@@ -1,10 +1,10 @@
 //! The routes of a router, kept from one event to the next.
-ghost use Rattle.std.specs.Prelude.{◌≡◌, ◌+◌, ◌≤◌, ◌⊎◌, ◌↔◌, false, length, min, IfOk, IsTrue, OnErr, OnOk};
+ghost use Rattle.std.specs.Prelude.{◌≡◌, ◌+◌, ◌≤◌, ◌↔◌, None, false, length, min, IfOk, IsTrue, OnErr, OnOk};
 ghost use Rattle.std.specs.FinMap as finite;
-ghost use Rattle.area_routes.specs.Kept.{KnowsAnswered};
+ghost use Rattle.area_routes.specs.Kept.{HasStayed, KnowsAnswered, WalksAgainOnlyThen};
 ghost use Rattle.area_routes.specs.Offers.{AreOfferedBy, root_by};
 ghost use Rattle.kept_routes.specs.Kept.{IsWalkOf};
-ghost use Rattle.kept_routes.specs.Sameness.{SayTheSame};
+ghost use Rattle.kept_routes.specs.Sameness.{AreLeft, SayTheSame};
 ghost use Rattle.routes.specs.Candidates.{AreCandidates};
 ghost use Rattle.routes.specs.Said.{said_at};
 ghost use Rattle.routes.specs.Tables.{Answers, IsStale, IsTable};
@@ -53,8 +53,10 @@ fn says_the_same(
     moment: Second,
 ) -> Result<bool, AllocError>
     requires { before ≤ moment }
-    ensures { IfOk result (λ same. IsTrue same → SayTheSame last_type
+    ensures same { IfOk result (λ same. IsTrue same → SayTheSame last_type
         (said_at before area.now.settled.database) (said_at moment area.now.present.database)) }
+    ensures left { IfOk result (λ same. IsTrue same ↔ AreLeft last_type before moment
+        area.now.settled.database area.now.present.database) }
 {
     let db = area.database();
     let same = say_the_same(alloc, db, last_type, before, moment)?;
@@ -116,9 +118,12 @@ impl AreaRoutes {
         ensures answered { OnOk result ((answers : Answers)
             → KnowsAnswered (said_at before area.now.settled.database) answers self.old
             → KnowsAnswered (said_at moment area.now.present.database) answers self.new) }
-        // The walk is the one that was kept, or it is one walk more.
-        ensures walks { OnOk result ((self.new.walk ≡ self.old.walk)
-            ⊎ (self.new.walk.walks ≡ min (self.old.walk.walks + 1) 18446744073709551615)) }
+        // It walks again only where the router's addresses are others, or an LSA of type 1 or 2 was installed, was removed or has come to MaxAge.
+        ensures walks { OnOk result (WalksAgainOnlyThen before moment router
+            area.now.settled area.now.present self.old.walk self.new.walk) }
+        // Where that holds of LSAs of all types, what is known of the answers stays too.
+        ensures all { OnOk result (HasStayed None before moment router
+            area.now.settled area.now.present self.old.walk → self.new ≡ self.old) }
         ensures err { OnErr result (self.new ≡ self.old) }
     {
         walks_are_kept();

@@ -1,5 +1,5 @@
 //! Where the walks of a router begin.
-ghost use Rattle.std.specs.Prelude.{◌≡◌, IfOk, IsTrue, map};
+ghost use Rattle.std.specs.Prelude.{◌≡◌, ◌↔◌, IfOk, IsTrue, map};
 ghost use Rattle.flooding.specs.Links.{present};
 ghost use Rattle.area_routes.specs.Offers.{root_by};
 
@@ -39,7 +39,7 @@ pub fn root_of(alloc: Global, router: RouterId, area: &Area) -> Result<Root, All
 // Whether these are the links' addresses.
 fn are_addresses(addresses: &[Address], links: &[Link]) -> bool
     ensures { IsTrue result
-        → addresses.now ≡ map (λ link. (present link).interface.address) links.now }
+        ↔ (addresses.now ≡ map (λ link. (present link).interface.address) links.now) }
 {
     if addresses.len() != links.len() {
         return false;
@@ -54,7 +54,7 @@ fn are_addresses(addresses: &[Address], links: &[Link]) -> bool
 
 /// Tells whether the router's walks begin here.
 pub fn is_root_of(root: &Root, router: RouterId, area: &Area) -> bool
-    ensures { IsTrue result → root.now ≡ root_by router area.now.present.links }
+    ensures { IsTrue result ↔ (root.now ≡ root_by router area.now.present.links) }
 {
     let same = root.router.number() == router.number();
     same && are_addresses(root.addresses.as_slice(), area.links())

@@ -3,7 +3,8 @@ use Rattle.std.specs.Prelude.{List}
 use Rattle.words.specs.declared.route.Route.{Route}
 use Rattle.words.specs.declared.route.TableRow.{TableRow}
 use Rattle.events.specs.Routers.{Router}
-use Rattle.area_routes.specs.Kept.{AreKept, KeptRoutes}
+use Rattle.area_routes.specs.Kept.{AreKept, KeptRoutes, WalksAgainOnlyThen}
+use Rattle.kept_routes.specs.Kept.{KeptWalk}
 use Rattle.area_routes.specs.Offers.{AreCandidatesOf, AreOffered, IsStaleOf, IsTableOf}
 
 -- its candidates at the moment of its last event
@@ -21,6 +22,13 @@ IsOffered r candidates rows = AreOffered r.id r.area r.moment r.answers candidat
 -- a candidate stands in none of the answers of the last Install
 abbrev pub IsStaleNow : Router → Type 0
 IsStaleNow r = IsStaleOf r.id r.area r.moment r.answers
+
+-- from one router to the next the kept walk stays, or it is another one, and counted: only where
+-- an LSA of type 1 or 2 was installed, was removed or has come to MaxAge, or the addresses are
+-- others
+abbrev pub WalksOnlyThen : (old : Router) → (new : Router) → KeptWalk → KeptWalk → Type 0
+WalksOnlyThen old new walk next =
+    WalksAgainOnlyThen old.moment new.moment new.id old.area new.area walk next
 
 -- what is kept for its routes is that of the moment of its last event
 abbrev pub AreKeptNow : Router → KeptRoutes → Type 0

@@ -1,13 +1,13 @@
 //! What is kept for routes from one event to the next.
 ghost use Rattle.std.specs.Prelude.{◌≡◌, ◌≤◌, IfOk, OnErr, OnOk, false};
-ghost use Rattle.area_routes.specs.Kept.{KnowsAnswered};
+ghost use Rattle.area_routes.specs.Kept.{KnowsAnswered, WalksAgainOnlyThen};
 ghost use Rattle.event_rooms.specs.RoomLaws.{IsRoomy};
 ghost use Rattle.events.specs.Events.{Happens};
 ghost use Rattle.events.specs.Refusals.{Answers, exceeds};
 ghost use Rattle.flood_laws.specs.Keeping.{HoldsInstances, KeepsWhatIsKnown};
 ghost use Rattle.flood_laws.specs.Known.{AnnouncesItsOwn};
 ghost use Rattle.flood.specs.Occurrences.{brings_answers, occurrence_of};
-ghost use Rattle.flood.specs.Offers.{AreKeptNow};
+ghost use Rattle.flood.specs.Offers.{AreKeptNow, WalksOnlyThen};
 ghost use Rattle.kept_routes.specs.Kept.{IsWalkOf};
 ghost use Rattle.routes.specs.Said.{said_at};
 
@@ -48,6 +48,9 @@ fn keep(
     requires answers { brings_answers (occurrence_of event.now) ≡ false
         → router.now.present.answers ≡ router.now.settled.answers }
     ensures kept { OnOk result (AreKeptNow router.now.present routes.new) }
+    ensures walks { OnOk result (WalksAgainOnlyThen before router.now.present.moment
+        router.now.present.id router.now.settled.area router.now.present.area
+        routes.old.walk routes.new.walk) }
     ensures err { OnErr result (routes.new ≡ routes.old) }
 {
     let area = router.area();
@@ -83,6 +86,9 @@ pub fn take_and_keep(
     ensures limit { IfOk result (λ outs. exceeds router.new.present ≡ false) }
     ensures settled { router.new.settled ≡ router.old.settled }
     ensures kept { IfOk result (λ outs. AreKeptNow router.new.present routes.new) }
+    // It walks again only where an LSA of type 1 or 2 was installed, was removed or has come to MaxAge.
+    ensures walks { IfOk result (λ outs. WalksOnlyThen router.old.present router.new.present
+        routes.old.walk routes.new.walk) }
     ensures err { OnErr result (routes.new ≡ routes.old) }
 {
     let before = router.moment();

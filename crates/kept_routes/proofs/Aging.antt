@@ -1,5 +1,5 @@
 -- Copies that stay say the same, unless one has come to MaxAge since.
-use Rattle.std.proofs.Common.{◌≡◌, ℕ, ◌+◌, ◌-◌, ◌≤◌, ◌<◌, zero, suc, Bool, true, false, cond, List, [], ◌∷◌, length, get_or, map, min, inl, inr, Option, None, Some, eq-eqb, eqb-true, arith, refl, sym, ◌∙◌, ap, subst}
+use Rattle.std.proofs.Common.{◌≡◌, ℕ, ◌+◌, ◌-◌, ◌≤◌, ◌<◌, Bool, true, false, cond, List, [], ◌∷◌, length, get_or, map, min, inl, inr, Option, None, Some, eq-eqb, eqb-true, arith, refl, sym, ◌∙◌, ap, subst}
 use Rattle.std.specs.Prelude.{◌==◌}
 use Rattle.std.specs.FinMap as finite
 use Rattle.std.specs.Cmp.{Equal-is}
@@ -12,11 +12,10 @@ use Rattle.lsdb.specs.Changes.{IsSameLsa, IsUpTo}
 use Rattle.lsdb.specs.Copies.{Database, DatabaseCopy, aged_keys, is_aged_out}
 use Rattle.routes.specs.Said.{said_at, said_by}
 use Rattle.kept_routes.specs.Ages.{AreOld}
-use Rattle.kept_routes.specs.Sameness.{SayTheSame}
+use Rattle.kept_routes.specs.Sameness.{AreLeft, SayTheSame}
 use Rattle.routes.proofs.Listed.{other_default}
 use Rattle.routes.proofs.Lists.{first_is, later_is}
 use Rattle.words.specs.declared.key.Key.{Key}
-use Rattle.lsa.specs.declared.body.Body.{Body}
 
 -- ---- the keys of the copies at MaxAge
 
@@ -84,9 +83,26 @@ says_same before moment order (Some a) (Some b) same old =
     let both = first ∙ aged in
     λ i. cond (both i) None (Some (same.0 i).body)
 
-pub all_same : (last_type : Option ℕ) (before moment : ℕ) (old new : Database) → before ≤ moment
+pub all_same : (last_type : Option ℕ) (before moment : ℕ) (old new : Database) → before ≤ moment → AreLeft last_type before moment old new
+    → SayTheSame last_type (said_at before old) (said_at moment new)
+all_same last_type before moment old new order left key of =
+    says_same before moment order (finite.get old key) (finite.get new key) (left key of).same (left key of).old_copy
+
+-- ---- what is left as it was
+
+-- only copies at MaxAge could have come to it
+pub all_left : (last_type : Option ℕ) (before moment : ℕ) (old new : Database)
     → ((key : Key) → IsUpTo last_type key → IsSameLsa (finite.get old key) (finite.get new key))
-    → AreOld last_type before new (aged_keys moment new) → SayTheSame last_type (said_at before old) (said_at moment new)
-all_same last_type before moment old new order same old_ones key of =
-    says_same before moment order (finite.get old key) (finite.get new key) (same key of)
-    (λ copy is aged. old_ones key (among_aged moment key copy aged (finite.entries new) (sym (finite.get-entries new key) ∙ is)) copy of is)
+    → AreOld last_type before moment new (aged_keys moment new) → AreLeft last_type before moment old new
+all_left last_type before moment old new same old_ones key of = record {
+  same = same key of;
+  old_copy = λ copy is aged. old_ones key (among_aged moment key copy aged (finite.entries new) (sym (finite.get-entries new key) ∙ is)) copy of is aged;
+}
+
+pub keeps_all : (last_type : Option ℕ) (before moment : ℕ) (old new : Database) → AreLeft last_type before moment old new
+    → (key : Key) → IsUpTo last_type key → IsSameLsa (finite.get old key) (finite.get new key)
+keeps_all last_type before moment old new left key of = (left key of).same
+
+pub olds_all : (last_type : Option ℕ) (before moment : ℕ) (old new : Database) (keys : List Key) → AreLeft last_type before moment old new
+    → AreOld last_type before moment new keys
+olds_all last_type before moment old new keys left key among copy of is = (left key of).old_copy copy is

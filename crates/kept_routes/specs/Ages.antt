@@ -7,12 +7,17 @@ use Rattle.lsdb.specs.Copies.{Database, DatabaseCopy, is_aged_out}
 use Rattle.words.specs.Numbers.{Moment}
 use Rattle.words.specs.declared.key.Key.{Key}
 
--- the copy of this key had, if it is of a type up to this one
-abbrev pub IsOld : Option ℕ → Moment → Database → Key → Type 0
-IsOld last_type moment db key =
-    (copy : DatabaseCopy) → IsUpTo last_type key → finite.get db key ≡ Some copy
-    → is_aged_out moment copy ≡ true
+-- the copy has MaxAge only if it had it at the moment before
+abbrev pub IsOldCopy : (before : Moment) → (moment : Moment) → DatabaseCopy → Type 0
+IsOldCopy before moment copy = is_aged_out moment copy ≡ true → is_aged_out before copy ≡ true
 
--- those of these keys had
-abbrev pub AreOld : Option ℕ → Moment → Database → List Key → Type 0
-AreOld last_type moment db keys = (key : Key) → Contains keys key → IsOld last_type moment db key
+-- so has the copy of this key, if it is of a type up to this one
+abbrev pub IsOld : Option ℕ → (before : Moment) → (moment : Moment) → Database → Key → Type 0
+IsOld last_type before moment db key =
+    (copy : DatabaseCopy) → IsUpTo last_type key → finite.get db key ≡ Some copy
+    → IsOldCopy before moment copy
+
+-- those of these keys have
+abbrev pub AreOld : Option ℕ → (before : Moment) → (moment : Moment) → Database → List Key → Type 0
+AreOld last_type before moment db keys =
+    (key : Key) → Contains keys key → IsOld last_type before moment db key

@@ -1,9 +1,27 @@
 -- What the LSAs say stays as it was (RFC 2328, section 16).
-use Rattle.std.specs.Prelude.{◌≡◌, ℕ, Option}
-use Rattle.lsdb.specs.Changes.{IsUpTo}
+use Rattle.std.specs.Prelude.{◌≡◌, ℕ, Option, Some}
+use Rattle.std.specs.FinMap as finite
+use Rattle.lsdb.specs.Changes.{IsSameLsa, IsUpTo}
+use Rattle.lsdb.specs.Copies.{Database, DatabaseCopy}
+use Rattle.kept_routes.specs.Ages.{IsOldCopy}
 use Rattle.routes.specs.Said.{Said}
+use Rattle.words.specs.Numbers.{Moment}
 use Rattle.words.specs.declared.key.Key.{Key}
 
 -- the LSAs of the types up to this one say the same, of all types where there is none
 abbrev pub SayTheSame : Option ℕ → Said → Said → Type 0
 SayTheSame last_type old new = (key : Key) → IsUpTo last_type key → old key ≡ new key
+
+-- since the moment before, the LSA of a key wasn't installed, wasn't removed and hasn't come to
+-- MaxAge; that it comes in once more with its age doesn't count
+pub record IsLeft (before : Moment) (moment : Moment) (old : Option DatabaseCopy)
+    (new : Option DatabaseCopy) : Type 0 where
+  pub same : IsSameLsa old new
+  pub old_copy : (copy : DatabaseCopy) → new ≡ Some copy → IsOldCopy before moment copy
+
+-- nor were those of the types up to this one, of all types where there is none
+abbrev pub AreLeft : Option ℕ → (before : Moment) → (moment : Moment) → (old : Database)
+    → (new : Database) → Type 0
+AreLeft last_type before moment old new =
+    (key : Key) → IsUpTo last_type key
+    → IsLeft before moment (finite.get old key) (finite.get new key)

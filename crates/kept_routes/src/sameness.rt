@@ -7,20 +7,20 @@ ghost use Rattle.lsdb.specs.Copies.{DatabaseCopy as CopyValue, is_aged_out};
 ghost use Rattle.routes.specs.Said.{said_at};
 ghost use Rattle.words.specs.declared.key.Key.{Key as KeyValue};
 ghost use Rattle.kept_routes.specs.Ages.{AreOld, IsOld};
-ghost use Rattle.kept_routes.specs.Sameness.{SayTheSame};
+ghost use Rattle.kept_routes.specs.Sameness.{AreLeft, SayTheSame};
 
 use lsdb::Lsdb;
 use std::alloc::{AllocError, Global};
 use words::{Key, Second};
 
-/// Tells whether the LSAs of the types up to this one, or of all types where there is none, say at the moment what those of the settled database
-/// said at the moment before.
+/// Tells whether the LSAs of the types up to this one, or of all types where there is none, are left as they were: since the database was
+/// settled, at the moment before, none of them was installed or removed, and none has come to MaxAge. They say at the moment what those of the
+/// settled database said then.
 ///
-/// They do where the event left each of them with its LSA and its age, and none came to MaxAge in the time between; that one was sent doesn't
-/// count. The time is that of the event's edits and of `Lsdb::aged_keys`.
+/// That one was sent doesn't count. The time is that of the event's edits and of `Lsdb::aged_keys`.
 ///
 /// # Errors
-/// Where memory for the keys of the LSAs at MaxAge is refused.
+/// Where memory for the keys of the LSAs at MaxAge, or to compare texts, is refused.
 pub fn say_the_same(
     alloc: Global,
     db: &Lsdb,
@@ -29,38 +29,41 @@ pub fn say_the_same(
     moment: Second,
 ) -> Result<bool, AllocError>
     requires { before ≤ moment }
-    ensures { IfOk result (λ same. IsTrue same → SayTheSame last_type
+    ensures same { IfOk result (λ same. IsTrue same → SayTheSame last_type
         (said_at before db.now.settled) (said_at moment db.now.present)) }
+    // It is true wherever it may be.
+    ensures left { IfOk result (λ same. IsTrue same
+        ↔ AreLeft last_type before moment db.now.settled db.now.present) }
 {
-    if !db.keeps(last_type) {
+    if !db.keeps(alloc, last_type)? {
         return Ok(false);
     }
     let keys = db.aged_keys(alloc, moment)?;
-    Ok(are_old(db, last_type, before, &keys))
+    Ok(are_old(db, last_type, before, moment, &keys))
 }
 
-// Whether the copies of these keys had MaxAge at the moment already, those of the types up to this one.
-fn are_old(db: &Lsdb, last_type: Option<u32>, moment: Second, keys: &[Key]) -> bool
-    ensures { IsTrue result → AreOld last_type moment db.now.present keys.now }
+// Whether the copies of these keys that have MaxAge had it at the moment before, those of the types up to this one.
+fn are_old(db: &Lsdb, last_type: Option<u32>, before: Second, moment: Second, keys: &[Key]) -> bool
+    ensures { IsTrue result ↔ AreOld last_type before moment db.now.present keys.now }
 {
     for key in keys {
-        if !is_old(db, last_type, moment, key) {
+        if !is_old(db, last_type, before, moment, key) {
             return false;
         }
     }
     true
 }
 
-// Whether the copy of this key had MaxAge at the moment already, if it is of a type up to this one.
-fn is_old(db: &Lsdb, last_type: Option<u32>, moment: Second, key: &Key) -> bool
-    ensures { IsTrue result → IsOld last_type moment db.now.present key.now }
+// Whether the copy of this key has MaxAge only if it had it at the moment before, if it is of a type up to this one.
+fn is_old(db: &Lsdb, last_type: Option<u32>, before: Second, moment: Second, key: &Key) -> bool
+    ensures { IsTrue result ↔ IsOld last_type before moment db.now.present key.now }
 {
     if !is_up_to(last_type, key) {
         return true;
     }
     match db.get(key) {
         None => true,
-        Some(copy) => copy.is_aged_out(moment),
+        Some(copy) => !copy.is_aged_out(moment) || copy.is_aged_out(before),
     }
 }
 

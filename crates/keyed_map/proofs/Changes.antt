@@ -1,28 +1,40 @@
 -- What stood at a key before all edits.
-use Rattle.std.proofs.Common.{◌≡◌, ℕ, zero, suc, ◌+◌, ◌<◌, ◌⊎◌, inl, inr, Bool, true, false, cond, List, [], ◌∷◌, length, get_or, Some, None, refl, sym, ap, subst, ◌∙◌, arith}
-use Rattle.std.specs.Prelude.{Option}
-use Rattle.std.specs.Cmp.{Equal-is}
-use Rattle.std.specs.List.{Contains}
-use Rattle.std.specs.Ordering.{eq_by_cmp}
+use Rattle.std.proofs.Common.{◌≡◌, ℕ, zero, suc, ◌+◌, ◌<◌, ◌⊎◌, inl, inr, Bool, true, false, cond, List, [], ◌∷◌, length, Some, None, refl, sym, ap, subst, ◌∙◌, arith}
+use Rattle.std.specs.Prelude.{Option, slice_get, IsTrue, not, ◌↔◌}
+use Rattle.std.specs.Cmp.{Equal-is, tied_itself}
+use Rattle.std.specs.Ordering.{eq_by_cmp, is_eq}
 use Rattle.std.specs.FinMap as map
 use Rattle.std.proofs.lemmas.Bool.{cases_eq}
+use Rattle.std.proofs.lemmas.Option.{same_Some, slice_get_within}
 use Rattle.words.specs.declared.key.Key.{Key}
 use Rattle.keyed_map.specs.declared.slot.Slot.{Slot}
 use Rattle.keyed_map.specs.declared.slot.Slot.TheVariants.{Gone, Holds}
 use Rattle.keyed_map.specs.declared.slot.Edit.{Edit}
-use Rattle.keyed_map.specs.Changes.{held_before}
+use Rattle.keyed_map.specs.Changes.{IsFirst, held_before}
 use Rattle.keyed_map.specs.Keys.{ByKey, key_cmp}
-use Rattle.keyed_map.specs.Slots.{live, put_back, undo, undone}
+use Rattle.keyed_map.specs.Slots.{live, put_back, undone}
 use Rattle.keyed_map.proofs.Keys.{keys_exact, keys_total}
 use Rattle.keyed_map.proofs.Slots.{get-live, held_in}
 
-same_key : (x y : Key) → eq_by_cmp key_cmp x y ≡ true → x ≡ y
+pub same_key : (x y : Key) → eq_by_cmp key_cmp x y ≡ true → x ≡ y
 same_key x y e = keys_exact x y ((Equal-is (key_cmp x y)).0 e)
 
-other_default : {X : Type 0} (xs : List X) (k : ℕ) (d e : X) → k < length xs → get_or xs k d ≡ get_or xs k e
-other_default [] k d e low = absurd (omega (arith, low))
-other_default (x ∷ xs) zero d e low = refl
-other_default (x ∷ xs) (suc k) d e low = other_default xs k d e (omega (arith, low))
+itself : (k : Key) → eq_by_cmp key_cmp k k ≡ true
+itself k = ap is_eq (tied_itself keys_total k)
+
+pub another : (q k : Key) → eq_by_cmp key_cmp q k ≡ false → k ≡ q → ⊥
+another q k other is = let both : true ≡ false = sym (itself q) ∙ ap (eq_by_cmp key_cmp q) (sym is) ∙ other in cc
+
+-- what is the first and is the same, or isn't the first, is kept
+pub kept_or_later : (same first : Bool) (S F : Type 0) → same ≡ false → IsTrue same ↔ S → IsTrue first ↔ F → (IsTrue (not first) → F → S) × ((F → S) → IsTrue (not first))
+kept_or_later same true S F differs s f = (
+  (λ t. absurd cc),
+  (λ g. absurd (let no : true ≡ false = sym (s.1 (g (f.0 refl))) ∙ differs in cc)),
+)
+kept_or_later same false S F differs s f = (
+  (λ t h. absurd (let no : false ≡ true = f.1 h in cc)),
+  (λ g. refl),
+)
 
 module _ {X : Type 0} where
   pub held_same : (o : Option (Slot X)) → held_in o ≡ held_before o
@@ -34,22 +46,38 @@ module _ {X : Type 0} where
   get-put_back k None m q = map.get-remove keys_total m k q
   get-put_back k (Some s) m q = map.get-insert keys_total m k s q
 
-  -- before some edit of the key it stood there
+  -- before the first edit of the key it stood there
   pub record StoodAt (es : List (Edit X)) (q : Key) (before : Option (Slot X)) : Type 0 where
     pub edit : Edit X
-    pub among : Contains es edit
+    pub place : ℕ
+    pub at : slice_get es place ≡ Some edit
+    pub first : IsFirst es place q
     pub its : edit.key ≡ q
     pub is : before ≡ edit.before
 
-  later : (e : Edit X) (es : List (Edit X)) (q : Key) (before : Option (Slot X)) → StoodAt es q before → StoodAt (e ∷ es) q before
-  later e es q before s = record {
+  -- one more edit that isn't of the key
+  pub first_still : (es : List (Edit X)) (n : ℕ) (q : Key) (edit : Edit X) → slice_get es n ≡ Some edit → (edit.key ≡ q → ⊥) → IsFirst es n q → IsFirst es (n + 1) q
+  first_still es n q edit here other first k d low is its =
+      elim (cases_eq k n) [
+        | inl same ↦ other (ap (λ (x : Edit X). x.key) (same_Some edit d (sym here ∙ subst (λ i. slice_get es i ≡ Some d) same is)) ∙ its)
+        | inr before ↦ first k d (omega (arith, low, before)) is its
+      ]
+
+  first_later : (e : Edit X) (es : List (Edit X)) (q : Key) (place : ℕ) → (e.key ≡ q → ⊥) → IsFirst es place q → IsFirst (e ∷ es) (suc place) q
+  first_later e es q place other first zero d low is its = other (ap (λ (x : Edit X). x.key) (same_Some e d is) ∙ its)
+  first_later e es q place other first (suc k) d low is its = first k d (omega (arith, low)) is its
+
+  later : (e : Edit X) (es : List (Edit X)) (q : Key) (before : Option (Slot X)) → (e.key ≡ q → ⊥) → StoodAt es q before → StoodAt (e ∷ es) q before
+  later e es q before other s = record {
     edit = s.edit;
-    among = (suc s.among.0, omega (arith, s.among.1), s.among.2);
+    place = suc s.place;
+    at = s.at;
+    first = first_later e es q s.place other s.first;
     its = s.its;
     is = s.is;
   }
 
-  -- what stood there before all edits stands there now, or stood there before some edit
+  -- what stood there before all edits stands there now, or stood there before the first edit of the key
   pub before_edits : (es : List (Edit X)) (m : ByKey (Slot X)) (q : Key)
       → (map.get (undone es m) q ≡ map.get m q) ⊎ StoodAt es q (map.get (undone es m) q)
   before_edits [] m q = inl refl
@@ -59,7 +87,9 @@ module _ {X : Type 0} where
           → (map.get (undone (e ∷ es) m) q ≡ map.get m q) ⊎ StoodAt (e ∷ es) q (map.get (undone (e ∷ es) m) q)
       by_key true tied rest = inr (record {
         edit = e;
-        among = (0, omega arith, refl);
+        place = 0;
+        at = refl;
+        first = λ k d low. absurd (omega (arith, low));
         its = sym (same_key q e.key tied);
         is = get-put_back e.key e.before (undone es m) q ∙ ap (λ b. cond b e.before (map.get (undone es m) q)) tied;
       })
@@ -67,28 +97,43 @@ module _ {X : Type 0} where
           let at : map.get (undone (e ∷ es) m) q ≡ map.get (undone es m) q = get-put_back e.key e.before (undone es m) q ∙ ap (λ b. cond b e.before (map.get (undone es m) q)) tied in
           elim rest [
             | inl same ↦ inl (at ∙ same)
-            | inr stood ↦ inr (subst (StoodAt (e ∷ es) q) (sym at) (later e es q (map.get (undone es m) q) stood))
+            | inr stood ↦ inr (subst (StoodAt (e ∷ es) q) (sym at) (later e es q (map.get (undone es m) q) (another q e.key tied) stood))
           ]
 
-  -- one of the first so many edits
-  abbrev pub IsAmong : List (Edit X) → ℕ → Edit X → Type 0
-  IsAmong es n e = (k : ℕ) × (k < n) × (get_or es k e ≡ e)
+  -- the first edit of a key tells what stood there before all edits
+  pub first_found : (es : List (Edit X)) (m : ByKey (Slot X)) (place : ℕ) (edit : Edit X) → slice_get es place ≡ Some edit → IsFirst es place edit.key
+      → map.get (undone es m) edit.key ≡ edit.before
+  first_found [] m place edit at first = absurd cc
+  first_found (e ∷ es) m zero edit at first =
+      subst (λ (d : Edit X). map.get (undone (e ∷ es) m) d.key ≡ d.before) (same_Some e edit at)
+      (get-put_back e.key e.before (undone es m) e.key ∙ ap (λ b. cond b e.before (map.get (undone es m) e.key)) (itself e.key))
+  first_found (e ∷ es) m (suc place) edit at first =
+      by_key (eq_by_cmp key_cmp edit.key e.key) refl (first_found es m place edit at (λ k d low is its. first (suc k) d (omega (arith, low)) is its))
+    where
+      by_key : (b : Bool) → eq_by_cmp key_cmp edit.key e.key ≡ b → map.get (undone es m) edit.key ≡ edit.before → map.get (undone (e ∷ es) m) edit.key ≡ edit.before
+      by_key true tied rest = absurd (first 0 e (omega arith) refl (sym (same_key edit.key e.key tied)))
+      by_key false tied rest =
+          get-put_back e.key e.before (undone es m) edit.key ∙ ap (λ b. cond b e.before (map.get (undone es m) edit.key)) tied ∙ rest
 
   abbrev pub Keeps : (Key → Option X → Option X → Type 0) → ByKey X → Edit X → Type 0
   Keeps S now e = S e.key (held_before e.before) (map.get now e.key)
 
-  pub one_more : (S : Key → Option X → Option X → Type 0) (now : ByKey X) (es : List (Edit X)) (n : ℕ) (edit : Edit X) → n < length es → edit ≡ get_or es n edit
-      → Keeps S now edit → ((e : Edit X) → IsAmong es n e → Keeps S now e) → (e : Edit X) → IsAmong es (n + 1) e → Keeps S now e
-  one_more S now es n edit within here keeps all e (k, low, is) =
-      elim (cases_eq k n) [
+  -- each of the first so many edits that is the first of its key
+  abbrev pub AllKeep : (Key → Option X → Option X → Type 0) → ByKey X → List (Edit X) → ℕ → Type 0
+  AllKeep S now es n = (place : ℕ) (e : Edit X) → place < n → slice_get es place ≡ Some e → IsFirst es place e.key → Keeps S now e
+
+  pub one_more : (S : Key → Option X → Option X → Type 0) (now : ByKey X) (es : List (Edit X)) (n : ℕ) (edit : Edit X) → slice_get es n ≡ Some edit
+      → (IsFirst es n edit.key → Keeps S now edit) → AllKeep S now es n → AllKeep S now es (n + 1)
+  one_more S now es n edit here keeps all place e low at first =
+      elim (cases_eq place n) [
         | inl same ↦
-            let at : edit ≡ e = here ∙ other_default es n edit e within ∙ ap (λ i. get_or es i e) (sym same) ∙ is in
-            subst (Keeps S now) at keeps
-        | inr other ↦ all e (k, omega (arith, low, other), is)
+            let is : edit ≡ e = same_Some edit e (sym here ∙ subst (λ i. slice_get es i ≡ Some e) same at) in
+            subst (Keeps S now) is (keeps (subst (λ (d : Edit X). IsFirst es n d.key) (sym is) (subst (λ i. IsFirst es i e.key) same first)))
+        | inr other ↦ all place e (omega (arith, low, other)) at first
       ]
 
   module _ (S : Key → Option X → Option X → Type 0) (itself : (k : Key) (o : Option X) → S k o o) where
-    pub kept : (es : List (Edit X)) (m : ByKey (Slot X)) → ((e : Edit X) → Contains es e → Keeps S (live m) e) → (q : Key) → S q (map.get (live (undone es m)) q) (map.get (live m) q)
+    pub kept : (es : List (Edit X)) (m : ByKey (Slot X)) → AllKeep S (live m) es (length es) → (q : Key) → S q (map.get (live (undone es m)) q) (map.get (live m) q)
     kept es m all q =
         let then_ = get-live (undone es m) q in
         let now = get-live m q in
@@ -97,5 +142,14 @@ module _ {X : Type 0} where
           | inr stood ↦
               let P : Key → Type 0 = λ k. S k (held_before stood.edit.before) (map.get (live m) k) in
               let was : held_before stood.edit.before ≡ map.get (live (undone es m)) q = sym (then_ ∙ held_same (map.get (undone es m) q) ∙ ap held_before stood.is) in
-              subst (λ o. S q o (map.get (live m) q)) was (subst P stood.its (all stood.edit stood.among))
+              let one = all stood.place stood.edit (slice_get_within es stood.place stood.edit stood.at) stood.at (subst (IsFirst es stood.place) (sym stood.its) stood.first) in
+              subst (λ o. S q o (map.get (live m) q)) was (subst P stood.its one)
         ]
+
+  -- where all is kept, what the first edit of a key found is
+  pub first_kept : (S : Key → Option X → Option X → Type 0) (es : List (Edit X)) (m : ByKey (Slot X)) (place : ℕ) (edit : Edit X) → slice_get es place ≡ Some edit
+      → IsFirst es place edit.key → ((q : Key) → S q (map.get (live (undone es m)) q) (map.get (live m) q)) → Keeps S (live m) edit
+  first_kept S es m place edit at first all =
+      let was : map.get (live (undone es m)) edit.key ≡ held_before edit.before =
+      get-live (undone es m) edit.key ∙ ap held_in (first_found es m place edit at first) ∙ held_same edit.before in
+      subst (λ o. S edit.key o (map.get (live m) edit.key)) was (all edit.key)

@@ -1,10 +1,11 @@
-ghost use Rattle.std.specs.Prelude.{◌≡◌, ◌==◌, IfOk, OnOk, OnErr, IsTrue, Option, take, option_copied};
+ghost use Rattle.std.specs.Prelude.{◌≡◌, ◌==◌, ◌↔◌, ◌<◌, ◌≤◌, Some, length, slice_get, IfOk, OnOk, OnErr, IsTrue, Option, take, option_copied};
 ghost use Rattle.std.specs.FinMap as map;
 ghost use Rattle.words.specs.declared.key.Key.{Key as KeyValue};
+ghost use Rattle.keyed_map.specs.declared.slot.Edit.{Edit as EditValue};
 ghost use Rattle.keyed_map.specs.Keys.{key_cmp};
 ghost use Rattle.keyed_map.specs.Slots.{Fits, counted, holds, keys_from, keys_where, live};
 ghost use Rattle.keyed_map.specs.Slots.{put_live, slots_of, undo};
-ghost use Rattle.keyed_map.specs.Changes.{held_before};
+ghost use Rattle.keyed_map.specs.Changes.{IsFirst, held_before};
 
 use crate::keys_in_order::KeysInOrder;
 use crate::slot::{Edit, Slot};
@@ -106,6 +107,19 @@ fn held_before<X>(before: &Option<Slot<X>>) -> Option<&X>
     }
 }
 
+// Whether none of the edits before this place was of the key.
+fn is_first<X>(edits: &[Edit<X>], place: usize, key: &Key) -> bool
+    requires { place ≤ length edits.now }
+    ensures { IsTrue result ↔ IsFirst edits.now place key.now }
+{
+    for at in 0..place {
+        if edits[at].key.compare(key).is_eq() {
+            return false;
+        }
+    }
+    true
+}
+
 /// A value that can be copied where there is memory.
 pub trait Copied: Drop + Sized {
     fn copy(&self, alloc: Global) -> Result<Self, AllocError>
@@ -125,14 +139,40 @@ pub trait KeyTest<X> {
 
 /// A test of what stood at a key and of what stands there now.
 pub trait ChangeTest<X> {
-    ghost use Rattle.std.specs.Prelude.{Option, IsTrue};
+    ghost use Rattle.std.specs.Prelude.{Option, IfOk, IsTrue, ◌↔◌};
     ghost use Rattle.words.specs.declared.key.Key.{Key};
 
     ghost same: { Self → Key → Option X → Option X → Type 0 };
 
-    fn is_same(&self, key: &Key, before: Option<&X>, now: Option<&X>) -> bool
-        ensures { IsTrue result
-            → same self.now key.now (option_copied before.entry) (option_copied now.entry) };
+    /// # Errors
+    /// Where memory to compare both is refused.
+    fn is_same(
+        &self,
+        alloc: Global,
+        key: &Key,
+        before: Option<&X>,
+        now: Option<&X>,
+    ) -> Result<bool, AllocError>
+        ensures { IfOk result (λ is. IsTrue is
+            ↔ same self.now key.now (option_copied before.entry) (option_copied now.entry)) };
+}
+
+// Whether the key of the edit at this place holds the same now as before the edit, or the edit isn't the first of its key.
+fn is_kept<X, T: ChangeTest<X>>(
+    alloc: Global,
+    test: &T,
+    edits: &[Edit<X>],
+    place: usize,
+    now: Option<&X>,
+) -> Result<bool, AllocError>
+    requires { place < length edits.now }
+    ensures { (edit : EditValue X) → slice_get edits.now place ≡ Some edit → IfOk result (λ kept. IsTrue kept
+        ↔ (IsFirst edits.now place edit.key
+        → T.same test.now edit.key (held_before edit.before) (option_copied now.entry))) }
+{
+    let edit = &edits[place];
+    let same = test.is_same(alloc, &edit.key, held_before(&edit.before), now)?;
+    Ok(same || !is_first(edits, place, &edit.key))
 }
 
 impl<X: Copied> KeyedMap<X> {
@@ -275,19 +315,23 @@ impl<X: Drop> KeyedMap<X> {
     }
 
     /// Tells whether each key holds the same, by the test, as when the map was last settled. It looks
-    /// at the keys that were edited since, and wants no memory.
-    pub fn keeps<T: ChangeTest<X>>(&self, test: &T) -> bool
+    /// at the keys that were edited since. The first edit of a key tells what it held then.
+    ///
+    /// # Errors
+    /// Where the test was refused memory.
+    pub fn keeps<T: ChangeTest<X>>(&self, alloc: Global, test: &T) -> Result<bool, AllocError>
         requires { (key : KeyValue) (o : Option X) → T.same test.now key o o }
-        ensures { IsTrue result → (key : KeyValue)
-            → T.same test.now key (map.get self.now.settled key) (map.get self.now.present key) }
+        ensures { IfOk result (λ keeps. IsTrue keeps ↔ ((key : KeyValue)
+            → T.same test.now key (map.get self.now.settled key) (map.get self.now.present key))) }
     {
-        for edit in &self.edits {
-            let now = self.get(&edit.key);
-            if !test.is_same(&edit.key, held_before(&edit.before), now) {
-                return false;
+        let edits = self.edits.as_slice();
+        for place in 0..edits.len() {
+            let now = self.get(&edits[place].key);
+            if !is_kept(alloc, test, edits, place, now)? {
+                return Ok(false);
             }
         }
-        true
+        Ok(true)
     }
 
     // Writes a slot, and notes what stood there.

@@ -1,6 +1,7 @@
 -- Which copies an event left as they were.
 use Rattle.std.specs.Prelude.{◌≡◌, ℕ, ◌≤◌, Option, None, Some}
 use Rattle.lsdb.specs.Copies.{DatabaseCopy}
+use Rattle.lsdb.specs.Headers.{Lsa, lsa_aged}
 use Rattle.lsdb.specs.declared.times.Times.{Times}
 use Rattle.words.specs.declared.key.Key.{Key}
 
@@ -15,6 +16,13 @@ IsSameLsa None None = Unit {0}
 IsSameLsa None (Some b) = ⊥
 IsSameLsa (Some a) None = ⊥
 IsSameLsa (Some a) (Some b) = (a.lsa ≡ b.lsa) × (a.stored ≡ b.stored)
+
+-- the same LSA whatever its age, or none
+abbrev pub IsSameButForAge : Option Lsa → Option Lsa → Type 0
+IsSameButForAge None None = Unit {0}
+IsSameButForAge None (Some b) = ⊥
+IsSameButForAge (Some a) None = ⊥
+IsSameButForAge (Some a) (Some b) = lsa_aged 0 a ≡ lsa_aged 0 b
 
 -- the same age at the same moment, or none
 abbrev pub IsSameAge : Option Times → Option Times → Type 0

@@ -9,7 +9,8 @@ ghost use Rattle.lsdb.specs.Copies.{
   mark_sent,
   put_copy,
 };
-ghost use Rattle.lsdb.specs.Changes.{IsSameAge, IsSameLsa, IsUpTo};
+ghost use Rattle.lsdb.specs.Changes.{IsSameAge, IsSameButForAge, IsSameLsa, IsUpTo};
+ghost use Rattle.lsdb.specs.Headers.{lsa_aged};
 ghost use Rattle.words.specs.declared.key.Key.{Key as KeyValue};
 ghost use Rattle.lsdb.specs.Limits.{exceeds, has_room, own_externals};
 
@@ -20,7 +21,8 @@ use crate::order::{MAX_AGE, age_at};
 use crate::stored::StoredLsa;
 use crate::times::Times;
 use keyed_map::{ChangeTest, KeyTest, KeyedMap, KeysInOrder};
-use lsa::Lsa;
+use lsa::laws::texts_are_determined;
+use lsa::{Lsa, write_at_age};
 use std::alloc::{AllocError, Global};
 use std::marker::Model;
 use words::{Key, RouterId, Second};
@@ -107,37 +109,83 @@ impl<'a> KeyTest<()> for AgedAndThere<'a> {
     }
 }
 
-// Whether LSAs of the types up to this one, or of all types, are unedited.
+// Whether LSAs of the types up to this one, or of all types, are what they were but for their ages.
 #[derive(Drop)]
-struct UneditedLsas {
+struct SameLsas {
     last_type: Option<u32>,
 }
 
-impl ChangeTest<StoredLsa> for UneditedLsas {
-    ghost use Rattle.std.specs.Prelude.{◌≡◌};
-    ghost use Rattle.lsdb.specs.Changes.{IsUpTo};
+impl ChangeTest<StoredLsa> for SameLsas {
+    ghost use Rattle.lsdb.specs.Changes.{IsSameButForAge, IsUpTo};
 
-    ghost same = { λ a key before now. IsUpTo a.last_type key → before ≡ now };
+    ghost same = { λ a key before now. IsUpTo a.last_type key → IsSameButForAge before now };
 
-    fn is_same(&self, key: &Key, _before: Option<&StoredLsa>, _now: Option<&StoredLsa>) -> bool {
-        !is_up_to(self.last_type, key)
+    fn is_same(
+        &self,
+        alloc: Global,
+        key: &Key,
+        before: Option<&StoredLsa>,
+        now: Option<&StoredLsa>,
+    ) -> Result<bool, AllocError> {
+        if !is_up_to(self.last_type, key) {
+            return Ok(true);
+        }
+        is_same_lsa(alloc, before, now)
     }
 }
 
-// Whether the ages of the types up to this one, or of all types, are what they were.
+// Whether the ages of LSAs of the types up to this one, or of all types, are what they were.
 #[derive(Drop)]
-struct SameAges {
+struct SameAges<'a> {
+    lsas: &'a KeyedMap<StoredLsa>,
     last_type: Option<u32>,
 }
 
-impl ChangeTest<Times> for SameAges {
+impl<'a> ChangeTest<Times> for SameAges<'a> {
+    ghost use Rattle.std.specs.Prelude.{◌≡◌, true};
     ghost use Rattle.lsdb.specs.Changes.{IsSameAge, IsUpTo};
 
-    ghost same = { λ a key before now. IsUpTo a.last_type key → IsSameAge before now };
+    ghost same = { λ a key before now. IsUpTo a.last_type key
+        → finite.contains_key a.lsas.now.present key ≡ true → IsSameAge before now };
 
-    fn is_same(&self, key: &Key, before: Option<&Times>, now: Option<&Times>) -> bool {
-        !is_up_to(self.last_type, key) || is_same_age(before, now)
+    fn is_same(
+        &self,
+        _alloc: Global,
+        key: &Key,
+        before: Option<&Times>,
+        now: Option<&Times>,
+    ) -> Result<bool, AllocError> {
+        let counts = is_up_to(self.last_type, key) && self.lsas.contains(key);
+        Ok(!counts || is_same_age(before, now))
     }
+}
+
+// Whether it is the same LSA, whatever its age.
+fn is_same_lsa(
+    alloc: Global,
+    before: Option<&StoredLsa>,
+    now: Option<&StoredLsa>,
+) -> Result<bool, AllocError>
+    ensures { IfOk result (λ same. IsTrue same
+        ↔ IsSameButForAge (option_copied before.entry) (option_copied now.entry)) }
+{
+    match before {
+        None => Ok(now.is_none()),
+        Some(old) => match now {
+            None => Ok(false),
+            Some(new) => have_one_text(alloc, old.lsa(), new.lsa()),
+        },
+    }
+}
+
+// Whether both LSAs have one text, whatever their ages.
+fn have_one_text(alloc: Global, old: &Lsa, new: &Lsa) -> Result<bool, AllocError>
+    ensures { IfOk result (λ same. IsTrue same ↔ (lsa_aged 0 old.now ≡ lsa_aged 0 new.now)) }
+{
+    let old_text = write_at_age(alloc, old, 0)?;
+    let new_text = write_at_age(alloc, new, 0)?;
+    texts_are_determined();
+    Ok(old_text.as_slice() == new_text.as_slice())
 }
 
 fn is_up_to(last_type: Option<u32>, key: &Key) -> bool
@@ -150,7 +198,7 @@ fn is_up_to(last_type: Option<u32>, key: &Key) -> bool
 }
 
 fn is_same_age(before: Option<&Times>, now: Option<&Times>) -> bool
-    ensures { IsTrue result → IsSameAge (option_copied before.entry) (option_copied now.entry) }
+    ensures { IsTrue result ↔ IsSameAge (option_copied before.entry) (option_copied now.entry) }
 {
     match before {
         None => now.is_none(),
@@ -280,13 +328,23 @@ impl Lsdb {
 
     /// Tells whether each copy of a type up to this one, or of any type where there is none, has the
     /// LSA and the age that it had when the database was last settled: none was installed, removed or
-    /// aged out since. It looks at the edits since then, and wants no memory. That a copy was sent
-    /// doesn't count.
-    pub fn keeps(&self, last_type: Option<u32>) -> bool
-        ensures { IsTrue result → (key : KeyValue) → IsUpTo last_type key
-            → IsSameLsa (finite.get self.now.settled key) (finite.get self.now.present key) }
+    /// aged out since. It looks at the edits since then. That a copy was sent doesn't count, and
+    /// neither does that the very LSA was installed again.
+    ///
+    /// # Errors
+    /// Where memory for the texts of LSAs, to compare them, is refused.
+    pub fn keeps(&self, alloc: Global, last_type: Option<u32>) -> Result<bool, AllocError>
+        ensures { IfOk result (λ keeps. IsTrue keeps ↔ ((key : KeyValue) → IsUpTo last_type key
+            → IsSameLsa (finite.get self.now.settled key) (finite.get self.now.present key))) }
     {
-        self.lsas.keeps(&UneditedLsas { last_type }) && self.times.keeps(&SameAges { last_type })
+        if !self.lsas.keeps(alloc, &SameLsas { last_type })? {
+            return Ok(false);
+        }
+        let ages = SameAges {
+            lsas: &self.lsas,
+            last_type,
+        };
+        self.times.keeps(alloc, &ages)
     }
 
     // The LSA takes the place of its copy; `installed` tells whether flooding brought it.

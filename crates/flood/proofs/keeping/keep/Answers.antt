@@ -6,7 +6,7 @@ use Rattle.area_routes.proofs.Limits.{within}
 use Rattle.flooding.specs.Kept.{RouterArea}
 use Rattle.kept_routes.specs.Kept.{IsWalkOf, KeptWalk}
 use Rattle.routes.specs.Said.{said_at}
-use Rattle.flood.proofs.Kept.{are_kept}
+use Rattle.flood.proofs.Kept.{are_kept, walks_then}
 use Rattle.flood.proofs.keeping.keep.Goals as goal
 
 pub follow-requires-clause-few : goal.follow-requires-clause-few
@@ -52,3 +52,19 @@ returns-else-brings_answers-clause-kept c =
       answered =
           subst (λ w. KnowsAnswered said w c.follow.new.self) (sym (c.requires.answers (sym c.brings_answers.ensures ∙ c.if-brings_answers.false))) knows;
     })
+
+pub returns-then-brings_answers-clause-walks : goal.returns-then-brings_answers-clause-walks
+returns-then-brings_answers-clause-walks c =
+    let area = c.area-area.result.now in
+    walks_then c.args.before c.args.router.now.present c.args.router.now.settled.area c.id.result c.moment-moment.result area.settled area.present
+    c.args.routes.now.walk c.follow.new.self.walk c.take_answers.new.self.walk
+    c.id.ensures (ap (λ (a : RouterArea). a.settled) c.area-area.ensures.parts) (ap (λ (a : RouterArea). a.present) c.area-area.ensures.parts)
+    c.moment-moment.ensures c.take_answers.ensures.walk c.in_ok-follow.ensures.walks
+
+pub returns-else-brings_answers-clause-walks : goal.returns-else-brings_answers-clause-walks
+returns-else-brings_answers-clause-walks c =
+    let area = c.area-area.result.now in
+    walks_then c.args.before c.args.router.now.present c.args.router.now.settled.area c.id.result c.moment-moment.result area.settled area.present
+    c.args.routes.now.walk c.follow.new.self.walk c.follow.new.self.walk
+    c.id.ensures (ap (λ (a : RouterArea). a.settled) c.area-area.ensures.parts) (ap (λ (a : RouterArea). a.present) c.area-area.ensures.parts)
+    c.moment-moment.ensures refl c.in_ok-follow.ensures.walks

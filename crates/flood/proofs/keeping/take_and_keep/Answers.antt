@@ -3,6 +3,7 @@ use Rattle.area_routes.specs.Kept.{KnowsAnswered}
 use Rattle.events.specs.Routers.{Router}
 use Rattle.kept_routes.specs.Kept.{IsWalkOf}
 use Rattle.routes.specs.Said.{said_at}
+use Rattle.area_routes.specs.Kept.{WalksAgainOnlyThen}
 use Rattle.flood.specs.Occurrences.{occurrence_of}
 use Rattle.flood.proofs.Answering.{answers_stay, clock_is_on, moment_is}
 use Rattle.flood.proofs.keeping.take_and_keep.Goals as goal
@@ -34,3 +35,11 @@ keep-requires-clause-answers c none =
     let stays = c.take.ensures.settled ∙ c.requires.settled in
     answers_stay c.args.router.now.present c.args.moment (occurrence_of c.args.event.now) c.in_ok-outs.outs.items c.take.new.router.present c.in_ok-outs.ensures.ok none
     ∙ sym (ap (λ (s : Router). s.answers) stays)
+
+pub returns-clause-walks : goal.returns-clause-walks
+returns-clause-walks c =
+    let new = c.take.new.router.present in
+    let old = c.args.routes.now.walk in
+    let stays = c.take.ensures.settled ∙ c.requires.settled in
+    subst (λ m. WalksAgainOnlyThen m new.moment new.id c.args.router.now.present.area new.area old c.keep.new.routes.walk) c.moment-before.ensures
+    (subst (λ (s : Router). WalksAgainOnlyThen c.moment-before.result new.moment new.id s.area new.area old c.keep.new.routes.walk) stays c.in_ok-keep.ensures.walks)

@@ -1,13 +1,15 @@
-use Rattle.std.proofs.Common.{◌≡◌, ℕ, length, subst, sym, arith}
-use Rattle.words.specs.declared.key.Key.{Key}
+use Rattle.std.proofs.Common.{arith, refl}
 use Rattle.kept_routes.specs.Ages.{IsOld}
 use Rattle.kept_routes.proofs.Aging.{one_more}
 use Rattle.kept_routes.proofs.sameness.are_old.Goals as goal
 
 pub loop-key-preserved : goal.loop-key-preserved
 loop-key-preserved c =
-    one_more (IsOld c.args.last_type c.args.moment c.args.db.now.present) c.args.keys.now c.loop-key.key-index c.key-item.result
-    (omega arith) c.key-item.is (c.is_old.ensures c.if-not-is_old.false) c.loop-key.invariant
+    one_more (IsOld c.args.last_type c.args.before c.args.moment c.args.db.now.present) c.args.keys.now c.loop-key.key-index c.key-item.result
+    (omega arith) c.key-item.is (c.is_old.ensures.0 c.if-not-is_old.false) c.loop-key.invariant
 
 pub returns : goal.returns
-returns c = λ t key among. c.loop-key.invariant key (among.0, omega (arith, among.1), among.2)
+returns c = (
+  (λ t key among. c.loop-key.invariant key (among.0, omega (arith, among.1), among.2)),
+  (λ all. refl),
+)

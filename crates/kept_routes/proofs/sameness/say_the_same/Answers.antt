@@ -1,9 +1,29 @@
-use Rattle.std.proofs.Common.{◌≡◌, ◌∙◌, subst}
+use Rattle.std.proofs.Common.{◌∙◌, subst, sym}
 use Rattle.kept_routes.specs.Ages.{AreOld}
-use Rattle.kept_routes.proofs.Aging.{all_same}
+use Rattle.kept_routes.proofs.Aging.{all_left, all_same, keeps_all, olds_all}
 use Rattle.kept_routes.proofs.sameness.say_the_same.Goals as goal
 
-pub returns : goal.returns
-returns c = λ t.
-    all_same c.args.last_type c.args.before c.args.moment c.args.db.now.settled c.args.db.now.present c.requires (c.keeps.ensures c.if-not-keeps.false)
-    (subst (AreOld c.args.last_type c.args.before c.args.db.now.present) (c.deref.ensures.value ∙ c.in_ok-keys.ensures) (c.are_old.ensures t))
+pub returns-clause-same : goal.returns-clause-same
+returns-clause-same c = λ t.
+    let old = c.args.db.now.settled in
+    let new = c.args.db.now.present in
+    let keys = c.deref.ensures.value ∙ c.in_ok-keys.ensures in
+    all_same c.args.last_type c.args.before c.args.moment old new c.requires
+    (all_left c.args.last_type c.args.before c.args.moment old new (c.in_ok-keeps.ensures.0 c.if-not-branch.false)
+    (subst (AreOld c.args.last_type c.args.before c.args.moment new) keys (c.are_old.ensures.0 t)))
+
+pub returns-clause-left : goal.returns-clause-left
+returns-clause-left c =
+    let old = c.args.db.now.settled in
+    let new = c.args.db.now.present in
+    let keys = c.deref.ensures.value ∙ c.in_ok-keys.ensures in (
+      (λ t. all_left c.args.last_type c.args.before c.args.moment old new (c.in_ok-keeps.ensures.0 c.if-not-branch.false)
+          (subst (AreOld c.args.last_type c.args.before c.args.moment new) keys (c.are_old.ensures.0 t))),
+      (λ left. c.are_old.ensures.1 (olds_all c.args.last_type c.args.before c.args.moment old new c.deref.result.now left)),
+    )
+
+pub returns-then-not-branch-clause-left : goal.returns-then-not-branch-clause-left
+returns-then-not-branch-clause-left c = (
+  (λ t. absurd cc),
+  (λ left. sym c.if-not-branch.true ∙ c.in_ok-keeps.ensures.1 (keeps_all c.args.last_type c.args.before c.args.moment c.args.db.now.settled c.args.db.now.present left)),
+)

@@ -1,28 +1,57 @@
-use Rattle.std.proofs.Common.{◌≡◌, ℕ, ◌<◌, length, get_or, sym, ◌∙◌, ap, subst, arith}
+use Rattle.std.proofs.Common.{◌≡◌, true, false, get_or, length, refl, sym, ◌∙◌, ap, subst, arith}
+use Rattle.std.specs.Prelude.{Some, slice_get}
+use Rattle.std.proofs.lemmas.Option.{slice_get-get_or}
 use Rattle.std.specs.FinMap as map
-use Rattle.std.specs.Option.{option_copied}
-use Rattle.keyed_map.specs.Changes.{held_before}
+use Rattle.words.specs.declared.key.Key.{Key}
+use Rattle.keyed_map.specs.Changes.{IsFirst, held_before}
 use Rattle.keyed_map.specs.Slots.{slots_of}
 use Rattle.keyed_map.specs.Held.{Held}
-use Rattle.keyed_map.proofs.Changes.{Keeps, kept, one_more}
+use Rattle.keyed_map.proofs.Changes.{Keeps, first_kept, kept, one_more}
 use Rattle.keyed_map.proofs.map.KeyedMap.keeps.Goals as goal
 
-pub loop-edit-preserved : goal.loop-edit-preserved
-loop-edit-preserved g c =
-    let edit = c.edit-item.result in
-    let S = g.T.ChangeTest.same c.args.test.now edit.key in
-    let held = c.is_same.ensures c.if-not-is_same.false in
-    let before = subst (λ o. S o (option_copied c.get-now.result)) c.held_before.ensures held in
-    let now = subst (λ o. S (held_before edit.before) o) c.get-now.ensures before in
-    one_more (g.T.ChangeTest.same c.args.test.now) c.args.self.now.present c.deref-edit-items.result.now c.loop-edit.edit-index
-    edit (omega arith) c.edit-item.is now c.loop-edit.invariant
+pub loop-place-preserved : goal.loop-place-preserved
+loop-place-preserved g c =
+    let S = g.T.ChangeTest.same c.args.test.now in
+    let es = c.as_slice-edits.result.now in
+    let n = c.loop-place.place in
+    let edit = get_or es n c.index-edits-place.result in
+    let at = slice_get-get_or es n c.index-edits-place.result (omega arith) in
+    let same = (c.in_ok-is_kept.ensures edit at).0 c.if-not-branch.false in
+    one_more S c.args.self.now.present es n edit at (λ first. subst (S edit.key (held_before edit.before)) c.get-now.ensures (same first)) c.loop-place.invariant
+
+pub returns-then-not-branch : goal.returns-then-not-branch
+returns-then-not-branch g c =
+    let S = g.T.ChangeTest.same c.args.test.now in
+    let es = c.as_slice-edits.result.now in
+    let n = c.loop-place.place in
+    let edit = get_or es n c.index-edits-place.result in
+    let at = slice_get-get_or es n c.index-edits-place.result (omega arith) in
+    let items = c.self.inside.edits.items in
+    let slots = slots_of c.self.inside.slots.entries in
+    let in_items = subst (λ xs. slice_get xs n ≡ Some edit) c.as_slice-edits.ensures.value at in (
+      (λ t. absurd cc),
+      (λ all. absurd (
+          let inside = subst (λ (h : Held _). (key : Key) → S key (map.get h.settled key) (map.get h.present key)) (sym c.self.view_is) all in
+          let same = λ (first : IsFirst es n edit.key).
+          let one = first_kept S items slots n edit in_items (subst (λ xs. IsFirst xs n edit.key) c.as_slice-edits.ensures.value first) inside in
+          let now = subst (λ (h : Held _). Keeps S h.present edit) c.self.view_is one in
+          subst (S edit.key (held_before edit.before)) (sym c.get-now.ensures) now in
+          let t = (c.in_ok-is_kept.ensures edit at).1 same in
+          let no : false ≡ true = sym c.if-not-branch.true ∙ t in
+          cc)),
+    )
 
 pub returns : goal.returns
-returns g c = λ t key.
-    let S = g.T.ChangeTest.same c.args.test.now in
-    let es = c.self.inside.edits.items in
-    let slots = slots_of c.self.inside.slots.entries in
-    subst (λ (h : Held _). S key (map.get h.settled key) (map.get h.present key)) c.self.view_is
-    (kept S c.requires es slots (λ e among.
-    subst (λ (h : Held _). Keeps S h.present e) (sym c.self.view_is)
-    (c.loop-edit.invariant e (among.0, omega (arith, among.1, c.loop-edit-test.false, ap length c.deref-edit-items.ensures.value), subst (λ xs. get_or xs among.0 e ≡ e) (sym c.deref-edit-items.ensures.value) among.2))) key)
+returns g c = (
+  (λ t key.
+      let S = g.T.ChangeTest.same c.args.test.now in
+      let items = c.self.inside.edits.items in
+      let slots = slots_of c.self.inside.slots.entries in
+      let value = c.as_slice-edits.ensures.value in
+      subst (λ (h : Held _). S key (map.get h.settled key) (map.get h.present key)) c.self.view_is
+      (kept S c.requires items slots (λ place e low at first.
+      subst (λ (h : Held _). Keeps S h.present e) (sym c.self.view_is)
+      (c.loop-place.invariant place e (omega (arith, low, c.loop-place-test.false, c.as_slice-edits.ensures.len, ap length value))
+      (subst (λ xs. slice_get xs place ≡ Some e) (sym value) at) (subst (λ xs. IsFirst xs place e.key) (sym value) first))) key)),
+  (λ all. refl),
+)

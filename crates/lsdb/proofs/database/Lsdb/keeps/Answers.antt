@@ -1,18 +1,41 @@
-use Rattle.std.proofs.Common.{sym, subst}
+use Rattle.std.proofs.Common.{sym, subst, ◌∙◌}
+use Rattle.std.proofs.lemmas.Result.{IfOk-weaker}
 use Rattle.std.specs.FinMap as finite
 use Rattle.lsdb.specs.Changes.{IsSameLsa}
-use Rattle.lsdb.specs.Joined.{both, joined}
 use Rattle.lsdb.specs.Kept.{RouterDatabase}
-use Rattle.lsdb.proofs.Changes.{same_copies}
-use Rattle.lsdb.proofs.Joins.{get-joined}
+use Rattle.lsdb.proofs.Changes.{in_joined, of_joined, same_age_itself, same_ages, same_copies, same_lsa_itself, same_lsas}
 use Rattle.lsdb.proofs.database.Lsdb.keeps.Goals as goal
 
-pub returns-then-keeps : goal.returns-then-keeps
-returns-then-keeps c = λ t key of.
+pub keeps-requires : goal.keeps-requires
+keeps-requires c key o of = same_lsa_itself o
+
+pub keeps-requires-2 : goal.keeps-requires-2
+keeps-requires-2 c key o of there = same_age_itself o
+
+pub returns-then-not-branch : goal.returns-then-not-branch
+returns-then-not-branch c = (
+  (λ t. absurd cc),
+  (λ all.
+      let lsas = c.self.inside.lsas in
+      let times = c.self.inside.times in
+      sym c.if-not-branch.true ∙ c.in_ok-keeps.ensures.1 (λ key of.
+      let held = subst (λ (d : RouterDatabase). IsSameLsa (finite.get d.settled key) (finite.get d.present key)) (sym c.self.view_is) (all key of) in
+      same_lsas (finite.get lsas.settled key) (finite.get lsas.present key) (finite.get times.settled key) (finite.get times.present key)
+      (c.self.invariant.settled key) (c.self.invariant.present key) (of_joined lsas.settled lsas.present times.settled times.present key held))),
+)
+
+pub returns : goal.returns
+returns c =
     let lsas = c.self.inside.lsas in
     let times = c.self.inside.times in
-    let same = same_copies (finite.get lsas.settled key) (finite.get lsas.present key) (finite.get times.settled key) (finite.get times.present key)
-    (c.keeps.ensures c.if-keeps.true key of) (c.keeps-then-keeps.ensures t key of) in
-    let before = subst (λ o. IsSameLsa o (both (finite.get lsas.present key) (finite.get times.present key))) (sym (get-joined lsas.settled times.settled key)) same in
-    let now = subst (λ o. IsSameLsa (finite.get (joined lsas.settled times.settled) key) o) (sym (get-joined lsas.present times.present key)) before in
-    subst (λ (d : RouterDatabase). IsSameLsa (finite.get d.settled key) (finite.get d.present key)) c.self.view_is now
+    IfOk-weaker c.keeps-2.result _ _ (λ same is. (
+      (λ t key of.
+          let one = same_copies (finite.get lsas.settled key) (finite.get lsas.present key) (finite.get times.settled key) (finite.get times.present key)
+          (c.in_ok-keeps.ensures.0 c.if-not-branch.false key of) (is.0 t key of) in
+          subst (λ (d : RouterDatabase). IsSameLsa (finite.get d.settled key) (finite.get d.present key)) c.self.view_is
+          (in_joined lsas.settled lsas.present times.settled times.present key one)),
+      (λ all. is.1 (λ key of there.
+          let held = subst (λ (d : RouterDatabase). IsSameLsa (finite.get d.settled key) (finite.get d.present key)) (sym c.self.view_is) (all key of) in
+          same_ages (finite.get lsas.settled key) (finite.get lsas.present key) (finite.get times.settled key) (finite.get times.present key)
+          (c.self.invariant.settled key) (c.self.invariant.present key) (of_joined lsas.settled lsas.present times.settled times.present key held) there)),
+    )) c.keeps-2.ensures
