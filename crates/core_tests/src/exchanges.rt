@@ -1,11 +1,12 @@
 //! How two routers become Full: the exchange of databases from bytes to bytes (RFC 2328, sections
 //! 10 and 12.4).
-use crate::hello_packets::{DESCRIPTION, GREETING, NAMING};
+use crate::hello_packets::{DESCRIPTION, GREETING, HEARD, NAMING};
 use crate::packets::{
     BEGUN_AGAIN, FIRST_ATTEMPT, FLUSH_ACKNOWLEDGED, FLUSHED, LAST_ACKNOWLEDGED, LAST_DESCRIPTION,
     LAST_NUMBER, OWN_ACKNOWLEDGED, OWN_HEADER, OWN_LSA, OWN_LSA_BACK, OWN_SUMMARY,
     OWN_SUMMARY_ACKNOWLEDGED, OWN_SUMMARY_AGED, OWN_SUMMARY_FLUSHED, OWN_SUMMARY_GONE,
-    PEER_ACKNOWLEDGED, PEER_HEADER, PEER_LSA, REQUESTED, SECOND_ATTEMPT, SKIPPED,
+    PEER_ACKNOWLEDGED, PEER_HEADER, PEER_LSA, PEER_SECOND_HEADER, REQUESTED, SECOND_ATTEMPT,
+    SKIPPED, THIRD_ATTEMPT,
 };
 use crate::steps::{OWN, PEER, Step, What, play};
 use flood::{CoreError, State};
@@ -52,6 +53,20 @@ const REPEATED: &[Step] = &[
     Step::Sees(1, Some((PEER, State::Loading))),
     Step::Sends(2, What::Packet(1, SKIPPED), &[(1, SECOND_ATTEMPT)]),
     Step::Sees(1, Some((PEER, State::ExStart))),
+];
+
+/// A neighbor that has forgotten this router describes a newer router-LSA, and answers the request
+/// for it with the one that is there: a bad request, and all begins anew.
+const REQUESTED_IN_VAIN: &[Step] = &[
+    Step::Sends(9, What::Packet(1, HEARD), &[]),
+    Step::Sees(1, Some((PEER, State::Init))),
+    Step::Sends(9, What::Packet(1, NAMING), &[(1, SECOND_ATTEMPT)]),
+    Step::Counts(9, What::Packet(1, DESCRIPTION), 1),
+    Step::Counts(10, What::Packet(1, PEER_SECOND_HEADER), 2),
+    Step::Sees(1, Some((PEER, State::Loading))),
+    Step::Sends(10, What::Packet(1, PEER_LSA), &[(1, THIRD_ATTEMPT)]),
+    Step::Sees(1, Some((PEER, State::ExStart))),
+    Step::Holds(2),
 ];
 
 /// The own router-LSA comes in with the greatest sequence number: it is flushed, and originated
@@ -147,6 +162,11 @@ fn a_router_lsa_waits_for_five_seconds(rt: HostRuntime) -> Result<(), Fail> {
 #[test]
 fn descriptions_come_twice_or_not_at_all(rt: HostRuntime) -> Result<(), Fail> {
     play(rt.alloc(), &rt, 1, &[LOADING, REPEATED])
+}
+
+#[test]
+fn a_request_is_answered_with_what_is_there(rt: HostRuntime) -> Result<(), Fail> {
+    play(rt.alloc(), &rt, 1, &[LOADING, FULL, REQUESTED_IN_VAIN])
 }
 
 #[test]
