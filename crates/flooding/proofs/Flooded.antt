@@ -4,17 +4,14 @@ use Rattle.std.specs.Prelude.{Option, None, Some}
 use Rattle.std.specs.List.{fold}
 use Rattle.lsdb.specs.Copies.{Database, mark_sent}
 use Rattle.lsdb.specs.Headers.{Lsa, lsa_key}
-use Rattle.lsdb.specs.Instances.{ListEntry}
 use Rattle.adjacency.specs.Contents.{Content, Step, Updates, no_sends}
 use Rattle.adjacency.specs.Contents as neighbor
 use Rattle.adjacency.specs.Drafts.{Drafted, drafting}
 use Rattle.adjacency.specs.Floods.{flooded, is_any}
-use Rattle.adjacency.specs.Floods as neighbor_flood
 use Rattle.adjacency.specs.Kept.{Kept}
 use Rattle.adjacency.specs.Neighbors.{Neighbor, is_exchange_or_later}
-use Rattle.adjacency.specs.Requests.{without_request}
 use Rattle.adjacency.specs.Retransmissions.{add_retransmission, remove_retransmission}
-use Rattle.received.specs.Flooding.{flood_to, is_sender, meets, passes, request_of, without_met_request}
+use Rattle.received.specs.Flooding.{flood_to, is_sender, passes, request_of, without_met_request}
 use Rattle.received.specs.Links.{Link}
 use Rattle.received.specs.Outcomes.{Send, Stepping, marked, sent_on, step_on, stepped, stepping_sends}
 use Rattle.flooding.specs.Drafted.{drafted_from}
@@ -25,30 +22,10 @@ use Rattle.flooding.proofs.Marks.{marks_all}
 
 -- ---- a neighbor's step is the definition's, by whether the link is the sender's
 
-passes_is : (moment : ℕ) (lsa : Lsa) (r : Option ListEntry) → passes moment lsa r ≡ neighbor_flood.passes moment lsa r
-passes_is moment lsa None = refl
-passes_is moment lsa (Some r) = refl
-
-meets_is : (moment : ℕ) (lsa : Lsa) (r : Option ListEntry) → meets moment lsa r ≡ neighbor_flood.meets moment lsa r
-meets_is moment lsa None = refl
-meets_is moment lsa (Some r) = refl
-
--- the step by what the neighbor's request comes to
-abbrev by_request : ℕ → Bool → Lsa → Neighbor → (passed met : Bool) → Step
-by_request moment from lsa n passed met =
-    cond (is_exchange_or_later n.state)
-    (cond (not from && passed)
-    (record { neighbor = add_retransmission moment lsa.header (cond met (without_request (lsa_key lsa) n) n); sends = Updates lsa ∷ [] })
-    (no_sends (remove_retransmission (lsa_key lsa) (cond met (without_request (lsa_key lsa) n) n))))
-    (no_sends n)
-
 pub flooded_to : (moment : ℕ) (sender : Option ℕ) (lsa : Lsa) (number : ℕ) (link : Link) (n : Neighbor)
     → flood_to moment sender lsa number link n ≡ flooded moment (is_sender sender number) lsa n
 unfolding flooded
-flooded_to moment sender lsa number link n =
-    let r = request_of n lsa in
-    ap (λ b. by_request moment (is_sender sender number) lsa n b (meets moment lsa r)) (passes_is moment lsa r)
-    ∙ ap (λ b. by_request moment (is_sender sender number) lsa n (neighbor_flood.passes moment lsa r) b) (meets_is moment lsa r)
+flooded_to moment sender lsa number link n = refl
 
 pub step_is : (moment : ℕ) (sender : Option ℕ) (lsa : Lsa) (number : ℕ) (link : Link) (o : Option Neighbor)
     → neighbor.step_on (flooded moment (is_sender sender number) lsa) o ≡ step_on (flood_to moment sender lsa number link) o

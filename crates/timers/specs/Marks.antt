@@ -1,15 +1,14 @@
 -- What a link sends again, and the marks of what its Updates take along.
 use Rattle.std.specs.Prelude.{ℕ, List, [], ◌∷◌, ◌++◌, drop, length, map}
-use Rattle.std.specs.List.{fold}
 use Rattle.words.specs.Numbers.{Moment}
 use Rattle.words.specs.declared.key.Key.{Key}
-use Rattle.lsdb.specs.Copies.{Database, mark_sent}
+use Rattle.lsdb.specs.Copies.{Database}
 use Rattle.adjacency.specs.Contents.{Content, sent_on, step_on}
 use Rattle.adjacency.specs.Drafts.{Drafted}
 use Rattle.adjacency.specs.Retransmissions.{send_again}
-use Rattle.adjacency.specs.declared.draft.Update.{Update}
 use Rattle.received.specs.Links.{Link}
 use Rattle.flooding.specs.Links.{with_neighbor}
+pub use Rattle.flooding.specs.Steps.{key_of_update, mark_each}
 
 abbrev pub after_again : Moment → Database → Link → Link
 after_again moment db link =
@@ -20,14 +19,8 @@ abbrev pub sent_again : Moment → Database → Link → List Content
 sent_again moment db link =
     sent_on (send_again moment link.interface.retransmit_interval db) link.neighbor
 
-abbrev pub key_of_update : Update → Key
-key_of_update u = u.key
-
 abbrev pub update_count : Drafted → ℕ
 update_count d = length d.updates
-
-abbrev pub mark_each : Moment → Database → List Key → Database
-mark_each moment db keys = fold (λ (d : Database) (key : Key). mark_sent moment key d) db keys
 
 -- the keys of the Updates behind the first so many of each draft
 abbrev pub keys_behind : List ℕ → List Drafted → List Key

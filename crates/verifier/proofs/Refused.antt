@@ -1,5 +1,5 @@
 -- Where the pass refuses a program, the rule that it names is broken, and none that is tried before.
-use Rattle.std.proofs.Common.{◌≡◌, ℕ, ◌+◌, ◌<◌, ◌≤◌, Bool, true, false, List, Option, Some, None, inr, ⊎_elim, refl, sym, subst, arith}
+use Rattle.std.proofs.Common.{◌≡◌, ℕ, ◌+◌, ◌*◌, ◌∙◌, ◌<◌, ◌≤◌, Bool, true, false, List, Option, Some, None, inr, ⊎_elim, refl, sym, ap, subst, arith}
 use Rattle.std.specs.Prelude.{IfErr, IsSome, Result, Ok, Err, slice_get}
 use Rattle.std.specs.Result.{IsErrAnd}
 use Rattle.std.proofs.lemmas.Bool.{cases_lt}
@@ -26,6 +26,15 @@ use Rattle.verifier.proofs.SegmentLemmas.{none_between, size_some, sizes}
 pub handed_on : {A T : Type 0} (result : Result A T) (error : T) (P : T → Type 0) → IsErrAnd result (λ e. e ≡ error) → P error → IfErr result P
 handed_on (Ok value) error P is broken = absurd is
 handed_on (Err other) error P is broken = subst P (sym is) broken
+
+pub is_err_of : {A T : Type 0} (result : Result A T) (error : T) → IsErrAnd result (λ e. e ≡ error) → result ≡ Err error
+is_err_of (Ok value) error is = absurd is
+is_err_of (Err other) error is = ap Err is
+
+-- what is within the bound isn't above it
+pub within_bound : (turns size length bound most : ℕ) → bound ≡ turns * size → size ≡ length → bound ≤ most → most < turns * length → ⊥
+within_bound turns size length bound most value same within over =
+    absurd (omega (arith, within, subst (λ n. most < n) (sym (value ∙ ap (λ n. turns * n) same)) over))
 
 -- the refusal of one slot
 abbrev pub IsRefusal : Hook → List Slot → ℕ → List StatementParts → ℕ → Rule → Type 0

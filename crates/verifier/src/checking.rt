@@ -1,5 +1,5 @@
 //! The verifier's main call.
-ghost use Rattle.std.specs.Prelude.{◌≡◌, ◌+◌, ◌*◌, ◌<◌, ◌≤◌, IfErr, IfOk, length};
+ghost use Rattle.std.specs.Prelude.{◌≡◌, ◌+◌, ◌*◌, ◌<◌, ◌≤◌, IfErr, IfOk, IsErrOf, length};
 ghost use Rattle.object.specs.Objects.{AreStatements};
 ghost use Rattle.machine.specs.Runs.{Safe};
 ghost use Rattle.segments.specs.Refusals.{IsFirst, MayRefuse, budget};
@@ -65,6 +65,9 @@ pub fn verify<D: Domain>(
         IsFirst code statements.now refusal.slot refusal.rule) }
     ensures plain { IsPlain code entry_rank statements.now
         → IfErr result (λ refusal. refusal.rule ≡ Rule.Memory) }
+    // The bound is tried before anything needs memory, so no want of memory hides that it is passed.
+    ensures over { budget < (entry_rank + 1) * length code
+        → IsErrOf result (record { slot = 0; rule = Rule.Budget }) }
 {
     let _is_code = code.slots();
     let bound = bound_of_runs(entry_rank, code.len())?;

@@ -1,4 +1,4 @@
-use Rattle.std.proofs.Common.{◌≡◌, ◌+◌, ◌*◌, ◌∙◌, length, refl, sym, ap, subst}
+use Rattle.std.proofs.Common.{◌≡◌, ◌+◌, ◌*◌, ◌∙◌, length, Err, refl, sym, ap, subst}
 use Rattle.machine.specs.Runs.{Safe}
 use Rattle.machine.specs.State.{start}
 use Rattle.ranks.specs.Lines.{rank_value}
@@ -6,7 +6,7 @@ use Rattle.verifier.proofs.SegmentLemmas.{code_begins}
 use Rattle.verifier.proofs.Soundness.{safe_program}
 use Rattle.isa.specs.Flow.{Begins}
 use Rattle.segments.specs.Refusals.{IsFirst, MayRefuse}
-use Rattle.verifier.proofs.Refused.{entry_refused, first_of_all, handed_on}
+use Rattle.verifier.proofs.Refused.{entry_refused, first_of_all, handed_on, is_err_of, within_bound}
 use Rattle.segments.proofs.Plain.{never}
 use Rattle.verifier.specs.Pass.{HasRank, IsPlainProgram}
 use Rattle.verifier.proofs.Plain.{entry_edge}
@@ -70,3 +70,31 @@ returns-in_err-known-clause-first g c =
     handed_on c.from_residual-in_err-known.result c.in_err-known.field-0.0 (λ r. IsFirst c.args.code c.args.statements.now r.slot r.rule) c.from_residual-in_err-known.ensures.1
     (first_of_all c.args.code c.args.statements.now c.in_err-known.field-0.0.slot c.in_err-known.field-0.0.rule c.in_err-known.ensures.named.0
     (entry_refused c.args.hook c.args.code c.args.entry_rank c.args.statements.now c.in_err-known.field-0.0.slot c.in_err-known.field-0.0.rule begins c.in_err-known.ensures.named.1).1)
+
+pub returns-in_err-bound-clause-over : goal.returns-in_err-bound-clause-over
+returns-in_err-bound-clause-over g c = λ over.
+    is_err_of c.from_residual-in_err-bound.result c.in_err-bound.field-0.0 c.from_residual-in_err-bound.ensures.1 ∙ ap Err c.in_err-bound.ensures.named
+
+pub returns-in_err-entry-clause-over : goal.returns-in_err-entry-clause-over
+returns-in_err-entry-clause-over g c = λ over.
+    absurd (within_bound (c.args.entry_rank + 1) _ (length c.args.code) c.in_ok-bound.bound _ c.in_ok-bound.ensures.value c.len.ensures.value c.in_ok-bound.ensures.most over)
+
+pub returns-in_err-targets-clause-over : goal.returns-in_err-targets-clause-over
+returns-in_err-targets-clause-over g c = λ over.
+    absurd (within_bound (c.args.entry_rank + 1) _ (length c.args.code) c.in_ok-bound.bound _ c.in_ok-bound.ensures.value c.len.ensures.value c.in_ok-bound.ensures.most over)
+
+pub returns-in_err-unknown-clause-over : goal.returns-in_err-unknown-clause-over
+returns-in_err-unknown-clause-over g c = λ over.
+    absurd (within_bound (c.args.entry_rank + 1) _ (length c.args.code) c.in_ok-bound.bound _ c.in_ok-bound.ensures.value c.len.ensures.value c.in_ok-bound.ensures.most over)
+
+pub returns-in_err-known-clause-over : goal.returns-in_err-known-clause-over
+returns-in_err-known-clause-over g c = λ over.
+    absurd (within_bound (c.args.entry_rank + 1) _ (length c.args.code) c.in_ok-bound.bound _ c.in_ok-bound.ensures.value c.len.ensures.value c.in_ok-bound.ensures.most over)
+
+pub returns-in_err-pass_all-clause-over : goal.returns-in_err-pass_all-clause-over
+returns-in_err-pass_all-clause-over g c = λ over.
+    absurd (within_bound (c.args.entry_rank + 1) _ (length c.args.code) c.in_ok-bound.bound _ c.in_ok-bound.ensures.value c.len.ensures.value c.in_ok-bound.ensures.most over)
+
+pub returns-clause-over : goal.returns-clause-over
+returns-clause-over g c = λ over.
+    absurd (within_bound (c.args.entry_rank + 1) _ (length c.args.code) c.in_ok-bound.bound _ c.in_ok-bound.ensures.value c.len.ensures.value c.in_ok-bound.ensures.most over)
