@@ -1,9 +1,10 @@
 //! What a Tick takes that sends LSAs again (RFC 2328, section 13.6).
-use crate::hub::{MADE, ROUTER_LSAS, hub, tell, tick};
-use crate::lsas::externals;
+use crate::hub::{MADE, acknowledge, externals_of, hub, tell, tick};
+use crate::lsas::{externals, headers};
 use crate::timing::{MEASUREMENTS, print_figure, time};
 use anyhow::{Result, ensure};
 use flood::{Core, Event};
+use std::alloc::Global;
 use std::rt::Clock;
 
 // How many LSAs neighbor 2 doesn't acknowledge.
@@ -21,17 +22,23 @@ fn measure<R: Clock + Print>(rt: &R, core: &mut Core) -> Result<()> {
     print_figure(rt, "a Tick that sends 100 LSAs again", times)
 }
 
+// The router with so many LSAs, the last of which neighbor 2 hasn't acknowledged.
+fn unacknowledged(alloc: Global, size: u32) -> Result<Core> {
+    let mut core = hub(alloc, 3, size.saturating_sub(LISTED))?;
+    let lsas = externals(alloc, externals_of(3, size), LISTED)?;
+    tell(alloc, &mut core, MADE, LISTED, &lsas)?;
+    acknowledge(alloc, &mut core, MADE, 3, &headers(alloc, &lsas, 36)?)?;
+    tick(&mut core, MADE)?;
+    tick(&mut core, MADE.saturating_add(5))?;
+    ensure!(core.database().len() == size as usize, "not {size} LSAs");
+    Ok(core)
+}
+
 /// Prints what a Tick takes that sends 100 LSAs again to neighbor 2, where there are so many in all,
 /// those among them; 110 where there would be fewer.
 pub fn print_again<R: Clock + Print + AllocGlobal>(rt: &R, size: u32) -> Result<()> {
     let size = size.max(LISTED.saturating_add(10));
-    let others = size.saturating_sub(LISTED).saturating_sub(ROUTER_LSAS);
-    let mut core = hub(rt.alloc(), others)?;
-    let lsas = externals(rt.alloc(), others, LISTED)?;
-    tell(rt.alloc(), &mut core, MADE, LISTED, &lsas)?;
-    tick(&mut core, MADE)?;
-    tick(&mut core, MADE.saturating_add(5))?;
-    ensure!(core.database().len() == size as usize, "not {size} LSAs");
+    let mut core = unacknowledged(rt.alloc(), size)?;
     println!(rt; "{size} LSAs, of which neighbor 2 hasn't acknowledged {LISTED}")?;
     measure(rt, &mut core)
 }

@@ -1,5 +1,5 @@
 //! What it takes until a new neighbor is Full, for both routers together (RFC 2328, section 10).
-use crate::hub::{ROUTER_LSAS, fourth, hub};
+use crate::hub::{fourth, hub};
 use crate::timing::since;
 use anyhow::{Result, anyhow, ensure};
 use flood::{Core, Event, Out, State};
@@ -92,7 +92,7 @@ impl Pair {
     }
 }
 
-fn pair(alloc: Global, one: &Core, other: &Core) -> Result<Pair> {
+fn between(alloc: Global, one: &Core, other: &Core) -> Result<Pair> {
     let one = one.copy()?;
     let other = other.copy()?;
     Ok(Pair {
@@ -117,11 +117,11 @@ fn measure<R: Clock>(rt: &R, pair: &mut Pair, size: u32) -> Result<(u64, u64)> {
 /// where there are so many LSAs then, those of both among them.
 pub fn print_exchange<R: Clock + Print + AllocGlobal>(rt: &R, size: u32) -> Result<()> {
     let alloc = rt.alloc();
-    let one = hub(alloc, size.saturating_sub(ROUTER_LSAS).saturating_sub(1))?;
+    let one = hub(alloc, 3, size.saturating_sub(1))?;
     let other = fourth(alloc)?;
     let mut least = (u64::MAX, 0);
     for _measurement in 0..MEASUREMENTS {
-        let (taken, packets) = measure(rt, &mut pair(alloc, &one, &other)?, size)?;
+        let (taken, packets) = measure(rt, &mut between(alloc, &one, &other)?, size)?;
         least = (least.0.min(taken), packets);
     }
     let (nanoseconds, packets) = least;

@@ -1,7 +1,7 @@
 //! What single events take.
 use crate::again::print_again;
 use crate::exchange::print_exchange;
-use crate::hub::{MADE, ROUTER_LSAS, acknowledge, hear, hub, tell, tick};
+use crate::hub::{MADE, acknowledge, externals_of, hub, tell, tick};
 use crate::lsas::{MAX_AGE, external};
 use crate::packets::{acknowledgment, hello, update};
 use crate::timing::{MEASUREMENTS, print_figure, time};
@@ -29,15 +29,20 @@ fn time_flooding<R: Clock>(
     Ok([arrived, answered])
 }
 
+// The LSA of this number comes from 1, and 2 and 3 acknowledge it.
+fn settle(alloc: Global, core: &mut Core, moment: u64, lsa: &[u8; 36]) -> Result<()> {
+    tell(alloc, core, moment, 1, lsa)?;
+    acknowledge(alloc, core, moment, 2, &lsa[..20])?;
+    acknowledge(alloc, core, moment, 3, &lsa[..20])?;
+    tick(core, moment)?;
+    Ok(())
+}
+
 // 3 acknowledges it too, and a second later it comes with MaxAge and leaves the database.
 fn flush(alloc: Global, core: &mut Core, moment: u64, number: u32) -> Result<()> {
     acknowledge(alloc, core, moment, 3, &external(number, 1, 0)[..20])?;
-    let later = moment.saturating_add(1);
     let aged = external(number, MAX_AGE, 0);
-    tell(alloc, core, later, 1, &aged)?;
-    acknowledge(alloc, core, later, 2, &aged[..20])?;
-    tick(core, later)?;
-    Ok(())
+    settle(alloc, core, moment.saturating_add(1), &aged)
 }
 
 // A second for each measurement. The LSA that comes is the last that the database has room for.
@@ -79,13 +84,12 @@ fn print_hellos<R: Clock + Print>(rt: &R, core: &mut Core, event: &Event) -> Res
 
 fn print_size<R: Clock + Print + AllocGlobal>(rt: &R, size: u32) -> Result<()> {
     let alloc = rt.alloc();
-    let number = size.saturating_sub(ROUTER_LSAS).saturating_sub(1);
-    let mut core = hub(alloc, number)?;
+    let before = size.saturating_sub(1);
+    let number = externals_of(3, before);
+    let mut core = hub(alloc, 3, before)?;
     println!(rt; "{size} LSAs")?;
     print_flooding(rt, &mut core, number)?;
-    tell(alloc, &mut core, 190, 1, &external(number, 1, 0))?;
-    acknowledge(alloc, &mut core, 190, 2, &external(number, 1, 0)[..20])?;
-    tick(&mut core, 191)?;
+    settle(alloc, &mut core, 190, &external(number, 1, 0))?;
     ensure!(core.database().len() == size as usize, "not {size} LSAs");
     print_ticks(rt, &mut core)?;
     print_hellos(rt, &mut core, &Event::Packet(1, hello(alloc, 1)?))

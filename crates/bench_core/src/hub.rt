@@ -1,5 +1,6 @@
-//! A router with four neighbors, of which three are Full, and with so many LSAs.
-use crate::lsas::{externals, headers, router_lsa};
+//! A router with four neighbors, of which so many are Full, and with so many LSAs.
+use crate::lsas;
+use crate::lsas::{headers, router_lsa};
 use crate::packets::{
     CONVERSATION, DEAD_INTERVAL, HELLO_INTERVAL, acknowledgment, greeting, neighbor, packet, update,
 };
@@ -8,8 +9,7 @@ use flood::{Config, Core, Event, Interface, State};
 use std::alloc::Global;
 use words::{Address, Key, LinkStateId, RouterId, Second, Sequence};
 
-/// The moment at which the router is made: nothing is left to be sent, sent again or acknowledged.
-/// Its next Hellos are due at 901.
+/// The moment from which on the router is used.
 pub const MADE: u64 = 10;
 
 // The Router ID 1.1.1.1.
@@ -17,10 +17,6 @@ const HUB: u32 = 0x0101_0101;
 
 // How many LSAs come in one Update: each takes 36 of its 8,192 bytes.
 const IN_ONE_UPDATE: u32 = 200;
-
-/// How many LSAs there are beside the externals: the router-LSAs of the router and of the three
-/// neighbors that are Full.
-pub const ROUTER_LSAS: u32 = 4;
 
 // The interface 10.0.<network>.<host>/24.
 fn interface(network: u8, host: u8) -> Interface {
@@ -103,22 +99,25 @@ pub fn acknowledge(
     Ok(())
 }
 
-/// So many LSAs of the same length come in from neighbor 1, and 3 acknowledges them.
+/// So many LSAs of the same length come in from neighbor 1.
 pub fn tell(alloc: Global, core: &mut Core, moment: u64, count: u32, lsas: &[u8]) -> Result<()> {
     hear(core, moment, 1, update(alloc, 1, count, lsas)?)?;
-    let size = lsas.len() / (count as usize).max(1);
-    acknowledge(alloc, core, moment, 3, &headers(alloc, lsas, size)?)
+    Ok(())
 }
 
-// The same, and 2 acknowledges them too.
-fn tell_all(alloc: Global, core: &mut Core, count: u32, lsas: &[u8]) -> Result<()> {
+// The same, and the others acknowledge them.
+fn tell_all(alloc: Global, core: &mut Core, full: u16, count: u32, lsas: &[u8]) -> Result<()> {
     tell(alloc, core, 7, count, lsas)?;
     let size = lsas.len() / (count as usize).max(1);
-    acknowledge(alloc, core, 7, 2, &headers(alloc, lsas, size)?)
+    let headers = headers(alloc, lsas, size)?;
+    for interface in 2..full.wrapping_add(1) {
+        acknowledge(alloc, core, 7, interface, &headers)?;
+    }
+    Ok(())
 }
 
 // The own router-LSA, which tells of the neighbors from 5 on, is acknowledged.
-fn introduce(alloc: Global, core: &mut Core) -> Result<()> {
+fn introduce(alloc: Global, core: &mut Core, full: u16) -> Result<()> {
     tick(core, 5)?;
     let key = Key {
         ls_type: 1,
@@ -129,34 +128,41 @@ fn introduce(alloc: Global, core: &mut Core) -> Result<()> {
         return Err(anyhow!("no router-LSA"));
     };
     let own = headers(alloc, &lsa::write(alloc, &copy.lsa)?, 65535)?;
-    for interface in 1..4 {
+    for interface in 1..full.wrapping_add(1) {
         acknowledge(alloc, core, 6, interface, &own)?;
     }
     Ok(())
 }
 
-// The router-LSAs of the neighbors 1 to 3 come in.
-fn introduce_others(alloc: Global, core: &mut Core) -> Result<()> {
-    for interface in 1..4 {
-        tell_all(alloc, core, 1, &router_lsa(interface))?;
+// The router-LSAs of the neighbors that are Full come in.
+fn introduce_others(alloc: Global, core: &mut Core, full: u16) -> Result<()> {
+    for interface in 1..full.wrapping_add(1) {
+        tell_all(alloc, core, full, 1, &router_lsa(interface))?;
     }
     Ok(())
 }
 
 // So many externals come in.
-fn fill(alloc: Global, core: &mut Core, size: u32) -> Result<()> {
+fn fill(alloc: Global, core: &mut Core, full: u16, externals: u32) -> Result<()> {
     let mut first = 0;
-    for _update in 0..size.div_ceil(IN_ONE_UPDATE) {
-        let count = size.saturating_sub(first).min(IN_ONE_UPDATE);
-        tell_all(alloc, core, count, &externals(alloc, first, count)?)?;
+    for _update in 0..externals / IN_ONE_UPDATE + 1 {
+        let count = externals.saturating_sub(first).min(IN_ONE_UPDATE);
+        tell_all(
+            alloc,
+            core,
+            full,
+            count,
+            &lsas::externals(alloc, first, count)?,
+        )?;
         first = first.wrapping_add(count);
     }
     tick(core, 8)?;
     Ok(())
 }
 
-fn check(core: &Core, externals: u32) -> Result<()> {
-    for interface in 1..4 {
+// That so many neighbors are Full, and that there are so many LSAs.
+fn check(core: &Core, full: u16, size: u32) -> Result<()> {
+    for interface in 1..full.wrapping_add(1) {
         let id = RouterId::new(neighbor(interface));
         ensure!(
             core.neighbor(interface) == Some((id, State::Full)),
@@ -164,26 +170,38 @@ fn check(core: &Core, externals: u32) -> Result<()> {
         );
     }
     let count = core.database().len();
-    let wanted = externals.saturating_add(ROUTER_LSAS) as usize;
-    ensure!(count == wanted, "{count} LSAs in place of {wanted}");
+    ensure!(count == size as usize, "{count} LSAs in place of {size}");
     Ok(())
 }
 
-/// 1.1.1.1 whose neighbors at the interfaces 1 to 3 are Full and whose neighbor at 4 is in Init, with
-/// so many AS-external-LSAs and four router-LSAs, from [`MADE`] on.
+// The first so many neighbors come to Full, and the fourth to Init where it isn't among them.
+fn greet(alloc: Global, core: &mut Core, full: u16) -> Result<()> {
+    tick(core, 1)?;
+    for interface in 1..full.wrapping_add(1) {
+        befriend(alloc, core, interface)?;
+    }
+    hear(core, 1, 4, greeting(alloc, neighbor(4))?)?;
+    introduce(alloc, core, full)
+}
+
+/// How many of so many LSAs are externals, where so many neighbors are Full: the others are their
+/// router-LSAs and that of the router.
+pub fn externals_of(full: u16, size: u32) -> u32 {
+    size.saturating_sub(1).saturating_sub(u32::from(full))
+}
+
+/// 1.1.1.1 whose neighbors at the first so many interfaces, 3 or 4, are Full; where the one at 4 isn't,
+/// it is in Init. There are so many LSAs: one of each of these routers, and AS-external-LSAs of
+/// neighbor 1. At [`MADE`] nothing is left to be sent, sent again or acknowledged; the next Hellos are
+/// due at 901.
 ///
 /// # Errors
 /// Memory ran out, or the neighbors or the database aren't as they should be.
-pub fn hub(alloc: Global, externals: u32) -> Result<Core> {
+pub fn hub(alloc: Global, full: u16, size: u32) -> Result<Core> {
     let mut core = alone(alloc)?;
-    tick(&mut core, 1)?;
-    for interface in 1..4 {
-        befriend(alloc, &mut core, interface)?;
-    }
-    hear(&mut core, 1, 4, greeting(alloc, neighbor(4))?)?;
-    introduce(alloc, &mut core)?;
-    introduce_others(alloc, &mut core)?;
-    fill(alloc, &mut core, externals)?;
-    check(&core, externals)?;
+    greet(alloc, &mut core, full)?;
+    introduce_others(alloc, &mut core, full)?;
+    fill(alloc, &mut core, full, externals_of(full, size))?;
+    check(&core, full, size)?;
     Ok(core)
 }

@@ -10,6 +10,6 @@ mod packets;
 mod timing;
 
 pub use figures::print;
-pub use hub::hub;
+pub use hub::{MADE, externals_of, hub};
 pub use lsas::external;
 pub use packets::{hello, update};
