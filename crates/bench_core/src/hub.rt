@@ -174,13 +174,13 @@ fn check(core: &Core, full: u16, size: u32) -> Result<()> {
     Ok(())
 }
 
-// The first so many neighbors come to Full, and the fourth to Init where it isn't among them.
+// The fourth neighbor comes to Init, and then the first so many to Full.
 fn greet(alloc: Global, core: &mut Core, full: u16) -> Result<()> {
     tick(core, 1)?;
+    hear(core, 1, 4, greeting(alloc, neighbor(4))?)?;
     for interface in 1..full.wrapping_add(1) {
         befriend(alloc, core, interface)?;
     }
-    hear(core, 1, 4, greeting(alloc, neighbor(4))?)?;
     introduce(alloc, core, full)
 }
 
