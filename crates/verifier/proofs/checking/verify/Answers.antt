@@ -73,7 +73,7 @@ returns-in_err-known-clause-first g c =
 
 pub returns-in_err-bound-clause-over : goal.returns-in_err-bound-clause-over
 returns-in_err-bound-clause-over g c = λ over.
-    is_err_of c.from_residual-in_err-bound.result c.in_err-bound.field-0.0 c.from_residual-in_err-bound.ensures.1 ∙ ap Err c.in_err-bound.ensures.named
+    is_err_of c.from_residual.result c.in_err-bound.field-0.0 c.from_residual.ensures.1 ∙ ap Err c.in_err-bound.ensures.named
 
 pub returns-in_err-entry-clause-over : goal.returns-in_err-entry-clause-over
 returns-in_err-entry-clause-over g c = λ over.
