@@ -5,6 +5,7 @@ use candidates::routes_of;
 use lsdb::Lsdb;
 use routes::Root;
 use shortest_paths::walk;
+use std::alloc::Global;
 use std::rt::Clock;
 use std::time::Instant;
 use tables::{is_stale, table};
@@ -37,20 +38,52 @@ struct Times {
     count: usize,
 }
 
-// What the table of the routes and the test whether it is stale take where each route is let in, in microseconds.
-fn measure_table<R: Clock + AllocGlobal>(rt: &R, routes: &[Route]) -> Result<(u64, u64)> {
-    let mut answers = Vec::new(rt.alloc());
+const LONGEST: Times = Times {
+    walk: u64::MAX,
+    routes: u64::MAX,
+    table: u64::MAX,
+    stale: u64::MAX,
+    count: 0,
+};
+
+// Answers that let each route in.
+fn answers_of(alloc: Global, routes: &[Route]) -> Result<Vec<(Route, u64)>> {
+    let mut answers = Vec::new(alloc);
     for route in routes {
         answers.push((*route, 0))?;
     }
+    Ok(answers)
+}
+
+fn time_table<R: Clock + AllocGlobal>(
+    rt: &R,
+    routes: &[Route],
+    answers: &[(Route, u64)],
+) -> Result<u64> {
     let start = Instant::now(rt)?;
-    let whole = table(rt.alloc(), routes, &answers)?;
+    let whole = table(rt.alloc(), routes, answers)?;
     let taken = since(rt, start)?;
     ensure!(whole.len() == routes.len(), "a table without a route");
+    Ok(taken)
+}
+
+fn time_stale<R: Clock + AllocGlobal>(
+    rt: &R,
+    routes: &[Route],
+    answers: &[(Route, u64)],
+) -> Result<u64> {
     let start = Instant::now(rt)?;
-    let stale = is_stale(rt.alloc(), routes, &answers)?;
+    let stale = is_stale(rt.alloc(), routes, answers)?;
+    let taken = since(rt, start)?;
     ensure!(!stale, "a table that is stale");
-    Ok((taken, since(rt, start)?))
+    Ok(taken)
+}
+
+// What the table of the routes and the test whether it is stale take, in microseconds.
+fn measure_table<R: Clock + AllocGlobal>(rt: &R, routes: &[Route]) -> Result<(u64, u64)> {
+    let answers = answers_of(rt.alloc(), routes)?;
+    let table = time_table(rt, routes, &answers)?;
+    Ok((table, time_stale(rt, routes, &answers)?))
 }
 
 fn measure<R: Clock + AllocGlobal>(rt: &R, db: &Lsdb, root: &Root) -> Result<Times> {
@@ -73,35 +106,48 @@ fn measure<R: Clock + AllocGlobal>(rt: &R, db: &Lsdb, root: &Root) -> Result<Tim
     })
 }
 
+fn least(a: Times, b: Times) -> Times {
+    Times {
+        walk: a.walk.min(b.walk),
+        routes: a.routes.min(b.routes),
+        table: a.table.min(b.table),
+        stale: a.stale.min(b.stale),
+        count: b.count,
+    }
+}
+
+// The least times of all measurements.
+fn measure_often<R: Clock + AllocGlobal>(rt: &R, db: &Lsdb, root: &Root) -> Result<Times> {
+    let mut times = LONGEST;
+    for _measurement in 0..MEASUREMENTS {
+        times = least(times, measure(rt, db, root)?);
+    }
+    Ok(times)
+}
+
+fn print_times<R: Print>(rt: &R, shape: Shape, times: Times) -> Result<()> {
+    let whole = shape.routers.saturating_add(shape.externals) as usize;
+    ensure!(
+        times.count == whole,
+        "{} routes and not {whole}",
+        times.count
+    );
+    let forwards = if shape.forwards { " that forward" } else { "" };
+    let (routers, externals) = (shape.routers, shape.externals);
+    println!(rt;
+        "{} of {routers} routers, {externals} externals{forwards}:",
+        shape.name
+    )?;
+    println!(rt; "  walk {}, routes {}", times.walk, times.routes)?;
+    println!(rt; "  table {}, stale {}", times.table, times.stale)?;
+    Ok(())
+}
+
 fn print_shape<R: Clock + Print + AllocGlobal>(rt: &R, shape: Shape) -> Result<()> {
     let db = database(rt.alloc(), shape)?;
     let root = root(rt.alloc())?;
-    let mut least = measure(rt, &db, &root)?;
-    for _measurement in 1..MEASUREMENTS {
-        let times = measure(rt, &db, &root)?;
-        least.walk = least.walk.min(times.walk);
-        least.routes = least.routes.min(times.routes);
-        least.table = least.table.min(times.table);
-        least.stale = least.stale.min(times.stale);
-    }
-    let whole = shape.routers.saturating_add(shape.externals) as usize;
-    ensure!(
-        least.count == whole,
-        "{} routes and not {whole}",
-        least.count
-    );
-    let forwards = if shape.forwards { " that forward" } else { "" };
-    println!(rt;
-        "{} of {} routers, {} externals{forwards}: walk {}, routes {}, table {}, stale {}",
-        shape.name,
-        shape.routers,
-        shape.externals,
-        least.walk,
-        least.routes,
-        least.table,
-        least.stale
-    )?;
-    Ok(())
+    let times = measure_often(rt, &db, &root)?;
+    print_times(rt, shape, times)
 }
 
 /// Prints what a walk takes, what its candidates take, what their table takes and what the test whether it is stale takes, in microseconds,
