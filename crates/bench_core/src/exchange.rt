@@ -6,7 +6,7 @@ use flood::{Core, Event, Out, State};
 use std::alloc::Global;
 use std::rt::Clock;
 use std::time::Instant;
-use words::Second;
+use words::{Second, Sequence};
 
 // How many measurements the figure is the least of.
 const MEASUREMENTS: u32 = 5;
@@ -23,6 +23,21 @@ struct Pair {
     packets: u64,
 }
 
+// The bytes come in: what is answered is put behind the other answers.
+fn answer(
+    core: &mut Core,
+    moment: Second,
+    interface: u16,
+    bytes: Sequence<u8>,
+    answers: &mut Vec<Out>,
+) -> Result<()> {
+    let event = Event::Packet(interface, bytes);
+    for out in core.step(moment, &event)? {
+        answers.push(out)?;
+    }
+    Ok(())
+}
+
 // What was sent at the interface comes in at the other end: what is answered.
 fn deliver(
     alloc: Global,
@@ -34,11 +49,9 @@ fn deliver(
 ) -> Result<Vec<Out>> {
     let mut answers = Vec::new(alloc);
     for out in outs {
-        if out.interface == from {
-            let event = Event::Packet(to, out.bytes);
-            for answer in core.step(moment, &event)? {
-                answers.push(answer)?;
-            }
+        let Out { interface, bytes } = out;
+        if interface == from {
+            answer(core, moment, to, bytes, &mut answers)?;
         }
     }
     Ok(answers)

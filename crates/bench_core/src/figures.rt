@@ -82,17 +82,20 @@ fn print_hellos<R: Clock + Print>(rt: &R, core: &mut Core, event: &Event) -> Res
     print_figure(rt, "a Hello", times)
 }
 
-fn print_size<R: Clock + Print + AllocGlobal>(rt: &R, size: u32) -> Result<()> {
-    let alloc = rt.alloc();
-    let before = size.saturating_sub(1);
-    let number = externals_of(3, before);
-    let mut core = hub(alloc, 3, before)?;
+// What events take where one LSA more makes so many.
+fn print_events<R: Clock + Print + AllocGlobal>(rt: &R, core: &mut Core, size: u32) -> Result<()> {
+    let number = externals_of(3, size).wrapping_sub(1);
     println!(rt; "{size} LSAs")?;
-    print_flooding(rt, &mut core, number)?;
-    settle(alloc, &mut core, 190, &external(number, 1, 0))?;
+    print_flooding(rt, core, number)?;
+    settle(rt.alloc(), core, 190, &external(number, 1, 0))?;
     ensure!(core.database().len() == size as usize, "not {size} LSAs");
-    print_ticks(rt, &mut core)?;
-    print_hellos(rt, &mut core, &Event::Packet(1, hello(alloc, 1)?))
+    print_ticks(rt, core)?;
+    print_hellos(rt, core, &Event::Packet(1, hello(rt.alloc(), 1)?))
+}
+
+fn print_size<R: Clock + Print + AllocGlobal>(rt: &R, size: u32) -> Result<()> {
+    let mut core = hub(rt.alloc(), 3, size.saturating_sub(1))?;
+    print_events(rt, &mut core, size)
 }
 
 /// Prints what events of a router take whose neighbors 1 to 3 are Full and whose fourth is in Init, at

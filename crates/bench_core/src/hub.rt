@@ -184,6 +184,13 @@ fn greet(alloc: Global, core: &mut Core, full: u16) -> Result<()> {
     introduce(alloc, core, full)
 }
 
+fn bring_up(alloc: Global, core: &mut Core, full: u16, size: u32) -> Result<()> {
+    greet(alloc, core, full)?;
+    introduce_others(alloc, core, full)?;
+    fill(alloc, core, full, externals_of(full, size))?;
+    check(core, full, size)
+}
+
 /// How many of so many LSAs are externals, where so many neighbors are Full: the others are their
 /// router-LSAs and that of the router.
 pub fn externals_of(full: u16, size: u32) -> u32 {
@@ -199,9 +206,6 @@ pub fn externals_of(full: u16, size: u32) -> u32 {
 /// Memory ran out, or the neighbors or the database aren't as they should be.
 pub fn hub(alloc: Global, full: u16, size: u32) -> Result<Core> {
     let mut core = alone(alloc)?;
-    greet(alloc, &mut core, full)?;
-    introduce_others(alloc, &mut core, full)?;
-    fill(alloc, &mut core, full, externals_of(full, size))?;
-    check(&core, full, size)?;
+    bring_up(alloc, &mut core, full, size)?;
     Ok(core)
 }
