@@ -57,8 +57,8 @@ fn print_kind<R: Threads + Wait + Clock + Print + AllocGlobal + Sync>(
 }
 
 /// Prints how many turns one worker and four workers take a second at a router with four Full
-/// neighbors and 16,384 LSAs, for Hellos, for AS-external-LSAs that say the same as before, and for new
-/// ones; each without a program and with one at `count` that adds to a counter. The most of 5
+/// neighbors and 16,384 LSAs, for Hellos, before and after an AS-external-LSA said the same as before,
+/// for such LSAs, and for new ones; each without a program and with one at `count` that adds to a counter. The most of 5
 /// measurements.
 ///
 /// # Errors
@@ -68,6 +68,7 @@ pub fn print<R: Threads + Wait + Clock + Print + AllocGlobal + Sync>(rt: &R) -> 
     let cores = thread::available_parallelism(rt)?;
     println!(rt; "turns at {SIZE} LSAs, {cores} cores, the most of {MEASUREMENTS}")?;
     print_kind(rt, Kind::Hello)?;
+    print_kind(rt, Kind::Later)?;
     print_kind(rt, Kind::Refreshed)?;
     print_kind(rt, Kind::New)
 }

@@ -28,24 +28,26 @@ fn takes<L: Site, R: Wait>(rt: &R, hub: &Hub<L, Book<L>>, port: &mut Port<L>, wo
     turn(rt, hub, port, &Open {}, Second::new(MADE), work).is_ok()
 }
 
-/// Takes the job's turns: how many weren't refused.
-pub fn labor<L: Site, R: Wait>(rt: &R, hub: &Hub<L, Book<L>>, job: Job<L>) -> u64 {
-    let Job { mut port, works } = job;
+/// Takes the turns of the works at the port: how many weren't refused.
+pub fn take_all<L: Site, R: Wait>(
+    rt: &R,
+    hub: &Hub<L, Book<L>>,
+    port: &mut Port<L>,
+    works: &[Work],
+) -> u64 {
     let mut taken = 0u64;
-    for work in &works {
-        if takes(rt, hub, &mut port, work) {
+    for work in works {
+        if takes(rt, hub, port, work) {
             taken = taken.wrapping_add(1);
         }
     }
     taken
 }
 
-/// The console's first turn, which leaves nothing stale.
-pub fn begin<L: Site, R: Wait>(rt: &R, hub: &Hub<L, Book<L>>, console: &mut Port<L>) -> Result<()> {
-    if takes(rt, hub, console, &Work::Tick) {
-        return Ok(());
-    }
-    Err(anyhow!("a Tick was refused"))
+/// Takes the job's turns: how many weren't refused.
+pub fn labor<L: Site, R: Wait>(rt: &R, hub: &Hub<L, Book<L>>, job: Job<L>) -> u64 {
+    let Job { mut port, works } = job;
+    take_all(rt, hub, &mut port, &works)
 }
 
 /// A job for each worker, from interface 1 on. The ports are those after the console's.

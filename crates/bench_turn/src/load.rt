@@ -17,6 +17,8 @@ pub const SIZE: u32 = 16_384;
 #[derive(Clone, Copy, PartialEq, Eq, Debug)]
 pub enum Kind {
     Hello,
+    /// A Hello, after one external said the same as before in its next instance.
+    Later,
     /// The next instance of an AS-external-LSA, which says the same.
     Refreshed,
     /// A new AS-external-LSA. The router is stale then, and a refresh follows.
@@ -28,7 +30,8 @@ impl Kind {
     pub fn turns(self) -> u32 {
         match self {
             Kind::Hello => 40_000,
-            Kind::Refreshed => 8_000,
+            Kind::Later => 400,
+            Kind::Refreshed => 400,
             Kind::New => 40,
         }
     }
@@ -36,7 +39,7 @@ impl Kind {
     /// How many LSAs there are before.
     pub fn size(self) -> u32 {
         match self {
-            Kind::Hello | Kind::Refreshed => SIZE,
+            Kind::Hello | Kind::Later | Kind::Refreshed => SIZE,
             Kind::New => SIZE.saturating_sub(self.turns()),
         }
     }
@@ -46,6 +49,7 @@ impl fmt::Display for Kind {
     fn fmt<W: fmt::Write>(&self, f: &mut fmt::Formatter<W>) -> fmt::Result {
         f.write_str(match self {
             Kind::Hello => "Hellos",
+            Kind::Later => "Hellos after an external that said the same",
             Kind::Refreshed => "externals that say the same",
             Kind::New => "new externals, each with a refresh",
         })
@@ -76,7 +80,7 @@ impl Load {
         number: u32,
     ) -> Result<Sequence<u8>, AllocError> {
         let lsa = match self.kind {
-            Kind::Hello => return hello(alloc, interface),
+            Kind::Hello | Kind::Later => return hello(alloc, interface),
             Kind::Refreshed => external(number, 1, 1),
             Kind::New => {
                 let first = externals_of(4, self.kind.size());

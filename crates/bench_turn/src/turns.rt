@@ -1,7 +1,7 @@
 //! One measurement: the turns of all workers at a new hub.
 ghost use Rattle.worker.specs.Opening.{IsSetUpFor};
 
-use crate::jobs::{Job, begin, jobs, labor};
+use crate::jobs::{Job, jobs, labor, take_all};
 use crate::load::Load;
 use anyhow::{Result, anyhow, ensure};
 use book::Book;
@@ -14,7 +14,7 @@ use std::sync::Wait;
 use std::thread;
 use std::thread::Threads;
 use std::time::Instant;
-use worker::{Hub, Port, Setup, Site, open_hub};
+use worker::{Hub, Port, Setup, Site, Work, open_hub};
 
 // All jobs, each on a thread of its own: how long they take together, in nanoseconds.
 fn time<L: Site + Send + Sync, R: Threads + Wait + Clock + Sync>(
@@ -35,6 +35,18 @@ fn time<L: Site + Send + Sync, R: Threads + Wait + Clock + Sync>(
     Ok(nanoseconds)
 }
 
+// The console's first turns.
+fn begin<L: Site, R: Wait>(
+    rt: &R,
+    hub: &Hub<L, Book<L>>,
+    console: &mut Port<L>,
+    works: &[Work],
+) -> Result<()> {
+    let taken = take_all(rt, hub, console, works);
+    ensure!(taken == works.len() as u64, "a first turn was refused");
+    Ok(())
+}
+
 // The turns of the workers at these ports, the console's last.
 fn measure<L: Site + Send + Sync, R: Threads + Wait + Clock + Sync>(
     rt: &R,
@@ -47,7 +59,7 @@ fn measure<L: Site + Send + Sync, R: Threads + Wait + Clock + Sync>(
     let Some(mut console) = ports.pop() else {
         return Err(anyhow!("no port"));
     };
-    begin(rt, hub, &mut console)?;
+    begin(rt, hub, &mut console, &load.first(alloc)?)?;
     let nanoseconds = time(rt, hub, jobs(alloc, ports, load)?, load)?;
     let counted = hub.counter(&mut console, 5);
     ensure!(
