@@ -6,6 +6,7 @@ pub mod Worked
 pub mod WorkedAged
 pub mod WorkedOwn
 pub mod WorkedFlush
+pub mod WorkedUnannounced
 pub mod WorkedTicks
 pub mod WorkedAdjacency
 pub mod WorkedExchange

@@ -77,7 +77,7 @@ settles r link n moment lsa mine last young =
     ∙ (λ i. on_area (flush_copy moment key (there i)) p)
     ∙ (λ i. on_area (λ q. cond (fresh i) q (flood_from_nobody moment (lsa_aged 3600 lsa) (on_database (age_out moment key) q))) p)
 
-aged : (db : Database) (key : Key) (c : DatabaseCopy) (moment : ℕ) → finite.get db key ≡ Some c
+pub aged : (db : Database) (key : Key) (c : DatabaseCopy) (moment : ℕ) → finite.get db key ≡ Some c
     → finite.get (age_out moment key db) key ≡ Some (record c { lsa = lsa_aged 3600 c.lsa; stored = moment })
 aged db key c moment there =
     ap (λ o. finite.get (changed_by key (λ d. record d { lsa = lsa_aged 3600 d.lsa; stored = moment }) db o) key) there

@@ -1,6 +1,6 @@
--- What is done with an LSA of an Update in each of the ten cases, and whether the LSAs behind it are
--- taken (RFC 2328, section 13). In the first seven the interface is any; in the last three it is the
--- router's only one.
+-- What is done with an LSA of an Update in each of the ten cases, and whether the LSAs behind it
+-- are taken (RFC 2328, section 13). In the first seven the interface is any; in the last three it
+-- is the router's only one.
 use Rattle.std.specs.Prelude.{◌≡◌, ℕ, ◌==◌, false, List, [], ◌∷◌, ◌++◌, None, Some}
 use Rattle.std.specs.FinMap as finite
 use Rattle.words.specs.Numbers.{InterfaceNumber}

@@ -18,6 +18,7 @@ ghost use Rattle.conversations.specs.WorkedOwn.{ALastRequestIsMet};
 ghost use Rattle.conversations.specs.WorkedRun.{AnAdjacencyIsNegotiated};
 ghost use Rattle.conversations.specs.WorkedAnswers.{AnswersChangeNoDatabase};
 ghost use Rattle.conversations.specs.WorkedTicks.{ATickOriginates};
+ghost use Rattle.conversations.specs.WorkedUnannounced.{WhatIsNotAnnouncedIsFlushed};
 ghost use Rattle.conversations.specs.WorkedUpdates.{ANewLsaComesTwice};
 
 /// Worked parts of events: a clash of two destinations, a withdrawal of nothing, a metric that withholds, five seconds between instances,
@@ -48,6 +49,12 @@ pub fn a_last_request_is_met()
 /// acknowledged, it leaves the database.
 pub fn the_numbers_end()
     ensures { TheNumbersEnd }
+{}
+
+/// A worked event of a router with one interface: an LSA under its own name that it doesn't announce, as a summary-LSA, comes from a Full
+/// neighbor. It is flushed: its copy has MaxAge, one Update with it goes out, and the neighbor is to acknowledge that.
+pub fn what_is_not_announced_is_flushed()
+    ensures { WhatIsNotAnnouncedIsFlushed }
 {}
 
 /// A worked Tick of a router with one interface: its router-LSA, which waits or has left the database, is originated, and the

@@ -1,12 +1,14 @@
 //! How two routers become Full: the exchange of databases from bytes to bytes (RFC 2328, sections
 //! 10 and 12.4).
-use crate::hello_packets::{DESCRIPTION, GREETING, NAMING};
+use crate::hello_packets::{DESCRIPTION, GREETING, HEARD, NAMING};
 use crate::packets::{
     BEGUN_AGAIN, FIRST_ATTEMPT, FLUSH_ACKNOWLEDGED, FLUSHED, LAST_ACKNOWLEDGED, LAST_DESCRIPTION,
-    LAST_NUMBER, OWN_ACKNOWLEDGED, OWN_HEADER, OWN_LSA, PEER_ACKNOWLEDGED, PEER_HEADER, PEER_LSA,
-    REQUESTED, SECOND_ATTEMPT, SKIPPED,
+    LAST_NUMBER, OWN_ACKNOWLEDGED, OWN_HEADER, OWN_LSA, OWN_LSA_BACK, OWN_SUMMARY,
+    OWN_SUMMARY_ACKNOWLEDGED, OWN_SUMMARY_AGED, OWN_SUMMARY_FLUSHED, OWN_SUMMARY_GONE,
+    PEER_ACKNOWLEDGED, PEER_HEADER, PEER_LSA, PEER_SECOND_HEADER, REQUESTED, SECOND_ATTEMPT,
+    SKIPPED, THIRD_ATTEMPT,
 };
-use crate::steps::{PEER, Step, What, play};
+use crate::steps::{OWN, PEER, Step, What, play};
 use flood::{CoreError, State};
 use std::test::Fail;
 
@@ -53,6 +55,20 @@ const REPEATED: &[Step] = &[
     Step::Sees(1, Some((PEER, State::ExStart))),
 ];
 
+/// A neighbor that has forgotten this router describes a newer router-LSA, and answers the request
+/// for it with the one that is there: a bad request, and all begins anew.
+const REQUESTED_IN_VAIN: &[Step] = &[
+    Step::Sends(9, What::Packet(1, HEARD), &[]),
+    Step::Sees(1, Some((PEER, State::Init))),
+    Step::Sends(9, What::Packet(1, NAMING), &[(1, SECOND_ATTEMPT)]),
+    Step::Counts(9, What::Packet(1, DESCRIPTION), 1),
+    Step::Counts(10, What::Packet(1, PEER_SECOND_HEADER), 2),
+    Step::Sees(1, Some((PEER, State::Loading))),
+    Step::Sends(10, What::Packet(1, PEER_LSA), &[(1, THIRD_ATTEMPT)]),
+    Step::Sees(1, Some((PEER, State::ExStart))),
+    Step::Holds(2),
+];
+
 /// The own router-LSA comes in with the greatest sequence number: it is flushed, and originated
 /// again with the first number once it has left the database.
 const WRAPPED: &[Step] = &[
@@ -69,6 +85,33 @@ const WRAPPED: &[Step] = &[
     Step::Holds(2),
 ];
 
+/// While that one stands, an older instance is neither taken nor answered with it.
+const WRAPPING: &[Step] = &[
+    Step::Sends(190, What::Packet(1, NAMING), &[]),
+    Step::Sends(200, What::Packet(1, LAST_NUMBER), &[(1, FLUSHED)]),
+    Step::Sends(201, What::Packet(1, OWN_LSA_BACK), &[]),
+    Step::Holds(2),
+];
+
+// 198.51.100.0
+const NETWORK: u32 = 0xc633_6400;
+
+/// A summary-LSA of this router comes in, which it never announces: it is flushed, and leaves once
+/// that is acknowledged.
+const NEVER_ANNOUNCED: &[Step] = &[
+    Step::Sends(
+        10,
+        What::Packet(1, OWN_SUMMARY),
+        &[(1, OWN_SUMMARY_FLUSHED)],
+    ),
+    Step::Has(3, NETWORK, OWN, Some(OWN_SUMMARY_AGED)),
+    Step::Holds(3),
+    Step::Sends(11, What::Packet(1, OWN_SUMMARY_GONE), &[]),
+    Step::Has(3, NETWORK, OWN, None),
+    Step::Holds(2),
+    Step::Sends(12, What::Tick, &[(1, OWN_SUMMARY_ACKNOWLEDGED)]),
+];
+
 /// Without an acknowledgment the router-LSA is sent again five seconds later.
 const UNACKNOWLEDGED: &[Step] = &[
     Step::Sends(6, What::Packet(1, PEER_LSA), &[(1, OWN_LSA)]),
@@ -77,6 +120,15 @@ const UNACKNOWLEDGED: &[Step] = &[
     Step::Counts(11, What::Tick, 1),
     Step::Sends(12, What::Packet(1, OWN_ACKNOWLEDGED), &[]),
     Step::Sends(16, What::Tick, &[]),
+];
+
+/// The neighbor sends the router-LSA back, which acknowledges it; once more, and it is a duplicate.
+const SENT_BACK: &[Step] = &[
+    Step::Sends(6, What::Packet(1, PEER_LSA), &[(1, OWN_LSA)]),
+    Step::Sends(7, What::Packet(1, OWN_LSA_BACK), &[]),
+    Step::Counts(7, What::Tick, 2),
+    Step::Sends(11, What::Tick, &[]),
+    Step::Counts(12, What::Packet(1, OWN_LSA_BACK), 1),
 ];
 
 /// The inactivity timer runs out after the last Hello, and what the neighbor sends is unheard.
@@ -113,8 +165,28 @@ fn descriptions_come_twice_or_not_at_all(rt: HostRuntime) -> Result<(), Fail> {
 }
 
 #[test]
+fn a_request_is_answered_with_what_is_there(rt: HostRuntime) -> Result<(), Fail> {
+    play(rt.alloc(), &rt, 1, &[LOADING, FULL, REQUESTED_IN_VAIN])
+}
+
+#[test]
 fn sequence_numbers_begin_again(rt: HostRuntime) -> Result<(), Fail> {
     play(rt.alloc(), &rt, 1, &[LOADING, FULL, WRAPPED])
+}
+
+#[test]
+fn an_older_instance_of_a_wrapping_lsa_is_not_answered(rt: HostRuntime) -> Result<(), Fail> {
+    play(rt.alloc(), &rt, 1, &[LOADING, FULL, WRAPPING])
+}
+
+#[test]
+fn an_own_lsa_that_is_never_announced_is_flushed(rt: HostRuntime) -> Result<(), Fail> {
+    play(rt.alloc(), &rt, 1, &[LOADING, FULL, NEVER_ANNOUNCED])
+}
+
+#[test]
+fn an_lsa_that_is_sent_back_is_acknowledged(rt: HostRuntime) -> Result<(), Fail> {
+    play(rt.alloc(), &rt, 1, &[LOADING, SENT_BACK])
 }
 
 #[test]

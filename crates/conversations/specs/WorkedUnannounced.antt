@@ -1,0 +1,54 @@
+-- A worked event of a router with one interface: an LSA under its own name comes in that it doesn't
+-- announce (RFC 2328, sections 13.4 and 14.1).
+use Rattle.std.specs.Prelude.{◌≡◌, ◌<◌, ℕ, true, false, List, None, Option, Some}
+use Rattle.std.specs.FinMap as finite
+use Rattle.std.specs.List.{list_any}
+use Rattle.lsdb.specs.Copies.{has_just_aged_out}
+use Rattle.lsdb.specs.Headers.{Lsa, header_aged, lsa_aged, lsa_key}
+use Rattle.lsdb.specs.Keys.{same_key}
+use Rattle.adjacency.specs.Neighbors.{Neighbor}
+use Rattle.received.specs.Links.{Link}
+use Rattle.events.specs.declared.model.Out.{Out}
+use Rattle.events.specs.Events.{Happens}
+use Rattle.events.specs.Hellos.{is_foreign}
+use Rattle.events.specs.Originations.{router_key}
+use Rattle.events.specs.Packing.{outs_of}
+use Rattle.events.specs.Routers.{Occurrence, Router}
+use Rattle.conversations.specs.WorkedFlush.{HasOnList, full}
+use Rattle.conversations.specs.WorkedOwn.{beside, sends_update}
+use Rattle.conversations.specs.WorkedUpdates.{IsUpdateWith, WaitsAt}
+
+-- the LSA is this router's, but neither its router-LSA nor that of a destination that it announces,
+-- as a summary-LSA is; there is no copy of it here
+pub record IsUnannounced (r : Router) (n : Neighbor) (moment : ℕ) (lsa : Lsa) : Type 0 where
+  pub nothing_ages : list_any (λ e. has_just_aged_out r.moment moment e.1)
+      (finite.entries r.area.database) ≡ false
+  pub is_other : is_foreign r.id n.router ≡ true
+  pub is_own : lsa.header.advertising_router ≡ r.id
+  pub no_router_lsa : same_key (lsa_key lsa) (router_key r.id) ≡ false
+  pub no_destination : finite.get r.announced (lsa_key lsa) ≡ None
+  pub is_absent : finite.get r.area.database (lsa_key lsa) ≡ None
+  pub is_young : lsa.header.age < 3600
+
+-- the copy has MaxAge from this moment on, and the neighbor is to acknowledge that
+pub record IsFlushed (r : Router) (moment : ℕ) (lsa : Lsa) : Type 0 where
+  pub sent : Option ℕ
+  pub copy : finite.get r.area.database (lsa_key lsa) ≡ Some (record {
+    lsa = lsa_aged 3600 lsa;
+    stored = moment;
+    installed = Some moment;
+    sent = sent;
+  })
+  pub on_list : HasOnList r (lsa_key lsa)
+      (Some (record { header = header_aged 3600 lsa.header; at = moment }))
+
+-- from a Full neighbor: it is flushed, its acknowledgment as it came waits for a Tick, and all that
+-- is sent is one Update with it at MaxAge
+abbrev pub WhatIsNotAnnouncedIsFlushed : Type 0
+WhatIsNotAnnouncedIsFlushed =
+    (r new : Router) (link : Link) (n : Neighbor) (moment : ℕ) (bytes : List ℕ) (lsa : Lsa)
+    (outs : List Out)
+    → IsUnannounced r n moment lsa → IsUpdateWith bytes n.router lsa
+    → Happens (beside r link (full n)) moment (Occurrence.Packet 1 bytes) outs new
+    → IsFlushed new moment lsa × WaitsAt new 1 lsa
+    × (outs ≡ outs_of r.id (beside r link (full n)).area.links (sends_update (lsa_aged 3600 lsa)))
