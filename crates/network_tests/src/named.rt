@@ -1,0 +1,68 @@
+//! What a packet names, read from its bytes: the instances of the LSAs in an Update or in an
+//! Acknowledgment (RFC 2328, A.3.5, A.3.6 and A.4.1).
+ghost use Rattle.std.specs.Prelude.{◌+◌, ◌≤◌, length};
+
+use lsa::{HEADER_LENGTH, Header, header_at};
+use words::{Key, SequenceNumber};
+
+/// An instance of an LSA.
+#[derive(Clone, Copy, PartialEq, Eq)]
+pub struct Named {
+    pub key: Key,
+    pub sequence: SequenceNumber,
+    pub checksum: u16,
+}
+
+impl Named {
+    /// The instance that has this header.
+    pub fn by(header: &Header) -> Named {
+        Named {
+            key: header.key(),
+            sequence: header.sequence,
+            checksum: header.checksum,
+        }
+    }
+}
+
+/// What kind of packet it is.
+#[derive(Clone, Copy, PartialEq, Eq)]
+pub enum Kind {
+    Update,
+    Acknowledgment,
+    Other,
+}
+
+/// The kind of the packet.
+pub fn kind_of(bytes: &[u8]) -> Kind {
+    match bytes.get(1) {
+        Some(4) => Kind::Update,
+        Some(5) => Kind::Acknowledgment,
+        _ => Kind::Other,
+    }
+}
+
+/// Where the first header stands; the end, where there is none.
+pub fn first_place(kind: Kind, bytes: &[u8]) -> usize {
+    match kind {
+        Kind::Update => 28,
+        Kind::Acknowledgment => 24,
+        Kind::Other => bytes.len(),
+    }
+}
+
+/// The header at a place.
+pub fn header_in(bytes: &[u8], at: usize) -> Option<Header> {
+    let after = at.checked_add(HEADER_LENGTH)?;
+    if after > bytes.len() {
+        return None;
+    }
+    Some(header_at(bytes, at))
+}
+
+/// The place behind the LSA or the header at a place.
+pub fn place_behind(kind: Kind, at: usize, header: &Header) -> usize {
+    match kind {
+        Kind::Update => at.saturating_add(usize::from(header.length)),
+        _ => at.saturating_add(HEADER_LENGTH),
+    }
+}
