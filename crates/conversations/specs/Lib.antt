@@ -10,6 +10,7 @@ pub mod WorkedAdjacency
 pub mod WorkedExchange
 pub mod WorkedRun
 pub mod WorkedHello
+pub mod HellosDiscarded
 pub mod WorkedMetrics
 pub mod TableTests
 pub mod CarriedOut

@@ -3,6 +3,7 @@
 #![tactic(auto)]
 
 ghost use Rattle.conversations.specs.CarriedOut.{EachCaseIsCarriedOut};
+ghost use Rattle.conversations.specs.HellosDiscarded.{HellosAreDiscarded};
 ghost use Rattle.conversations.specs.RequestsMet.{RequestsAreMetByFlooding};
 ghost use Rattle.conversations.specs.SentInOrder.{WhatIsSentStandsInOrder};
 ghost use Rattle.conversations.specs.TableTests.{EachTestOfTheTableCounts};
@@ -85,6 +86,13 @@ pub fn an_adjacency_is_negotiated()
 /// neighbor that names this router leads to ExStart, and the opening Description is all that is sent.
 pub fn a_neighbor_is_heard()
     ensures { ANeighborIsHeard }
+{}
+
+/// Which received Hellos are discarded, whatever the router is and has sent in this event: those with another HelloInterval or
+/// RouterDeadInterval, with a clear E-bit, from another router than the one that is heard there, from no router, and from this one; and that
+/// the network mask decides nothing (RFC 2328, section 10.5).
+pub fn some_hellos_are_discarded()
+    ensures { HellosAreDiscarded }
 {}
 
 /// A worked event: an Update with a new LSA comes twice from a Full neighbor. The first is acknowledged at a Tick, the second at once,
