@@ -1,5 +1,5 @@
 //! What it takes until a new neighbor is Full, for both routers together (RFC 2328, section 10).
-use crate::hub::{fourth, hub};
+use crate::routers::{fourth, hub};
 use crate::timing::since;
 use anyhow::{Result, anyhow, ensure};
 use flood::{Core, Event, Out, State};
