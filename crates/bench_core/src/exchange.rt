@@ -105,17 +105,6 @@ impl Pair {
     }
 }
 
-fn between(alloc: Global, one: &Core, other: &Core) -> Result<Pair> {
-    let one = one.copy()?;
-    let other = other.copy()?;
-    Ok(Pair {
-        alloc,
-        one,
-        other,
-        packets: 0,
-    })
-}
-
 // What it takes, in nanoseconds, and how many packets were answered.
 fn measure<R: Clock>(rt: &R, pair: &mut Pair, size: u32) -> Result<(u64, u64)> {
     let start = Instant::now(rt)?;
@@ -126,21 +115,53 @@ fn measure<R: Clock>(rt: &R, pair: &mut Pair, size: u32) -> Result<(u64, u64)> {
     Ok((nanoseconds, pair.packets))
 }
 
+// The same at copies of both.
+fn measure_once<R: Clock>(
+    rt: &R,
+    alloc: Global,
+    one: &Core,
+    other: &Core,
+    size: u32,
+) -> Result<(u64, u64)> {
+    let one = one.copy()?;
+    let mut pair = Pair {
+        alloc,
+        one,
+        other: other.copy()?,
+        packets: 0,
+    };
+    measure(rt, &mut pair, size)
+}
+
+// The least time of all measurements.
+fn measure_often<R: Clock>(
+    rt: &R,
+    alloc: Global,
+    one: &Core,
+    other: &Core,
+    size: u32,
+) -> Result<(u64, u64)> {
+    let mut least = (u64::MAX, 0);
+    for _measurement in 0..MEASUREMENTS {
+        let (taken, packets) = measure_once(rt, alloc, one, other, size)?;
+        least = (least.0.min(taken), packets);
+    }
+    Ok(least)
+}
+
+fn print_times<R: Print>(rt: &R, times: (u64, u64)) -> Result<()> {
+    let (least, packets) = (times.0 / 1_000, times.1);
+    println!(rt;
+        "  until a new neighbor is Full, both sides: least {least} us, {packets} packets"
+    )?;
+    Ok(())
+}
+
 /// Prints what the events of both routers take from the Hellos until each sees the other one Full,
 /// where there are so many LSAs then, those of both among them.
 pub fn print_exchange<R: Clock + Print + AllocGlobal>(rt: &R, size: u32) -> Result<()> {
-    let alloc = rt.alloc();
-    let one = hub(alloc, 3, size.saturating_sub(1))?;
-    let other = fourth(alloc)?;
-    let mut least = (u64::MAX, 0);
-    for _measurement in 0..MEASUREMENTS {
-        let (taken, packets) = measure(rt, &mut between(alloc, &one, &other)?, size)?;
-        least = (least.0.min(taken), packets);
-    }
-    let (nanoseconds, packets) = least;
-    println!(rt;
-        "  until a new neighbor is Full, both sides: least of {MEASUREMENTS} {} us, {packets} packets",
-        nanoseconds / 1_000
-    )?;
-    Ok(())
+    let one = hub(rt.alloc(), 3, size.saturating_sub(1))?;
+    let other = fourth(rt.alloc())?;
+    let times = measure_often(rt, rt.alloc(), &one, &other, size)?;
+    print_times(rt, times)
 }
