@@ -115,6 +115,17 @@ fn measure<R: Clock>(rt: &R, pair: &mut Pair, size: u32) -> Result<(u64, u64)> {
     Ok((nanoseconds, pair.packets))
 }
 
+fn between(alloc: Global, one: &Core, other: &Core) -> Result<Pair> {
+    let one = one.copy()?;
+    let other = other.copy()?;
+    Ok(Pair {
+        alloc,
+        one,
+        other,
+        packets: 0,
+    })
+}
+
 // The same at copies of both.
 fn measure_once<R: Clock>(
     rt: &R,
@@ -123,13 +134,7 @@ fn measure_once<R: Clock>(
     other: &Core,
     size: u32,
 ) -> Result<(u64, u64)> {
-    let one = one.copy()?;
-    let mut pair = Pair {
-        alloc,
-        one,
-        other: other.copy()?,
-        packets: 0,
-    };
+    let mut pair = between(alloc, one, other)?;
     measure(rt, &mut pair, size)
 }
 
