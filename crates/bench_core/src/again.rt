@@ -1,6 +1,6 @@
 //! What a Tick takes that sends LSAs again (RFC 2328, section 13.6).
-use crate::hub::{MADE, acknowledge, externals_of, hub, tell, tick};
 use crate::lsas::{externals, headers};
+use crate::routers::{MADE, acknowledge, externals_of, hub, tell, tick};
 use crate::timing::{MEASUREMENTS, print_figure, time};
 use anyhow::Result;
 use flood::{Core, Event};

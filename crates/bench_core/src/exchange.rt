@@ -1,5 +1,5 @@
 //! What it takes until a new neighbor is Full, for both routers together (RFC 2328, section 10).
-use crate::hub::{fourth, hub};
+use crate::routers::{fourth, hub};
 use crate::timing::since;
 use anyhow::{Result, anyhow, ensure};
 use flood::{Core, Event, Out, State};
@@ -105,6 +105,16 @@ impl Pair {
     }
 }
 
+// What it takes, in nanoseconds, and how many packets were answered.
+fn measure<R: Clock>(rt: &R, pair: &mut Pair, size: u32) -> Result<(u64, u64)> {
+    let start = Instant::now(rt)?;
+    pair.meet()?;
+    let nanoseconds = since(rt, start)?;
+    let counts = (pair.one.database().len(), pair.other.database().len());
+    ensure!(counts == (size as usize, size as usize), "{counts:?} LSAs");
+    Ok((nanoseconds, pair.packets))
+}
+
 fn between(alloc: Global, one: &Core, other: &Core) -> Result<Pair> {
     let one = one.copy()?;
     let other = other.copy()?;
@@ -116,31 +126,47 @@ fn between(alloc: Global, one: &Core, other: &Core) -> Result<Pair> {
     })
 }
 
-// What it takes, in nanoseconds, and how many packets were answered.
-fn measure<R: Clock>(rt: &R, pair: &mut Pair, size: u32) -> Result<(u64, u64)> {
-    let start = Instant::now(rt)?;
-    pair.meet()?;
-    let nanoseconds = since(rt, start)?;
-    let counts = (pair.one.database().len(), pair.other.database().len());
-    ensure!(counts == (size as usize, size as usize), "{counts:?} LSAs");
-    Ok((nanoseconds, pair.packets))
+// The same at copies of both.
+fn measure_once<R: Clock>(
+    rt: &R,
+    alloc: Global,
+    one: &Core,
+    other: &Core,
+    size: u32,
+) -> Result<(u64, u64)> {
+    let mut pair = between(alloc, one, other)?;
+    measure(rt, &mut pair, size)
+}
+
+// The least time of all measurements.
+fn measure_often<R: Clock>(
+    rt: &R,
+    alloc: Global,
+    one: &Core,
+    other: &Core,
+    size: u32,
+) -> Result<(u64, u64)> {
+    let mut least = (u64::MAX, 0);
+    for _measurement in 0..MEASUREMENTS {
+        let (taken, packets) = measure_once(rt, alloc, one, other, size)?;
+        least = (least.0.min(taken), packets);
+    }
+    Ok(least)
+}
+
+fn print_times<R: Print>(rt: &R, times: (u64, u64)) -> Result<()> {
+    let (least, packets) = (times.0 / 1_000, times.1);
+    println!(rt;
+        "  until a new neighbor is Full, both sides: least {least} us, {packets} packets"
+    )?;
+    Ok(())
 }
 
 /// Prints what the events of both routers take from the Hellos until each sees the other one Full,
 /// where there are so many LSAs then, those of both among them.
 pub fn print_exchange<R: Clock + Print + AllocGlobal>(rt: &R, size: u32) -> Result<()> {
-    let alloc = rt.alloc();
-    let one = hub(alloc, 3, size.saturating_sub(1))?;
-    let other = fourth(alloc)?;
-    let mut least = (u64::MAX, 0);
-    for _measurement in 0..MEASUREMENTS {
-        let (taken, packets) = measure(rt, &mut between(alloc, &one, &other)?, size)?;
-        least = (least.0.min(taken), packets);
-    }
-    let (nanoseconds, packets) = least;
-    println!(rt;
-        "  until a new neighbor is Full, both sides: least of {MEASUREMENTS} {} us, {packets} packets",
-        nanoseconds / 1_000
-    )?;
-    Ok(())
+    let one = hub(rt.alloc(), 3, size.saturating_sub(1))?;
+    let other = fourth(rt.alloc())?;
+    let times = measure_often(rt, rt.alloc(), &one, &other, size)?;
+    print_times(rt, times)
 }

@@ -1,9 +1,9 @@
 //! What single events take.
 use crate::again::print_again;
 use crate::exchange::print_exchange;
-use crate::hub::{MADE, acknowledge, externals_of, hub, tell, tick};
 use crate::lsas::{MAX_AGE, external};
 use crate::packets::{acknowledgment, hello, update};
+use crate::routers::{MADE, acknowledge, externals_of, hub, tell, tick};
 use crate::timing::{MEASUREMENTS, print_figure, time};
 use anyhow::{Result, ensure};
 use flood::{Core, Event};

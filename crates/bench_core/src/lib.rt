@@ -4,12 +4,12 @@
 mod again;
 mod exchange;
 mod figures;
-mod hub;
 mod lsas;
 mod packets;
+mod routers;
 mod timing;
 
 pub use figures::print;
-pub use hub::{MADE, externals_of, hub};
 pub use lsas::external;
 pub use packets::{hello, update};
+pub use routers::{MADE, externals_of, hub};
