@@ -17,10 +17,10 @@ use std::sync::Wait;
 use std::thread::Threads;
 
 const USAGE: &str =
-    "usage: bench run | decode | encode | asm | objects | maps | texts | database | hooks | walk | verify";
+    "usage: bench run | decode | encode | asm | objects | maps | texts | core | database | hooks | turn | walk | verify";
 
 /// Prints the figures of this name. False where no figures have it.
-fn measure<R: Clock + Print + AllocGlobal + Threads + Wait + Copy + Send + 'static>(
+fn measure<R: Clock + Print + AllocGlobal + Threads + Wait + Copy + Send + Sync + 'static>(
     rt: &R,
     name: &str,
 ) -> anyhow::Result<bool> {
@@ -32,8 +32,10 @@ fn measure<R: Clock + Print + AllocGlobal + Threads + Wait + Copy + Send + 'stat
         "objects" => object_speed::print(rt)?,
         "maps" => maps_speed::print(*rt)?,
         "texts" => texts_speed::print(rt)?,
+        "core" => bench_core::print(rt)?,
         "database" => bench_database::print(rt)?,
         "hooks" => bench_hooks::print(*rt)?,
+        "turn" => bench_turn::print(rt)?,
         "walk" => bench_walk::print(rt)?,
         "verify" => bench_verify::print(rt)?,
         _ => return Ok(false),

@@ -9,6 +9,7 @@ use Rattle.object.specs.Refusals as objects
 use Rattle.asm.specs.declared.error.AsmError.{AsmError}
 use Rattle.asm.specs.Assembling.{TextSpells}
 use Rattle.asm.specs.Assembling as texts
+use Rattle.asm.specs.Listing as listings
 use Rattle.commands.specs.declared.fault.Fault.{Fault}
 use Rattle.commands.specs.declared.fault.Fault.TheVariants as faults
 use Rattle.commands.specs.declared.report.Report.{Report}
@@ -30,11 +31,12 @@ pub record IsTextRefused (text : List ℕ) (fault : Fault) : Type 0 where
 abbrev pub IsTextFault : List ℕ → Fault → Type 0
 IsTextFault text fault = (fault ≡ faults.Memory) ⊎ IsTextRefused text fault
 
--- The bytes are an object file, and what is printed assembles to it again.
+-- The bytes are an object file, and what is printed is its listing, which assembles to it again.
 pub record IsListing (bytes : List ℕ) (report : Report) : Type 0 where
   pub object : ObjectParts
   pub spells : Spells bytes object
   pub listed : TextSpells (string_bytes report.text) object
+  pub form : listings.IsListing (string_bytes report.text) object
   pub done : report.is_refused ≡ false
 
 -- the refusal of bytes that are no object file

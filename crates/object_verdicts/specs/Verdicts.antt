@@ -1,5 +1,5 @@
 -- From the bytes of an object file to the verifier's word.
-use Rattle.std.specs.Prelude.{◌≡◌, ℕ, ◌+◌, ◌*◌, ◌≤◌, List, length}
+use Rattle.std.specs.Prelude.{◌≡◌, ℕ, ◌+◌, ◌*◌, ◌<◌, ◌≤◌, List, length}
 use Rattle.isa.specs.declared.code.Slot.{Slot}
 use Rattle.isa.specs.declared.decoding.DecodeFault.{DecodeFault}
 use Rattle.isa.specs.Spelling as code
@@ -8,8 +8,11 @@ use Rattle.object.specs.Objects.{ObjectParts}
 use Rattle.object.specs.Spelling as objects
 use Rattle.object.specs.Refusals as object_refusals
 use Rattle.machine.specs.Runs.{Safe}
-use Rattle.segments.specs.Refusals.{budget}
+use Rattle.transfer.specs.declared.rule.Rule.TheVariants as rules
+use Rattle.segments.specs.Refusals.{IsFirst, MayRefuse, budget}
+use Rattle.verifier.specs.Plain.{IsPlain}
 use Rattle.verifier.specs.Programs.{Program}
+use Rattle.verifier.specs.declared.refusal.Refusal.{Refusal}
 use Rattle.object_verdicts.specs.declared.error.VerifyError.{VerifyError}
 use Rattle.object_verdicts.specs.declared.error.VerifyError.TheVariants as errors
 
@@ -33,11 +36,18 @@ pub record Accepts (bytes : List ℕ) (accepted : Program) : Type 0 where
   pub most : accepted.bound ≤ budget
   pub safe : Safe accepted.code accepted.hook accepted.bound
 
--- The bytes hold a program. Which rule it breaks no clause says yet.
-pub record RefusesProgram (bytes : List ℕ) : Type 0 where
+-- The program that the bytes hold may be refused at this slot by this rule, which is the first that
+-- counts there: for its bound, where that is above what any program may take, whatever memory there
+-- is; a plain program for want of memory alone.
+pub record RefusesProgram (bytes : List ℕ) (refusal : Refusal) : Type 0 where
   pub object : ObjectParts
   pub slots : List Slot
   pub holds : HoldsProgram bytes object slots
+  pub named : MayRefuse object.hook slots object.entry_rank object.statements
+      refusal.slot refusal.rule
+  pub first : IsFirst slots object.statements refusal.slot refusal.rule
+  pub over : budget < bound_of object slots → refusal ≡ record { slot = 0; rule = rules.Budget }
+  pub plain : IsPlain slots object.entry_rank object.statements → refusal.rule ≡ rules.Memory
 
 -- the refusal of an object's code
 pub record RefusesCode (bytes : List ℕ) (slot : ℕ) (fault : DecodeFault) : Type 0 where
@@ -48,4 +58,4 @@ pub record RefusesCode (bytes : List ℕ) (slot : ℕ) (fault : DecodeFault) : T
 abbrev pub Refuses : List ℕ → VerifyError → Type 0
 Refuses bytes (errors.Object error) = object_refusals.Refuses bytes error
 Refuses bytes (errors.Code error) = RefusesCode bytes error.slot error.kind
-Refuses bytes (errors.Refused refusal) = RefusesProgram bytes
+Refuses bytes (errors.Refused refusal) = RefusesProgram bytes refusal
