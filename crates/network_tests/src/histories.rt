@@ -98,7 +98,7 @@ fn played(alloc: Global, events: &[Event], number: u64) -> Option<usize> {
     }
 }
 
-// Plays so many histories, from this number on; each acknowledges some 50 instances.
+// Plays so many histories, from this number on, in which many instances are acknowledged.
 fn play_histories(alloc: Global, events: &[Event], first: u64) -> Result<(), Fail> {
     let mut acknowledged = 0_usize;
     for number in first..first.saturating_add(HISTORIES) {

@@ -86,17 +86,17 @@ impl Member {
         })
     }
 
-    fn knows(&self, instance: Named) -> bool {
+    fn knows(&self, instance: &Named) -> bool {
         for known in &self.known {
-            if *known == instance {
+            if known == instance {
                 return true;
             }
         }
         false
     }
 
-    fn learns(&mut self, instance: Named) -> bool {
-        self.knows(instance) || self.known.push(instance).is_ok()
+    fn learns(&mut self, instance: &Named) -> bool {
+        self.knows(instance) || self.known.push(*instance).is_ok()
     }
 
     // Acknowledged was received: what an Update brings is known from now on, as is an own instance
@@ -105,13 +105,13 @@ impl Member {
         let instance = Named::by(header);
         let is_own = header.advertising_router == self.core.router();
         match (way, kind) {
-            (Way::In, Kind::Update) => self.learns(instance),
+            (Way::In, Kind::Update) => self.learns(&instance),
             (Way::In, _) => true,
-            (Way::Out, Kind::Update) if is_own => self.learns(instance),
-            (Way::Out, Kind::Update) => self.knows(instance),
+            (Way::Out, Kind::Update) if is_own => self.learns(&instance),
+            (Way::Out, Kind::Update) => self.knows(&instance),
             (Way::Out, _) => {
                 self.acknowledged = self.acknowledged.saturating_add(1);
-                self.knows(instance)
+                self.knows(&instance)
             }
         }
     }

@@ -1,7 +1,5 @@
 //! What a packet names, read from its bytes: the instances of the LSAs in an Update or in an
 //! Acknowledgment (RFC 2328, A.3.5, A.3.6 and A.4.1).
-ghost use Rattle.std.specs.Prelude.{◌+◌, ◌≤◌, length};
-
 use lsa::{HEADER_LENGTH, Header, header_at};
 use words::{Key, SequenceNumber};
 

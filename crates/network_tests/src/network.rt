@@ -204,7 +204,8 @@ impl Network {
     }
 
     fn comes_again(&mut self, back: usize) -> bool {
-        self.comes(self.packets.len().wrapping_sub(back))
+        let sent = self.packets.len();
+        self.comes(sent.wrapping_sub(back))
     }
 
     fn passes(&mut self, seconds: u64) -> bool {

@@ -122,6 +122,28 @@ const LINK_DOWN: &[Act] = &[
     Act::Holds(0, 3),
 ];
 
+// The last router misses the flush. A Description comes once more, so that the last two exchange
+// their databases in the second in which the second one takes the flush and forgets it: it has the
+// LSA back. The flush that answers this is passed over, and an acknowledgment that was for the
+// first one takes it off the list.
+const A_FLUSHED_LSA_COMES_BACK: &[Act] = &[
+    Act::Seconds(15, CALM),
+    Act::Announce(0, 1),
+    Act::Seconds(5, CALM),
+    Act::Full,
+    Act::Same,
+    Act::Holds(0, 4),
+    Act::LinkDown(1, 2),
+    Act::Withdraw(0, 1),
+    Act::Seconds(1, CALM),
+    Act::Again(10),
+    Act::Seconds(20, CALM),
+    Act::Full,
+    Act::Holds(0, 3),
+    Act::Holds(1, 4),
+    Act::Holds(2, 4),
+];
+
 #[test]
 fn two_routers_become_full(rt: HostRuntime) -> Result<(), Fail> {
     play(rt.alloc(), &rt, 2, TWO)
@@ -160,4 +182,9 @@ fn a_router_begins_anew(rt: HostRuntime) -> Result<(), Fail> {
 #[test]
 fn a_link_goes_down_and_up_again(rt: HostRuntime) -> Result<(), Fail> {
     play(rt.alloc(), &rt, 3, LINK_DOWN)
+}
+
+#[test]
+fn a_flushed_lsa_comes_back_to_stay(rt: HostRuntime) -> Result<(), Fail> {
+    play(rt.alloc(), &rt, 3, A_FLUSHED_LSA_COMES_BACK)
 }
