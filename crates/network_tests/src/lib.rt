@@ -13,7 +13,7 @@
 #![tactic(auto)]
 
 #[cfg(test)]
-mod announcements;
+mod destinations;
 #[cfg(test)]
 mod histories;
 #[cfg(test)]

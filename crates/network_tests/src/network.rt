@@ -1,6 +1,6 @@
 //! Routers in a row, in memory: what one of them sends is under way to the next one, where it may
 //! be lost, come twice, late or in another order.
-use crate::announcements::prefix;
+use crate::destinations::prefix;
 use crate::member::{Member, begun, router_at};
 use flood::{Core, Event, Out, State};
 use std::alloc::Global;
