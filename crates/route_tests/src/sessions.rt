@@ -1,22 +1,85 @@
-//! One router with a console.
-use route::run_router;
+//! One router with a console: what each line is answered.
+use log::Log;
+use route::route;
+use std::fs;
 use std::io::Cursor;
+use std::net::Net;
+use std::rt::Files;
+use std::sync::Wait;
 use std::test::Fail;
+use std::thread::Threads;
+use std::time::Clock;
 
-const CONFIGURATION: &str =
+const ONE: &str =
     "router 1.1.1.1\ninterface 1 10.0.1.1/24 cost 10 hello 10 dead 40 rxmt 5 delay 1 port 47101 peer 47102\n";
 
-#[test]
-fn a_router_alone_has_its_own_network(rt: HostRuntime) -> Result<(), Fail> {
-    let lines =
-        b"table\nneighbors\nadd 203.0.113.0/24 20 2 0\nwithdraw 203.0.113.0/24\nhello\nquit\n";
-    let mut input = Cursor::new(lines.as_slice());
+/// The object file of `r0 = 1; exit` at `veto`: no route comes into the table.
+const VETOING: &[u8] =
+    b"BPFH\x01\x04\x00\x00\x00\x00\x00\x00\x02\x00\x00\x00\xb7\x00\x00\x00\x01\x00\x00\x00\x95\x00\x00\x00\x00\x00\x00\x00";
+
+/// That of `exit` alone, which answers what r0 doesn't hold.
+const EMPTY: &[u8] =
+    b"BPFH\x01\x04\x00\x00\x00\x00\x00\x00\x01\x00\x00\x00\x95\x00\x00\x00\x00\x00\x00\x00";
+
+/// That of an instruction whose opcode, 255, there isn't.
+const UNKNOWN: &[u8] =
+    b"BPFH\x01\x04\x00\x00\x00\x00\x00\x00\x01\x00\x00\x00\xff\x00\x00\x00\x00\x00\x00\x00";
+
+/// The lines of a session, and what they are answered.
+#[derive(Clone, Copy)]
+struct Session {
+    lines: &'static [u8],
+    answers: &'static [u8],
+}
+
+const SESSIONS: &[Session] = &[
+    Session {
+        lines: b"table\nneighbors\nadd 203.0.113.0/24 20 2 0\nwithdraw 203.0.113.0/24\nhello\nquit\n",
+        answers: b"10.0.1.0/24 intra 10 via 0\nend\nend\noriginated\nwithdrawn\nunknown\n",
+    },
+    Session {
+        lines: b"attach vetoing\ntable\ndetach veto\ntable\nquit\n",
+        answers: b"attached veto bound 2\nend\ndetached veto\n10.0.1.0/24 intra 10 via 0\nend\n",
+    },
+    Session {
+        lines: b"attach nowhere\nattach prose\nattach unknown\nattach empty\ntable",
+        answers: b"cannot read nowhere\nobject refusal 1\ncode refusal 2 slot 0\nrefused slot 0 rule 5\n10.0.1.0/24 intra 10 via 0\nend\n",
+    },
+];
+
+// The status of a router with this configuration, and what it printed.
+fn routed<R: Net + Threads + Wait + Clock + Log + Files + AllocGlobal + Sync + Drop>(
+    rt: &R,
+    configuration: &str,
+    lines: &[u8],
+) -> (u8, Vec<u8>) {
+    let mut input = Cursor::new(lines);
     let mut output = Vec::new(rt.alloc());
-    let status = run_router(&rt, CONFIGURATION, &mut input, &mut output).map_err(|_| "refused")?;
-    assert_eq!(rt; status, 0);
-    assert_eq!(rt;
-        output.as_slice(),
-        b"10.0.1.0/24 intra 10 via 0\nend\nend\noriginated\nwithdrawn\nunknown\n".as_slice()
-    );
+    let status = route(rt, configuration, &mut input, &mut output);
+    (status, output)
+}
+
+#[test]
+fn each_line_is_answered(rt: HostRuntime) -> Result<(), Fail> {
+    fs::write(&rt, "vetoing", VETOING)?;
+    fs::write(&rt, "unknown", UNKNOWN)?;
+    fs::write(&rt, "empty", EMPTY)?;
+    fs::write(&rt, "prose", "r0 = 1; exit")?;
+    for session in SESSIONS {
+        let (status, printed) = routed(&rt, ONE, session.lines);
+        assert_eq!(rt; printed.as_slice(), session.answers);
+        assert_eq!(rt; status, 0);
+    }
     Ok(())
+}
+
+/// Two interfaces at one port.
+const TWICE: &str =
+    "router 1.1.1.1\ninterface 1 10.0.1.1/24 cost 10 hello 10 dead 40 rxmt 5 delay 1 port 47103 peer 47104\ninterface 2 10.0.2.1/24 cost 10 hello 10 dead 40 rxmt 5 delay 1 port 47103 peer 47104\n";
+
+#[test]
+fn a_port_that_is_taken_ends_it(rt: HostRuntime) {
+    let (status, printed) = routed(&rt, TWICE, b"quit\n");
+    assert_eq!(rt; printed.as_slice(), b"cannot bind 47103\n".as_slice());
+    assert_eq!(rt; status, 3);
 }
