@@ -1,7 +1,7 @@
 -- What stays foreseen when the times of a key change, and when more is foreseen.
 use Rattle.std.proofs.Common.{◌≡◌, Bool, true, false, cond, ◌||◌, List, ◌∷◌, Some, None, refl, sym, ap, subst, ◌∙◌}
 use mathlib.Core.Bool.{false≢true}
-use Rattle.std.specs.Prelude.{Option, is_some}
+use Rattle.std.specs.Prelude.{◌<◌, Option, is_some}
 use Rattle.std.specs.List.{list_any}
 use Rattle.std.specs.Cmp.{tied_itself}
 use Rattle.std.specs.FinMap as finite
@@ -67,6 +67,13 @@ absent_at ages q (Some t) is = absurd (false≢true (sym is))
 pub foresees_absent : (ages : Ages) (times : ByKey Times) (q : Key)
     → list_any (eq_by_cmp key_cmp q) (finite.keys times) ≡ false → Foresees ages q (finite.get times q)
 foresees_absent ages times q none = absent_at ages q (finite.get times q) (finite.contains_key-keys times q ∙ none)
+
+-- ages that are due when others are foresee what these do of a key that isn't among the aged of these
+pub foresees_past : (ages made : Ages) → made.due ≡ ages.due → (q : Key) (o : Option Times)
+    → list_any (eq_by_cmp key_cmp q) (finite.keys ages.aged.present) ≡ false → Foresees ages q o → Foresees made q o
+foresees_past ages made due q o none foreseen moment before is = absurd (false≢true
+    (sym (finite.contains_key-keys ages.aged.present q ∙ none)
+    ∙ foreseen moment (subst (λ d. moment < d) due before) is))
 
 module _ (ages more_ages : Ages) (times : ByKey Times) (key : Key) (rest : List Key)
     (before : (q : Key) → list_any (eq_by_cmp key_cmp q) (key ∷ rest) ≡ false → Foresees ages q (finite.get times q))

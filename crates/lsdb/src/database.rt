@@ -14,7 +14,7 @@ ghost use Rattle.lsdb.specs.Headers.{lsa_aged};
 ghost use Rattle.words.specs.declared.key.Key.{Key as KeyValue};
 ghost use Rattle.lsdb.specs.Limits.{exceeds, has_room, own_externals};
 
-use crate::ages::{Ages, foresee};
+use crate::ages::{Ages, are_mostly_past, foresee, foresee_again};
 use crate::database_copy::DatabaseCopy;
 use crate::limits::{MOST_LSAS, MOST_OWN_EXTERNALS, is_own_external, recount};
 use crate::order::{MAX_AGE, age_at};
@@ -307,7 +307,8 @@ impl Lsdb {
     /// The keys of the copies that have MaxAge at the moment, in their order.
     ///
     /// It looks at each copy only from the moment on at which one may have come of age since
-    /// `settle_at` last looked; before that, at those alone that had MaxAge then or got it since.
+    /// `settle_at` last looked; before that, at those alone that had MaxAge then or got it since, and
+    /// at no more that have left than there are others.
     pub fn aged_keys(&self, alloc: Global, moment: Second) -> Result<Vec<Key>, AllocError>
         ensures { IfOk result (λ keys. keys.items ≡ aged_keys moment self.now.present) }
     {
@@ -445,7 +446,8 @@ impl Lsdb {
     }
 
     /// Makes the edits so far final, and looks at each copy if one may have come of age by this
-    /// moment, so that `aged_keys` needn't before another one can. Without memory for what it finds
+    /// moment, so that `aged_keys` needn't before another one can. Where most of those that had
+    /// MaxAge have left or came again younger, it forgets these. Without memory for what it finds
     /// it looks again the next time.
     pub fn settle_at(&mut self, alloc: Global, moment: Second)
         ensures { self.new ≡ record self.old { settled = self.old.present } }
@@ -454,6 +456,11 @@ impl Lsdb {
         self.times.settle();
         self.settled_externals = self.externals;
         if moment < self.ages.due {
+            if are_mostly_past(&self.ages, &self.times, moment) {
+                if let Ok(ages) = foresee_again(alloc, &self.ages, &self.times, moment) {
+                    self.ages = ages;
+                }
+            }
             return;
         }
         if let Ok(ages) = foresee(alloc, &self.times, moment) {

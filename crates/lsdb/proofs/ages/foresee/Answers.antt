@@ -1,5 +1,4 @@
-use Rattle.std.proofs.Common.{◌≡◌, false, ◌∷◌, Some, ap, sym, subst, ◌∙◌}
-use Rattle.std.specs.FinMap as finite
+use Rattle.std.proofs.Common.{ap, sym, subst, ◌∙◌}
 use Rattle.std.specs.List.{list_any}
 use Rattle.std.specs.Ordering.{eq_by_cmp}
 use Rattle.lsdb.specs.Foresight.{Foresees}

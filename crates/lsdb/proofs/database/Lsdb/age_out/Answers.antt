@@ -2,7 +2,7 @@ use Rattle.std.proofs.Common.{ap, sym, subst, ◌∙◌}
 use Rattle.std.specs.FinMap as finite
 use Rattle.lsdb.specs.Copies.{age_out}
 use Rattle.keyed_map.proofs.Helds.{after, on_ok}
-use Rattle.lsdb.specs.Foresight.{Foresees, ForeseesAll}
+use Rattle.lsdb.specs.Foresight.{ForeseesAll}
 use Rattle.lsdb.proofs.Foresight.{foresees_put}
 use Rattle.lsdb.specs.Joined.{HaveTimes, joined}
 use Rattle.lsdb.specs.declared.times.Times.{Times}

@@ -1,4 +1,4 @@
-use Rattle.std.proofs.Common.{◌<◌, IfOk, ap, sym, arith, ◌∙◌}
+use Rattle.std.proofs.Common.{◌<◌, ap, arith, ◌∙◌}
 use Rattle.std.proofs.lemmas.Result.{IfOk-weaker}
 use Rattle.std.specs.FinMap as finite
 use Rattle.lsdb.specs.Copies.{aged_keys}
