@@ -20,12 +20,39 @@ const ABOUT: &str = "Runs a router, and assembles, lists, verifies and runs its 
 const RAW: &str =
     "Runs bare code (slots of 8 bytes) once on each of SEATS threads, all on the same counters, and prints each answer and each counter above 0";
 
-const RAW_EXAMPLE: &str = "Example: routerd raw count adds.bin 2";
+const RAW_EXAMPLE: &str = "\
+Example: routerd raw count adds.bin 2
+
+Prints seat I answer A used U for each seat I, or seat I trap N where its run was stuck or too long,
+and then counter K V for each counter K that is above 0.
+
+Statuses:
+  0  each seat answered
+  1  a seat trapped, or the file holds no code: code refusal N slot S
+  2  the words are wrong
+  3  the file can't be read, or the output can't be written
+  4  memory was refused
+
+docs/FORMATS.md has the format of the code and each refusal,
+docs/MACHINE.md each trap.";
 
 const RUN: &str =
     "Runs the program of an object file once, on no table rows, and prints its answer and how many instructions it took";
 
-const RUN_EXAMPLE: &str = "Example: routerd run sum.o - -";
+const RUN_EXAMPLE: &str = "\
+Example: routerd run sum.o - -
+
+Prints answer A used U, or trap N where the run was stuck or too long.
+
+Statuses:
+  0  it answered
+  1  it trapped, or the file holds no program: object refusal N, code refusal N slot S
+  2  the words are wrong
+  3  the file can't be read, or the output can't be written
+  4  memory was refused
+
+docs/FORMATS.md has the format of the object, the context and each refusal,
+docs/MACHINE.md each trap.";
 
 const CONTEXT: &str = "The 64 bytes of the context as 128 hex digits, or - for zeros";
 
@@ -33,28 +60,107 @@ const PACKET: &str = "The bytes of the packet in hex digits, or - for none";
 
 const ASM: &str = "Assembles a text into an object file, and prints how many slots its code has";
 
-const ASM_EXAMPLE: &str = "Example: routerd asm sum.s sum.o";
+const ASM_EXAMPLE: &str = "\
+Example: routerd asm sum.s sum.o
+
+Prints ok L: the object file was written, and its code has L slots.
+
+Statuses:
+  0  the object file was written
+  1  the text spells no object: source refusal N line K
+  2  the words are wrong
+  3  the text can't be read, or the object file or the output can't be written
+  4  memory was refused
+
+docs/FORMATS.md has the format of the text, of the object and each refusal.";
 
 const LIST: &str = "Prints a text that assembles to the object file";
 
-const LIST_EXAMPLE: &str = "Example: routerd list sum.o";
+const LIST_EXAMPLE: &str = "\
+Example: routerd list sum.o
+
+Statuses:
+  0  the text was printed
+  1  the file holds no program: object refusal N, code refusal N slot S
+  2  the words are wrong
+  3  the file can't be read, or the output can't be written
+  4  memory was refused
+
+docs/FORMATS.md has the format of the object, of the text and each refusal.";
 
 const VERIFY: &str =
     "Verifies the program of an object file: whether each run of it is safe, and within how many instructions it ends";
 
 // What is written behind the help of `verify`: what it prints, and the rules.
-const VERIFY_RULES: &str =
-    "Example: routerd verify sum.o\n\nPrints accepted bound N, with status 0: on no input is a run of the program stuck, and each ends within N instructions.\nOr prints refused slot S rule R, with status 1: the first slot that breaks a rule, and the number of the rule:\n\n   1 Target     a jump or a statement at a slot where no instruction begins\n   2 FallsOff   the last instruction is neither exit nor an unconditional jump\n   3 Unreached  no statement behind exit or an unconditional jump\n   4 Unstated   a jump to a slot without a statement\n   5 Empty      an empty register or stack byte may be read\n   6 Kind       a pointer may be used as a number, or a number as a pointer\n   7 Bounds     a load or store may lie outside of its region\n   8 Align      a load or store in a map may not be of eight bytes at a multiple of eight\n   9 Helper     this hook has no helper of this number\n  10 Argument   a helper's argument may be too large\n  11 NotWithin  what is known may lie outside of the statement that comes next\n  12 Rank       the rank may rise at a statement, or may not fall on a jump back\n  13 Budget     the entry rank plus 1, times the slots, is above 1,000,000\n  14 ExitKind   a pointer may be answered\n  15 Frame      r10 is written\n\nFor each rule docs/VERIFIER.md has the smallest program that breaks it, and how to mend it. docs/FORMATS.md has the format of object files and of statements.";
+const VERIFY_RULES: &str = "\
+Example: routerd verify sum.o
+
+Prints accepted bound N, with status 0: on no input is a run of the program stuck,
+and each ends within N instructions.
+Or prints refused slot S rule R, with status 1: the first slot that breaks a rule,
+and the number of the rule:
+
+   1 Target     a jump or a statement at a slot where no instruction begins
+   2 FallsOff   the last instruction is neither exit nor an unconditional jump
+   3 Unreached  no statement behind exit or an unconditional jump
+   4 Unstated   a jump to a slot without a statement
+   5 Empty      an empty register or stack byte may be read
+   6 Kind       a pointer may be used as a number, or a number as a pointer
+   7 Bounds     a load or store may lie outside of its region
+   8 Align      a load or store in a map may not be of eight bytes at a multiple of eight
+   9 Helper     this hook has no helper of this number
+  10 Argument   a helper's argument may be too large
+  11 NotWithin  what is known may lie outside of the statement that comes next
+  12 Rank       the rank may rise at a statement, or may not fall on a jump back
+  13 Budget     the entry rank plus 1, times the slots, is above 1,000,000
+  14 ExitKind   a pointer may be answered
+  15 Frame      r10 is written
+
+Statuses:
+  0  accepted
+  1  refused, or the file holds no program: object refusal N, code refusal N slot S
+  2  the words are wrong
+  3  the file can't be read, or the output can't be written
+  4  memory was refused
+
+For each rule docs/VERIFIER.md has the smallest program that breaks it, and how to mend it.
+docs/FORMATS.md has the format of object files and of statements, and each other refusal.";
 
 const ROUTE: &str =
     "Runs a router (OSPFv2, RFC 2328) by a configuration, with a console on the standard input and output, until quit or the end of input";
 
-const ROUTE_EXAMPLE: &str =
-    "Example: routerd route one.conf\n\nThe configuration:\n  router A.B.C.D\n  interface N A.B.C.D/L cost C hello H dead D rxmt R delay T port P peer Q\nwith a line for each interface, N = 1, 2, ..\n\nThe console: attach PATH, detach HOOK, add A.B.C.D/L METRIC TYPE TAG, withdraw A.B.C.D/L, table, neighbors, counters, quit.\n\ndocs/OPERATING.md has each line and each refusal.";
+const ROUTE_EXAMPLE: &str = "\
+Example: routerd route one.conf
+
+The configuration:
+  router A.B.C.D
+  interface N A.B.C.D/L cost C hello H dead D rxmt R delay T port P peer Q
+with a line for each interface, N = 1, 2, ..
+
+The console: attach PATH, detach HOOK, add A.B.C.D/L METRIC TYPE TAG, withdraw A.B.C.D/L,
+table, neighbors, counters, quit.
+
+Statuses:
+  0  ended by quit or the end of input
+  1  the configuration is wrong: config refusal line K; or nobody can ask programs: hook refusal N
+  2  the words are wrong
+  3  the configuration can't be read, a port can't be had, the output can't be written, or a socket
+     failed while the router ran
+  4  memory was refused, or a thread
+
+docs/OPERATING.md has the form of the configuration, each line of the console and each refusal.";
 
 // What is written behind the top help: a line for each command and what it prints, and the statuses.
-const WORKED: &str =
-    "Examples:\n  routerd raw count adds.bin 2  prints seat 1 answer 0 used 4, seat 2 answer 0 used 4, counter 5 6\n  routerd asm sum.s sum.o       prints ok 6\n  routerd list sum.o            prints hook price, rank 10, r1 = 10 and the other lines of the text\n  routerd verify sum.o          prints accepted bound 66\n  routerd run sum.o - -         prints answer 55 used 33\n  routerd route one.conf        runs a router with a console\n\nStatuses: 0 done, 1 refused or stuck, 2 usage, 3 file, socket or stream, 4 memory.";
+const WORKED: &str = "\
+Examples:
+  routerd raw count adds.bin 2  prints seat 1 answer 0 used 4, seat 2 answer 0 used 4, counter 5 6
+  routerd asm sum.s sum.o       prints ok 6
+  routerd list sum.o            prints hook price, rank 10, r1 = 10 and the other lines of the text
+  routerd verify sum.o          prints accepted bound 66
+  routerd run sum.o - -         prints answer 55 used 33
+  routerd route one.conf        runs a router with a console
+
+Statuses: 0 done, 1 refused or stuck, 2 usage, 3 file, socket or stream, 4 memory.";
 
 // The names of the hooks, `Hook::name`'s: a `static` can't call it, and the clause of `hook` holds of no others.
 static HOOKS: [&str; 4] = ["count", "tag", "price", "veto"];

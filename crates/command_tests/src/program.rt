@@ -310,11 +310,36 @@ fn help_names_each_command(rt: HostRuntime) -> Result<(), Fail> {
     ] {
         assert!(rt; help.contains(part), "{help}");
     }
-    let outcome = run(&rt, &["routerd", "raw", "--help"])?;
-    assert_eq!(rt; outcome.status, 0);
-    assert!(rt; outcome.lines.as_str() == "");
-    let help = outcome.usage.as_str();
-    assert!(rt; help.contains("Runs bare code"));
-    assert!(rt; help.contains("Example: routerd raw count adds.bin 2"));
+    Ok(())
+}
+
+#[test]
+fn help_of_a_command_has_an_example_its_statuses_and_a_page(rt: HostRuntime) -> Result<(), Fail> {
+    for (command, example, page) in [
+        ("raw", "raw count adds.bin 2", "docs/FORMATS.md"),
+        ("run", "run sum.o - -", "docs/FORMATS.md"),
+        ("asm", "asm sum.s sum.o", "docs/FORMATS.md"),
+        ("list", "list sum.o", "docs/FORMATS.md"),
+        ("verify", "verify sum.o", "docs/FORMATS.md"),
+        ("route", "route one.conf", "docs/OPERATING.md"),
+    ] {
+        let outcome = run(&rt, &["routerd", command, "--help"])?;
+        assert!(rt; outcome.status == 0 && outcome.lines.as_str() == "");
+        let help = outcome.usage.as_str();
+        let example = format!(in rt.alloc(); "\nExample: routerd {example}\n")?;
+        assert!(rt;
+            help.contains(example.as_str()) && help.contains(page),
+            "{help}"
+        );
+        for status in [
+            "\nStatuses:\n  0  ",
+            "\n  1  ",
+            "\n  2  ",
+            "\n  3  ",
+            "\n  4  ",
+        ] {
+            assert!(rt; help.contains(status), "{help}");
+        }
+    }
     Ok(())
 }

@@ -1,6 +1,6 @@
 //! Texts and objects as files: what `asm` writes and `list` prints, what can't be read or written.
 
-use super::{EXIT_SLOT, Step, counting, expect, play, run, small, write_file};
+use super::{EXIT_SLOT, Step, counting, expect, play, small, write_file};
 use std::process;
 use std::test::Fail;
 
@@ -129,16 +129,4 @@ fn a_file_of_16_mib_is_read_and_a_longer_one_is_not(rt: HostRuntime) -> Result<(
     write_file(&rt, id, "long", bytes.as_slice())?;
     expect(&rt, id, LONG, 3, "cannot read @long\n")?;
     play(&rt, id, &[Step::Remove("long")])
-}
-
-#[test]
-fn help_of_asm_and_list_has_an_example(rt: HostRuntime) -> Result<(), Fail> {
-    for (command, example) in [
-        ("asm", "Example: routerd asm sum.s sum.o"),
-        ("list", "Example: routerd list sum.o"),
-    ] {
-        let outcome = run(&rt, &["routerd", command, "--help"])?;
-        assert!(rt; outcome.status == 0 && outcome.usage.as_str().contains(example));
-    }
-    Ok(())
 }

@@ -1,6 +1,6 @@
 //! Object files by `run`: answers, traps, refusals.
 
-use super::{EXIT_SLOT, Step, counting, expect, play, run, small, write_file};
+use super::{EXIT_SLOT, Step, counting, expect, play, small, write_file};
 use std::process;
 use std::process::Abort;
 use std::rt::{Env, Files};
@@ -66,13 +66,4 @@ fn an_object_that_is_none_is_refused(rt: HostRuntime) -> Result<(), Fail> {
     expect_cases(&rt, id, &cases)?;
     let missing = Step::Run(&["run", "@missing", "-", "-"], 3, "cannot read @missing\n");
     play(&rt, id, &[missing])
-}
-
-#[test]
-fn help_of_run_has_an_example(rt: HostRuntime) -> Result<(), Fail> {
-    let outcome = run(&rt, &["routerd", "run", "--help"])?;
-    assert_eq!(rt; outcome.status, 0);
-    let help = outcome.usage.as_str();
-    assert!(rt; help.contains("Example: routerd run sum.o - -"), "{help}");
-    Ok(())
 }

@@ -1,6 +1,6 @@
 //! The command `route`: the configuration, the console's streams and the status go to the router and back.
 
-use super::{Step, path_for, play, run};
+use super::{Step, path_for, play};
 use commands::Routing;
 use commands::program::program;
 use std::alloc::Global;
@@ -65,13 +65,4 @@ fn a_configuration_that_is_no_text_cant_be_read(rt: HostRuntime) -> Result<(), F
         Step::Remove("bytes.conf"),
     ];
     play(&rt, process::id(rt.process()), &steps)
-}
-
-#[test]
-fn help_of_route_has_an_example(rt: HostRuntime) -> Result<(), Fail> {
-    let outcome = run(&rt, &["routerd", "route", "--help"])?;
-    assert_eq!(rt; outcome.status, 0);
-    let help = outcome.usage.as_str();
-    assert!(rt; help.contains("Example: routerd route one.conf"), "{help}");
-    Ok(())
 }
