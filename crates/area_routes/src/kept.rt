@@ -1,5 +1,5 @@
 //! The routes of a router, kept from one event to the next.
-ghost use Rattle.std.specs.Prelude.{◌≡◌, ◌+◌, ◌≤◌, ◌↔◌, None, false, length, min, IfOk, IsTrue, OnErr, OnOk};
+ghost use Rattle.std.specs.Prelude.{◌≡◌, ◌+◌, ◌≤◌, ◌↔◌, None, false, length, min, IfOk, IsTrue, OnErr, OnOk, true};
 ghost use Rattle.std.specs.FinMap as finite;
 ghost use Rattle.area_routes.specs.Kept.{HasStayed, KnowsAnswered, WalksAgainOnlyThen};
 ghost use Rattle.area_routes.specs.Offers.{AreOfferedBy, root_by};
@@ -265,27 +265,34 @@ impl AreaRoutes {
     }
 
     /// Tells whether some candidate stands in none of the answers, so that they are to be asked for again. Where it is known that none does, no
-    /// candidate is looked at.
+    /// candidate is looked at. That none does is remembered, until an LSA says something else.
     ///
     /// # Errors
-    /// Where memory for the candidates, or for answers in order, is refused.
+    /// Where memory for the candidates, or for answers in order, is refused; the routes stay as they were then.
     pub fn is_stale(
-        &self,
+        &mut self,
         alloc: Global,
         area: &Area,
         moment: Second,
         answers: &[(Route, u64)],
     ) -> Result<bool, AllocError>
-        requires walk { IsWalkOf (said_at moment area.now.present.database) self.now.walk }
+        requires walk { IsWalkOf (said_at moment area.now.present.database) self.old.walk }
         requires answered { KnowsAnswered (said_at moment area.now.present.database)
-            answers.now self.now }
-        ensures { IfOk result (λ stale. IsTrue stale ↔ IsStale
-            (said_at moment area.now.present.database) self.now.walk.root answers.now) }
+            answers.now self.old }
+        ensures stale { IfOk result (λ stale. IsTrue stale ↔ IsStale
+            (said_at moment area.now.present.database) self.old.walk.root answers.now) }
+        ensures walk { self.new.walk ≡ self.old.walk }
+        ensures answered { KnowsAnswered (said_at moment area.now.present.database)
+            answers.now self.new }
+        ensures noted { IfOk result (λ stale. stale ≡ false → self.new.answered ≡ true) }
+        ensures err { OnErr result (self.new ≡ self.old) }
     {
         if self.answered {
             return Ok(false);
         }
-        self.lacks_answers(alloc, area, moment, answers)
+        let lacks = self.lacks_answers(alloc, area, moment, answers)?;
+        self.answered = !lacks;
+        Ok(lacks)
     }
 
     /// How many walks were made; it stays at its greatest value.

@@ -1,7 +1,8 @@
 //! The book itself: an event is taken, and the book starts anew.
-ghost use Rattle.std.specs.Prelude.{◌≡◌, ℕ, ◌+◌, ◌^◌, ◌<◌, ◌≤◌, [], ◌∷◌, ◌++◌, length, IfOk, OnOk, OnErr};
+ghost use Rattle.std.specs.Prelude.{◌≡◌, ℕ, ◌+◌, ◌^◌, ◌<◌, ◌≤◌, [], ◌∷◌, ◌++◌, ◌↔◌, length, IfOk, IsTrue, OnOk, OnErr};
 ghost use Rattle.events.specs.Events.{Happens};
 ghost use Rattle.flood.specs.Occurrences.{occurrence_of};
+ghost use Rattle.flood.specs.Offers.{IsStaleNow};
 ghost use Rattle.book.specs.Refusals.{Answers, AnswersAnew};
 ghost use Rattle.book.specs.Replay.{Replays, entry, started};
 
@@ -214,6 +215,17 @@ impl<L: Ledger> Book<L> {
         ensures share { (all.new.amount ≡ all.old.amount) × (all.new.parts ≡ all.old.parts) }
     {
         self.total.audit(all);
+    }
+
+    /// Tells whether some candidate of the router as it is now stands in none of the answers of its last
+    /// installation, as [`Core::stale`] does. What clauses see of the book stays.
+    ///
+    /// `AllocError` comes where an allocation was refused.
+    pub fn is_stale(&mut self) -> Result<bool, AllocError>
+        ensures stale { IfOk result (λ b. IsTrue b ↔ IsStaleNow self.old.current) }
+        ensures book { self.new ≡ self.old }
+    {
+        self.current.stale()
     }
 
     /// The router at the start.

@@ -250,13 +250,14 @@ impl Core {
     }
 
     /// Tells whether some candidate stands in none of the answers of the last Install, so that they are
-    /// to be asked for again. Where an Install has answered all of them, and no event since has changed
-    /// what an LSA says, no candidate is looked at.
+    /// to be asked for again. Where that was found of none, by this call or as the answers came, and no
+    /// event since has changed what an LSA says, no candidate is looked at.
     ///
     /// # Errors
     /// Where memory for the candidates, or for answers in order, is refused.
-    pub fn stale(&self) -> Result<bool, AllocError>
-        ensures { IfOk result (λ b. IsTrue b ↔ IsStaleNow self.now) }
+    pub fn stale(&mut self) -> Result<bool, AllocError>
+        ensures stale { IfOk result (λ b. IsTrue b ↔ IsStaleNow self.old) }
+        ensures core { self.new ≡ self.old }
     {
         let router = &self.router;
         let made = self.routes.is_stale(

@@ -8,8 +8,8 @@
 //! After each event the instances are looked at that the router tells, in Acknowledgments and in
 //! Updates: it has received or originated each, in this life or an earlier one. What leaves a
 //! retransmission list isn't shown by `flood::Core`. But only what the packet that comes in names
-//! leaves it (`flood::Core::step`, clause `keeps`), and packets come as they were sent: so that all
-//! senders know what they tell is what "acknowledged was received" rests on.
+//! leaves it as acknowledged (`flood::Core::step`, clause `keeps`), and packets come as they were
+//! sent: so that all senders know what they tell is what "acknowledged was received" rests on.
 #![tactic(auto)]
 
 #[cfg(test)]

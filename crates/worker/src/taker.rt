@@ -37,7 +37,7 @@ pub trait Taker<L: Ledger> {
         ensures err { OnErr result (mine.new.amount ≡ mine.old.amount) };
 
     /// Tells whether a candidate stands in no answer of the last installation.
-    fn stale(&self) -> Result<bool, AllocError>;
+    fn stale(&mut self) -> Result<bool, AllocError>;
 
     /// The candidates now, and the rows of the table now.
     fn offered(&self) -> Result<Offered, AllocError>
@@ -59,8 +59,8 @@ impl<L: Ledger> Taker<L> for Book<L> {
         self.apply_anew(mine, moment, event)
     }
 
-    fn stale(&self) -> Result<bool, AllocError> {
-        self.now().stale()
+    fn stale(&mut self) -> Result<bool, AllocError> {
+        self.is_stale()
     }
 
     fn offered(&self) -> Result<Offered, AllocError> {
