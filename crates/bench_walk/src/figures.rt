@@ -5,8 +5,11 @@ use candidates::routes_of;
 use lsdb::Lsdb;
 use routes::Root;
 use shortest_paths::walk;
+use std::alloc::Global;
 use std::rt::Clock;
 use std::time::Instant;
+use tables::{is_stale, table};
+use words::Route;
 
 /// How many measurements each figure is the least of.
 const MEASUREMENTS: u32 = 11;
@@ -25,12 +28,62 @@ fn since<R: Clock>(rt: &R, start: Instant) -> Result<u64> {
     Ok(u64::try_from(start.elapsed(rt)?.as_micros()).unwrap_or(u64::MAX))
 }
 
-// What a walk and the routes of it took, in microseconds, and how many routes there are.
+// What a walk, the routes of it, and their table took, in microseconds, and how many routes there are.
 #[derive(Clone, Copy)]
 struct Times {
     walk: u64,
     routes: u64,
+    table: u64,
+    stale: u64,
     count: usize,
+}
+
+const LONGEST: Times = Times {
+    walk: u64::MAX,
+    routes: u64::MAX,
+    table: u64::MAX,
+    stale: u64::MAX,
+    count: 0,
+};
+
+// Answers that let each route in.
+fn answers_of(alloc: Global, routes: &[Route]) -> Result<Vec<(Route, u64)>> {
+    let mut answers = Vec::new(alloc);
+    for route in routes {
+        answers.push((*route, 0))?;
+    }
+    Ok(answers)
+}
+
+fn time_table<R: Clock + AllocGlobal>(
+    rt: &R,
+    routes: &[Route],
+    answers: &[(Route, u64)],
+) -> Result<u64> {
+    let start = Instant::now(rt)?;
+    let whole = table(rt.alloc(), routes, answers)?;
+    let taken = since(rt, start)?;
+    ensure!(whole.len() == routes.len(), "a table without a route");
+    Ok(taken)
+}
+
+fn time_stale<R: Clock + AllocGlobal>(
+    rt: &R,
+    routes: &[Route],
+    answers: &[(Route, u64)],
+) -> Result<u64> {
+    let start = Instant::now(rt)?;
+    let stale = is_stale(rt.alloc(), routes, answers)?;
+    let taken = since(rt, start)?;
+    ensure!(!stale, "a table that is stale");
+    Ok(taken)
+}
+
+// What the table of the routes and the test whether it is stale take, in microseconds.
+fn measure_table<R: Clock + AllocGlobal>(rt: &R, routes: &[Route]) -> Result<(u64, u64)> {
+    let answers = answers_of(rt.alloc(), routes)?;
+    let table = time_table(rt, routes, &answers)?;
+    Ok((table, time_stale(rt, routes, &answers)?))
 }
 
 fn measure<R: Clock + AllocGlobal>(rt: &R, db: &Lsdb, root: &Root) -> Result<Times> {
@@ -42,39 +95,65 @@ fn measure<R: Clock + AllocGlobal>(rt: &R, db: &Lsdb, root: &Root) -> Result<Tim
     let walk = since(rt, start)?;
     let start = Instant::now(rt)?;
     let routes = routes_of(rt.alloc(), db, root, now, &reached)?;
+    let taken = since(rt, start)?;
+    let (table, stale) = measure_table(rt, &routes)?;
     Ok(Times {
         walk,
-        routes: since(rt, start)?,
+        routes: taken,
+        table,
+        stale,
         count: routes.len(),
     })
+}
+
+fn least(a: Times, b: Times) -> Times {
+    Times {
+        walk: a.walk.min(b.walk),
+        routes: a.routes.min(b.routes),
+        table: a.table.min(b.table),
+        stale: a.stale.min(b.stale),
+        count: b.count,
+    }
+}
+
+// The least times of all measurements.
+fn measure_often<R: Clock + AllocGlobal>(rt: &R, db: &Lsdb, root: &Root) -> Result<Times> {
+    let mut times = LONGEST;
+    for _measurement in 0..MEASUREMENTS {
+        times = least(times, measure(rt, db, root)?);
+    }
+    Ok(times)
+}
+
+fn print_times<R: Print>(rt: &R, shape: Shape, times: Times) -> Result<()> {
+    let whole = shape.routers.saturating_add(shape.externals) as usize;
+    ensure!(
+        times.count == whole,
+        "{} routes and not {whole}",
+        times.count
+    );
+    let forwards = if shape.forwards { " that forward" } else { "" };
+    let (routers, externals) = (shape.routers, shape.externals);
+    println!(rt;
+        "{} of {routers} routers, {externals} externals{forwards}:",
+        shape.name
+    )?;
+    println!(rt; "  walk {}, routes {}", times.walk, times.routes)?;
+    println!(rt; "  table {}, stale {}", times.table, times.stale)?;
+    Ok(())
 }
 
 fn print_shape<R: Clock + Print + AllocGlobal>(rt: &R, shape: Shape) -> Result<()> {
     let db = database(rt.alloc(), shape)?;
     let root = root(rt.alloc())?;
-    let mut least = measure(rt, &db, &root)?;
-    for _measurement in 1..MEASUREMENTS {
-        let times = measure(rt, &db, &root)?;
-        least.walk = least.walk.min(times.walk);
-        least.routes = least.routes.min(times.routes);
-    }
-    let whole = shape.routers.saturating_add(shape.externals) as usize;
-    ensure!(
-        least.count == whole,
-        "{} routes and not {whole}",
-        least.count
-    );
-    let forwards = if shape.forwards { " that forward" } else { "" };
-    println!(rt;
-        "{} of {} routers, {} externals{forwards}: walk {}, routes {}",
-        shape.name, shape.routers, shape.externals, least.walk, least.routes
-    )?;
-    Ok(())
+    let times = measure_often(rt, &db, &root)?;
+    print_times(rt, shape, times)
 }
 
-/// Prints what a walk takes, and what the candidates of a walk take, in microseconds, the least of 11 measurements: over rings, grids and
-/// circles with a long step of 100, 1,000 and 4,000 routers, with so many externals that there are 16,384 LSAs; over a grid of 1,000
-/// routers with 15,000 externals, without forwarding addresses and with one each; and over a grid of 16,384 routers.
+/// Prints what a walk takes, what its candidates take, what their table takes and what the test whether it is stale takes, in microseconds,
+/// the least of 11 measurements: over rings, grids and circles with a long step of 100, 1,000 and 4,000 routers, with so many externals that
+/// there are 16,384 LSAs; over a grid of 1,000 routers with 15,000 externals, without forwarding addresses and with one each; and over a grid
+/// of 16,384 routers.
 ///
 /// # Errors
 /// The clock or the output failed, memory ran out, or a router or an external destination has no route.
