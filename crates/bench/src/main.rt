@@ -16,8 +16,8 @@ use std::rt::Clock;
 use std::sync::Wait;
 use std::thread::Threads;
 
-const USAGE: &str =
-    "usage: bench run | decode | encode | asm | objects | maps | texts | database | hooks | walk | verify";
+const USAGE: &str = "usage: bench run | decode | encode | asm | objects | maps | texts | core \
+    | database | hooks | walk | verify";
 
 /// Prints the figures of this name. False where no figures have it.
 fn measure<R: Clock + Print + AllocGlobal + Threads + Wait + Copy + Send + 'static>(
@@ -32,6 +32,7 @@ fn measure<R: Clock + Print + AllocGlobal + Threads + Wait + Copy + Send + 'stat
         "objects" => object_speed::print(rt)?,
         "maps" => maps_speed::print(*rt)?,
         "texts" => texts_speed::print(rt)?,
+        "core" => bench_core::print(rt)?,
         "database" => bench_database::print(rt)?,
         "hooks" => bench_hooks::print(*rt)?,
         "walk" => bench_walk::print(rt)?,
