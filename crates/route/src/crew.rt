@@ -4,12 +4,13 @@ ghost use Rattle.maps.specs.Words.{IsOf};
 ghost use Rattle.worker.specs.Opening.{IsSetUpFor};
 
 use crate::labor::{Workers, work};
-use crate::operator::Operator;
-use crate::sockets::Sockets;
+use crate::talk::{Console, talk};
 use book::Book;
 use flood::Core;
 use log::Log;
 use maps::{Seat, Shared};
+use operator::Desk;
+use sockets::{Sockets, SystemSeconds};
 use std::alloc::{AllocError, Global};
 use std::io::{BufRead, Write};
 use std::rt::Files;
@@ -17,7 +18,7 @@ use std::sync::Wait;
 use std::sync::atomic::Ordering;
 use std::sync::ledger::Share;
 use std::thread;
-use std::thread::{Scope, Threads};
+use std::thread::{JoinHandle, Scope, Threads};
 use std::time::Clock;
 use worker::{Hub, Port, Settled, Setup, Site, open_hub, settle};
 
@@ -40,7 +41,7 @@ pub struct Returned<L: Site> {
 pub fn side_by_side<
     L: Site + Send + Sync,
     R: Threads + Wait + Clock + Log + Sync,
-    S: Wait + Drop + Clock + Files + AllocGlobal,
+    S: Wait + Clock + Files + AllocGlobal,
     Q: Wait + Drop,
     I: BufRead,
     O: Write,
@@ -51,7 +52,8 @@ pub fn side_by_side<
     core: Core,
     workers: &Workers<'_, R>,
     links: Vec<Sockets<'_>>,
-    operator: &mut Operator<'_, L, S, Q, I, O>,
+    desk: &mut Desk<L, Q, Sockets<'_>, SystemSeconds<'_, S>>,
+    console: &mut Console<'_, S, I, O>,
 ) -> Result<Returned<L>, AllocError>
     requires setup { IsSetUpFor L.name L.parts L.words L.history setup }
     requires links { vec_len setup.seats ≡ vec_len links + 1 }
@@ -61,7 +63,7 @@ pub fn side_by_side<
         (length r.seats.items ≡ r.shared.seats) × All (IsOf r.shared) r.seats.items) }
 {
     let (hub, ports, rest) = open_hub::<L>(alloc, setup, core)?;
-    let ports = in_scope(rt, &hub, ports, workers, links, operator)?;
+    let ports = in_scope(rt, &hub, ports, workers, links, desk, console)?;
     let (mut book, shared) = hub.into_parts();
     let Settled { share, seats } = settle(alloc, &mut book, rest, ports)?;
     Ok(Returned {
@@ -76,7 +78,7 @@ pub fn side_by_side<
 fn in_scope<
     L: Site + Send + Sync,
     R: Threads + Wait + Clock + Log + Sync,
-    S: Wait + Drop + Clock + Files + AllocGlobal,
+    S: Wait + Clock + Files + AllocGlobal,
     Q: Wait + Drop,
     I: BufRead,
     O: Write,
@@ -86,7 +88,8 @@ fn in_scope<
     ports: Vec<Port<L>>,
     workers: &Workers<'_, R>,
     links: Vec<Sockets<'_>>,
-    operator: &mut Operator<'_, L, S, Q, I, O>,
+    desk: &mut Desk<L, Q, Sockets<'_>, SystemSeconds<'_, S>>,
+    console: &mut Console<'_, S, I, O>,
 ) -> Result<Vec<Port<L>>, AllocError>
     requires { vec_len ports ≡ vec_len links + 1 }
     ensures { IfOk result (λ back. vec_len back ≡ vec_len ports) }
@@ -97,18 +100,17 @@ fn in_scope<
         |scope| -> Result<Vec<Port<L>>, AllocError>
             requires { vec_len ports ≡ vec_len links + 1 }
             ensures { IfOk result (λ back. vec_len back ≡ vec_len ports) }
-        { crew(scope, rt, hub, workers, links, operator, ports) },
+        { crew(scope, rt, hub, workers, links, desk, console, ports) },
     )
 }
 
-// Starts a thread for each port but the last, which is the operator's, each with the last link, and
-// joins them after it.
+// Starts the others, lets the operator talk at the last port, and joins them after it.
 fn crew<
     's,
     E,
     L: Site + Send + Sync,
     R: Threads + Wait + Clock + Log + Sync,
-    S: Wait + Drop + Clock + Files + AllocGlobal,
+    S: Wait + Clock + Files + AllocGlobal,
     Q: Wait + Drop,
     I: BufRead,
     O: Write,
@@ -118,19 +120,38 @@ fn crew<
     hub: &'s Hub<L, Book<L>>,
     workers: &'s Workers<'_, R>,
     links: Vec<Sockets<'s>>,
-    operator: &mut Operator<'_, L, S, Q, I, O>,
+    desk: &mut Desk<L, Q, Sockets<'_>, SystemSeconds<'_, S>>,
+    console: &mut Console<'_, S, I, O>,
     ports: Vec<Port<L>>,
 ) -> Result<Vec<Port<L>>, AllocError>
     requires { vec_len ports ≡ vec_len links + 1 }
     ensures { IfOk result (λ back. vec_len back ≡ vec_len ports) }
 {
-    let alloc = *ports.allocator();
-    let (mut ports, mut links) = (ports, links);
-    let mut back = Vec::with_capacity(alloc, ports.len())?;
-    let mut running = Vec::with_capacity(alloc, ports.len())?;
+    let mut ports = ports;
+    let back = Vec::with_capacity(workers.alloc, ports.len())?;
     let Some(first) = ports.pop() else {
         unreachable!()
     };
+    let running = started(scope, hub, workers, links, ports)?;
+    let first = talk(hub, first, desk, console);
+    workers.quit.store(true, Ordering::SeqCst);
+    joined(rt, running, first, back)
+}
+
+// A thread for each port, each with the last link. Where one can't be started the others are told to
+// end.
+fn started<'s, E, L: Site + Send + Sync, R: Threads + Wait + Clock + Log + Sync>(
+    scope: &Scope<'s, E>,
+    hub: &'s Hub<L, Book<L>>,
+    workers: &'s Workers<'_, R>,
+    links: Vec<Sockets<'s>>,
+    ports: Vec<Port<L>>,
+) -> Result<Vec<JoinHandle<Port<L>>>, AllocError>
+    requires { vec_len ports ≡ vec_len links }
+    ensures { IfOk result (λ running. vec_len running ≡ vec_len ports) }
+{
+    let (mut ports, mut links) = (ports, links);
+    let mut running = Vec::with_capacity(workers.alloc, ports.len())?;
     let (clock, memory) = (workers.rt, workers.alloc);
     let (quit, failed) = (&workers.quit, &workers.failed);
     while let Some(port) = ports.pop() {
@@ -147,8 +168,20 @@ fn crew<
             return Err(AllocError);
         }
     }
-    let first = operator.talk(hub, first);
-    workers.quit.store(true, Ordering::SeqCst);
+    Ok(running)
+}
+
+// All ports, once the threads that have them are done.
+fn joined<L: Site, R: Threads>(
+    rt: &R,
+    running: Vec<JoinHandle<Port<L>>>,
+    first: Port<L>,
+    back: Vec<Port<L>>,
+) -> Result<Vec<Port<L>>, AllocError>
+    requires { vec_len back ≡ 0 }
+    ensures { IfOk result (λ back. vec_len back ≡ vec_len running + 1) }
+{
+    let (mut running, mut back) = (running, back);
     back.push(first)?;
     while let Some(thread) = running.pop() {
         back.push(thread.join(rt))?;

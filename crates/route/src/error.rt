@@ -3,6 +3,7 @@ ghost use Rattle.std.specs.Prelude.{◌≤◌};
 
 use console::ConfigurationError;
 use hooks::HookError;
+use sockets::SocketError;
 use std::alloc::{AllocError, AllocFailed};
 use thiserror::Error;
 
@@ -59,6 +60,16 @@ impl From<ConfigurationError> for RouteError {
         match error {
             ConfigurationError::Line(line) => RouteError::Configuration(line),
             ConfigurationError::Memory => RouteError::Memory,
+        }
+    }
+}
+
+impl From<SocketError> for RouteError {
+    fn from(error: SocketError) -> RouteError {
+        match error {
+            SocketError::Bind(port) => RouteError::Bind(port),
+            SocketError::Wait => RouteError::Socket,
+            SocketError::Memory => RouteError::Memory,
         }
     }
 }

@@ -1,21 +1,13 @@
 //! What the threads of the interfaces do.
-use crate::clock::SystemSeconds;
-use crate::sockets::Sockets;
 use book::Book;
 use log::{Level, Log, Logged, warn};
+use operator::Open;
+use sockets::{Sockets, SystemSeconds};
 use std::alloc::Global;
 use std::sync::Wait;
 use std::sync::atomic::{AtomicBool, Ordering};
 use std::time::Clock;
-use worker::{Ended, Gate, Hub, Port, Site, run};
-
-/// A gate that lets each turn pass.
-#[derive(Drop)]
-pub struct Open {}
-
-impl Gate for Open {
-    fn pass(&self, _port: u16) {}
-}
+use worker::{Ended, Hub, Port, Site, run};
 
 /// What the workers of all interfaces have.
 #[derive(Drop)]

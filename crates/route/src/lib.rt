@@ -4,14 +4,11 @@
 //! worker ends that of [`worker::run`], what the configuration and the console's lines are that of `console`.
 #![tactic(auto)]
 
-mod clock;
 mod crew;
 mod error;
 mod labor;
-mod operator;
-mod programs;
 mod running;
-mod sockets;
+mod talk;
 
 pub use error::RouteError;
-pub use running::{route, run_router};
+pub use running::{operate, route, run_router};

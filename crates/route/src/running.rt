@@ -1,19 +1,21 @@
 //! A router from its configuration to its end.
-ghost use Rattle.std.specs.Prelude.{◌≡◌, ◌⊎◌, ◌≤◌, ◌+◌, IfOk, length, vec_len};
+ghost use Rattle.std.specs.Prelude.{◌≡◌, ◌⊎◌, ◌≤◌, ◌+◌, All, IfOk, IsTrue, if◌then◌else◌, length, vec_len};
+ghost use Rattle.maps.specs.Words.{IsOf};
 ghost use Rattle.hooks.specs.Known.{history_of};
 ghost use Rattle.worker.specs.Opening.{IsSetUpFor};
 
-use crate::clock::SystemSeconds;
 use crate::crew::{Returned, side_by_side};
 use crate::error::RouteError;
 use crate::labor::Workers;
-use crate::operator::Operator;
-use crate::sockets::{Sockets, Wire, bind_each};
+use crate::talk::Console;
 use console::{Configured, read_configuration, totals_text};
 use events::Config;
 use flood::{ConfigError, Core};
 use hooks::Loader;
 use log::Log;
+use maps::{Seat, Shared};
+use operator::{Desk, Outlet};
+use sockets::{Sockets, SystemSeconds, Wire, bind_each, listening};
 use std::alloc::Global;
 use std::io::{BufRead, Write};
 use std::marker::{Brand, PhantomData};
@@ -45,87 +47,169 @@ fn core_of<R: Clock>(rt: &R, alloc: Global, configured: &Configured) -> Result<C
     }
 }
 
-// The links of the workers, that of the first interface last.
-fn listening<'x, R: Net>(
-    rt: &R,
-    alloc: Global,
-    wires: &'x [Wire],
-) -> Result<Vec<Sockets<'x>>, RouteError>
-    ensures { IfOk result (λ links. vec_len links ≡ length wires.now) }
+// The shared words and their seats. The book is let go.
+fn words_of<L: Site>(returned: Returned<L>) -> (Shared, Vec<Seat>)
+    requires { (length returned.seats.items ≡ returned.shared.seats)
+        × All (IsOf returned.shared) returned.seats.items }
+    ensures { (length result.1.items ≡ result.0.seats) × All (IsOf result.0) result.1.items }
 {
-    let mut links = Vec::with_capacity(alloc, wires.len())?;
-    for before in 0..wires.len() {
-        match Sockets::of_interface(rt, alloc, wires, wires.len() - 1 - before) {
-            Ok(link) => links.push(link)?,
-            Err(_) => return Err(RouteError::Socket),
-        }
+    let Returned {
+        book: _,
+        share: _,
+        shared,
+        seats,
+    } = returned;
+    (shared, seats)
+}
+
+// Prints the exact counters.
+fn print_totals<S, I, O: Write>(
+    alloc: Global,
+    sums: &[u64],
+    console: &mut Console<'_, S, I, O>,
+) -> Result<(), RouteError> {
+    let text = totals_text(alloc, sums)?;
+    if console.mute || console.output.write_all(text.as_bytes()).is_err() {
+        return Err(RouteError::Output);
     }
-    Ok(links)
+    Ok(())
+}
+
+// The status of a router that ran: 3 where a socket failed.
+fn status_of(failed: bool) -> u8
+    ensures { result ≡ (if failed then 3 else 0) }
+{
+    if failed { 3 } else { 0 }
 }
 
 // Runs the workers and the console over a setup, and prints the exact counters.
+fn run_crew<
+    L: Site + Send + Sync,
+    R: Threads + Wait + Clock + Log + Files + AllocGlobal + Sync,
+    Q: Wait + Drop,
+    I: BufRead,
+    O: Write,
+>(
+    rt: &R,
+    setup: Setup,
+    core: Core,
+    workers: &Workers<'_, R>,
+    links: Vec<Sockets<'_>>,
+    desk: &mut Desk<L, Q, Sockets<'_>, SystemSeconds<'_, R>>,
+    console: &mut Console<'_, R, I, O>,
+) -> Result<u8, RouteError>
+    requires setup { IsSetUpFor L.name L.parts L.words L.history setup }
+    requires links { vec_len setup.seats ≡ vec_len links + 1 }
+    ensures ended { IfOk result (λ status. (status ≡ 0) ⊎ (status ≡ 3)) }
+    ensures own { IsTrue desk.new.outlet.failed → IfOk result (λ status. status ≡ 3) }
+{
+    let alloc = workers.alloc;
+    let returned = side_by_side(rt, alloc, setup, core, workers, links, desk, console)?;
+    let (shared, seats) = words_of(returned);
+    let totals = shared.close(seats);
+    print_totals(alloc, &totals.sums, console)?;
+    Ok(status_of(desk.outlet.failed || workers.failed.load(Ordering::SeqCst)))
+}
+
+// The workers' and the operator's things, and what runs with them.
 fn run_all<
     'x,
     L: Site + Send + Sync,
-    R: Net + Threads + Wait + Clock + Log + Files + AllocGlobal + Sync + Drop,
+    R: Threads + Wait + Clock + Log + Files + AllocGlobal + Sync + Drop,
     Q: Wait + Drop,
     I: BufRead,
     O: Write,
 >(
     rt: &'x R,
-    alloc: Global,
     setup: Setup,
     loader: Loader<Q>,
     core: Core,
-    wires: &'x [Wire],
+    links: Vec<Sockets<'x>>,
+    own: Sockets<'x>,
     input: &'x mut I,
     output: &'x mut O,
 ) -> Result<u8, RouteError>
     requires setup { IsSetUpFor L.name L.parts L.words L.history setup }
     requires history { history_of loader ≡ L.history }
-    requires wires { vec_len setup.seats ≡ length wires.now + 1 }
+    requires links { vec_len setup.seats ≡ vec_len links + 1 }
     ensures ended { IfOk result (λ status. (status ≡ 0) ⊎ (status ≡ 3)) }
 {
-    let interfaces = if wires.len() <= 63 {
-        wires.len() as u16
+    let alloc = rt.alloc();
+    let interfaces = if links.len() <= 63 {
+        links.len() as u16
     } else {
         63
     };
-    let links = listening(rt, alloc, wires)?;
     let workers = Workers {
         rt,
         alloc,
         quit: AtomicBool::new(false),
         failed: AtomicBool::new(false),
     };
-    let mut operator = Operator {
-        rt,
+    let mut desk = Desk {
         alloc,
         loader,
         interfaces,
-        link: Sockets::of_console(wires),
-        clock: SystemSeconds::new(rt),
-        input,
-        output,
-        failed: false,
-        mute: false,
+        outlet: Outlet {
+            link: own,
+            clock: SystemSeconds::new(rt),
+            failed: false,
+        },
         of: PhantomData::<L>,
     };
-    let Returned {
-        book: _,
-        share: _,
-        shared,
-        seats,
-    } = side_by_side(rt, alloc, setup, core, &workers, links, &mut operator)?;
-    let totals = shared.close(seats);
-    let text = totals_text(alloc, &totals.sums)?;
-    if operator.mute || operator.output.write_all(text.as_bytes()).is_err() {
-        return Err(RouteError::Output);
-    }
-    if operator.failed || workers.failed.load(Ordering::SeqCst) {
-        return Ok(3);
-    }
-    Ok(0)
+    let mut console = Console {
+        rt,
+        input,
+        output,
+        mute: false,
+    };
+    run_crew(rt, setup, core, &workers, links, &mut desk, &mut console)
+}
+
+/// Runs a router over these sockets, that of the first interface last, and over one of the console's own, as [`run_router`] does.
+///
+/// # Errors
+///
+/// `Hooks` where the programs have no places, also for more than 63 sockets; `Output` where the output can't be written, `Memory` where memory
+/// was refused or a thread couldn't be started.
+#[tactic(auto, using(crate::proofs::Fresh::all_ask))]
+pub fn operate<
+    'x,
+    R: Threads + Wait + Clock + Log + Files + AllocGlobal + Sync + Drop,
+    I: BufRead,
+    O: Write,
+>(
+    rt: &'x R,
+    core: Core,
+    links: Vec<Sockets<'x>>,
+    own: Sockets<'x>,
+    input: &'x mut I,
+    output: &'x mut O,
+) -> Result<u8, RouteError>
+    ensures ended { IfOk result (λ status. (status ≡ 0) ⊎ (status ≡ 3)) }
+{
+    let ports = links.len().saturating_add(1);
+    let (loader, setup) = Setup::new(rt.alloc(), rt, ports)?;
+    run_all::<Brand, R, &R, I, O>(rt, setup, loader, core, links, own, input, output)
+}
+
+// Runs the router of a configuration over the sockets of its interfaces.
+fn run_over<
+    R: Net + Threads + Wait + Clock + Log + Files + AllocGlobal + Sync + Drop,
+    I: BufRead,
+    O: Write,
+>(
+    rt: &R,
+    configured: &Configured,
+    wires: &[Wire],
+    input: &mut I,
+    output: &mut O,
+) -> Result<u8, RouteError>
+    ensures ended { IfOk result (λ status. (status ≡ 0) ⊎ (status ≡ 3)) }
+{
+    let links = listening(rt, rt.alloc(), wires)?;
+    let core = core_of(rt, rt.alloc(), configured)?;
+    operate(rt, core, links, Sockets::of_console(wires), input, output)
 }
 
 /// Runs the router that a configuration's text says, with a console that reads commands from `input` and answers on `output`, until `quit` or
@@ -134,9 +218,8 @@ fn run_all<
 ///
 /// # Errors
 ///
-/// `Configuration` where the text says none, `Bind` where a port can't be had, `Hooks` where the programs have no places, tried in this order;
-/// `Output` where the output can't be written, `Memory` where memory was refused or a thread couldn't be started.
-#[tactic(auto, using(crate::proofs::Fresh::all_ask))]
+/// `Configuration` where the text says none, `Bind` where a port can't be had, `Socket` where the sockets can't be waited at, `Hooks` where the
+/// programs have no places, tried in this order; `Output` where the output can't be written, `Memory` where memory was refused or a thread couldn't be started.
 pub fn run_router<
     R: Net + Threads + Wait + Clock + Log + Files + AllocGlobal + Sync + Drop,
     I: BufRead,
@@ -146,11 +229,8 @@ pub fn run_router<
 {
     let alloc = rt.alloc();
     let configured = read_configuration(alloc, text)?;
-    let interfaces = configured.interfaces.as_slice();
-    let wires = bind_each(rt, alloc, interfaces)?;
-    let (loader, setup) = Setup::new(alloc, rt, wires.len() + 1)?;
-    let core = core_of(rt, alloc, &configured)?;
-    run_all::<Brand, R, &R, I, O>(rt, alloc, setup, loader, core, &wires, input, output)
+    let wires = bind_each(rt, alloc, configured.interfaces.as_slice())?;
+    run_over(rt, &configured, &wires, input, output)
 }
 
 /// Runs a router as [`run_router`] does. Where it doesn't run, a line on `output` says why. The answer is the status: 0 ended by the operator,

@@ -2,6 +2,8 @@
 #![tactic(auto)]
 
 #[cfg(test)]
+mod failing_sockets;
+#[cfg(test)]
 mod pair;
 #[cfg(test)]
 mod refusals;

@@ -1,5 +1,5 @@
 use Rattle.hooks.specs.Known.{history_of}
-use Rattle.route.proofs.running.run_router.Given as goal
+use Rattle.route.proofs.running.operate.Given as goal
 
 -- the ledger is that of the setup
 abbrev pub ghosts-run_all-L-Ledger : goal.ghosts-run_all-L-Ledger

@@ -1,7 +1,7 @@
 //! UDP sockets of 127.0.0.1, one for each interface: any worker sends at each of them, its own worker alone receives.
-ghost use Rattle.std.specs.Prelude.{◌≡◌, ◌≤◌, ◌<◌, ℕ, IfOk, IfSome, OnOk, OnErr};
+ghost use Rattle.std.specs.Prelude.{◌≡◌, ◌≤◌, ◌<◌, ℕ, IfOk, IfSome, OnOk, OnErr, length, vec_len};
 
-use crate::error::RouteError;
+use crate::error::SocketError;
 use console::ConfiguredInterface;
 use mio::net::UdpSocket;
 use mio::unix::SourceFd;
@@ -29,7 +29,7 @@ pub fn bind_each<R: Net>(
     rt: &R,
     alloc: Global,
     interfaces: &[ConfiguredInterface],
-) -> Result<Vec<Wire>, RouteError> {
+) -> Result<Vec<Wire>, SocketError> {
     let mut wires = Vec::new(alloc);
     for configured in interfaces {
         match UdpSocket::bind(rt, address_of(configured.port)) {
@@ -37,7 +37,7 @@ pub fn bind_each<R: Net>(
                 socket,
                 peer: configured.peer,
             })?,
-            Err(_) => return Err(RouteError::Bind(configured.port)),
+            Err(_) => return Err(SocketError::Bind(configured.port)),
         }
     }
     Ok(wires)
@@ -101,6 +101,24 @@ impl<'a> Sockets<'a> {
             faults: 0,
         }
     }
+}
+
+/// The links of the workers, that of the first interface last.
+pub fn listening<'x, R: Net>(
+    rt: &R,
+    alloc: Global,
+    wires: &'x [Wire],
+) -> Result<Vec<Sockets<'x>>, SocketError>
+    ensures { IfOk result (λ links. vec_len links ≡ length wires.now) }
+{
+    let mut links = Vec::with_capacity(alloc, wires.len())?;
+    for before in 0..wires.len() {
+        match Sockets::of_interface(rt, alloc, wires, wires.len() - 1 - before) {
+            Ok(link) => links.push(link)?,
+            Err(_) => return Err(SocketError::Wait),
+        }
+    }
+    Ok(links)
 }
 
 /// One datagram that is there already. A datagram longer than the buffer is cut.

@@ -1,0 +1,16 @@
+//! What an operator's lines do to a router that runs, at port 0, and what each is answered.
+//!
+//! What each turn does is the contract of `worker::turn`, and what a line asks for that of `console::read_command`.
+#![tactic(auto)]
+
+mod desk;
+mod gate;
+mod lists;
+mod outlet;
+mod programs;
+mod told;
+
+pub use desk::Desk;
+pub use gate::Open;
+pub use outlet::Outlet;
+pub use told::Told;

@@ -1,0 +1,75 @@
+//! What a line of the console is answered.
+ghost use Rattle.std.specs.Prelude.{OnOk};
+ghost use Rattle.std.specs.Io.KnownBytes.{Appends};
+ghost use Rattle.operator.specs.Texts.{told_text};
+
+use isa::Hook;
+use std::fmt;
+use std::io::{self, Write};
+use worker::TurnError;
+
+/// What a line is answered. The text is what is printed.
+#[derive(Debug, Drop)]
+pub enum Told {
+    /// A program was published at this hook, which makes at most so many steps.
+    Attached(Hook, u64),
+    /// This hook has no program.
+    Detached(Hook),
+    /// The destination is announced.
+    Originated,
+    /// A program's price keeps the destination back.
+    Withheld,
+    /// The destination is not announced.
+    Withdrawn,
+    /// The turn was refused, with this number.
+    Refused(u8),
+    /// The line is no command.
+    Unknown,
+    /// Memory was refused.
+    Memory,
+    /// These lines.
+    Lines(String),
+}
+
+impl Told {
+    /// What a turn that was refused is answered.
+    pub fn refused(error: TurnError) -> Told {
+        Told::Refused(error.number())
+    }
+
+    /// Prints the answer.
+    pub fn print<O: Write>(&self, output: &mut O) -> io::Result<()>
+        ensures { OnOk result (Appends (O.contents output.old) (O.contents output.new)
+            (told_text self.now)) }
+    {
+        write!(output, "{self}")?;
+        output.flush()
+    }
+}
+
+impl fmt::Display for Told {
+    ghost use Rattle.std.specs.Prelude.{Some};
+    ghost use Rattle.operator.specs.Texts.{told_text};
+
+    ghost output = { λ told. Some (told_text told) };
+
+    fn fmt<W: fmt::Write>(&self, f: &mut fmt::Formatter<W>) -> fmt::Result {
+        match self {
+            Told::Attached(hook, bound) => {
+                let name = hook.name();
+                write!(f, "attached {name} bound {bound}\n")
+            }
+            Told::Detached(hook) => {
+                let name = hook.name();
+                write!(f, "detached {name}\n")
+            }
+            Told::Originated => write!(f, "originated\n"),
+            Told::Withheld => write!(f, "withheld\n"),
+            Told::Withdrawn => write!(f, "withdrawn\n"),
+            Told::Refused(number) => write!(f, "refused {number}\n"),
+            Told::Unknown => write!(f, "unknown\n"),
+            Told::Memory => write!(f, "out of memory\n"),
+            Told::Lines(lines) => write!(f, "{lines}"),
+        }
+    }
+}

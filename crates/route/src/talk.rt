@@ -1,0 +1,84 @@
+//! The console: lines in, lines out, at port 0.
+use book::Book;
+use operator::Desk;
+use std::alloc::Global;
+use std::io::{BufRead, Write};
+use std::rt::Files;
+use std::sync::Wait;
+use worker::{Hub, Link, Port, Seconds, Site};
+
+/// Where an operator's lines come from, what they are carried out with, and where the answers go.
+#[derive(Drop)]
+pub struct Console<'a, S, I, O> {
+    pub rt: &'a S,
+    pub input: &'a mut I,
+    pub output: &'a mut O,
+    /// The output can't be written: the console ends.
+    pub mute: bool,
+}
+
+fn without_line_feed(line: &str) -> &str {
+    match line.strip_suffix('\n') {
+        Some(text) => text,
+        None => line,
+    }
+}
+
+// The next line, or none at the end of input.
+fn next_line<I: BufRead>(alloc: Global, input: &mut I) -> Option<String> {
+    let mut line = String::new(alloc);
+    match input.read_line(&mut line) {
+        Ok(0) | Err(_) => None,
+        Ok(_) => Some(line),
+    }
+}
+
+// Reads a line, does what it asks for, and answers. Tells whether there is more to come.
+fn obey_next<
+    L: Site,
+    S: Wait + Files + AllocGlobal,
+    Q: Wait + Drop,
+    K: Link + Drop,
+    C: Seconds + Drop,
+    I: BufRead,
+    O: Write,
+>(
+    hub: &Hub<L, Book<L>>,
+    port: &mut Port<L>,
+    desk: &mut Desk<L, Q, K, C>,
+    console: &mut Console<'_, S, I, O>,
+) -> bool {
+    let Some(line) = next_line(desk.alloc, console.input) else {
+        return false;
+    };
+    let Some(told) = desk.obey(console.rt, hub, port, without_line_feed(line.as_str())) else {
+        return false;
+    };
+    console.mute = told.print(console.output).is_err();
+    !console.mute
+}
+
+/// What is done at port 0 until the console is done: a Tick's turn, and then line by line.
+pub fn talk<
+    L: Site,
+    S: Wait + Files + AllocGlobal,
+    Q: Wait + Drop,
+    K: Link + Drop,
+    C: Seconds + Drop,
+    I: BufRead,
+    O: Write,
+>(
+    hub: &Hub<L, Book<L>>,
+    port: Port<L>,
+    desk: &mut Desk<L, Q, K, C>,
+    console: &mut Console<'_, S, I, O>,
+) -> Port<L> {
+    let mut port = port;
+    desk.tick(console.rt, hub, &mut port);
+    for _line in 0..u64::MAX {
+        if !obey_next(hub, &mut port, desk, console) {
+            break;
+        }
+    }
+    port
+}
