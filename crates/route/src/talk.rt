@@ -17,19 +17,23 @@ pub struct Console<'a, S, I, O> {
     pub mute: bool,
 }
 
+// The next line, or none at the end of input. One that isn't UTF-8 is empty here: neither is a
+// command.
+fn next_line<I: BufRead>(alloc: Global, input: &mut I) -> Option<String> {
+    let mut bytes = Vec::new(alloc);
+    match input.read_until(b'\n', &mut bytes) {
+        Ok(0) | Err(_) => None,
+        Ok(_) => match String::from_utf8(bytes) {
+            Ok(line) => Some(line),
+            Err(_) => Some(String::new(alloc)),
+        },
+    }
+}
+
 fn without_line_feed(line: &str) -> &str {
     match line.strip_suffix('\n') {
         Some(text) => text,
         None => line,
-    }
-}
-
-// The next line, or none at the end of input.
-fn next_line<I: BufRead>(alloc: Global, input: &mut I) -> Option<String> {
-    let mut line = String::new(alloc);
-    match input.read_line(&mut line) {
-        Ok(0) | Err(_) => None,
-        Ok(_) => Some(line),
     }
 }
 

@@ -34,8 +34,8 @@ struct Session {
 
 const SESSIONS: &[Session] = &[
     Session {
-        lines: b"table\nneighbors\nadd 203.0.113.0/24 20 2 0\nwithdraw 203.0.113.0/24\nhello\nquit\n",
-        answers: b"10.0.1.0/24 intra 10 via 0\nend\nend\noriginated\nwithdrawn\nunknown\n",
+        lines: b"table\nneighbors\nadd 203.0.113.0/24 20 2 0\nwithdraw 203.0.113.0/24\nhello\n\xff\nquit\n",
+        answers: b"10.0.1.0/24 intra 10 via 0\nend\nend\noriginated\nwithdrawn\nunknown\nunknown\n",
     },
     Session {
         lines: b"attach vetoing\ntable\ndetach veto\ntable\nquit\n",
