@@ -1,0 +1,134 @@
+//! A router's worker in memory: what comes in at its first interface, and what its turns send.
+ghost use Rattle.std.specs.Prelude.{◌≡◌};
+ghost use Rattle.worker.specs.Opening.{IsSetUpFor};
+
+use book::Book;
+use console::table_text;
+use flood::{Core, Out};
+use std::alloc::{AllocError, Global};
+use std::sync::Wait;
+use words::Second;
+use worker::{Gate, Hub, Port, Setup, Site, Work, open_hub, turn};
+
+// A gate that stands open.
+#[derive(Drop)]
+struct Open {}
+
+impl Gate for Open {
+    fn pass(&self, _port: u16) {}
+}
+
+/// A worker's port, with what came in at the first interface and how much of it was heard.
+#[derive(Drop)]
+pub struct Member<L: Site> {
+    port: Port<L>,
+    came: Vec<Work>,
+    heard: usize,
+}
+
+// What the turn sends; None where it is refused.
+fn turned<L: Site, R: Wait>(
+    rt: &R,
+    hub: &Hub<L, Book<L>>,
+    port: &mut Port<L>,
+    moment: Second,
+    work: &Work,
+) -> Option<Vec<Out>> {
+    match turn(rt, hub, port, &Open {}, moment, work) {
+        Ok(turned) => Some(turned.outs),
+        Err(_) => None,
+    }
+}
+
+// The lines of the table of the book's router, or a word where something on the way was refused.
+fn told<L: Site>(alloc: Global, book: &Book<L>, is_fine: bool) -> Result<String, AllocError> {
+    if !is_fine {
+        return String::from_str(alloc, "refused");
+    }
+    let rows = book.now().rows()?;
+    table_text(alloc, &rows)
+}
+
+/// The lines of the routing table of a router whose days are over; `refused` where it isn't told that
+/// all on the way was taken.
+pub fn table_of<L: Site>(
+    alloc: Global,
+    hub: Hub<L, Book<L>>,
+    is_fine: bool,
+) -> Result<String, AllocError> {
+    let parts = hub.into_parts();
+    told(alloc, &parts.0, is_fine)
+}
+
+/// A router, and the worker of the setup's one port.
+pub fn opened<L: Site>(
+    alloc: Global,
+    setup: Setup,
+    core: Core,
+) -> Result<(Hub<L, Book<L>>, Member<L>), AllocError>
+    requires { IsSetUpFor L.name L.parts L.words L.history setup }
+{
+    let (hub, mut ports, rest) = open_hub::<L>(alloc, setup, core)?;
+    drop(rest);
+    match ports.pop() {
+        None => Err(AllocError),
+        Some(port) => Ok((hub, Member::new(alloc, port))),
+    }
+}
+
+impl<L: Site> Member<L> {
+    fn new(alloc: Global, port: Port<L>) -> Member<L> {
+        Member {
+            port,
+            came: Vec::new(alloc),
+            heard: 0,
+        }
+    }
+
+    /// What the worker's turn sends; None where it is refused.
+    pub fn sends<R: Wait>(
+        &mut self,
+        rt: &R,
+        hub: &Hub<L, Book<L>>,
+        moment: Second,
+        work: &Work,
+    ) -> Option<Vec<Out>> {
+        turned(rt, hub, &mut self.port, moment, work)
+    }
+
+    /// What is sent in reply to the first packet that isn't heard yet; None where there is none, or
+    /// its turn is refused.
+    pub fn hears<R: Wait>(
+        &mut self,
+        rt: &R,
+        hub: &Hub<L, Book<L>>,
+        moment: Second,
+    ) -> Option<Vec<Out>> {
+        let work = self.came.get(self.heard)?;
+        let outs = turned(rt, hub, &mut self.port, moment, work);
+        self.heard = self.heard.saturating_add(1);
+        outs
+    }
+
+    /// Whether a packet came in that isn't heard yet.
+    pub fn is_waiting(&self) -> bool {
+        self.heard < self.came.len()
+    }
+
+    // What another router sends at its first interface comes in.
+    fn gets(&mut self, out: Out) -> bool {
+        match out.interface {
+            1 => self.came.push(Work::Datagram(1, out.bytes)).is_ok(),
+            _ => true,
+        }
+    }
+
+    /// The same of each; whether there was memory for all.
+    pub fn gets_all(&mut self, outs: Vec<Out>) -> bool {
+        let mut got = true;
+        for out in outs {
+            got = self.gets(out) && got;
+        }
+        got
+    }
+}

@@ -1,0 +1,199 @@
+//! Two routers on one link, second by second.
+ghost use Rattle.std.specs.Prelude.{◌≡◌};
+ghost use Rattle.worker.specs.Opening.{IsSetUpFor};
+
+use crate::member::{Member, opened, table_of};
+use crate::samples::{destination, first, second};
+use book::Book;
+use hooks::Loader;
+use std::alloc::Global;
+use std::marker::Brand;
+use std::process::Abort;
+use std::sync::Wait;
+use std::test::Fail;
+use words::{ExternalType, Second};
+use worker::{Hub, Setup, Site, Work};
+
+// The worker of `from` does this work, and what it sends comes in at `to`. Whether all was taken.
+fn works<L: Site, M: Site, R: Wait>(
+    rt: &R,
+    hub: &Hub<L, Book<L>>,
+    from: &mut Member<L>,
+    to: &mut Member<M>,
+    moment: Second,
+    work: &Work,
+) -> bool {
+    match from.sends(rt, hub, moment, work) {
+        None => false,
+        Some(outs) => to.gets_all(outs),
+    }
+}
+
+// `from` hears the next packet, if one came, and what it sends comes in at `to`. Whether all was taken.
+fn replies<L: Site, M: Site, R: Wait>(
+    rt: &R,
+    hub: &Hub<L, Book<L>>,
+    from: &mut Member<L>,
+    to: &mut Member<M>,
+    moment: Second,
+) -> bool {
+    if !from.is_waiting() {
+        return true;
+    }
+    match from.hears(rt, hub, moment) {
+        None => false,
+        Some(outs) => to.gets_all(outs),
+    }
+}
+
+// Packets go to and fro, at most 32 each way. Whether all was taken, and none is left.
+fn converse<L: Site, M: Site, R: Wait>(
+    rt: &R,
+    one_hub: &Hub<L, Book<L>>,
+    one: &mut Member<L>,
+    other_hub: &Hub<M, Book<M>>,
+    other: &mut Member<M>,
+    moment: Second,
+) -> bool {
+    let mut taken = true;
+    for _packet in 0..32u32 {
+        taken = replies(rt, one_hub, one, other, moment) && taken;
+        taken = replies(rt, other_hub, other, one, moment) && taken;
+    }
+    taken && !one.is_waiting() && !other.is_waiting()
+}
+
+// At each of these moments the one ticks, the other does this work, and both converse. Whether all was
+// taken.
+fn live<L: Site, M: Site, R: Wait>(
+    rt: &R,
+    one_hub: &Hub<L, Book<L>>,
+    one: &mut Member<L>,
+    other_hub: &Hub<M, Book<M>>,
+    other: &mut Member<M>,
+    moments: (u64, u64),
+    work: &Work,
+) -> bool {
+    let mut taken = true;
+    for moment in moments.0..moments.1 {
+        let moment = Second::new(moment);
+        taken = works(rt, one_hub, one, other, moment, &Work::Tick) && taken;
+        taken = works(rt, other_hub, other, one, moment, work) && taken;
+        taken = converse(rt, one_hub, one, other_hub, other, moment) && taken;
+    }
+    taken
+}
+
+// Both live for 41 seconds; in second 30 the other does this work, and in each other one it ticks.
+fn live_on<L: Site, M: Site, R: Wait>(
+    rt: &R,
+    one_hub: &Hub<L, Book<L>>,
+    one: &mut Member<L>,
+    other_hub: &Hub<M, Book<M>>,
+    other: &mut Member<M>,
+    work: &Work,
+) -> bool {
+    live(rt, one_hub, one, other_hub, other, (0, 30), &Work::Tick)
+        && live(rt, one_hub, one, other_hub, other, (30, 31), work)
+        && live(rt, one_hub, one, other_hub, other, (31, 41), &Work::Tick)
+}
+
+// 1.1.1.1 at its worker's port.
+fn one_at<L: Site>(alloc: Global, setup: Setup) -> Result<(Hub<L, Book<L>>, Member<L>), Fail>
+    requires { IsSetUpFor L.name L.parts L.words L.history setup }
+{
+    let core = first(alloc)?;
+    Ok(opened::<L>(alloc, setup, core)?)
+}
+
+// 2.2.2.2 at its worker's port.
+fn other_at<L: Site>(alloc: Global, setup: Setup) -> Result<(Hub<L, Book<L>>, Member<L>), Fail>
+    requires { IsSetUpFor L.name L.parts L.words L.history setup }
+{
+    let core = second(alloc)?;
+    Ok(opened::<L>(alloc, setup, core)?)
+}
+
+// The table of 1.1.1.1 after its life beside the other, whose work in second 30 this is.
+fn table_beside<L: Site, M: Site, R: Wait>(
+    rt: &R,
+    alloc: Global,
+    setup: Setup,
+    other_hub: &Hub<M, Book<M>>,
+    other: &mut Member<M>,
+    work: &Work,
+) -> Result<String, Fail>
+    requires { IsSetUpFor L.name L.parts L.words L.history setup }
+{
+    let (hub, mut one) = one_at::<L>(alloc, setup)?;
+    let is_fine = live_on(rt, &hub, &mut one, other_hub, other, work);
+    drop(one);
+    Ok(table_of(alloc, hub, is_fine)?)
+}
+
+// The same beside 2.2.2.2. The loaders stay with the caller.
+fn table<L: Site, M: Site, R: Wait, Q: Wait + Drop>(
+    rt: &R,
+    alloc: Global,
+    one: Setup,
+    other: Setup,
+    work: &Work,
+    _one: &Loader<Q>,
+    _other: &Loader<Q>,
+) -> Result<String, Fail>
+    requires one { IsSetUpFor L.name L.parts L.words L.history one }
+    requires other { IsSetUpFor M.name M.parts M.words M.history other }
+{
+    let (hub, mut other) = other_at::<M>(alloc, other)?;
+    table_beside::<L, M, R>(rt, alloc, one, &hub, &mut other, work)
+}
+
+#[tactic(auto, using(crate::proofs::Fresh::all_ask))]
+fn found<R: Wait>(rt: &R, alloc: Global, work: &Work) -> Result<String, Fail> {
+    let (one_loader, one) = Setup::new(alloc, rt, 1)?;
+    let (other_loader, other) = Setup::new(alloc, rt, 1)?;
+    table::<Brand, Brand, R, &R>(rt, alloc, one, other, work, &one_loader, &other_loader)
+}
+
+#[test]
+fn a_router_has_the_routes_of_its_neighbor(rt: HostRuntime) -> Result<(), Fail> {
+    let lines = found(&rt, rt.alloc(), &Work::Tick)?;
+    assert_eq!(rt;
+        lines.as_str(),
+        "10.0.1.0/24 intra 10 via 0\n10.0.2.0/24 intra 15 via 1\nend\n"
+    );
+    Ok(())
+}
+
+// A destination of this type, which the neighbor announces, comes into the table with this line.
+fn comes<R: Wait + Abort>(
+    rt: &R,
+    alloc: Global,
+    kind: ExternalType,
+    line: &str,
+) -> Result<(), Fail> {
+    let work = Work::Add(destination(kind)?);
+    let lines = found(rt, alloc, &work)?;
+    let wanted = format!(in alloc;
+        "10.0.1.0/24 intra 10 via 0\n10.0.2.0/24 intra 15 via 1\n{line}end\n"
+    )?;
+    assert_eq!(rt; lines.as_str(), wanted.as_str());
+    Ok(())
+}
+
+#[test]
+fn a_router_has_the_destinations_of_its_neighbor(rt: HostRuntime) -> Result<(), Fail> {
+    let alloc = rt.alloc();
+    comes(
+        &rt,
+        alloc,
+        ExternalType::Type1,
+        "203.0.113.0/24 ext1 30 via 1\n",
+    )?;
+    comes(
+        &rt,
+        alloc,
+        ExternalType::Type2,
+        "203.0.113.0/24 ext2 20 via 1\n",
+    )
+}
