@@ -17,10 +17,10 @@ use std::sync::Wait;
 use std::thread::Threads;
 
 const USAGE: &str = "usage: bench run | decode | encode | asm | objects | maps | texts | core \
-    | database | hooks | walk | verify";
+    | database | hooks | turn | walk | verify";
 
 /// Prints the figures of this name. False where no figures have it.
-fn measure<R: Clock + Print + AllocGlobal + Threads + Wait + Copy + Send + 'static>(
+fn measure<R: Clock + Print + AllocGlobal + Threads + Wait + Copy + Send + Sync + 'static>(
     rt: &R,
     name: &str,
 ) -> anyhow::Result<bool> {
@@ -35,6 +35,7 @@ fn measure<R: Clock + Print + AllocGlobal + Threads + Wait + Copy + Send + 'stat
         "core" => bench_core::print(rt)?,
         "database" => bench_database::print(rt)?,
         "hooks" => bench_hooks::print(*rt)?,
+        "turn" => bench_turn::print(rt)?,
         "walk" => bench_walk::print(rt)?,
         "verify" => bench_verify::print(rt)?,
         _ => return Ok(false),
