@@ -3,6 +3,7 @@
 use clap::error::ErrorKind;
 use command_line::{Request, parse, unread};
 use isa::Hook;
+use std::alloc::Global;
 use std::io;
 use std::test::Fail;
 
@@ -14,49 +15,64 @@ fn kind(rt: &HostRuntime, words: &[&str]) -> Option<ErrorKind> {
     }
 }
 
-#[test]
-fn raw_takes_a_hook_a_file_and_seats(rt: HostRuntime) -> Result<(), Fail> {
-    let words = ["routerd", "raw", "count", "adds.bin", "2"];
-    match parse(rt.alloc(), &words)? {
-        Request::Raw { hook, file, seats } => {
-            assert!(rt; matches!(hook, Hook::Count) && file == "adds.bin" && seats == 2);
+// What words are to ask for, as in Request.
+#[derive(Clone, Copy)]
+enum Wanted<'a> {
+    Raw(Hook, &'a str, usize),
+    Run(&'a str, [u8; 64], &'a [u8]),
+    Asm(&'a str, &'a str),
+    List(&'a str),
+    Verify(&'a str),
+    Route(&'a str),
+}
+
+fn is_wanted(request: &Request<'_>, wanted: &Wanted<'_>) -> bool {
+    match (request, wanted) {
+        (Request::Raw { hook, file, seats }, Wanted::Raw(at, name, count)) => {
+            hook == at && file == name && seats == count
         }
-        _ => assert!(rt; false),
+        (
+            Request::Run {
+                object,
+                context,
+                packet,
+            },
+            Wanted::Run(name, bytes, rest),
+        ) => object == name && context == bytes && packet.as_slice() == *rest,
+        (Request::Asm { source, object }, Wanted::Asm(from, to)) => source == from && object == to,
+        (Request::List { object }, Wanted::List(name)) => object == name,
+        (Request::Verify { object }, Wanted::Verify(name)) => object == name,
+        (Request::Route { config }, Wanted::Route(name)) => config == name,
+        _ => false,
     }
-    Ok(())
+}
+
+// The words after routerd, and what they ask for.
+type Row<'a> = (&'a [&'a str], Wanted<'a>);
+
+fn ask_for(alloc: Global, words: &[&str], wanted: &Wanted<'_>) -> Result<bool, Fail> {
+    let mut whole = Vec::new(alloc);
+    whole.push("routerd")?;
+    whole.extend_from_slice(words)?;
+    let request = parse(alloc, &whole)?;
+    Ok(is_wanted(&request, wanted))
 }
 
 #[test]
-fn each_hook_has_its_name(rt: HostRuntime) -> Result<(), Fail> {
-    for (name, wanted) in [
-        ("count", Hook::Count),
-        ("tag", Hook::Tag),
-        ("price", Hook::Price),
-        ("veto", Hook::Veto),
-    ] {
-        let words = ["routerd", "raw", name, "-", "64"];
-        match parse(rt.alloc(), &words)? {
-            Request::Raw { hook, file, seats } => {
-                assert!(rt; hook == wanted && file == "-" && seats == 64);
-            }
-            _ => assert!(rt; false),
-        }
-    }
-    Ok(())
-}
-
-#[test]
-fn run_takes_dashes_for_zeros_and_no_packet(rt: HostRuntime) -> Result<(), Fail> {
-    let words = ["routerd", "run", "a.o", "-", "-"];
-    match parse(rt.alloc(), &words)? {
-        Request::Run {
-            object,
-            context,
-            packet,
-        } => {
-            assert!(rt; object == "a.o" && context == [0; 64] && packet.is_empty());
-        }
-        _ => assert!(rt; false),
+fn each_command_takes_its_words(rt: HostRuntime) -> Result<(), Fail> {
+    let rows: [Row<'_>; 9] = [
+        (&["raw", "count", "adds.bin", "2"], Wanted::Raw(Hook::Count, "adds.bin", 2)),
+        (&["raw", "tag", "-", "64"], Wanted::Raw(Hook::Tag, "-", 64)),
+        (&["raw", "price", "-", "1"], Wanted::Raw(Hook::Price, "-", 1)),
+        (&["raw", "veto", "-", "64"], Wanted::Raw(Hook::Veto, "-", 64)),
+        (&["run", "a.o", "-", "-"], Wanted::Run("a.o", [0; 64], &[])),
+        (&["asm", "sum.s", "sum.o"], Wanted::Asm("sum.s", "sum.o")),
+        (&["list", "sum.o"], Wanted::List("sum.o")),
+        (&["verify", "sum.o"], Wanted::Verify("sum.o")),
+        (&["route", "one.conf"], Wanted::Route("one.conf")),
+    ];
+    for (words, wanted) in rows {
+        assert!(rt; ask_for(rt.alloc(), words, &wanted)?, "{words:?}");
     }
     Ok(())
 }
@@ -65,68 +81,13 @@ fn run_takes_dashes_for_zeros_and_no_packet(rt: HostRuntime) -> Result<(), Fail>
 fn run_takes_hex(rt: HostRuntime) -> Result<(), Fail> {
     let context =
         "000102030405060708090a0b0c0d0e0f101112131415161718191a1b1c1d1e1f202122232425262728292a2b2c2d2e2f303132333435363738393a3b3c3d3eFF";
-    let words = ["routerd", "run", "a.o", context, "00fFa5"];
-    match parse(rt.alloc(), &words)? {
-        Request::Run {
-            object,
-            context,
-            packet,
-        } => {
-            assert!(rt;
-                object == "a.o" && context[1] == 1 && context[62] == 62 && context[63] == 255
-            );
-            assert!(rt; packet.as_slice() == [0, 255, 165].as_slice());
-        }
-        _ => assert!(rt; false),
+    let mut bytes = [0; 64];
+    for (index, byte) in bytes.iter_mut().enumerate() {
+        *byte = if index == 63 { 255 } else { (index % 64) as u8 };
     }
-    Ok(())
-}
-
-#[test]
-fn asm_takes_a_source_and_an_object(rt: HostRuntime) -> Result<(), Fail> {
-    let words = ["routerd", "asm", "sum.s", "sum.o"];
-    match parse(rt.alloc(), &words)? {
-        Request::Asm { source, object } => {
-            assert!(rt; source == "sum.s" && object == "sum.o");
-        }
-        _ => assert!(rt; false),
-    }
-    Ok(())
-}
-
-#[test]
-fn list_takes_an_object(rt: HostRuntime) -> Result<(), Fail> {
-    let words = ["routerd", "list", "sum.o"];
-    match parse(rt.alloc(), &words)? {
-        Request::List { object } => {
-            assert!(rt; object == "sum.o");
-        }
-        _ => assert!(rt; false),
-    }
-    Ok(())
-}
-
-#[test]
-fn verify_takes_an_object(rt: HostRuntime) -> Result<(), Fail> {
-    let words = ["routerd", "verify", "sum.o"];
-    match parse(rt.alloc(), &words)? {
-        Request::Verify { object } => {
-            assert!(rt; object == "sum.o");
-        }
-        _ => assert!(rt; false),
-    }
-    Ok(())
-}
-
-#[test]
-fn route_takes_a_configuration(rt: HostRuntime) -> Result<(), Fail> {
-    let words = ["routerd", "route", "one.conf"];
-    match parse(rt.alloc(), &words)? {
-        Request::Route { config } => {
-            assert!(rt; config == "one.conf");
-        }
-        _ => assert!(rt; false),
-    }
+    let wanted = Wanted::Run("a.o", bytes, &[0, 255, 165]);
+    let words = ["run", "a.o", context, "00fFa5"];
+    assert!(rt; ask_for(rt.alloc(), &words, &wanted)?);
     Ok(())
 }
 
@@ -243,13 +204,13 @@ fn want_of_memory_is_told_as_such(rt: HostRuntime) {
     for (answer, wanted) in answers {
         assert!(rt; answer == Some(wanted) || answer == Some(ErrorKind::OutOfMemory));
     }
+}
+
+#[test]
+fn want_of_memory_for_a_packet_is_told_as_such(rt: HostRuntime) {
+    let wanted = Wanted::Run("a.o", [0; 64], &[0, 255]);
     match parse(rt.alloc(), &["routerd", "run", "a.o", "-", "00ff"]) {
-        Ok(Request::Run { packet, .. }) => {
-            assert!(rt; packet.as_slice() == [0, 255].as_slice());
-        }
-        Ok(_) => assert!(rt; false),
-        Err(error) => {
-            assert!(rt; error.kind() == ErrorKind::OutOfMemory);
-        }
+        Ok(request) => assert!(rt; is_wanted(&request, &wanted)),
+        Err(error) => assert!(rt; error.kind() == ErrorKind::OutOfMemory),
     }
 }

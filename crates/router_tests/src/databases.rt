@@ -38,12 +38,23 @@ fn external(alloc: Global, router: u32, number: u32) -> Result<Lsa, AllocError> 
     Lsa::new(alloc, header, body)
 }
 
+fn originate(database: &mut Lsdb, alloc: Global, router: u32, number: u32) -> Result<(), AllocError> {
+    let lsa = external(alloc, router, number)?;
+    database.install_originated(Second::new(1), lsa)?;
+    Ok(())
+}
+
+fn flood(database: &mut Lsdb, alloc: Global, moment: u64, number: u32) -> Result<(), AllocError> {
+    let lsa = external(alloc, OTHER, number)?;
+    database.install_flooded(Second::new(moment), lsa)?;
+    Ok(())
+}
+
 // The externals of a router with so many numbers from 0 on, settled.
 fn filled(alloc: Global, router: u32, count: u32) -> Result<Lsdb, AllocError> {
     let mut database = Lsdb::new(alloc, RouterId::new(OWN));
     for number in 0..count {
-        let lsa = external(alloc, router, number)?;
-        database.install_originated(Second::new(1), lsa)?;
+        originate(&mut database, alloc, router, number)?;
     }
     database.settle();
     Ok(database)
@@ -53,12 +64,11 @@ fn filled(alloc: Global, router: u32, count: u32) -> Result<Lsdb, AllocError> {
 fn own_externals_are_limited(rt: HostRuntime) -> Result<(), AllocError> {
     let alloc = rt.alloc();
     let mut database = filled(alloc, OWN, 4_095)?;
-    assert_eq!(rt; database.has_room(&key(OWN, 4_095)), true);
-    database.install_originated(Second::new(1), external(alloc, OWN, 4_095)?)?;
+    assert!(rt; database.has_room(&key(OWN, 4_095)));
+    originate(&mut database, alloc, OWN, 4_095)?;
     assert_eq!(rt; database.own_externals(), 4_096);
-    assert_eq!(rt; database.has_room(&key(OWN, 4_096)), false);
-    assert_eq!(rt; database.has_room(&key(OWN, 7)), true);
-    assert_eq!(rt; database.has_room(&key(OTHER, 4_096)), true);
+    assert!(rt; !database.has_room(&key(OWN, 4_096)));
+    assert!(rt; database.has_room(&key(OWN, 7)) && database.has_room(&key(OTHER, 4_096)));
     Ok(())
 }
 
@@ -66,75 +76,94 @@ fn own_externals_are_limited(rt: HostRuntime) -> Result<(), AllocError> {
 fn too_many_own_externals_are_taken_back(rt: HostRuntime) -> Result<(), AllocError> {
     let alloc = rt.alloc();
     let mut database = filled(alloc, OWN, 4_096)?;
-    assert_eq!(rt; database.exceeds(), false);
-    database.install_originated(Second::new(2), external(alloc, OWN, 4_096)?)?;
-    assert_eq!(rt; database.exceeds(), true);
+    assert!(rt; !database.exceeds());
+    originate(&mut database, alloc, OWN, 4_096)?;
+    assert!(rt; database.exceeds());
     database.roll_back();
     assert_eq!(rt; database.own_externals(), 4_096);
-    assert_eq!(rt; database.exceeds(), false);
+    assert!(rt; !database.exceeds());
+    Ok(())
+}
+
+fn remove(database: &mut Lsdb, keys: &[Key]) -> Result<(), AllocError> {
+    for key in keys {
+        database.remove(key)?;
+    }
     Ok(())
 }
 
 #[test]
 fn an_own_external_leaves_once(rt: HostRuntime) -> Result<(), AllocError> {
-    let alloc = rt.alloc();
-    let mut database = filled(alloc, OWN, 9)?;
-    database.remove(&key(OWN, 7))?;
-    database.remove(&key(OWN, 7))?;
-    database.remove(&key(OTHER, 7))?;
+    let mut database = filled(rt.alloc(), OWN, 9)?;
+    remove(&mut database, &[key(OWN, 7), key(OWN, 7), key(OTHER, 7)])?;
     assert_eq!(rt; database.own_externals(), 8);
+    Ok(())
+}
+
+// As many of another router's as leave room for one more, and that one, of this router.
+fn full(alloc: Global) -> Result<Lsdb, AllocError> {
+    let mut database = filled(alloc, OTHER, 16_383)?;
+    originate(&mut database, alloc, OWN, 1)?;
+    Ok(database)
+}
+
+#[test]
+fn there_is_room_for_a_last_lsa(rt: HostRuntime) -> Result<(), AllocError> {
+    let database = filled(rt.alloc(), OTHER, 16_383)?;
+    assert_eq!(rt; (database.len(), database.own_externals()), (16_383, 0));
+    assert!(rt; database.has_room(&key(OWN, 1)));
     Ok(())
 }
 
 #[test]
 fn lsas_are_limited(rt: HostRuntime) -> Result<(), AllocError> {
     let alloc = rt.alloc();
-    let mut database = filled(alloc, OTHER, 16_383)?;
-    assert_eq!(rt; database.len(), 16_383);
-    assert_eq!(rt; database.own_externals(), 0);
-    assert_eq!(rt; database.has_room(&key(OWN, 1)), true);
-    database.install_originated(Second::new(1), external(alloc, OWN, 1)?)?;
-    assert_eq!(rt; database.has_room(&key(OWN, 2)), false);
-    assert_eq!(rt; database.has_room(&key(OTHER, 16_383)), false);
-    assert_eq!(rt; database.has_room(&key(OTHER, 16_382)), true);
-    assert_eq!(rt; database.exceeds(), false);
-    database.install_flooded(Second::new(1), external(alloc, OTHER, 16_383)?)?;
-    assert_eq!(rt; database.exceeds(), true);
+    let mut database = full(alloc)?;
+    assert!(rt; !database.has_room(&key(OWN, 2)) && !database.has_room(&key(OTHER, 16_383)));
+    assert!(rt; database.has_room(&key(OTHER, 16_382)) && !database.exceeds());
+    flood(&mut database, alloc, 1, 16_383)?;
+    assert!(rt; database.exceeds());
     Ok(())
+}
+
+// Another router's 7, 3 and 9, and this router's 3.
+fn mixed(alloc: Global) -> Result<Lsdb, AllocError> {
+    let mut database = Lsdb::new(alloc, RouterId::new(OWN));
+    for number in [7, 3, 9] {
+        flood(&mut database, alloc, 1, number)?;
+    }
+    originate(&mut database, alloc, OWN, 3)?;
+    Ok(database)
 }
 
 #[test]
 fn keys_come_in_order(rt: HostRuntime) -> Result<(), AllocError> {
-    let alloc = rt.alloc();
-    let mut database = Lsdb::new(alloc, RouterId::new(OWN));
-    for number in [7, 3, 9] {
-        database.install_flooded(Second::new(1), external(alloc, OTHER, number)?)?;
-    }
-    database.install_originated(Second::new(1), external(alloc, OWN, 3)?)?;
+    let mut database = mixed(rt.alloc())?;
     database.remove(&key(OTHER, 7))?;
-    let keys: Vec<Key> = database.keys().collect(alloc)?;
-    assert_eq!(rt;
-        keys.as_slice(),
-        [key(OWN, 3), key(OTHER, 3), key(OTHER, 9)].as_slice()
-    );
+    let keys: Vec<Key> = database.keys().collect(rt.alloc())?;
+    let wanted = [key(OWN, 3), key(OTHER, 3), key(OTHER, 9)];
+    assert_eq!(rt; keys.as_slice(), wanted.as_slice());
     Ok(())
+}
+
+// Two externals, a third and the mark of the first, which can both be taken back.
+fn unsettled(alloc: Global) -> Result<Lsdb, AllocError> {
+    let mut database = filled(alloc, OWN, 2)?;
+    originate(&mut database, alloc, OWN, 2)?;
+    database.mark_sent(Second::new(4), &key(OWN, 0))?;
+    Ok(database)
 }
 
 #[test]
 fn a_copy_has_nothing_to_take_back(rt: HostRuntime) -> Result<(), AllocError> {
-    let alloc = rt.alloc();
-    let mut database = filled(alloc, OWN, 2)?;
-    database.install_originated(Second::new(3), external(alloc, OWN, 2)?)?;
-    database.mark_sent(Second::new(4), &key(OWN, 0))?;
-    let mut copy = database.copy(alloc)?;
+    let mut database = unsettled(rt.alloc())?;
+    let mut copy = database.copy(rt.alloc())?;
     copy.roll_back();
-    assert_eq!(rt; copy.len(), 3);
-    assert_eq!(rt; copy.own_externals(), 3);
+    assert_eq!(rt; (copy.len(), copy.own_externals()), (3, 3));
     let sent = copy.get(&key(OWN, 0)).map(|found| found.times.sent);
     assert_eq!(rt; sent, Some(Some(Second::new(4))));
     database.roll_back();
-    assert_eq!(rt; database.len(), 2);
-    assert_eq!(rt; copy.len(), 3);
+    assert_eq!(rt; (database.len(), copy.len()), (2, 3));
     Ok(())
 }
 
@@ -145,16 +174,29 @@ fn young(alloc: Global) -> Result<Lsdb, AllocError> {
     Ok(database)
 }
 
+// Whether these numbers of the other router are what has come of age.
+fn are_aged(
+    database: &Lsdb,
+    alloc: Global,
+    moment: u64,
+    numbers: &[u32],
+) -> Result<bool, AllocError> {
+    let aged = database.aged_keys(alloc, Second::new(moment))?;
+    let mut wanted = Vec::new(alloc);
+    for number in numbers.iter().copied() {
+        wanted.push(key(OTHER, number))?;
+    }
+    Ok(aged.as_slice() == wanted.as_slice())
+}
+
 #[test]
 fn what_is_aged_out_is_found(rt: HostRuntime) -> Result<(), AllocError> {
     let alloc = rt.alloc();
     let mut database = young(alloc)?;
     database.age_out(Second::new(10), &key(OTHER, 1))?;
-    let aged = database.aged_keys(alloc, Second::new(10))?;
-    assert_eq!(rt; aged.as_slice(), [key(OTHER, 1)].as_slice());
+    assert!(rt; are_aged(&database, alloc, 10, &[1])?);
     database.roll_back();
-    let aged = database.aged_keys(alloc, Second::new(10))?;
-    assert_eq!(rt; aged.len(), 0);
+    assert!(rt; are_aged(&database, alloc, 10, &[])?);
     Ok(())
 }
 
@@ -162,11 +204,9 @@ fn what_is_aged_out_is_found(rt: HostRuntime) -> Result<(), AllocError> {
 fn what_has_come_of_age_is_found(rt: HostRuntime) -> Result<(), AllocError> {
     let alloc = rt.alloc();
     let mut database = young(alloc)?;
-    let aged = database.aged_keys(alloc, Second::new(3_600))?;
-    assert_eq!(rt; aged.len(), 0);
-    database.install_flooded(Second::new(20), external(alloc, OTHER, 0)?)?;
+    assert!(rt; are_aged(&database, alloc, 3_600, &[])?);
+    flood(&mut database, alloc, 20, 0)?;
     database.settle_at(alloc, Second::new(20));
-    let aged = database.aged_keys(alloc, Second::new(3_601))?;
-    assert_eq!(rt; aged.as_slice(), [key(OTHER, 1), key(OTHER, 2)].as_slice());
+    assert!(rt; are_aged(&database, alloc, 3_601, &[1, 2])?);
     Ok(())
 }

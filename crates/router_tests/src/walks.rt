@@ -10,54 +10,52 @@ fn link(to: usize, cost: u16, interface: u8) -> Link {
     }
 }
 
-fn vertex(alloc: Global, kind: Kind, links: &[Link]) -> Result<Vertex, AllocError> {
-    Ok(Vertex {
-        kind,
-        links: Vec::from_slice(alloc, links)?,
-    })
+// Vertices from the number 0 on, each with its links.
+type Row<'a> = (Kind, &'a [Link]);
+
+fn graph_of(alloc: Global, rows: &[Row<'_>]) -> Result<Vec<Vertex>, AllocError> {
+    let mut graph = Vec::new(alloc);
+    for (kind, links) in rows.iter().copied() {
+        let links = Vec::from_slice(alloc, links)?;
+        graph.push(Vertex { kind, links })?;
+    }
+    Ok(graph)
 }
 
 // Two neighbors at the same cost, a router behind both, and one that nothing leads to.
 fn square(alloc: Global) -> Result<Vec<Vertex>, AllocError> {
-    let mut graph = Vec::new(alloc);
-    graph.push(vertex(alloc, Kind::Router, &[link(1, 5, 1), link(2, 5, 2)])?)?;
-    graph.push(vertex(alloc, Kind::Router, &[link(0, 5, 0), link(3, 5, 0)])?)?;
-    graph.push(vertex(alloc, Kind::Router, &[link(0, 5, 0), link(3, 5, 0)])?)?;
-    graph.push(vertex(alloc, Kind::Router, &[link(1, 5, 0), link(2, 5, 0)])?)?;
-    graph.push(vertex(alloc, Kind::Router, &[link(0, 1, 0)])?)?;
-    Ok(graph)
+    let near = [link(0, 5, 0), link(3, 5, 0)];
+    let rows: [Row<'_>; 5] = [
+        (Kind::Router, &[link(1, 5, 1), link(2, 5, 2)]),
+        (Kind::Router, &near),
+        (Kind::Router, &near),
+        (Kind::Router, &[link(1, 5, 0), link(2, 5, 0)]),
+        (Kind::Router, &[link(0, 1, 0)]),
+    ];
+    graph_of(alloc, &rows)
 }
 
 // A router that is reached at the same cost over a network and by a link of its own, and one behind it.
 fn network(alloc: Global) -> Result<Vec<Vertex>, AllocError> {
-    let mut graph = Vec::new(alloc);
-    graph.push(vertex(alloc, Kind::Router, &[link(1, 10, 2), link(3, 10, 1)])?)?;
-    graph.push(vertex(
-        alloc,
-        Kind::Router,
-        &[link(0, 10, 0), link(2, 1, 0), link(3, 1, 0)],
-    )?)?;
-    graph.push(vertex(alloc, Kind::Router, &[link(1, 1, 0)])?)?;
-    graph.push(vertex(alloc, Kind::Network, &[link(0, 0, 0), link(1, 0, 0)])?)?;
-    Ok(graph)
+    let rows: [Row<'_>; 4] = [
+        (Kind::Router, &[link(1, 10, 2), link(3, 10, 1)]),
+        (Kind::Router, &[link(0, 10, 0), link(2, 1, 0), link(3, 1, 0)]),
+        (Kind::Router, &[link(1, 1, 0)]),
+        (Kind::Network, &[link(0, 0, 0), link(1, 0, 0)]),
+    ];
+    graph_of(alloc, &rows)
 }
 
 // A router with a dear link of its own and a cheaper walk over two others, and one behind it.
 fn detour(alloc: Global) -> Result<Vec<Vertex>, AllocError> {
-    let mut graph = Vec::new(alloc);
-    graph.push(vertex(alloc, Kind::Router, &[link(1, 30, 1), link(2, 10, 2)])?)?;
-    graph.push(vertex(alloc, Kind::Router, &[link(4, 1, 0)])?)?;
-    graph.push(vertex(alloc, Kind::Router, &[link(1, 15, 0), link(3, 5, 0)])?)?;
-    graph.push(vertex(alloc, Kind::Router, &[link(1, 5, 0)])?)?;
-    graph.push(vertex(alloc, Kind::Router, &[])?)?;
-    Ok(graph)
-}
-
-// A link to a vertex that isn't there, or one of cost 0 between routers.
-fn single(alloc: Global, only: Link) -> Result<Vec<Vertex>, AllocError> {
-    let mut graph = Vec::new(alloc);
-    graph.push(vertex(alloc, Kind::Router, &[only])?)?;
-    Ok(graph)
+    let rows: [Row<'_>; 5] = [
+        (Kind::Router, &[link(1, 30, 1), link(2, 10, 2)]),
+        (Kind::Router, &[link(4, 1, 0)]),
+        (Kind::Router, &[link(1, 15, 0), link(3, 5, 0)]),
+        (Kind::Router, &[link(1, 5, 0)]),
+        (Kind::Router, &[]),
+    ];
+    graph_of(alloc, &rows)
 }
 
 fn way_to(alloc: Global, graph: &[Vertex], to: usize) -> Result<Option<Way>, AllocError> {
@@ -72,37 +70,46 @@ fn way_to(alloc: Global, graph: &[Vertex], to: usize) -> Result<Option<Way>, All
     }
 }
 
+// Whether the ways to the vertices, from the number 0 on, have these distances and next hops; none where there is no way.
+fn are_its_ways(
+    alloc: Global,
+    graph: &[Vertex],
+    ways: &[Option<(u32, u64)>],
+) -> Result<bool, AllocError> {
+    for (to, expected) in ways.iter().enumerate() {
+        let way = expected.map(|(distance, hops)| Way { distance, hops });
+        if way_to(alloc, graph, to)? != way {
+            return Ok(false);
+        }
+    }
+    Ok(true)
+}
+
 #[test]
 fn walks_of_one_cost_join_their_next_hops(rt: HostRuntime) -> Result<(), AllocError> {
     let graph = square(rt.alloc())?;
-    for (to, distance, hops) in [(0, 0, 0), (1, 5, 2), (2, 5, 4), (3, 10, 6)] {
-        let way = way_to(rt.alloc(), &graph, to)?;
-        assert_eq!(rt; way, Some(Way { distance, hops }));
-    }
-    assert_eq!(rt; way_to(rt.alloc(), &graph, 4)?, None);
+    let ways = [Some((0, 0)), Some((5, 2)), Some((5, 4)), Some((10, 6)), None];
+    assert!(rt; are_its_ways(rt.alloc(), &graph, &ways)?);
     Ok(())
 }
 
 #[test]
 fn networks_come_before_routers_at_the_same_distance(rt: HostRuntime) -> Result<(), AllocError> {
     let graph = network(rt.alloc())?;
-    for (to, distance, hops) in [(1, 10, 6), (2, 11, 6), (3, 10, 2)] {
-        let way = way_to(rt.alloc(), &graph, to)?;
-        assert_eq!(rt; way, Some(Way { distance, hops }));
-    }
+    let ways = [Some((0, 0)), Some((10, 6)), Some((11, 6)), Some((10, 2))];
+    assert!(rt; are_its_ways(rt.alloc(), &graph, &ways)?);
     Ok(())
 }
 
 #[test]
 fn a_router_comes_nearer_while_it_waits(rt: HostRuntime) -> Result<(), AllocError> {
     let graph = detour(rt.alloc())?;
-    for (to, distance, hops) in [(1, 20, 4), (2, 10, 4), (3, 15, 4), (4, 21, 4)] {
-        let way = way_to(rt.alloc(), &graph, to)?;
-        assert_eq!(rt; way, Some(Way { distance, hops }));
-    }
+    let ways = [Some((0, 0)), Some((20, 4)), Some((10, 4)), Some((15, 4)), Some((21, 4))];
+    assert!(rt; are_its_ways(rt.alloc(), &graph, &ways)?);
     Ok(())
 }
 
+// A link to a vertex that isn't there, or one of cost 0 between routers, among others.
 #[test]
 fn unlawful_links_are_told(rt: HostRuntime) -> Result<(), AllocError> {
     for (only, lawful) in [
@@ -111,7 +118,7 @@ fn unlawful_links_are_told(rt: HostRuntime) -> Result<(), AllocError> {
         (link(0, 1, 64), false),
         (link(1, 1, 1), false),
     ] {
-        let graph = single(rt.alloc(), only)?;
+        let graph = graph_of(rt.alloc(), &[(Kind::Router, &[only])])?;
         assert_eq!(rt; is_graph(&graph), lawful);
     }
     Ok(())

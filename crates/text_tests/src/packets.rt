@@ -1,8 +1,8 @@
 //! Worked packets, whose bytes and checksums another program computed.
-use packet::{Body, read, write};
+use packet::{Body, Description, Header, Hello, read, write};
 use std::alloc::{AllocError, Global};
 use std::test::Fail;
-use words::RouterId;
+use words::{Key, RouterId, Sequence};
 
 // 2.2.2.2 with mask 255.255.255.0, intervals 10 and 40, priority 1: checksum 0xf89a.
 const HELLO_RECEIVED: &[u8] =
@@ -242,9 +242,15 @@ fn continued(alloc: Global, front: &[u8], byte: u8, size: usize) -> Result<Vec<u
     Ok(bytes)
 }
 
+// What is written of the packet that the bytes are read as.
+fn written_again(alloc: Global, bytes: &[u8]) -> Result<Vec<u8>, Fail> {
+    let packet = read(alloc, bytes)?;
+    Ok(write(alloc, &packet)?)
+}
+
 #[test]
 fn packets_are_written_as_they_were_read(rt: HostRuntime) -> Result<(), Fail> {
-    let packets = [
+    for bytes in [
         HELLO_RECEIVED,
         HELLO_NAMING,
         HELLO_ALONE,
@@ -259,10 +265,8 @@ fn packets_are_written_as_they_were_read(rt: HostRuntime) -> Result<(), Fail> {
         REQUEST_EMPTY,
         ACKNOWLEDGMENT_EMPTY,
         SUM_OF_ONES,
-    ];
-    for bytes in packets {
-        let packet = read(rt.alloc(), bytes)?;
-        let written = write(rt.alloc(), &packet)?;
+    ] {
+        let written = written_again(rt.alloc(), bytes)?;
         assert_eq!(rt; written.as_slice(), bytes);
     }
     Ok(())
@@ -274,86 +278,85 @@ fn open_bytes_are_not_read(rt: HostRuntime) -> Result<(), Fail> {
         (HELLO_OPEN, HELLO_NAMING),
         (ACKNOWLEDGMENT_OPEN, ACKNOWLEDGMENT),
     ] {
-        let packet = read(rt.alloc(), bytes)?;
-        let written = write(rt.alloc(), &packet)?;
+        let written = written_again(rt.alloc(), bytes)?;
         assert_eq!(rt; written.as_slice(), canonical);
     }
     Ok(())
 }
 
-#[test]
-fn a_hello_and_a_description_are_read(rt: HostRuntime) -> Result<(), Fail> {
-    let packet = read(rt.alloc(), HELLO_NAMING)?;
-    assert_eq!(rt; packet.router.number(), 0x0101_0101);
-    match &packet.body {
-        Body::Hello(hello) => {
-            assert_eq!(rt; hello.mask, 0xffff_ff00);
-            assert_eq!(rt; (hello.hello_interval, hello.dead_interval), (10, 40));
-            assert_eq!(rt; (hello.options, hello.priority), (2, 1));
-            assert_eq!(rt;
-                hello.neighbors.as_slice(),
-                [RouterId::new(0x0202_0202)].as_slice()
-            );
+fn is_the_hello(hello: &Hello) -> bool {
+    let neighbors = [RouterId::new(0x0202_0202)];
+    hello.mask == 0xffff_ff00
+        && (hello.hello_interval, hello.dead_interval) == (10, 40)
+        && (hello.options, hello.priority) == (2, 1)
+        && hello.neighbors.as_slice() == neighbors.as_slice()
+}
+
+fn is_the_description(description: &Description) -> bool {
+    (description.mtu, description.options) == (1500, 2)
+        && (description.init, description.more, description.master) == (false, true, false)
+        && description.sequence == 0x0102_0304
+        && match description.headers.as_slice() {
+            [first, second] => {
+                (first.ls_type, first.checksum, first.length) == (1, 0x59ae, 48)
+                    && (second.ls_type, second.checksum, second.length) == (5, 0x5429, 36)
+            }
+            _ => false,
         }
-        _ => assert!(rt; false),
-    }
-    let packet = read(rt.alloc(), DESCRIPTION)?;
-    match &packet.body {
-        Body::Description(description) => {
-            assert_eq!(rt; (description.mtu, description.options), (1500, 2));
-            assert!(rt; !description.init && description.more && !description.master);
-            assert_eq!(rt; description.sequence, 0x0102_0304);
-            let headers = description.headers.as_slice();
-            assert_eq!(rt; headers.len(), 2);
-            assert_eq!(rt;
-                (headers[0].ls_type, headers[0].checksum, headers[0].length),
-                (1, 0x59ae, 48)
-            );
-            assert_eq!(rt;
-                (headers[1].ls_type, headers[1].checksum, headers[1].length),
-                (5, 0x5429, 36)
-            );
+}
+
+fn is_the_request(keys: &[Key]) -> bool {
+    match keys {
+        [_, key] => {
+            key.ls_type == 0xffff_fff5
+                && key.link_state_id.number() == 0xcb00_7100
+                && key.advertising_router.number() == 0x0202_0202
         }
-        _ => assert!(rt; false),
+        _ => false,
     }
-    Ok(())
+}
+
+fn is_the_update(lsas: &[Sequence<u8>]) -> bool {
+    match lsas {
+        [first, second] => {
+            first.as_slice() == &UPDATE[28..76] && second.as_slice() == &UPDATE[76..112]
+        }
+        _ => false,
+    }
+}
+
+fn is_the_acknowledgment(headers: &[Header]) -> bool {
+    match headers {
+        [_, header] => {
+            (header.age, header.ls_type, header.length) == (65535, 255, 65535)
+                && header.sequence.number() == -1
+        }
+        _ => false,
+    }
+}
+
+// Whether the body is that of the packet of its type above.
+fn is_as_above(body: &Body) -> bool {
+    match body {
+        Body::Hello(hello) => is_the_hello(hello),
+        Body::Description(description) => is_the_description(description),
+        Body::Request(keys) => is_the_request(keys.as_slice()),
+        Body::Update(lsas) => is_the_update(lsas.as_slice()),
+        Body::Acknowledgment(headers) => is_the_acknowledgment(headers.as_slice()),
+    }
 }
 
 #[test]
-fn requests_updates_and_acknowledgments_are_read(rt: HostRuntime) -> Result<(), Fail> {
-    let packet = read(rt.alloc(), REQUEST)?;
-    match &packet.body {
-        Body::Request(keys) => {
-            assert_eq!(rt; keys.as_slice().len(), 2);
-            let key = keys.as_slice()[1];
-            assert_eq!(rt; key.ls_type, 0xffff_fff5);
-            assert_eq!(rt; key.link_state_id.number(), 0xcb00_7100);
-            assert_eq!(rt; key.advertising_router.number(), 0x0202_0202);
-        }
-        _ => assert!(rt; false),
-    }
-    let packet = read(rt.alloc(), UPDATE)?;
-    match &packet.body {
-        Body::Update(lsas) => {
-            let lsas = lsas.as_slice();
-            assert_eq!(rt; lsas.len(), 2);
-            assert_eq!(rt; lsas[0].as_slice(), &UPDATE[28..76]);
-            assert_eq!(rt; lsas[1].as_slice(), &UPDATE[76..112]);
-        }
-        _ => assert!(rt; false),
-    }
-    let packet = read(rt.alloc(), ACKNOWLEDGMENT)?;
-    match &packet.body {
-        Body::Acknowledgment(headers) => {
-            assert_eq!(rt; headers.as_slice().len(), 2);
-            let header = headers.as_slice()[1];
-            assert_eq!(rt;
-                (header.age, header.ls_type, header.length),
-                (65535, 255, 65535)
-            );
-            assert_eq!(rt; header.sequence.number(), -1);
-        }
-        _ => assert!(rt; false),
+fn each_body_is_read_by_its_fields(rt: HostRuntime) -> Result<(), Fail> {
+    for (bytes, router) in [
+        (HELLO_NAMING, 0x0101_0101),
+        (DESCRIPTION, 0x0202_0202),
+        (REQUEST, 0x0101_0101),
+        (UPDATE, 0x0101_0101),
+        (ACKNOWLEDGMENT, 0x0101_0101),
+    ] {
+        let packet = read(rt.alloc(), bytes)?;
+        assert!(rt; packet.router.number() == router && is_as_above(&packet.body));
     }
     Ok(())
 }
@@ -423,8 +426,7 @@ fn the_earlier_of_two_faults_answers(rt: HostRuntime) {
 fn a_packet_has_at_most_8192_bytes(rt: HostRuntime) -> Result<(), Fail> {
     for (front, byte) in [(UPDATE_8192, 0), (HELLO_8192, 3)] {
         let bytes = continued(rt.alloc(), front, byte, 8192)?;
-        let packet = read(rt.alloc(), &bytes)?;
-        let written = write(rt.alloc(), &packet)?;
+        let written = written_again(rt.alloc(), &bytes)?;
         assert_eq!(rt; written.as_slice(), bytes.as_slice());
     }
     for (front, byte, size) in [(UPDATE_8193, 0, 8193), (HELLO_8196, 3, 8196)] {

@@ -50,42 +50,54 @@ fn refusal(alloc: Global, bytes: &[u8]) -> u8 {
     }
 }
 
+// What is written of the LSA that the bytes are read as.
+fn written_again(alloc: Global, bytes: &[u8]) -> Result<Vec<u8>, Fail> {
+    let lsa = read(alloc, bytes)?;
+    Ok(write(alloc, &lsa)?)
+}
+
 #[test]
 fn summaries_are_written_as_they_were_read(rt: HostRuntime) -> Result<(), Fail> {
     for text in [NETWORK, ROUTER, UNREACHABLE, TOS] {
         assert!(rt; checksum_holds(text));
-        let lsa = read(rt.alloc(), text)?;
-        let written = write(rt.alloc(), &lsa)?;
+        let written = written_again(rt.alloc(), text)?;
         assert_eq!(rt; written.as_slice(), text);
     }
     Ok(())
 }
 
+fn is_to_the_network(summary: &SummaryLsa) -> bool {
+    let tos = [
+        SummaryTos { tos: 8, metric: 20 },
+        SummaryTos {
+            tos: 12,
+            metric: 0x12_3456,
+        },
+    ];
+    summary.mask.bits() == 0xffff_ff00
+        && summary.metric == 5
+        && summary.tos.as_slice() == tos.as_slice()
+}
+
 #[test]
-fn summaries_are_read_by_their_types(rt: HostRuntime) -> Result<(), Fail> {
+fn a_type_3_is_read_as_one_to_a_network(rt: HostRuntime) -> Result<(), Fail> {
     let lsa = read(rt.alloc(), TOS)?;
-    match lsa.body() {
-        Body::NetworkSummary(summary) => {
-            assert_eq!(rt; summary.mask.bits(), 0xffff_ff00);
-            assert_eq!(rt; summary.metric, 5);
-            let tos = summary.tos.as_slice();
-            assert_eq!(rt; tos.len(), 2);
-            assert!(rt; tos[0] == SummaryTos { tos: 8, metric: 20 });
-            assert!(rt;
-                tos[1]
-                    == SummaryTos {
-                        tos: 12,
-                        metric: 0x12_3456
-                    }
-            );
-        }
-        _ => assert!(rt; false),
-    }
+    let is_read = match lsa.body() {
+        Body::NetworkSummary(summary) => is_to_the_network(summary),
+        _ => false,
+    };
+    assert!(rt; is_read);
+    Ok(())
+}
+
+#[test]
+fn a_type_4_is_read_as_one_to_a_router(rt: HostRuntime) -> Result<(), Fail> {
     let lsa = read(rt.alloc(), ROUTER)?;
-    match lsa.body() {
-        Body::RouterSummary(summary) => assert_eq!(rt; summary.metric, 7),
-        _ => assert!(rt; false),
-    }
+    let is_read = match lsa.body() {
+        Body::RouterSummary(summary) => summary.metric == 7,
+        _ => false,
+    };
+    assert!(rt; is_read);
     Ok(())
 }
 
@@ -125,23 +137,32 @@ fn header(link_state_id: u32) -> Header
     }
 }
 
+// What is written of an LSA of this body.
+fn made(alloc: Global, link_state_id: u32, body: Body) -> Result<Vec<u8>, Fail> {
+    let lsa = Lsa::new(alloc, header(link_state_id), body)?;
+    Ok(write(alloc, &lsa)?)
+}
+
 #[test]
-fn summaries_are_made_by_their_bodies(rt: HostRuntime) -> Result<(), Fail> {
-    let network = Body::NetworkSummary(SummaryLsa {
+fn a_summary_to_a_network_is_made_by_its_body(rt: HostRuntime) -> Result<(), Fail> {
+    let body = Body::NetworkSummary(SummaryLsa {
         mask: Address::new(0xffff_ff00),
         metric: 5,
         tos: Sequence::from_vec(Vec::new(rt.alloc())),
     });
-    let lsa = Lsa::new(rt.alloc(), header(0xc633_6400), network)?;
-    let written = write(rt.alloc(), &lsa)?;
+    let written = made(rt.alloc(), 0xc633_6400, body)?;
     assert_eq!(rt; written.as_slice(), NETWORK);
-    let router = Body::RouterSummary(SummaryLsa {
+    Ok(())
+}
+
+#[test]
+fn a_summary_to_a_router_is_made_by_its_body(rt: HostRuntime) -> Result<(), Fail> {
+    let body = Body::RouterSummary(SummaryLsa {
         mask: Address::UNSPECIFIED,
         metric: 7,
         tos: Sequence::from_vec(Vec::new(rt.alloc())),
     });
-    let lsa = Lsa::new(rt.alloc(), header(0x0909_0909), router)?;
-    let written = write(rt.alloc(), &lsa)?;
+    let written = made(rt.alloc(), 0x0909_0909, body)?;
     assert_eq!(rt; written.as_slice(), ROUTER);
     Ok(())
 }

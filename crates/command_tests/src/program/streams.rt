@@ -102,6 +102,11 @@ fn words_that_cant_be_read_are_told(rt: HostRuntime) -> Result<(), Fail> {
         "{told}"
     );
     assert!(rt; told.as_str().contains("Usage: routerd"), "{told}");
+    Ok(())
+}
+
+#[test]
+fn want_of_memory_for_words_is_told(rt: HostRuntime) {
     let mut output = Vec::new(rt.alloc());
     let mut errors = Vec::new(rt.alloc());
     let error = io::Error::from(io::ErrorKind::OutOfMemory);
@@ -109,7 +114,6 @@ fn words_that_cant_be_read_are_told(rt: HostRuntime) -> Result<(), Fail> {
     assert_eq!(rt; status, 4);
     assert!(rt; output.as_slice() == b"out of memory\n".as_slice());
     assert!(rt; errors.is_empty());
-    Ok(())
 }
 
 #[test]
