@@ -58,6 +58,20 @@ fn list_often(alloc: Global, object: &Object, rounds: u64) -> u64 {
     done
 }
 
+fn print_figures<R: Clock + Print + AllocGlobal>(
+    rt: &R,
+    slots: u64,
+    text: &str,
+    object: &Object,
+) -> Result<()> {
+    let alloc = rt.alloc();
+    let assembling = |rounds| assemble_often(alloc, text, rounds);
+    report(rt, "assembling it", ROUNDS, slots, "a slot", &assembling)?;
+    let listings = |rounds| list_often(alloc, object, rounds);
+    report(rt, "listing its object", ROUNDS, slots, "a slot", &listings)?;
+    Ok(())
+}
+
 fn print_each<R: Clock + Print + AllocGlobal>(
     rt: &R,
     slots: usize,
@@ -78,25 +92,7 @@ fn print_each<R: Clock + Print + AllocGlobal>(
         "none"
     };
     println!(rt; "a text of {slots} slots, labels: {labels}")?;
-    let assembling = |rounds| assemble_often(alloc, &text, rounds);
-    report(
-        rt,
-        "assembling it",
-        ROUNDS,
-        slots as u64,
-        "a slot",
-        &assembling,
-    )?;
-    let listings = |rounds| list_often(alloc, &object, rounds);
-    report(
-        rt,
-        "listing its object",
-        ROUNDS,
-        slots as u64,
-        "a slot",
-        &listings,
-    )?;
-    Ok(())
+    print_figures(rt, slots as u64, text.as_str(), &object)
 }
 
 /// Prints how long texts take to assemble, with labels and with none, and how long their objects take to list.

@@ -77,19 +77,27 @@ fn write_often(alloc: Global, object: &Object, rounds: u64) -> u64 {
     done
 }
 
+fn print_figures<R: Clock + Print + AllocGlobal>(
+    rt: &R,
+    object: &Object,
+    bytes: &[u8],
+) -> Result<()> {
+    let alloc = rt.alloc();
+    let size = bytes.len() as u64;
+    let reading = |rounds| read_often(alloc, bytes, rounds);
+    report(rt, "reading it", ROUNDS, size, "a byte", &reading)?;
+    let writing = |rounds| write_often(alloc, object, rounds);
+    report(rt, "writing it", ROUNDS, size, "a byte", &writing)?;
+    Ok(())
+}
+
 fn print_each<R: Clock + Print + AllocGlobal>(rt: &R, slots: usize, statements: u16) -> Result<()>
     requires { 2 ≤ slots }
 {
-    let alloc = rt.alloc();
-    let object = object_of(alloc, slots, statements)?;
-    let bytes = object::write(alloc, &object)?;
-    let size = bytes.len() as u64;
     println!(rt; "an object of {slots} slots and {statements} statements")?;
-    let reading = |rounds| read_often(alloc, &bytes, rounds);
-    report(rt, "reading it", ROUNDS, size, "a byte", &reading)?;
-    let writing = |rounds| write_often(alloc, &object, rounds);
-    report(rt, "writing it", ROUNDS, size, "a byte", &writing)?;
-    Ok(())
+    let object = object_of(rt.alloc(), slots, statements)?;
+    let bytes = object::write(rt.alloc(), &object)?;
+    print_figures(rt, &object, &bytes)
 }
 
 /// Prints how long objects of up to 4,096 slots and 1,000 statements take to read and to write.

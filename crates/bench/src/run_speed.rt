@@ -9,7 +9,7 @@ use interp::run_checked;
 use isa::{Code, Hook, decode};
 use machine::Input;
 use maps::{Seat, Shared};
-use std::alloc::Global;
+use std::alloc::{AllocError, Global};
 use std::rt::Clock;
 
 /// More than any program here takes.
@@ -93,15 +93,25 @@ fn print_each<R: Clock + Print + AllocGlobal>(
     report(rt, "  they take", rounds, used, "each", &runs)
 }
 
+/// The same of bytes that are let go with it.
+fn print_code<R: Clock + Print + AllocGlobal>(
+    rt: &R,
+    what: &str,
+    bytes: Result<Vec<u8>, AllocError>,
+    rounds: u64,
+) -> Result<Figure> {
+    let bytes = bytes?;
+    print_each(rt, what, &bytes, rounds)
+}
+
 /// Prints how long short straight-line code takes: what a run costs before its first instruction counts in there, and in the
 /// difference of two lengths it doesn't.
 fn print_short<R: Clock + Print + AllocGlobal>(rt: &R) -> Result<()> {
-    let alloc = rt.alloc();
-    let shortest = programs::straight_line(alloc, 2)?;
-    let two = print_each(rt, "straight-line arithmetic, 2 slots", &shortest, 100_000)?;
+    let shortest = programs::straight_line(rt.alloc(), 2);
+    let two = print_code(rt, "straight-line arithmetic, 2 slots", shortest, 100_000)?;
     two.print(rt, "  a run takes", "in all")?;
-    let short = programs::straight_line(alloc, 10)?;
-    let ten = print_each(rt, "straight-line arithmetic, 10 slots", &short, 100_000)?;
+    let short = programs::straight_line(rt.alloc(), 10);
+    let ten = print_code(rt, "straight-line arithmetic, 10 slots", short, 100_000)?;
     ten.print(rt, "  a run takes", "in all")?;
     let what = "from the third instruction to the tenth";
     ten.less(two, 8).print(rt, what, "each")
@@ -110,18 +120,17 @@ fn print_short<R: Clock + Print + AllocGlobal>(rt: &R) -> Result<()> {
 /// Prints how long a loop of 255 turns takes without and with accesses of the maps, and by how much each access is dearer than
 /// `r0 = 0`.
 fn print_loops<R: Clock + Print + AllocGlobal>(rt: &R) -> Result<()> {
-    let alloc = rt.alloc();
-    let plain = programs::adding_loop(alloc, false)?;
-    let plain = print_each(rt, "loop of 255 turns without counter adds", &plain, 2_000)?;
-    let adding = programs::adding_loop(alloc, true)?;
-    let adding = print_each(rt, "the same with counter adds", &adding, 2_000)?;
+    let plain = programs::adding_loop(rt.alloc(), false);
+    let plain = print_code(rt, "loop of 255 turns without counter adds", plain, 2_000)?;
+    let adding = programs::adding_loop(rt.alloc(), true);
+    let adding = print_code(rt, "the same with counter adds", adding, 2_000)?;
     adding
         .less(plain, 255)
         .print(rt, "an add is dearer by", "each")?;
-    let plain = programs::loading_loop(alloc, false)?;
-    let plain = print_each(rt, "loop of 255 turns without cell loads", &plain, 2_000)?;
-    let loading = programs::loading_loop(alloc, true)?;
-    let loading = print_each(rt, "the same with cell loads", &loading, 2_000)?;
+    let plain = programs::loading_loop(rt.alloc(), false);
+    let plain = print_code(rt, "loop of 255 turns without cell loads", plain, 2_000)?;
+    let loading = programs::loading_loop(rt.alloc(), true);
+    let loading = print_code(rt, "the same with cell loads", loading, 2_000)?;
     loading
         .less(plain, 255)
         .print(rt, "a load is dearer by", "each")
@@ -130,10 +139,9 @@ fn print_loops<R: Clock + Print + AllocGlobal>(rt: &R) -> Result<()> {
 /// Prints how long straight-line code, a loop, and programs with accesses of the maps take.
 pub fn print<R: Clock + Print + AllocGlobal>(rt: &R) -> Result<()> {
     print_short(rt)?;
-    let alloc = rt.alloc();
-    let long = programs::straight_line(alloc, 4_000)?;
-    print_each(rt, "straight-line arithmetic, 4,000 slots", &long, 1_000)?;
-    let counting = programs::counting_loop(alloc)?;
-    print_each(rt, "counting loop", &counting, 4)?;
+    let long = programs::straight_line(rt.alloc(), 4_000);
+    print_code(rt, "straight-line arithmetic, 4,000 slots", long, 1_000)?;
+    let counting = programs::counting_loop(rt.alloc());
+    print_code(rt, "counting loop", counting, 4)?;
     print_loops(rt)
 }

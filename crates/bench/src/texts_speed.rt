@@ -26,22 +26,29 @@ fn put_link(out: &mut Vec<u8>, number: u16, is_last: bool) -> Result<(), AllocEr
     Ok(())
 }
 
+fn put_unsealed(out: &mut Vec<u8>, links: u16) -> Result<(), AllocError>
+    requires { links < 5000 }
+{
+    put_u32(out, 0x0001_0201)?;
+    put_u32(out, 0x0101_0101)?;
+    put_u32(out, 0x0101_0101)?;
+    put_u32(out, 0x8000_0001)?;
+    put_u16(out, 0)?;
+    put_u16(out, 28 + 12 * links)?;
+    put_u16(out, 0x0200)?;
+    put_u16(out, links)?;
+    for number in 0..links {
+        put_link(out, number, number + 1 == links)?;
+    }
+    Ok(())
+}
+
 // A router-LSA with so many links, of 28 bytes and 12 for each link, without a checksum.
 fn unsealed(alloc: Global, links: u16) -> Result<Vec<u8>, AllocError>
     requires { links < 5000 }
 {
     let mut out = Vec::new(alloc);
-    put_u32(&mut out, 0x0001_0201)?;
-    put_u32(&mut out, 0x0101_0101)?;
-    put_u32(&mut out, 0x0101_0101)?;
-    put_u32(&mut out, 0x8000_0001)?;
-    put_u16(&mut out, 0)?;
-    put_u16(&mut out, 28 + 12 * links)?;
-    put_u16(&mut out, 0x0200)?;
-    put_u16(&mut out, links)?;
-    for number in 0..links {
-        put_link(&mut out, number, number + 1 == links)?;
-    }
+    put_unsealed(&mut out, links)?;
     Ok(out)
 }
 
@@ -67,21 +74,26 @@ fn checksum(bytes: &[u8]) -> u16 {
     (65535 - sum % 65535) as u16
 }
 
-// The bytes of an Update with the LSA so many times.
-fn update(alloc: Global, lsa: &[u8], count: u8) -> Result<Vec<u8>, AllocError> {
+fn put_update(out: &mut Vec<u8>, lsa: &[u8], count: u8) -> Result<(), AllocError> {
     let size = lsa
         .len()
         .saturating_mul(usize::from(count))
         .saturating_add(28);
-    let mut out = Vec::new(alloc);
-    put_u16(&mut out, 0x0204)?;
-    put_u16(&mut out, (size % 65536) as u16)?;
-    put_u32(&mut out, 0x0101_0101)?;
+    put_u16(out, 0x0204)?;
+    put_u16(out, (size % 65536) as u16)?;
+    put_u32(out, 0x0101_0101)?;
     out.extend_from_slice(&[0; 16])?;
-    put_u32(&mut out, u32::from(count))?;
+    put_u32(out, u32::from(count))?;
     for _turn in 0..count {
         out.extend_from_slice(lsa)?;
     }
+    Ok(())
+}
+
+// The bytes of an Update with the LSA so many times.
+fn update(alloc: Global, lsa: &[u8], count: u8) -> Result<Vec<u8>, AllocError> {
+    let mut out = Vec::new(alloc);
+    put_update(&mut out, lsa, count)?;
     let sum = checksum(out.as_slice());
     if out.len() > 13 {
         out[12] = (sum / 256) as u8;

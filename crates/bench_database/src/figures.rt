@@ -1,5 +1,5 @@
 //! How the figures are taken and printed.
-use crate::samples::{database, externals, moment};
+use crate::samples::{database, externals};
 use crate::work;
 use anyhow::{Result, ensure};
 use lsdb::Lsdb;
@@ -69,9 +69,8 @@ fn time_get<R: Clock>(rt: &R, lsdb: &Lsdb, scale: Scale) -> Result<u64> {
 }
 
 fn time_roll_back<R: Clock + AllocGlobal>(rt: &R, lsdb: &mut Lsdb, scale: Scale) -> Result<u64> {
-    for lsa in externals(rt.alloc(), scale.size, scale.edits)? {
-        lsdb.install_flooded(moment(), lsa)?;
-    }
+    let lsas = externals(rt.alloc(), scale.size, scale.edits)?;
+    work::install(lsdb, lsas)?;
     let start = Instant::now(rt)?;
     lsdb.roll_back();
     since(rt, start)
@@ -103,14 +102,18 @@ fn least(a: Times, b: Times) -> Times {
     }
 }
 
-fn print_size<R: Clock + Print + AllocGlobal>(rt: &R, size: u32) -> Result<()> {
-    let edits = (size / 16).max(16);
-    let scale = Scale { size, edits };
-    let mut lsdb = database(rt.alloc(), size)?;
+fn least_times<R: Clock + AllocGlobal>(rt: &R, scale: Scale) -> Result<Times> {
+    let mut lsdb = database(rt.alloc(), scale.size)?;
     let mut times = LONGEST;
     for _measurement in 0..MEASUREMENTS {
         times = least(times, measure(rt, &mut lsdb, scale)?);
     }
+    Ok(times)
+}
+
+fn print_size<R: Clock + Print + AllocGlobal>(rt: &R, size: u32) -> Result<()> {
+    let edits = (size / 16).max(16);
+    let times = least_times(rt, Scale { size, edits })?;
     let edits = u64::from(edits).max(1);
     println!(rt; "a database of {size} LSAs, nanoseconds a call, the least of {MEASUREMENTS}")?;
     println!(rt; "insert {}", times.insert / edits)?;

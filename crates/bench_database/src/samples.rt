@@ -1,4 +1,5 @@
 //! The LSAs that are measured with.
+use crate::work;
 use lsa::{Body, ExternalLsa, Header, Lsa};
 use lsdb::Lsdb;
 use std::alloc::{AllocError, Global};
@@ -61,9 +62,7 @@ pub fn externals(alloc: Global, first: u32, count: u32) -> Result<Vec<Lsa>, Allo
 /// A database of the LSAs of so many numbers from 0 on.
 pub fn database(alloc: Global, size: u32) -> Result<Lsdb, AllocError> {
     let mut database = Lsdb::new(alloc, RouterId::new(0x0101_0101));
-    for lsa in externals(alloc, 0, size)? {
-        database.install_flooded(moment(), lsa)?;
-        database.settle();
-    }
+    let lsas = externals(alloc, 0, size)?;
+    work::insert(&mut database, lsas)?;
     Ok(database)
 }

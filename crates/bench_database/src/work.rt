@@ -4,11 +4,17 @@ use lsa::Lsa;
 use lsdb::Lsdb;
 use std::alloc::AllocError;
 
-/// Installs the LSAs, which have new keys, and settles.
-pub fn insert(database: &mut Lsdb, lsas: Vec<Lsa>) -> Result<(), AllocError> {
+/// Installs the LSAs, which have new keys.
+pub fn install(database: &mut Lsdb, lsas: Vec<Lsa>) -> Result<(), AllocError> {
     for lsa in lsas {
         database.install_flooded(moment(), lsa)?;
     }
+    Ok(())
+}
+
+/// Installs the LSAs, and settles.
+pub fn insert(database: &mut Lsdb, lsas: Vec<Lsa>) -> Result<(), AllocError> {
+    install(database, lsas)?;
     database.settle();
     Ok(())
 }

@@ -3,7 +3,7 @@ ghost use Rattle.std.specs.Prelude.{◌≡◌, All, IfOk};
 ghost use Rattle.maps.specs.Words.{IsOf};
 ghost use Rattle.hooks.specs.Known.{IsNew, asks_of, history_of};
 
-use crate::samples::{accepted, external, moment, route, table};
+use crate::samples::{accepted, external, moment, route, row, table};
 use hooks::{Asker, HookError, Loader, PriceAnswer, TagAnswer, VetoAnswer, programs};
 use machine::{Hook, TableRow};
 use maps::{Seat, Shared};
@@ -108,6 +108,13 @@ impl<R: Wait + Drop> Trial<R> {
     pub fn veto(&mut self, route: &Route) -> Option<VetoAnswer> {
         self.asker
             .veto(route, moment(), &[], &self.shared, &mut self.seat)
+    }
+
+    /// The word of `tag` on a table of one row, and the tag of it.
+    pub fn tag_words(&mut self) -> Result<Option<(u64, u32)>, Fail> {
+        let (external, row) = (external()?, row()?);
+        let found = self.tag(&external, &[row]);
+        Ok(found.map(|answer| (answer.word(), answer.tag())))
     }
 
     /// The word of `price`.

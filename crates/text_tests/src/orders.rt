@@ -13,17 +13,20 @@ fn key(ls_type: u32, link_state_id: u32, router: u32) -> Key {
 
 #[test]
 fn keys_and_kinds_are_ordered(rt: HostRuntime) {
-    assert_eq!(rt; key(1, 2, 2).compare(&key(3, 1, 1)), Ordering::Less);
-    assert_eq!(rt; key(3, 2, 1).compare(&key(3, 1, 2)), Ordering::Greater);
-    assert_eq!(rt; key(3, 1, 2).compare(&key(3, 1, 2)), Ordering::Equal);
-    assert_eq!(rt;
-        RouteKind::Inter.compare(RouteKind::External1),
-        Ordering::Less
-    );
-    assert_eq!(rt;
-        RouteKind::External2.compare(RouteKind::Intra),
-        Ordering::Greater
-    );
+    let inter = RouteKind::Inter;
+    let external_2 = RouteKind::External2;
+    for (order, wanted) in [
+        (key(1, 9, 9).compare(&key(2, 0, 0)), Ordering::Less),
+        (key(1, 1, 9).compare(&key(1, 2, 0)), Ordering::Less),
+        (key(1, 1, 1).compare(&key(1, 1, 2)), Ordering::Less),
+        (key(3, 2, 1).compare(&key(3, 1, 2)), Ordering::Greater),
+        (key(3, 1, 2).compare(&key(3, 1, 2)), Ordering::Equal),
+        (inter.compare(RouteKind::External1), Ordering::Less),
+        (external_2.compare(RouteKind::Intra), Ordering::Greater),
+    ] {
+        assert_eq!(rt; order, wanted);
+    }
+    assert!(rt; key(1, 9, 9) < key(2, 0, 0));
 }
 
 #[test]
@@ -33,8 +36,8 @@ fn prefixes_are_ordered_by_address_first(rt: HostRuntime) {
     let wide = Prefix::under(Address::new(0x0b00_0000), 8);
     match (near, far, wide) {
         (Some(near), Some(far), Some(wide)) => {
-            assert_eq!(rt; near.compare(&far), Ordering::Greater);
-            assert_eq!(rt; near.compare(&wide), Ordering::Less);
+            assert!(rt; near.compare(&far) == Ordering::Greater);
+            assert!(rt; near.compare(&wide) == Ordering::Less);
         }
         _ => assert!(rt; false),
     }
@@ -43,11 +46,14 @@ fn prefixes_are_ordered_by_address_first(rt: HostRuntime) {
 #[test]
 fn constants_have_the_numbers_of_the_standard(rt: HostRuntime) {
     let (initial, max) = sequence_numbers();
-    assert_eq!(rt; initial.bits(), 0x8000_0001);
-    assert_eq!(rt; max.bits(), 0x7fff_ffff);
     let (backbone, router, address) = unspecified();
-    assert_eq!(rt; backbone.number(), 0);
-    assert!(rt; router.is_unspecified());
-    assert!(rt; address.is_unspecified());
+    for (number, wanted) in [
+        (initial.bits(), 0x8000_0001),
+        (max.bits(), 0x7fff_ffff),
+        (backbone.number(), 0),
+    ] {
+        assert_eq!(rt; number, wanted);
+    }
+    assert!(rt; router.is_unspecified() && address.is_unspecified());
     assert!(rt; no_interface().is_empty());
 }

@@ -137,12 +137,6 @@ fn header(link_state_id: u32) -> Header
     }
 }
 
-// What is written of an LSA of this body.
-fn made(alloc: Global, link_state_id: u32, body: Body) -> Result<Vec<u8>, Fail> {
-    let lsa = Lsa::new(alloc, header(link_state_id), body)?;
-    Ok(write(alloc, &lsa)?)
-}
-
 #[test]
 fn a_summary_to_a_network_is_made_by_its_body(rt: HostRuntime) -> Result<(), Fail> {
     let body = Body::NetworkSummary(SummaryLsa {
@@ -150,7 +144,8 @@ fn a_summary_to_a_network_is_made_by_its_body(rt: HostRuntime) -> Result<(), Fai
         metric: 5,
         tos: Sequence::from_vec(Vec::new(rt.alloc())),
     });
-    let written = made(rt.alloc(), 0xc633_6400, body)?;
+    let lsa = Lsa::new(rt.alloc(), header(0xc633_6400), body)?;
+    let written = write(rt.alloc(), &lsa)?;
     assert_eq!(rt; written.as_slice(), NETWORK);
     Ok(())
 }
@@ -162,7 +157,8 @@ fn a_summary_to_a_router_is_made_by_its_body(rt: HostRuntime) -> Result<(), Fail
         metric: 7,
         tos: Sequence::from_vec(Vec::new(rt.alloc())),
     });
-    let written = made(rt.alloc(), 0x0909_0909, body)?;
+    let lsa = Lsa::new(rt.alloc(), header(0x0909_0909), body)?;
+    let written = write(rt.alloc(), &lsa)?;
     assert_eq!(rt; written.as_slice(), ROUTER);
     Ok(())
 }
