@@ -4,7 +4,7 @@ mod opcodes;
 mod refusals;
 
 use isa::{
-    BuildError, ByteOrder, CodeBuilder, DecodeError, DecodeFault, Extension, Hook, Instruction,
+    BuildError, ByteOrder, Code, CodeBuilder, DecodeError, DecodeFault, Extension, Hook, Instruction,
     LoadSize, Map, Operation, Register, Slot, Source, StoreSize, SwapWidth, Test, Width, decode,
     encode,
 };

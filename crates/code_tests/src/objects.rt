@@ -42,43 +42,63 @@ fn number(rt: &impl Abort, low: u64, high: u64) -> StatedNumber {
     StatedNumber::new(low, high, 0, 0).expect(rt, "a range")
 }
 
+// What is written of the object that the bytes are read as.
+fn written_again(alloc: Global, bytes: &[u8]) -> Result<Vec<u8>, Fail> {
+    let object = read(alloc, bytes)?;
+    Ok(write(alloc, &object)?)
+}
+
+const WITHOUT_STATEMENTS: [u8; 32] = [
+    0x42, 0x50, 0x46, 0x48, 1, 3, 0, 0, 0, 0, 0, 0, 2, 0, 0, 0, 0xb7, 0, 0, 0, 7, 0, 0, 0, 0x95, 0,
+    0, 0, 0, 0, 0, 0,
+];
+
 #[test]
-fn reads_and_writes_a_counting_program(rt: HostRuntime) -> Result<(), Fail> {
-    let bytes = counting();
-    let object = read(rt.alloc(), &bytes)?;
-    assert!(rt; object.hook() == Hook::Price);
-    assert!(rt; object.entry_rank() == 10);
-    assert!(rt; object.slots() == 6);
-    assert!(rt; object.code() == &bytes[16..64]);
-    assert!(rt; object.statements().len() == 1);
-    let statement = object.statements().first().expect(&rt, "a statement");
-    assert!(rt; statement.slot() == 2);
+fn objects_are_written_as_they_were_read(rt: HostRuntime) -> Result<(), Fail> {
+    let counting = counting();
+    for bytes in [counting.as_slice(), WITHOUT_STATEMENTS.as_slice()] {
+        let written = written_again(rt.alloc(), bytes)?;
+        assert!(rt; written.as_slice() == bytes);
+    }
+    Ok(())
+}
+
+fn is_counting(rt: &impl Abort, statement: &Statement) -> bool {
     let rank = Rank {
         constant: 0,
         first: RankTerm::new(1, 1),
         second: None,
     };
-    assert!(rt; statement.rank() == rank);
     let mut kinds = [Kind::Empty; 10];
-    kinds[0] = Kind::Number(number(&rt, 0, u64::MAX));
-    kinds[1] = Kind::Number(number(&rt, 1, 10));
-    assert!(rt; statement.kinds() == kinds.as_slice());
-    assert!(rt; !statement.stack().contains(0) && !statement.stack().contains(511));
-    assert!(rt; write(rt.alloc(), &object)?.as_slice() == bytes.as_slice());
+    kinds[0] = Kind::Number(number(rt, 0, u64::MAX));
+    kinds[1] = Kind::Number(number(rt, 1, 10));
+    let stack = statement.stack();
+    statement.slot() == 2
+        && statement.rank() == rank
+        && statement.kinds() == kinds.as_slice()
+        && !stack.contains(0)
+        && !stack.contains(511)
+}
+
+#[test]
+fn reads_a_counting_program(rt: HostRuntime) -> Result<(), Fail> {
+    let bytes = counting();
+    let object = read(rt.alloc(), &bytes)?;
+    assert!(rt; object.hook() == Hook::Price && object.entry_rank() == 10);
+    assert!(rt; object.slots() == 6 && object.code() == &bytes[16..64]);
+    let is_read = match object.statements() {
+        [statement] => is_counting(&rt, statement),
+        _ => false,
+    };
+    assert!(rt; is_read);
     Ok(())
 }
 
 #[test]
-fn reads_and_writes_an_object_without_statements(rt: HostRuntime) -> Result<(), Fail> {
-    let bytes = [
-        0x42, 0x50, 0x46, 0x48, 1, 3, 0, 0, 0, 0, 0, 0, 2, 0, 0, 0, 0xb7, 0, 0, 0, 7, 0, 0, 0,
-        0x95, 0, 0, 0, 0, 0, 0, 0,
-    ];
-    let object = read(rt.alloc(), &bytes)?;
-    assert!(rt; object.entry_rank() == 0);
-    assert!(rt; object.slots() == 2);
+fn reads_an_object_without_statements(rt: HostRuntime) -> Result<(), Fail> {
+    let object = read(rt.alloc(), &WITHOUT_STATEMENTS)?;
+    assert!(rt; object.entry_rank() == 0 && object.slots() == 2);
     assert!(rt; object.statements().is_empty());
-    assert!(rt; write(rt.alloc(), &object)?.as_slice() == bytes.as_slice());
     Ok(())
 }
 
@@ -277,8 +297,8 @@ fn refuses_the_first_fault_of_two_statements(rt: HostRuntime) -> Result<(), Fail
     Ok(())
 }
 
-#[test]
-fn packs_stack_bytes_from_the_lowest_bit_on(rt: HostRuntime) -> Result<(), Fail> {
+// Stack bytes 3 to 9 and 511, two pointers and a place in the cells, with rank 7.
+fn packed_statement(rt: &impl Abort) -> Statement {
     let mut stack = StackBytes::new();
     stack.insert_range(3, 10);
     stack.insert_range(511, 512);
@@ -290,29 +310,52 @@ fn packs_stack_bytes_from_the_lowest_bit_on(rt: HostRuntime) -> Result<(), Fail>
     let mut kinds = [Kind::Empty; 10];
     kinds[1] = ContextOffset::new(0)
         .map(Kind::Context)
-        .expect(&rt, "an offset");
+        .expect(rt, "an offset");
     kinds[2] = StackOffset::new(512)
         .map(Kind::Stack)
-        .expect(&rt, "an offset");
-    kinds[9] = Kind::MapValue(Map::Cells, number(&rt, 0, 504));
-    let statement = Statement::new(0, rank, kinds, stack).expect(&rt, "a statement");
-    let mut statements = Vec::with_capacity(rt.alloc(), 1)?;
-    statements.push(statement)?;
+        .expect(rt, "an offset");
+    kinds[9] = Kind::MapValue(Map::Cells, number(rt, 0, 504));
+    Statement::new(0, rank, kinds, stack).expect(rt, "a statement")
+}
+
+// `exit` at `veto`, entry rank 9, with that statement.
+fn packed<R: AllocGlobal + Abort>(rt: &R) -> Result<Object, Fail> {
+    let statements = Vec::from_slice(rt.alloc(), &[packed_statement(rt)])?;
     let code = Vec::from_slice(rt.alloc(), &[0x95, 0, 0, 0, 0, 0, 0, 0])?;
-    let object = Object::new(Hook::Veto, 9, code, statements).expect(&rt, "an object");
+    Ok(Object::new(Hook::Veto, 9, code, statements).ok_or("no object")?)
+}
+
+#[test]
+fn packs_stack_bytes_from_the_lowest_bit_on(rt: HostRuntime) -> Result<(), Fail> {
+    let object = packed(&rt)?;
     let bytes = write(rt.alloc(), &object)?;
     assert!(rt; bytes.len() == 508);
-    let front = [
-        0x42, 0x50, 0x46, 0x48, 1, 4, 1, 0, 9, 0, 0, 0, 1, 0, 0, 0, 0x95, 0, 0, 0, 0, 0, 0, 0, 0,
-        0, 0, 0, 7, 0, 0, 0,
+    let parts: [(usize, &[u8]); 7] = [
+        (
+            0,
+            &[
+                0x42, 0x50, 0x46, 0x48, 1, 4, 1, 0, 9, 0, 0, 0, 1, 0, 0, 0, 0x95, 0, 0, 0, 0, 0, 0,
+                0, 0, 0, 0, 0, 7, 0, 0, 0,
+            ],
+        ),
+        (44, &[0xf8, 3, 0]),
+        (106, &[0, 0x80]),
+        (148, &[2, 0, 0, 0, 0, 0, 0, 0]),
+        (188, &[3, 0, 0, 0, 0, 2, 0, 0]),
+        (468, &[4, 1, 0, 0, 0, 0, 0, 0, 0, 0]),
+        (484, &[0xf8, 1]),
     ];
-    assert!(rt; bytes.get(..32) == Some(front.as_slice()));
-    assert!(rt; bytes.get(44..47) == Some([0xf8, 3, 0].as_slice()));
-    assert!(rt; bytes.get(106..108) == Some([0, 0x80].as_slice()));
-    assert!(rt; bytes.get(148..156) == Some([2, 0, 0, 0, 0, 0, 0, 0].as_slice()));
-    assert!(rt; bytes.get(188..196) == Some([3, 0, 0, 0, 0, 2, 0, 0].as_slice()));
-    assert!(rt; bytes.get(468..478) == Some([4, 1, 0, 0, 0, 0, 0, 0, 0, 0].as_slice()));
-    assert!(rt; bytes.get(484..486) == Some([0xf8, 1].as_slice()));
+    for (at, part) in parts {
+        let end = at.saturating_add(part.len());
+        assert!(rt; bytes.get(at..end) == Some(part), "at {at}");
+    }
+    Ok(())
+}
+
+#[test]
+fn what_is_packed_is_read_again(rt: HostRuntime) -> Result<(), Fail> {
+    let object = packed(&rt)?;
+    let bytes = write(rt.alloc(), &object)?;
     let again = read(rt.alloc(), &bytes)?;
     assert!(rt; again.statements() == object.statements());
     Ok(())

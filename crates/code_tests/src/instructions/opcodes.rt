@@ -135,17 +135,18 @@ fn conditional_jumps(rt: HostRuntime) -> Result<(), Fail> {
     listing.check(&rt)
 }
 
-#[test]
-fn changes_of_one_number(rt: HostRuntime) -> Result<(), Fail> {
-    let mut listing = Listing::new(&rt);
-    let target = register(&rt, 3);
-    let source = register(&rt, 7);
+// A negation, a move with its sign, or another order of bytes.
+fn add_negations(listing: &mut Listing, target: Register) -> Result<(), Fail> {
     for (width, opcode) in [(Width::Bits32, 0x84), (Width::Bits64, 0x87)] {
         listing.add(
             Instruction::Negate { width, target },
             &[opcode, 3, 0, 0, 0, 0, 0, 0],
         )?;
     }
+    Ok(())
+}
+
+fn add_moves(listing: &mut Listing, target: Register, source: Register) -> Result<(), Fail> {
     for (extension, opcode, offset) in [
         (Extension::Byte(Width::Bits32), 0xbc, 8),
         (Extension::Half(Width::Bits32), 0xbc, 16),
@@ -160,6 +161,10 @@ fn changes_of_one_number(rt: HostRuntime) -> Result<(), Fail> {
         };
         listing.add(instruction, &[opcode, 0x73, offset, 0, 0, 0, 0, 0])?;
     }
+    Ok(())
+}
+
+fn add_orders(listing: &mut Listing, target: Register) -> Result<(), Fail> {
     for (order, opcode) in [
         (ByteOrder::Little, 0xd4),
         (ByteOrder::Big, 0xdc),
@@ -178,53 +183,70 @@ fn changes_of_one_number(rt: HostRuntime) -> Result<(), Fail> {
             listing.add(instruction, &[opcode, 3, 0, 0, bits, 0, 0, 0])?;
         }
     }
+    Ok(())
+}
+
+#[test]
+fn changes_of_one_number(rt: HostRuntime) -> Result<(), Fail> {
+    let (target, source) = (register(&rt, 3), register(&rt, 7));
+    let mut listing = Listing::new(&rt);
+    add_negations(&mut listing, target)?;
+    add_moves(&mut listing, target, source)?;
+    add_orders(&mut listing, target)?;
     listing.check(&rt)
+}
+
+// An instruction, and the bytes that spell it.
+type Line<'a> = (Instruction, &'a [u8]);
+
+fn check_lines<R: AllocGlobal + Abort>(rt: &R, lines: &[Line<'_>]) -> Result<(), Fail> {
+    let mut listing = Listing::new(rt);
+    for (instruction, bytes) in lines.iter().copied() {
+        listing.add(instruction, bytes)?;
+    }
+    listing.check(rt)
 }
 
 #[test]
 fn jumps_calls_and_wide_instructions(rt: HostRuntime) -> Result<(), Fail> {
-    let mut listing = Listing::new(&rt);
     let target = register(&rt, 10);
-    listing.add(
-        Instruction::Jump { distance: -2 },
-        &[0x05, 0, 0xfe, 0xff, 0, 0, 0, 0],
-    )?;
-    listing.add(
-        Instruction::LongJump { distance: -3 },
-        &[0x06, 0, 0, 0, 0xfd, 0xff, 0xff, 0xff],
-    )?;
-    listing.add(
-        Instruction::LoadNumber {
-            target,
-            number: 0x1122_3344_5566_7788,
-        },
-        &[
-            0x18, 0x0a, 0, 0, 0x88, 0x77, 0x66, 0x55, 0, 0, 0, 0, 0x44, 0x33, 0x22, 0x11,
-        ],
-    )?;
-    listing.add(
-        Instruction::LoadMap {
-            target,
-            map: 1,
-            offset: -8,
-        },
-        &[
-            0x18, 0x6a, 0, 0, 1, 0, 0, 0, 0, 0, 0, 0, 0xf8, 0xff, 0xff, 0xff,
-        ],
-    )?;
-    listing.add(
-        Instruction::Call { helper: 0x1020 },
-        &[0x85, 0, 0, 0, 0x20, 0x10, 0, 0],
-    )?;
-    listing.add(Instruction::Exit, &[0x95, 0, 0, 0, 0, 0, 0, 0])?;
-    listing.check(&rt)
+    let number = 0x1122_3344_5566_7788;
+    let map = Instruction::LoadMap {
+        target,
+        map: 1,
+        offset: -8,
+    };
+    let lines: [Line<'_>; 6] = [
+        (
+            Instruction::Jump { distance: -2 },
+            &[0x05, 0, 0xfe, 0xff, 0, 0, 0, 0],
+        ),
+        (
+            Instruction::LongJump { distance: -3 },
+            &[0x06, 0, 0, 0, 0xfd, 0xff, 0xff, 0xff],
+        ),
+        (
+            Instruction::LoadNumber { target, number },
+            &[
+                0x18, 0x0a, 0, 0, 0x88, 0x77, 0x66, 0x55, 0, 0, 0, 0, 0x44, 0x33, 0x22, 0x11,
+            ],
+        ),
+        (
+            map,
+            &[
+                0x18, 0x6a, 0, 0, 1, 0, 0, 0, 0, 0, 0, 0, 0xf8, 0xff, 0xff, 0xff,
+            ],
+        ),
+        (
+            Instruction::Call { helper: 0x1020 },
+            &[0x85, 0, 0, 0, 0x20, 0x10, 0, 0],
+        ),
+        (Instruction::Exit, &[0x95, 0, 0, 0, 0, 0, 0, 0]),
+    ];
+    check_lines(&rt, &lines)
 }
 
-#[test]
-fn loads_and_stores(rt: HostRuntime) -> Result<(), Fail> {
-    let mut listing = Listing::new(&rt);
-    let target = register(&rt, 3);
-    let base = register(&rt, 10);
+fn add_loads(listing: &mut Listing, target: Register, base: Register) -> Result<(), Fail> {
     for (size, opcode) in [
         (LoadSize::Unsigned32, 0x61),
         (LoadSize::Unsigned16, 0x69),
@@ -242,6 +264,10 @@ fn loads_and_stores(rt: HostRuntime) -> Result<(), Fail> {
         };
         listing.add(instruction, &[opcode, 0xa3, 0, 0xfe, 0, 0, 0, 0])?;
     }
+    Ok(())
+}
+
+fn add_stores(listing: &mut Listing, target: Register, base: Register) -> Result<(), Fail> {
     for (size, opcode, register_opcode) in [
         (StoreSize::Bits32, 0x62, 0x63),
         (StoreSize::Bits16, 0x6a, 0x6b),
@@ -263,6 +289,15 @@ fn loads_and_stores(rt: HostRuntime) -> Result<(), Fail> {
         };
         listing.add(of_register, &[register_opcode, 0x3a, 2, 1, 0, 0, 0, 0])?;
     }
+    Ok(())
+}
+
+#[test]
+fn loads_and_stores(rt: HostRuntime) -> Result<(), Fail> {
+    let (target, base) = (register(&rt, 3), register(&rt, 10));
+    let mut listing = Listing::new(&rt);
+    add_loads(&mut listing, target, base)?;
+    add_stores(&mut listing, target, base)?;
     listing.check(&rt)
 }
 
@@ -270,14 +305,12 @@ fn loads_and_stores(rt: HostRuntime) -> Result<(), Fail> {
 // `r0 = wide 4294967298`.
 #[test]
 fn lines_of_assembly(rt: HostRuntime) -> Result<(), Fail> {
-    let mut listing = Listing::new(&rt);
     let modulo = Instruction::Arithmetic {
         width: Width::Bits32,
         operation: Operation::SignedModulo,
         target: register(&rt, 1),
         source: Source::Register(register(&rt, 2)),
     };
-    listing.add(modulo, &[0x9c, 0x21, 1, 0, 0, 0, 0, 0])?;
     let branch = Instruction::Branch {
         width: Width::Bits32,
         test: Test::SignedLess,
@@ -285,31 +318,34 @@ fn lines_of_assembly(rt: HostRuntime) -> Result<(), Fail> {
         right: Source::Immediate(-1),
         distance: -2,
     };
-    listing.add(branch, &[0xc6, 1, 0xfe, 0xff, 0xff, 0xff, 0xff, 0xff])?;
     let store = Instruction::Store {
         size: StoreSize::Bits16,
         base: register(&rt, 10),
         offset: -2,
         source: Source::Immediate(513),
     };
-    listing.add(store, &[0x6a, 0x0a, 0xfe, 0xff, 1, 2, 0, 0])?;
     let load = Instruction::Load {
         size: LoadSize::Signed32,
         target: register(&rt, 3),
         base: register(&rt, 1),
         offset: 4,
     };
-    listing.add(load, &[0x81, 0x13, 4, 0, 0, 0, 0, 0])?;
     let swap = Instruction::Reorder {
         order: ByteOrder::Swap,
         width: SwapWidth::Bits32,
         target: register(&rt, 0),
     };
-    listing.add(swap, &[0xd7, 0, 0, 0, 0x20, 0, 0, 0])?;
     let wide = Instruction::LoadNumber {
         target: register(&rt, 0),
         number: 4_294_967_298,
     };
-    listing.add(wide, &[0x18, 0, 0, 0, 2, 0, 0, 0, 0, 0, 0, 0, 1, 0, 0, 0])?;
-    listing.check(&rt)
+    let lines: [Line<'_>; 6] = [
+        (modulo, &[0x9c, 0x21, 1, 0, 0, 0, 0, 0]),
+        (branch, &[0xc6, 1, 0xfe, 0xff, 0xff, 0xff, 0xff, 0xff]),
+        (store, &[0x6a, 0x0a, 0xfe, 0xff, 1, 2, 0, 0]),
+        (load, &[0x81, 0x13, 4, 0, 0, 0, 0, 0]),
+        (swap, &[0xd7, 0, 0, 0, 0x20, 0, 0, 0]),
+        (wide, &[0x18, 0, 0, 0, 2, 0, 0, 0, 0, 0, 0, 0, 1, 0, 0, 0]),
+    ];
+    check_lines(&rt, &lines)
 }
