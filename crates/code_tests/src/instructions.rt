@@ -4,9 +4,9 @@ mod opcodes;
 mod refusals;
 
 use isa::{
-    BuildError, ByteOrder, Code, CodeBuilder, DecodeError, DecodeFault, Extension, Hook, Instruction,
-    LoadSize, Map, Operation, Register, Slot, Source, StoreSize, SwapWidth, Test, Width, decode,
-    encode,
+    BuildError, ByteOrder, Code, CodeBuilder, DecodeError, DecodeFault, Extension, Hook,
+    Instruction, LoadSize, Map, Operation, Register, Slot, Source, StoreSize, SwapWidth, Test,
+    Width, decode, encode,
 };
 use std::process::Abort;
 use std::test::Fail;

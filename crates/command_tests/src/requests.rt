@@ -53,7 +53,9 @@ type Row<'a> = (&'a [&'a str], Wanted<'a>);
 fn ask_for(alloc: Global, words: &[&str], wanted: &Wanted<'_>) -> Result<bool, Fail> {
     let mut whole = Vec::new(alloc);
     whole.push("routerd")?;
-    whole.extend_from_slice(words)?;
+    for word in words.iter().copied() {
+        whole.push(word)?;
+    }
     let request = parse(alloc, &whole)?;
     Ok(is_wanted(&request, wanted))
 }
@@ -61,10 +63,19 @@ fn ask_for(alloc: Global, words: &[&str], wanted: &Wanted<'_>) -> Result<bool, F
 #[test]
 fn each_command_takes_its_words(rt: HostRuntime) -> Result<(), Fail> {
     let rows: [Row<'_>; 9] = [
-        (&["raw", "count", "adds.bin", "2"], Wanted::Raw(Hook::Count, "adds.bin", 2)),
+        (
+            &["raw", "count", "adds.bin", "2"],
+            Wanted::Raw(Hook::Count, "adds.bin", 2),
+        ),
         (&["raw", "tag", "-", "64"], Wanted::Raw(Hook::Tag, "-", 64)),
-        (&["raw", "price", "-", "1"], Wanted::Raw(Hook::Price, "-", 1)),
-        (&["raw", "veto", "-", "64"], Wanted::Raw(Hook::Veto, "-", 64)),
+        (
+            &["raw", "price", "-", "1"],
+            Wanted::Raw(Hook::Price, "-", 1),
+        ),
+        (
+            &["raw", "veto", "-", "64"],
+            Wanted::Raw(Hook::Veto, "-", 64),
+        ),
         (&["run", "a.o", "-", "-"], Wanted::Run("a.o", [0; 64], &[])),
         (&["asm", "sum.s", "sum.o"], Wanted::Asm("sum.s", "sum.o")),
         (&["list", "sum.o"], Wanted::List("sum.o")),

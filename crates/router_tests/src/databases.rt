@@ -38,7 +38,12 @@ fn external(alloc: Global, router: u32, number: u32) -> Result<Lsa, AllocError> 
     Lsa::new(alloc, header, body)
 }
 
-fn originate(database: &mut Lsdb, alloc: Global, router: u32, number: u32) -> Result<(), AllocError> {
+fn originate(
+    database: &mut Lsdb,
+    alloc: Global,
+    router: u32,
+    number: u32,
+) -> Result<(), AllocError> {
     let lsa = external(alloc, router, number)?;
     database.install_originated(Second::new(1), lsa)?;
     Ok(())

@@ -39,7 +39,10 @@ fn square(alloc: Global) -> Result<Vec<Vertex>, AllocError> {
 fn network(alloc: Global) -> Result<Vec<Vertex>, AllocError> {
     let rows: [Row<'_>; 4] = [
         (Kind::Router, &[link(1, 10, 2), link(3, 10, 1)]),
-        (Kind::Router, &[link(0, 10, 0), link(2, 1, 0), link(3, 1, 0)]),
+        (
+            Kind::Router,
+            &[link(0, 10, 0), link(2, 1, 0), link(3, 1, 0)],
+        ),
         (Kind::Router, &[link(1, 1, 0)]),
         (Kind::Network, &[link(0, 0, 0), link(1, 0, 0)]),
     ];
@@ -88,7 +91,13 @@ fn are_its_ways(
 #[test]
 fn walks_of_one_cost_join_their_next_hops(rt: HostRuntime) -> Result<(), AllocError> {
     let graph = square(rt.alloc())?;
-    let ways = [Some((0, 0)), Some((5, 2)), Some((5, 4)), Some((10, 6)), None];
+    let ways = [
+        Some((0, 0)),
+        Some((5, 2)),
+        Some((5, 4)),
+        Some((10, 6)),
+        None,
+    ];
     assert!(rt; are_its_ways(rt.alloc(), &graph, &ways)?);
     Ok(())
 }
@@ -104,7 +113,13 @@ fn networks_come_before_routers_at_the_same_distance(rt: HostRuntime) -> Result<
 #[test]
 fn a_router_comes_nearer_while_it_waits(rt: HostRuntime) -> Result<(), AllocError> {
     let graph = detour(rt.alloc())?;
-    let ways = [Some((0, 0)), Some((20, 4)), Some((10, 4)), Some((15, 4)), Some((21, 4))];
+    let ways = [
+        Some((0, 0)),
+        Some((20, 4)),
+        Some((10, 4)),
+        Some((15, 4)),
+        Some((21, 4)),
+    ];
     assert!(rt; are_its_ways(rt.alloc(), &graph, &ways)?);
     Ok(())
 }
