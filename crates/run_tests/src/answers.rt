@@ -100,18 +100,29 @@ fn the_cost_of_the_first_row_with_exactly_the_prefix(rt: HostRuntime) -> Result<
 }
 
 // The answer of a call at a seat of a new table.
+fn called_on(
+    alloc: Global,
+    hook: Hook,
+    number: i32,
+    arguments: (Content, Content),
+    input: &Input,
+) -> Result<Result<u64, Fault>, Fail> {
+    let (shared, mut seats) = table(alloc)?;
+    let mut seat = seats.pop().ok_or("no seat")?;
+    let (first, second) = arguments;
+    Ok(call(hook, number, first, second, input, &shared, &mut seat))
+}
+
+// The same where the table of routes has the rows above.
 fn called(
-    rt: HostRuntime,
+    alloc: Global,
     hook: Hook,
     number: i32,
     first: Content,
     second: Content,
 ) -> Result<Result<u64, Fault>, Fail> {
-    let rows = rows(rt.alloc())?;
-    let input = input(&rows);
-    let (shared, mut seats) = table(rt.alloc())?;
-    let mut seat = seats.pop().ok_or("no seat")?;
-    Ok(call(hook, number, first, second, &input, &shared, &mut seat))
+    let rows = rows(alloc)?;
+    called_on(alloc, hook, number, (first, second), &input(&rows))
 }
 
 #[test]
@@ -144,7 +155,7 @@ fn calls_are_refused_in_order(rt: HostRuntime) -> Result<(), Fail> {
         (Hook::Veto, 4, small, NONE, Fault::Empty),
         (Hook::Veto, 4, small, ADDRESS, Fault::Kind),
     ] {
-        let answer = called(rt, hook, number, first, second)?;
+        let answer = called(rt.alloc(), hook, number, first, second)?;
         assert_eq!(rt; answer, Err(want), "{hook:?} {number}");
     }
     Ok(())
@@ -166,7 +177,7 @@ fn each_helper_answers_at_its_hooks(rt: HostRuntime) -> Result<(), Fail> {
         (Hook::Price, 4, ten, eight, 5),
         (Hook::Veto, 4, ten, two, 4_294_967_296),
     ] {
-        let answer = called(rt, hook, number, first, second)?;
+        let answer = called(rt.alloc(), hook, number, first, second)?;
         assert_eq!(rt; answer, Ok(want), "{hook:?} {number}");
     }
     Ok(())
@@ -174,23 +185,29 @@ fn each_helper_answers_at_its_hooks(rt: HostRuntime) -> Result<(), Fail> {
 
 #[test]
 fn counters_and_cells(rt: HostRuntime) -> Result<(), Fail> {
-    let rows = rows(rt.alloc())?;
-    let input = input(&rows);
     let (shared, mut seats) = table(rt.alloc())?;
     let mut seat = seats.pop().ok_or("no seat")?;
-    assert_eq!(rt; counter_add(&shared, &mut seat, 5, 3), 0);
-    assert_eq!(rt; counter_add(&shared, &mut seat, 5, 3), 0);
-    assert_eq!(rt; counter_read(&shared, &mut seat, 5), 6);
+    assert!(rt; counter_add(&shared, &mut seat, 5, 3) == 0);
+    assert!(rt; counter_add(&shared, &mut seat, 5, 3) == 0);
+    assert!(rt; counter_read(&shared, &mut seat, 5) == 6);
+    assert!(rt; cell_read(&shared, &mut seat, 63) == 0);
+    cell_write(&shared, &mut seat, 63, u64::MAX);
+    assert!(rt; cell_read(&shared, &mut seat, 63) == u64::MAX);
+    Ok(())
+}
+
+#[test]
+fn a_call_adds_and_reads_by_its_number(rt: HostRuntime) -> Result<(), Fail> {
+    let input = input(&[]);
+    let (shared, mut seats) = table(rt.alloc())?;
+    let mut seat = seats.pop().ok_or("no seat")?;
     let five = Content::Number(5);
     let most = Content::Number(16_777_215);
     let added = call(Hook::Tag, 1, five, most, &input, &shared, &mut seat);
-    assert_eq!(rt; added, Ok(0));
+    assert!(rt; added == Ok(0));
     let refused = call(Hook::Tag, 1, five, NONE, &input, &shared, &mut seat);
-    assert_eq!(rt; refused, Err(Fault::Empty));
+    assert!(rt; refused == Err(Fault::Empty));
     let found = call(Hook::Tag, 2, five, NONE, &input, &shared, &mut seat);
-    assert_eq!(rt; found, Ok(16_777_221));
-    assert_eq!(rt; cell_read(&shared, &mut seat, 63), 0);
-    cell_write(&shared, &mut seat, 63, u64::MAX);
-    assert_eq!(rt; cell_read(&shared, &mut seat, 63), u64::MAX);
+    assert!(rt; found == Ok(16_777_215));
     Ok(())
 }

@@ -107,7 +107,20 @@ fn shown(outcome: Result<Run, Trap>) -> (u64, u64) {
     }
 }
 
-// What a run of at most so many instructions comes to, at a hook, on a new table.
+// What a run of the code comes to, on a new table.
+fn outcome_of(
+    alloc: Global,
+    hook: Hook,
+    limit: u64,
+    code: &Code,
+    input: &Input,
+) -> Result<(u64, u64), Fail> {
+    let (words, mut seats) = table(alloc, 1)?;
+    let mut seat = seats.pop().ok_or("no seat")?;
+    Ok(shown(run_checked(code, hook, limit, input, &words, &mut seat)))
+}
+
+// What a run of at most so many instructions comes to, at a hook.
 fn outcome_within(
     alloc: Global,
     hook: Hook,
@@ -116,10 +129,7 @@ fn outcome_within(
 ) -> Result<(u64, u64), Fail> {
     let code = code(alloc, slots)?;
     let rows = rows(alloc)?;
-    let input = input(&rows);
-    let (words, mut seats) = table(alloc, 1)?;
-    let mut seat = seats.pop().ok_or("no seat")?;
-    Ok(shown(run_checked(&code, hook, limit, &input, &words, &mut seat)))
+    outcome_of(alloc, hook, limit, &code, &input(&rows))
 }
 
 fn outcome_at(alloc: Global, hook: Hook, slots: &[u64]) -> Result<(u64, u64), Fail> {

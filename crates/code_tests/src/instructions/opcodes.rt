@@ -25,20 +25,23 @@ impl Listing {
 
     // The instructions are encoded to the bytes, and the bytes are decoded to the instructions.
     fn check<R: AllocGlobal + Abort>(self, rt: &R) -> Result<(), Fail> {
-        let Listing { builder, bytes } = self;
-        let code = builder.finish().ok_or("no instruction")?;
-        let encoded = encode(rt.alloc(), &code)?;
-        assert_eq!(rt; encoded.len(), bytes.len());
-        for (index, byte) in bytes.iter().enumerate() {
-            assert_eq!(rt; encoded.get(index).copied(), Some(*byte), "at byte {index}");
-        }
-        let decoded = decode(rt.alloc(), bytes.as_slice())?;
-        assert_eq!(rt; decoded.len(), code.len());
-        for (index, slot) in code.slots().iter().enumerate() {
-            assert_eq!(rt; decoded.at(index as u64), Some(*slot), "at slot {index}");
-        }
-        Ok(())
+        let code = self.builder.finish().ok_or("no instruction")?;
+        let bytes = self.bytes;
+        check_encoded(rt, &code, &bytes)?;
+        check_decoded(rt, &code, &bytes)
     }
+}
+
+fn check_encoded<R: AllocGlobal + Abort>(rt: &R, code: &Code, bytes: &[u8]) -> Result<(), Fail> {
+    let encoded = encode(rt.alloc(), code)?;
+    assert!(rt; encoded.as_slice() == bytes, "{encoded:?}");
+    Ok(())
+}
+
+fn check_decoded<R: AllocGlobal + Abort>(rt: &R, code: &Code, bytes: &[u8]) -> Result<(), Fail> {
+    let decoded = decode(rt.alloc(), bytes)?;
+    assert!(rt; decoded.slots() == code.slots());
+    Ok(())
 }
 
 // An operation, its offset, and its opcodes: of 32 bits with an immediate and with a register, of 64 bits likewise.

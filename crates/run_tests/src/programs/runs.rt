@@ -21,20 +21,22 @@ const COUNTING: [u64; 6] = [
     EXIT,
 ];
 
+// The runs of two seats of a new table, and what these read: counter 5 and counter 4.
+fn both_add(alloc: Global, code: &Code, input: &Input) -> Result<[(u64, u64); 3], Fail> {
+    let (words, mut seats) = table(alloc, 2)?;
+    let mut second = seats.pop().ok_or("no second seat")?;
+    let mut first = seats.pop().ok_or("no first seat")?;
+    let one = run_checked(code, Hook::Count, 1000, input, &words, &mut first);
+    let two = run_checked(code, Hook::Count, 1000, input, &words, &mut second);
+    let read = (words.read(&mut first, 5), words.read(&mut second, 4));
+    Ok([shown(one), shown(two), read])
+}
+
 #[test]
 fn two_seats_add_to_one_counter(rt: HostRuntime) -> Result<(), Fail> {
     let code = code(rt.alloc(), &ADDING)?;
-    let rows = rows(rt.alloc())?;
-    let input = input(&rows);
-    let (words, mut seats) = table(rt.alloc(), 2)?;
-    let mut second = seats.pop().ok_or("no second seat")?;
-    let mut first = seats.pop().ok_or("no first seat")?;
-    let one = run_checked(&code, Hook::Count, 1000, &input, &words, &mut first);
-    assert!(rt; one == Ok(Run { answer: 0, used: 4 }));
-    let two = run_checked(&code, Hook::Count, 1000, &input, &words, &mut second);
-    assert!(rt; two == Ok(Run { answer: 0, used: 4 }));
-    assert_eq!(rt; words.read(&mut first, 5), 6);
-    assert_eq!(rt; words.read(&mut second, 4), 0);
+    let found = both_add(rt.alloc(), &code, &input(&[]))?;
+    assert_eq!(rt; found, [(0, 4), (0, 4), (6, 0)]);
     Ok(())
 }
 
@@ -45,18 +47,24 @@ fn count(code: &Code, input: &Input, words: &Shared, seat: &mut Seat) -> (u64, u
     shown(run_checked(code, Hook::Price, 1000, input, words, seat))
 }
 
+// Three runs of one seat of a new table, and one of another.
+fn both_count(alloc: Global, code: &Code, input: &Input) -> Result<[(u64, u64); 4], Fail> {
+    let (words, mut seats) = table(alloc, 2)?;
+    let mut second = seats.pop().ok_or("no second seat")?;
+    let mut first = seats.pop().ok_or("no first seat")?;
+    Ok([
+        count(code, input, &words, &mut first),
+        count(code, input, &words, &mut first),
+        count(code, input, &words, &mut first),
+        count(code, input, &words, &mut second),
+    ])
+}
+
 #[test]
 fn a_cell_is_the_seats_own(rt: HostRuntime) -> Result<(), Fail> {
     let code = code(rt.alloc(), &COUNTING)?;
-    let rows = rows(rt.alloc())?;
-    let input = input(&rows);
-    let (words, mut seats) = table(rt.alloc(), 2)?;
-    let mut second = seats.pop().ok_or("no second seat")?;
-    let mut first = seats.pop().ok_or("no first seat")?;
-    assert_eq!(rt; count(&code, &input, &words, &mut first), (1, 5));
-    assert_eq!(rt; count(&code, &input, &words, &mut first), (2, 5));
-    assert_eq!(rt; count(&code, &input, &words, &mut first), (3, 5));
-    assert_eq!(rt; count(&code, &input, &words, &mut second), (1, 5));
+    let found = both_count(rt.alloc(), &code, &input(&[]))?;
+    assert_eq!(rt; found, [(1, 5), (2, 5), (3, 5), (1, 5)]);
     Ok(())
 }
 
