@@ -1,4 +1,7 @@
 //! The LSAs that are measured with.
+ghost use Rattle.std.specs.Prelude.{◌≡◌, ◌≢◌};
+ghost use Rattle.lsa.specs.Text.{reserved_sequence};
+
 use crate::work;
 use lsa::{Body, ExternalLsa, Header, Lsa};
 use lsdb::Lsdb;
@@ -27,9 +30,11 @@ pub fn key(number: u32) -> Key {
     }
 }
 
-/// An AS-external-LSA; LSAs of different numbers have different keys.
-pub fn external(alloc: Global, number: u32) -> Result<Lsa, AllocError> {
-    let header = Header {
+fn header(number: u32) -> Header
+    ensures age { result.age ≡ 0 }
+    ensures sequence { result.sequence ≢ reserved_sequence }
+{
+    Header {
         age: 0,
         options: 2,
         ls_type: 5,
@@ -38,7 +43,11 @@ pub fn external(alloc: Global, number: u32) -> Result<Lsa, AllocError> {
         sequence: SequenceNumber::INITIAL,
         checksum: 0,
         length: 0,
-    };
+    }
+}
+
+/// An AS-external-LSA; LSAs of different numbers have different keys.
+pub fn external(alloc: Global, number: u32) -> Result<Lsa, AllocError> {
     let body = Body::External(ExternalLsa {
         mask: Address::new(0xffff_ff00),
         kind: ExternalType::Type2,
@@ -47,7 +56,7 @@ pub fn external(alloc: Global, number: u32) -> Result<Lsa, AllocError> {
         tag: 0,
         tos: Sequence::from_vec(Vec::new(alloc)),
     });
-    Lsa::new(alloc, header, body)
+    Lsa::new(alloc, header(number), body)
 }
 
 /// The LSAs of so many numbers from the first on.

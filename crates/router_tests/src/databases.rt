@@ -1,4 +1,7 @@
 //! The database: its limits, its copies, and what is taken back.
+ghost use Rattle.std.specs.Prelude.{◌≡◌, ◌≢◌};
+ghost use Rattle.lsa.specs.Text.{reserved_sequence};
+
 use lsa::{Body, ExternalLsa, Header, Lsa};
 use lsdb::Lsdb;
 use std::alloc::{AllocError, Global};
@@ -16,8 +19,11 @@ fn key(router: u32, number: u32) -> Key {
     }
 }
 
-fn external(alloc: Global, router: u32, number: u32) -> Result<Lsa, AllocError> {
-    let header = Header {
+fn header(router: u32, number: u32) -> Header
+    ensures age { result.age ≡ 0 }
+    ensures sequence { result.sequence ≢ reserved_sequence }
+{
+    Header {
         age: 0,
         options: 2,
         ls_type: 5,
@@ -26,7 +32,10 @@ fn external(alloc: Global, router: u32, number: u32) -> Result<Lsa, AllocError> 
         sequence: SequenceNumber::INITIAL,
         checksum: 0,
         length: 0,
-    };
+    }
+}
+
+fn external(alloc: Global, router: u32, number: u32) -> Result<Lsa, AllocError> {
     let body = Body::External(ExternalLsa {
         mask: Address::new(0xffff_ff00),
         kind: ExternalType::Type2,
@@ -35,7 +44,7 @@ fn external(alloc: Global, router: u32, number: u32) -> Result<Lsa, AllocError> 
         tag: 0,
         tos: Sequence::from_vec(Vec::new(alloc)),
     });
-    Lsa::new(alloc, header, body)
+    Lsa::new(alloc, header(router, number), body)
 }
 
 fn originate(

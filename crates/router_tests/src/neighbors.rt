@@ -230,12 +230,17 @@ fn summary(alloc: Global, number: u32) -> Result<Lsa, AllocError> {
     Lsa::new(alloc, header(3, peer(), number), body)
 }
 
+fn originate(database: &mut Lsdb, alloc: Global, number: u32) -> Result<(), AllocError> {
+    let lsa = external(alloc, own(), number)?;
+    database.install_originated(Second::new(0), lsa)?;
+    Ok(())
+}
+
 // So many externals of this router, from 0 on.
 fn filled(alloc: Global, count: u32) -> Result<Lsdb, AllocError> {
     let mut database = Lsdb::new(alloc, own());
     for number in 0..count {
-        let lsa = external(alloc, own(), number)?;
-        database.install_originated(Second::new(0), lsa)?;
+        originate(&mut database, alloc, number)?;
     }
     database.settle();
     Ok(database)

@@ -164,17 +164,21 @@ fn what_does_not_negotiate_is_discarded(rt: HostRuntime) -> Result<(), Fail> {
     converse(rt.alloc(), 0, &rows)
 }
 
-// The exchange is done at 2, a Hello is heard at 9, and after a Tick at this moment the last Description comes again.
-fn repeated(alloc: Global, exchange: &[Row], tick: u64, again: Row) -> Result<(), Fail> {
-    let mut database = Lsdb::new(alloc, own());
-    let mut place = Place::down();
-    let rows = [
+// A Hello is heard at 9, and then comes a Tick.
+fn until(tick: u64) -> [Row; 2] {
+    [
         (9, Happening::Hello(true), rests(State::Full)),
         (tick, Happening::Tick, rests(State::Full)),
-        again,
-    ];
+    ]
+}
+
+// The exchange is done at 2, and after a Tick at this moment the last Description comes again.
+fn repeated(alloc: Global, exchange: &[Row], tick: u64, again: &Row) -> Result<(), Fail> {
+    let mut database = Lsdb::new(alloc, own());
+    let mut place = Place::down();
     all_come(&mut place, &mut database, alloc, exchange)?;
-    all_come(&mut place, &mut database, alloc, &rows)
+    all_come(&mut place, &mut database, alloc, &until(tick))?;
+    comes(&mut place, &mut database, alloc, again)
 }
 
 #[test]
@@ -182,7 +186,7 @@ fn the_slave_answers_a_duplicate_before_router_dead_interval(rt: HostRuntime) ->
     let exchange = to_be_full_as_slave();
     let answered = answers(State::Full, 8, 0, false);
     let again = as_slave(43, from_master(8, false), answered);
-    repeated(rt.alloc(), &exchange, 41, again)
+    repeated(rt.alloc(), &exchange, 41, &again)
 }
 
 #[test]
@@ -190,12 +194,12 @@ fn a_duplicate_after_router_dead_interval_starts_over(rt: HostRuntime) -> Result
     let exchange = to_be_full_as_slave();
     let begun = answers(State::ExStart, 1, 0, true);
     let again = as_slave(43, from_master(8, false), begun);
-    repeated(rt.alloc(), &exchange, 42, again)
+    repeated(rt.alloc(), &exchange, 42, &again)
 }
 
 #[test]
 fn the_master_discards_a_duplicate_after_router_dead_interval(rt: HostRuntime) -> Result<(), Fail> {
     let exchange = to_be_full_as_master();
     let again = as_master(43, from_slave(1, false), rests(State::Full));
-    repeated(rt.alloc(), &exchange, 42, again)
+    repeated(rt.alloc(), &exchange, 42, &again)
 }
