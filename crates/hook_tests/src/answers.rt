@@ -50,15 +50,24 @@ fn takes<R: Wait + Drop>(
     Ok(true)
 }
 
-// Plays the steps, and answers how many went as they say.
-fn play<R: Wait + Drop + Copy>(alloc: Global, rt: R, steps: &[Step<'_>]) -> Result<usize, Fail> {
-    let mut trial = Trial::new(alloc, rt)?;
+// How many of the steps went as they say, up to the first that didn't.
+fn take<R: Wait + Drop>(
+    trial: &mut Trial<R>,
+    alloc: Global,
+    steps: &[Step<'_>],
+) -> Result<usize, Fail> {
     for (number, step) in steps.iter().enumerate() {
-        if !takes(&mut trial, alloc, *step)? {
+        if !takes(trial, alloc, *step)? {
             return Ok(number);
         }
     }
     Ok(steps.len())
+}
+
+// Plays the steps from nothing on.
+fn play<R: Wait + Drop + Copy>(alloc: Global, rt: R, steps: &[Step<'_>]) -> Result<usize, Fail> {
+    let mut trial = Trial::new(alloc, rt)?;
+    take(&mut trial, alloc, steps)
 }
 
 #[test]

@@ -5,6 +5,7 @@ ghost use Rattle.lsa.specs.Text.{reserved_sequence};
 use lsa::{Body, ExternalLsa, Header, Lsa};
 use lsdb::Lsdb;
 use std::alloc::{AllocError, Global};
+use std::process::Abort;
 use words::{Address, ExternalType, Key, LinkStateId, RouterId, Second, Sequence, SequenceNumber};
 
 const OWN: u32 = 0x0101_0101;
@@ -64,39 +65,51 @@ fn flood(database: &mut Lsdb, alloc: Global, moment: u64, number: u32) -> Result
     Ok(())
 }
 
+fn fill(database: &mut Lsdb, alloc: Global, router: u32, count: u32) -> Result<(), AllocError> {
+    for number in 0..count {
+        originate(database, alloc, router, number)?;
+    }
+    database.settle();
+    Ok(())
+}
+
 // The externals of a router with so many numbers from 0 on, settled.
 fn filled(alloc: Global, router: u32, count: u32) -> Result<Lsdb, AllocError> {
     let mut database = Lsdb::new(alloc, RouterId::new(OWN));
-    for number in 0..count {
-        originate(&mut database, alloc, router, number)?;
-    }
-    database.settle();
+    fill(&mut database, alloc, router, count)?;
     Ok(database)
 }
 
-#[test]
-fn own_externals_are_limited(rt: HostRuntime) -> Result<(), AllocError> {
-    let alloc = rt.alloc();
-    let mut database = filled(alloc, OWN, 4_095)?;
+// Of 4,095 own externals.
+fn is_filled_up(rt: &impl Abort, alloc: Global, database: &mut Lsdb) -> Result<(), AllocError> {
     assert!(rt; database.has_room(&key(OWN, 4_095)));
-    originate(&mut database, alloc, OWN, 4_095)?;
-    assert_eq!(rt; database.own_externals(), 4_096);
+    originate(database, alloc, OWN, 4_095)?;
+    assert!(rt; database.own_externals() == 4_096);
     assert!(rt; !database.has_room(&key(OWN, 4_096)));
     assert!(rt; database.has_room(&key(OWN, 7)) && database.has_room(&key(OTHER, 4_096)));
     Ok(())
 }
 
 #[test]
-fn too_many_own_externals_are_taken_back(rt: HostRuntime) -> Result<(), AllocError> {
-    let alloc = rt.alloc();
-    let mut database = filled(alloc, OWN, 4_096)?;
+fn own_externals_are_limited(rt: HostRuntime) -> Result<(), AllocError> {
+    let mut database = filled(rt.alloc(), OWN, 4_095)?;
+    is_filled_up(&rt, rt.alloc(), &mut database)
+}
+
+// Of 4,096 own externals.
+fn takes_one_back(rt: &impl Abort, alloc: Global, database: &mut Lsdb) -> Result<(), AllocError> {
     assert!(rt; !database.exceeds());
-    originate(&mut database, alloc, OWN, 4_096)?;
+    originate(database, alloc, OWN, 4_096)?;
     assert!(rt; database.exceeds());
     database.roll_back();
-    assert_eq!(rt; database.own_externals(), 4_096);
-    assert!(rt; !database.exceeds());
+    assert!(rt; database.own_externals() == 4_096 && !database.exceeds());
     Ok(())
+}
+
+#[test]
+fn too_many_own_externals_are_taken_back(rt: HostRuntime) -> Result<(), AllocError> {
+    let mut database = filled(rt.alloc(), OWN, 4_096)?;
+    takes_one_back(&rt, rt.alloc(), &mut database)
 }
 
 fn remove(database: &mut Lsdb, keys: &[Key]) -> Result<(), AllocError> {
@@ -114,78 +127,88 @@ fn an_own_external_leaves_once(rt: HostRuntime) -> Result<(), AllocError> {
     Ok(())
 }
 
-// As many of another router's as leave room for one more, and that one, of this router.
-fn full(alloc: Global) -> Result<Lsdb, AllocError> {
-    let mut database = filled(alloc, OTHER, 16_383)?;
-    originate(&mut database, alloc, OWN, 1)?;
-    Ok(database)
-}
-
-#[test]
-fn there_is_room_for_a_last_lsa(rt: HostRuntime) -> Result<(), AllocError> {
-    let database = filled(rt.alloc(), OTHER, 16_383)?;
-    assert_eq!(rt; (database.len(), database.own_externals()), (16_383, 0));
+// Of 16,383 of another router.
+fn is_full_of_one_more(
+    rt: &impl Abort,
+    alloc: Global,
+    database: &mut Lsdb,
+) -> Result<(), AllocError> {
+    assert!(rt; database.len() == 16_383 && database.own_externals() == 0);
     assert!(rt; database.has_room(&key(OWN, 1)));
+    originate(database, alloc, OWN, 1)?;
+    assert!(rt; !database.has_room(&key(OWN, 2)) && !database.has_room(&key(OTHER, 16_383)));
+    assert!(rt; database.has_room(&key(OTHER, 16_382)) && !database.exceeds());
+    flood(database, alloc, 1, 16_383)?;
+    assert!(rt; database.exceeds());
     Ok(())
 }
 
 #[test]
 fn lsas_are_limited(rt: HostRuntime) -> Result<(), AllocError> {
-    let alloc = rt.alloc();
-    let mut database = full(alloc)?;
-    assert!(rt; !database.has_room(&key(OWN, 2)) && !database.has_room(&key(OTHER, 16_383)));
-    assert!(rt; database.has_room(&key(OTHER, 16_382)) && !database.exceeds());
-    flood(&mut database, alloc, 1, 16_383)?;
-    assert!(rt; database.exceeds());
+    let mut database = filled(rt.alloc(), OTHER, 16_383)?;
+    is_full_of_one_more(&rt, rt.alloc(), &mut database)
+}
+
+// Another router's 7, 3 and 9, and this router's 3; then its 7 leaves.
+fn mix(database: &mut Lsdb, alloc: Global) -> Result<(), AllocError> {
+    for number in [7, 3, 9] {
+        flood(database, alloc, 1, number)?;
+    }
+    originate(database, alloc, OWN, 3)?;
+    database.remove(&key(OTHER, 7))?;
     Ok(())
 }
 
-// Another router's 7, 3 and 9, and this router's 3.
-fn mixed(alloc: Global) -> Result<Lsdb, AllocError> {
-    let mut database = Lsdb::new(alloc, RouterId::new(OWN));
-    for number in [7, 3, 9] {
-        flood(&mut database, alloc, 1, number)?;
-    }
-    originate(&mut database, alloc, OWN, 3)?;
-    Ok(database)
+fn has_keys(database: &Lsdb, alloc: Global, wanted: &[Key]) -> Result<bool, AllocError> {
+    let keys: Vec<Key> = database.keys().collect(alloc)?;
+    Ok(keys.as_slice() == wanted)
 }
 
 #[test]
 fn keys_come_in_order(rt: HostRuntime) -> Result<(), AllocError> {
-    let mut database = mixed(rt.alloc())?;
-    database.remove(&key(OTHER, 7))?;
-    let keys: Vec<Key> = database.keys().collect(rt.alloc())?;
+    let mut database = Lsdb::new(rt.alloc(), RouterId::new(OWN));
+    mix(&mut database, rt.alloc())?;
     let wanted = [key(OWN, 3), key(OTHER, 3), key(OTHER, 9)];
-    assert_eq!(rt; keys.as_slice(), wanted.as_slice());
+    assert!(rt; has_keys(&database, rt.alloc(), &wanted)?);
     Ok(())
 }
 
 // Two externals, a third and the mark of the first, which can both be taken back.
-fn unsettled(alloc: Global) -> Result<Lsdb, AllocError> {
-    let mut database = filled(alloc, OWN, 2)?;
-    originate(&mut database, alloc, OWN, 2)?;
+fn leave_unsettled(database: &mut Lsdb, alloc: Global) -> Result<(), AllocError> {
+    fill(database, alloc, OWN, 2)?;
+    originate(database, alloc, OWN, 2)?;
     database.mark_sent(Second::new(4), &key(OWN, 0))?;
-    Ok(database)
+    Ok(())
+}
+
+// The copy of three externals, rolled back.
+fn is_whole(rt: &impl Abort, copy: &mut Lsdb) {
+    copy.roll_back();
+    assert!(rt; copy.len() == 3 && copy.own_externals() == 3);
+    let sent = copy.get(&key(OWN, 0)).map(|found| found.times.sent);
+    assert!(rt; sent == Some(Some(Second::new(4))));
+}
+
+fn is_copied(rt: &impl Abort, alloc: Global, database: &mut Lsdb) -> Result<(), AllocError> {
+    leave_unsettled(database, alloc)?;
+    let mut copy = database.copy(alloc)?;
+    is_whole(rt, &mut copy);
+    database.roll_back();
+    assert!(rt; database.len() == 2 && copy.len() == 3);
+    Ok(())
 }
 
 #[test]
 fn a_copy_has_nothing_to_take_back(rt: HostRuntime) -> Result<(), AllocError> {
-    let mut database = unsettled(rt.alloc())?;
-    let mut copy = database.copy(rt.alloc())?;
-    copy.roll_back();
-    assert_eq!(rt; (copy.len(), copy.own_externals()), (3, 3));
-    let sent = copy.get(&key(OWN, 0)).map(|found| found.times.sent);
-    assert_eq!(rt; sent, Some(Some(Second::new(4))));
-    database.roll_back();
-    assert_eq!(rt; (database.len(), copy.len()), (2, 3));
-    Ok(())
+    let mut database = Lsdb::new(rt.alloc(), RouterId::new(OWN));
+    is_copied(&rt, rt.alloc(), &mut database)
 }
 
 // Three externals of another router, which are 0 seconds old at moment 1.
-fn young(alloc: Global) -> Result<Lsdb, AllocError> {
-    let mut database = filled(alloc, OTHER, 3)?;
+fn grow(database: &mut Lsdb, alloc: Global) -> Result<(), AllocError> {
+    fill(database, alloc, OTHER, 3)?;
     database.settle_at(alloc, Second::new(1));
-    Ok(database)
+    Ok(())
 }
 
 // Whether these numbers of the other router are what has come of age.
@@ -203,24 +226,32 @@ fn are_aged(
     Ok(aged.as_slice() == wanted.as_slice())
 }
 
+fn is_aged_out(rt: &impl Abort, alloc: Global, database: &mut Lsdb) -> Result<(), AllocError> {
+    grow(database, alloc)?;
+    database.age_out(Second::new(10), &key(OTHER, 1))?;
+    assert!(rt; are_aged(database, alloc, 10, &[1])?);
+    database.roll_back();
+    assert!(rt; are_aged(database, alloc, 10, &[])?);
+    Ok(())
+}
+
 #[test]
 fn what_is_aged_out_is_found(rt: HostRuntime) -> Result<(), AllocError> {
-    let alloc = rt.alloc();
-    let mut database = young(alloc)?;
-    database.age_out(Second::new(10), &key(OTHER, 1))?;
-    assert!(rt; are_aged(&database, alloc, 10, &[1])?);
-    database.roll_back();
-    assert!(rt; are_aged(&database, alloc, 10, &[])?);
+    let mut database = Lsdb::new(rt.alloc(), RouterId::new(OWN));
+    is_aged_out(&rt, rt.alloc(), &mut database)
+}
+
+fn comes_of_age(rt: &impl Abort, alloc: Global, database: &mut Lsdb) -> Result<(), AllocError> {
+    grow(database, alloc)?;
+    assert!(rt; are_aged(database, alloc, 3_600, &[])?);
+    flood(database, alloc, 20, 0)?;
+    database.settle_at(alloc, Second::new(20));
+    assert!(rt; are_aged(database, alloc, 3_601, &[1, 2])?);
     Ok(())
 }
 
 #[test]
 fn what_has_come_of_age_is_found(rt: HostRuntime) -> Result<(), AllocError> {
-    let alloc = rt.alloc();
-    let mut database = young(alloc)?;
-    assert!(rt; are_aged(&database, alloc, 3_600, &[])?);
-    flood(&mut database, alloc, 20, 0)?;
-    database.settle_at(alloc, Second::new(20));
-    assert!(rt; are_aged(&database, alloc, 3_601, &[1, 2])?);
-    Ok(())
+    let mut database = Lsdb::new(rt.alloc(), RouterId::new(OWN));
+    comes_of_age(&rt, rt.alloc(), &mut database)
 }

@@ -236,13 +236,18 @@ fn originate(database: &mut Lsdb, alloc: Global, number: u32) -> Result<(), Allo
     Ok(())
 }
 
+fn fill(database: &mut Lsdb, alloc: Global, count: u32) -> Result<(), AllocError> {
+    for number in 0..count {
+        originate(database, alloc, number)?;
+    }
+    database.settle();
+    Ok(())
+}
+
 // So many externals of this router, from 0 on.
 fn filled(alloc: Global, count: u32) -> Result<Lsdb, AllocError> {
     let mut database = Lsdb::new(alloc, own());
-    for number in 0..count {
-        originate(&mut database, alloc, number)?;
-    }
-    database.settle();
+    fill(&mut database, alloc, count)?;
     Ok(database)
 }
 
@@ -531,11 +536,26 @@ fn exchange(wanted: u32) -> [Row; 4] {
     ]
 }
 
-// What comes after the exchange, which is done at 2.
-fn goes_on(alloc: Global, wanted: u32, rows: &[Row]) -> Result<(), Fail> {
+fn parts_come(
+    place: &mut Place,
+    database: &mut Lsdb,
+    alloc: Global,
+    parts: &[&[Row]],
+) -> Result<(), Fail> {
+    for rows in parts {
+        all_come(place, database, alloc, rows)?;
+    }
+    Ok(())
+}
+
+// A conversation in parts, from Down on, of a router without LSAs.
+fn converse_in_parts(alloc: Global, parts: &[&[Row]]) -> Result<(), Fail> {
     let mut database = Lsdb::new(alloc, own());
     let mut place = Place::down();
-    let exchange = exchange(wanted);
-    all_come(&mut place, &mut database, alloc, &exchange)?;
-    all_come(&mut place, &mut database, alloc, rows)
+    parts_come(&mut place, &mut database, alloc, parts)
+}
+
+// What comes after the exchange, which is done at 2.
+fn goes_on(alloc: Global, wanted: u32, rows: &[Row]) -> Result<(), Fail> {
+    converse_in_parts(alloc, &[&exchange(wanted), rows])
 }

@@ -174,11 +174,7 @@ fn until(tick: u64) -> [Row; 2] {
 
 // The exchange is done at 2, and after a Tick at this moment the last Description comes again.
 fn repeated(alloc: Global, exchange: &[Row], tick: u64, again: &Row) -> Result<(), Fail> {
-    let mut database = Lsdb::new(alloc, own());
-    let mut place = Place::down();
-    all_come(&mut place, &mut database, alloc, exchange)?;
-    all_come(&mut place, &mut database, alloc, &until(tick))?;
-    comes(&mut place, &mut database, alloc, again)
+    converse_in_parts(alloc, &[exchange, &until(tick), &[*again]])
 }
 
 #[test]
