@@ -100,24 +100,27 @@ fn put_both(
     put_link(out, 1, id_of(behind), address_of(place, next), metric)
 }
 
-fn router(alloc: Global, shape: Shape, place: u32) -> Result<Lsa> {
+fn put_router(out: &mut Vec<u8>, shape: Shape, place: u32) -> Result<(), AllocError> {
     let [first, second] = shape.steps;
     let links = if second == 0 { 3 } else { 5 };
-    let mut bytes = Vec::new(alloc);
-    put_header(&mut bytes, 1, id_of(place), id_of(place), 24 + 12 * links)?;
-    put_u16(&mut bytes, 0x0200)?;
-    put_u16(&mut bytes, links)?;
-    put_both(&mut bytes, shape, place, first, 0)?;
+    put_header(out, 1, id_of(place), id_of(place), 24 + 12 * links)?;
+    put_u16(out, 0x0200)?;
+    put_u16(out, links)?;
+    put_both(out, shape, place, first, 0)?;
     if second > 0 {
-        put_both(&mut bytes, shape, place, second, 2)?;
+        put_both(out, shape, place, second, 2)?;
     }
-    put_link(&mut bytes, 3, network_of(place), 0xffff_ff00, 1)?;
+    put_link(out, 3, network_of(place), 0xffff_ff00, 1)
+}
+
+fn router(alloc: Global, shape: Shape, place: u32) -> Result<Lsa> {
+    let mut bytes = Vec::new(alloc);
+    put_router(&mut bytes, shape, place)?;
     sealed(alloc, bytes)
 }
 
-fn external(alloc: Global, shape: Shape, number: u32) -> Result<Lsa> {
+fn put_external(out: &mut Vec<u8>, shape: Shape, number: u32) -> Result<(), AllocError> {
     let network = number.wrapping_mul(256).wrapping_add(0x6400_0000);
-    let mut bytes = Vec::new(alloc);
     let others = shape.routers.saturating_sub(1).max(1);
     let place = (number % others).wrapping_add(1);
     let forwarding = if shape.forwards {
@@ -125,25 +128,41 @@ fn external(alloc: Global, shape: Shape, number: u32) -> Result<Lsa> {
     } else {
         0
     };
-    put_header(&mut bytes, 5, network, id_of(place), 36)?;
-    put_u32(&mut bytes, 0xffff_ff00)?;
-    put_u32(&mut bytes, 0x8000_0014)?;
-    put_u32(&mut bytes, forwarding)?;
-    put_u32(&mut bytes, 0)?;
+    put_header(out, 5, network, id_of(place), 36)?;
+    put_u32(out, 0xffff_ff00)?;
+    put_u32(out, 0x8000_0014)?;
+    put_u32(out, forwarding)?;
+    put_u32(out, 0)
+}
+
+fn external(alloc: Global, shape: Shape, number: u32) -> Result<Lsa> {
+    let mut bytes = Vec::new(alloc);
+    put_external(&mut bytes, shape, number)?;
     sealed(alloc, bytes)
+}
+
+fn install(db: &mut Lsdb, lsa: Lsa) -> Result<()> {
+    db.install_flooded(moment(), lsa)?;
+    db.settle();
+    Ok(())
+}
+
+fn fill(db: &mut Lsdb, alloc: Global, shape: Shape) -> Result<()> {
+    for place in 0..shape.routers {
+        let lsa = router(alloc, shape, place)?;
+        install(db, lsa)?;
+    }
+    for number in 0..shape.externals {
+        let lsa = external(alloc, shape, number)?;
+        install(db, lsa)?;
+    }
+    Ok(())
 }
 
 /// The database of the shape.
 pub fn database(alloc: Global, shape: Shape) -> Result<Lsdb> {
     let mut db = Lsdb::new(alloc, RouterId::new(id_of(0)));
-    for place in 0..shape.routers {
-        db.install_flooded(moment(), router(alloc, shape, place)?)?;
-        db.settle();
-    }
-    for number in 0..shape.externals {
-        db.install_flooded(moment(), external(alloc, shape, number)?)?;
-        db.settle();
-    }
+    fill(&mut db, alloc, shape)?;
     Ok(db)
 }
 
