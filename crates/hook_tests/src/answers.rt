@@ -171,12 +171,13 @@ fn a_cell_is_kept_from_question_to_question_at_each_seat(rt: HostRuntime) -> Res
     let (shared, mut seats) = table(rt.alloc(), 2)?;
     let mut second = seats.pop().ok_or("no second seat")?;
     let mut first = seats.pop().ok_or("no first seat")?;
-    for wanted in [1, 2, 3] {
-        let word = price_of(&mut asker, &external, &shared, &mut first);
-        assert_eq!(rt; word, Some(wanted));
-    }
-    let word = price_of(&mut asker, &external, &shared, &mut second);
-    assert_eq!(rt; word, Some(1));
+    let words = [
+        price_of(&mut asker, &external, &shared, &mut first),
+        price_of(&mut asker, &external, &shared, &mut first),
+        price_of(&mut asker, &external, &shared, &mut first),
+        price_of(&mut asker, &external, &shared, &mut second),
+    ];
+    assert_eq!(rt; words, [Some(1), Some(2), Some(3), Some(1)]);
     Ok(())
 }
 
