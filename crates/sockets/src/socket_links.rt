@@ -29,9 +29,12 @@ pub fn bind_each<R: Net>(
     rt: &R,
     alloc: Global,
     interfaces: &[ConfiguredInterface],
-) -> Result<Vec<Wire>, SocketError> {
+) -> Result<Vec<Wire>, SocketError>
+    ensures { IfOk result (λ wires. vec_len wires ≡ length interfaces.now) }
+{
     let mut wires = Vec::new(alloc);
-    for configured in interfaces {
+    for before in 0..interfaces.len() {
+        let configured = &interfaces[before];
         match UdpSocket::bind(rt, address_of(configured.port)) {
             Ok(socket) => wires.push(Wire {
                 socket,
