@@ -1,6 +1,14 @@
 //! Lines in, answers out, at port 0.
 ghost use Rattle.std.specs.Prelude.{◌≡◌};
 ghost use Rattle.hooks.specs.Known.{history_of};
+ghost use Rattle.operator.specs.Answers.{
+  IsCarriedOut,
+  IsObeyed,
+  IsOfAdd,
+  IsOfAttach,
+  IsOfDetach,
+  IsOfWithdraw,
+};
 
 use crate::lists::{counters, lines, neighbors, table};
 use crate::outlet::Outlet;
@@ -36,7 +44,9 @@ fn add<L: Site, R: Wait, K: Link + Drop, C: Seconds + Drop>(
     port: &mut Port<L>,
     outlet: &mut Outlet<K, C>,
     external: External,
-) -> Told {
+) -> Told
+    ensures { IsOfAdd result }
+{
     let prefix = external.prefix;
     match outlet.take(rt, hub, port, &Work::Add(external)) {
         Ok(()) => {
@@ -57,7 +67,9 @@ fn withdraw<L: Site, R: Wait, K: Link + Drop, C: Seconds + Drop>(
     port: &mut Port<L>,
     outlet: &mut Outlet<K, C>,
     prefix: Prefix,
-) -> Told {
+) -> Told
+    ensures { IsOfWithdraw result }
+{
     match outlet.take(rt, hub, port, &Work::Withdraw(prefix)) {
         Ok(()) => Told::Withdrawn,
         Err(error) => Told::refused(error),
@@ -66,7 +78,9 @@ fn withdraw<L: Site, R: Wait, K: Link + Drop, C: Seconds + Drop>(
 
 impl<L: Site, Q: Wait + Drop, K: Link + Drop, C: Seconds + Drop> Desk<L, Q, K, C> {
     // After the programs changed: the port's are no older, and the table is made anew.
-    fn refresh<R: Wait>(&mut self, rt: &R, hub: &Hub<L, Book<L>>, port: &mut Port<L>) {
+    fn refresh<R: Wait>(&mut self, rt: &R, hub: &Hub<L, Book<L>>, port: &mut Port<L>)
+        ensures { self.new.interfaces ≡ self.old.interfaces }
+    {
         port.learn(self.loader.notice());
         let _refreshed = self.outlet.take(rt, hub, port, &Work::Refresh);
     }
@@ -78,7 +92,10 @@ impl<L: Site, Q: Wait + Drop, K: Link + Drop, C: Seconds + Drop> Desk<L, Q, K, C
         hub: &Hub<L, Book<L>>,
         port: &mut Port<L>,
         program: Accepted,
-    ) -> Told {
+    ) -> Told
+        ensures told { IsOfAttach result }
+        ensures interfaces { self.new.interfaces ≡ self.old.interfaces }
+    {
         let hook = program.hook();
         let bound = program.bound();
         if self.loader.attach(program).is_err() {
@@ -94,7 +111,10 @@ impl<L: Site, Q: Wait + Drop, K: Link + Drop, C: Seconds + Drop> Desk<L, Q, K, C
         hub: &Hub<L, Book<L>>,
         port: &mut Port<L>,
         path: &str,
-    ) -> Told {
+    ) -> Told
+        ensures told { IsOfAttach result }
+        ensures interfaces { self.new.interfaces ≡ self.old.interfaces }
+    {
         match read_program(rt, path) {
             Ok(program) => self.publish(rt, hub, port, program),
             Err(error) => lines(format!(in self.alloc; "{error}\n")),
@@ -107,7 +127,10 @@ impl<L: Site, Q: Wait + Drop, K: Link + Drop, C: Seconds + Drop> Desk<L, Q, K, C
         hub: &Hub<L, Book<L>>,
         port: &mut Port<L>,
         hook: Hook,
-    ) -> Told {
+    ) -> Told
+        ensures told { IsOfDetach hook result }
+        ensures interfaces { self.new.interfaces ≡ self.old.interfaces }
+    {
         if self.loader.detach(hook).is_err() {
             return Told::Memory;
         }
@@ -122,7 +145,10 @@ impl<L: Site, Q: Wait + Drop, K: Link + Drop, C: Seconds + Drop> Desk<L, Q, K, C
         hub: &Hub<L, Book<L>>,
         port: &mut Port<L>,
         command: &Command<'_>,
-    ) -> Option<Told> {
+    ) -> Option<Told>
+        ensures told { IsCarriedOut self.old.interfaces command.now result }
+        ensures interfaces { self.new.interfaces ≡ self.old.interfaces }
+    {
         Some(match command {
             Command::Attach(path) => self.attach(rt, hub, port, path),
             Command::Detach(hook) => self.detach(rt, hub, port, *hook),
@@ -136,7 +162,9 @@ impl<L: Site, Q: Wait + Drop, K: Link + Drop, C: Seconds + Drop> Desk<L, Q, K, C
     }
 
     /// Before the first line: a Tick's turn.
-    pub fn tick<R: Wait>(&mut self, rt: &R, hub: &Hub<L, Book<L>>, port: &mut Port<L>) {
+    pub fn tick<R: Wait>(&mut self, rt: &R, hub: &Hub<L, Book<L>>, port: &mut Port<L>)
+        ensures { self.new.interfaces ≡ self.old.interfaces }
+    {
         let _ticked = self.outlet.take(rt, hub, port, &Work::Tick);
     }
 
@@ -147,7 +175,10 @@ impl<L: Site, Q: Wait + Drop, K: Link + Drop, C: Seconds + Drop> Desk<L, Q, K, C
         hub: &Hub<L, Book<L>>,
         port: &mut Port<L>,
         line: &str,
-    ) -> Option<Told> {
+    ) -> Option<Told>
+        ensures told { IsObeyed self.old.interfaces line.now result }
+        ensures interfaces { self.new.interfaces ≡ self.old.interfaces }
+    {
         let read = read_command(self.alloc, line);
         match &read {
             Ok(Some(command)) => self.carry_out(rt, hub, port, command),

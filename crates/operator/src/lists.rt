@@ -1,15 +1,22 @@
 //! The lines of tables.
+ghost use Rattle.std.specs.Prelude.{◌≡◌, List, IfOk, MatchResult, string_bytes, vec_len};
+ghost use Rattle.words.specs.declared.route.Route.{Route};
+ghost use Rattle.tables.specs.Rows.{rows_of};
+ghost use Rattle.operator.specs.Shown.{IsCountersText, IsNeighborsText, IsPartOf, IsTableText};
+ghost use Rattle.operator.specs.declared.told.Told.TheVariants as told;
+
 use crate::told::Told;
 use book::Book;
 use console::{counters_text, neighbors_text, table_text};
-use flood::Offered;
 use std::alloc::{AllocError, Global};
 use std::sync::Wait;
-use words::Route;
+use words::{Route, TableRow};
 use worker::{Hub, Port, Site};
 
 /// The answer of these lines.
-pub fn lines(made: Result<String, AllocError>) -> Told {
+pub fn lines(made: Result<String, AllocError>) -> Told
+    ensures { MatchResult made (λ text. result ≡ told.Lines text) (λ _. result ≡ told.Memory) }
+{
     match made {
         Ok(text) => Told::Lines(text),
         Err(_) => Told::Memory,
@@ -17,15 +24,18 @@ pub fn lines(made: Result<String, AllocError>) -> Told {
 }
 
 // The routes of the table: the candidates that have a row. Both are ordered by their prefixes, of which each has one.
-fn routes_of(alloc: Global, offered: &Offered) -> Result<Vec<Route>, AllocError> {
-    let mut rows = offered.rows.as_slice();
+fn routes_of(
+    alloc: Global,
+    candidates: &[Route],
+    rows: &[TableRow],
+) -> Result<Vec<Route>, AllocError>
+    ensures { IfOk result (λ routes. (table : List Route) → IsPartOf candidates.now table
+        → rows.now ≡ rows_of table → routes.items ≡ table) }
+{
     let mut routes = Vec::with_capacity(alloc, rows.len())?;
-    for route in &offered.candidates {
-        if let [row, later @ ..] = rows {
-            if row.prefix == route.prefix {
-                routes.push(*route)?;
-                rows = later;
-            }
+    for route in candidates {
+        if routes.len() < rows.len() && rows[routes.len()].prefix == route.prefix {
+            routes.push(*route)?;
         }
     }
     Ok(routes)
@@ -36,10 +46,17 @@ pub fn table<L: Site, R: Wait>(
     rt: &R,
     alloc: Global,
     hub: &Hub<L, Book<L>>,
-) -> Result<String, AllocError> {
+) -> Result<String, AllocError>
+    ensures { IfOk result (λ text. IsTableText (string_bytes text)) }
+{
     let offered = hub.offered(rt)?;
-    let routes = routes_of(alloc, &offered)?;
-    table_text(alloc, &routes)
+    let routes = routes_of(
+        alloc,
+        offered.candidates.as_slice(),
+        offered.rows.as_slice(),
+    )?;
+    let text = table_text(alloc, &routes)?;
+    Ok(text)
 }
 
 /// The neighbors at so many interfaces.
@@ -48,12 +65,15 @@ pub fn neighbors<L: Site, R: Wait>(
     alloc: Global,
     hub: &Hub<L, Book<L>>,
     interfaces: u16,
-) -> Result<String, AllocError> {
+) -> Result<String, AllocError>
+    ensures { IfOk result (λ text. IsNeighborsText interfaces (string_bytes text)) }
+{
     let mut neighbors = Vec::new(alloc);
     for interface in 0..interfaces {
         neighbors.push(hub.neighbor(rt, interface + 1))?;
     }
-    neighbors_text(alloc, &neighbors)
+    let text = neighbors_text(alloc, &neighbors)?;
+    Ok(text)
 }
 
 /// The counters that the programs share.
@@ -61,10 +81,13 @@ pub fn counters<L: Site>(
     alloc: Global,
     hub: &Hub<L, Book<L>>,
     port: &mut Port<L>,
-) -> Result<String, AllocError> {
+) -> Result<String, AllocError>
+    ensures { IfOk result (λ text. IsCountersText (string_bytes text)) }
+{
     let mut sums = Vec::new(alloc);
     for index in 0..256usize {
         sums.push(hub.counter(port, index))?;
     }
-    counters_text(alloc, &sums)
+    let text = counters_text(alloc, &sums)?;
+    Ok(text)
 }

@@ -1,7 +1,9 @@
 //! What a line of the console is answered.
-ghost use Rattle.std.specs.Prelude.{OnOk};
+ghost use Rattle.std.specs.Prelude.{◌≡◌, OnOk};
 ghost use Rattle.std.specs.Io.KnownBytes.{Appends};
 ghost use Rattle.operator.specs.Texts.{told_text};
+ghost use Rattle.operator.specs.declared.told.Told.TheVariants as told;
+ghost use Rattle.worker.specs.Numbers.{turn_error_number};
 
 use isa::Hook;
 use std::fmt;
@@ -33,7 +35,9 @@ pub enum Told {
 
 impl Told {
     /// What a turn that was refused is answered.
-    pub fn refused(error: TurnError) -> Told {
+    pub fn refused(error: TurnError) -> Told
+        ensures { result ≡ told.Refused (turn_error_number error) }
+    {
         Told::Refused(error.number())
     }
 
