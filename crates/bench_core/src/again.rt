@@ -1,8 +1,9 @@
 //! What a Tick takes that sends LSAs again (RFC 2328, section 13.6).
 use crate::timing::{MEASUREMENTS, print_figure, time};
 use anyhow::Result;
-use bench_routers::{Batch, MADE, acknowledge, externals, externals_of, headers, hub, tell, tick};
-use flood::{Core, Event};
+use bench_routers::{
+    Batch, Core, Event, MADE, acknowledge, externals, externals_of, headers, hub, tell, tick,
+};
 use std::alloc::Global;
 use std::rt::Clock;
 

@@ -4,8 +4,7 @@ use crate::exchange::print_exchange;
 use crate::single::{settle, time_flooding, time_same, time_ticks};
 use crate::timing::{MEASUREMENTS, print_figure};
 use anyhow::{Result, ensure};
-use bench_routers::{Batch, MAX_AGE, externals_of, hello, hub, tell_externals, tick};
-use flood::{Core, Event};
+use bench_routers::{Batch, Core, Event, MAX_AGE, externals_of, hello, hub, tell_externals, tick};
 use std::alloc::Global;
 use std::rt::Clock;
 

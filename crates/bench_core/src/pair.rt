@@ -1,7 +1,6 @@
 //! Two routers that hear one another.
 use anyhow::{Result, anyhow};
-use bench_routers::{fourth, hub, step};
-use flood::{Core, Event, Out, State};
+use bench_routers::{Core, Event, Out, State, fourth, hub, step};
 use std::alloc::Global;
 
 // When the next Hellos are due on both sides.

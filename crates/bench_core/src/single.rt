@@ -1,8 +1,9 @@
 //! What single events take at one router: each function tells the least of all measurements.
 use crate::timing::{MEASUREMENTS, time};
 use anyhow::Result;
-use bench_routers::{MADE, MAX_AGE, acknowledge, acknowledgment, external, tell, tick, update};
-use flood::{Core, Event};
+use bench_routers::{
+    Core, Event, MADE, MAX_AGE, acknowledge, acknowledgment, external, tell, tick, update,
+};
 use std::alloc::Global;
 use std::rt::Clock;
 

@@ -1,7 +1,6 @@
 //! How a figure is taken and printed.
 use anyhow::{Result, ensure};
-use bench_routers::step;
-use flood::{Core, Event};
+use bench_routers::{Core, Event, step};
 use std::rt::Clock;
 use std::time::Instant;
 

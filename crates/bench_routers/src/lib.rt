@@ -7,6 +7,8 @@ mod routers;
 mod steps;
 mod telling;
 
+// What the routers are, and what they take, send and tell.
+pub use flood::{Core, Event, Out, State};
 pub use lsas::{Batch, MAX_AGE, external, externals, headers};
 pub use packets::{acknowledgment, hello, update};
 pub use routers::{MADE, externals_of, fourth, hub};

@@ -3,11 +3,11 @@ use crate::load::{Kind, Load, SIZE};
 use crate::turns::measure_once;
 use anyhow::Result;
 use bench_routers::hub;
-use flood::Core;
 use std::rt::Clock;
 use std::sync::Wait;
 use std::thread;
 use std::thread::Threads;
+use worker::Core;
 
 /// How many measurements each figure is the least of, each at a router of its own.
 const MEASUREMENTS: u32 = 5;

@@ -2,19 +2,10 @@
 use crate::load::Load;
 use anyhow::{Result, anyhow};
 use bench_routers::MADE;
-use book::Book;
 use std::alloc::Global;
 use std::sync::Wait;
 use words::Second;
-use worker::{Gate, Hub, Port, Site, Work, turn};
-
-// A gate that stands open.
-#[derive(Drop)]
-struct Open {}
-
-impl Gate for Open {
-    fn pass(&self, _port: u16) {}
-}
+use worker::{Book, Hub, Open, Port, Site, Work, turn};
 
 /// A worker's port, and what it does there.
 #[derive(Drop)]

@@ -4,8 +4,6 @@ ghost use Rattle.worker.specs.Opening.{IsSetUpFor};
 use crate::jobs::{Job, jobs, labor};
 use crate::load::Load;
 use anyhow::{Result, anyhow, ensure};
-use book::Book;
-use flood::Core;
 use hooks::Loader;
 use std::alloc::Global;
 use std::marker::Brand;
@@ -14,7 +12,7 @@ use std::sync::Wait;
 use std::thread;
 use std::thread::Threads;
 use std::time::Instant;
-use worker::{Hub, Port, Setup, Site, open_hub};
+use worker::{Book, Core, Hub, Port, Setup, Site, open_hub};
 
 // That each worker took all its turns.
 fn check_turns(taken: &[u64], load: Load) -> Result<()> {

@@ -1,3 +1,7 @@
+-- what the router's own clauses speak of, for those above
+pub use Rattle.flood.specs.Occurrences
+pub use Rattle.flood.specs.Offers
+pub use Rattle.flood.specs.declared.event.Event
 pub mod Replay
 pub mod Refusals
 pub mod Numbers

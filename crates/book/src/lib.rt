@@ -12,3 +12,5 @@ mod error;
 pub use book::{Book, JOURNAL, NOTED, TAKEN};
 pub use entry::Entry;
 pub use error::BookError;
+// What a book keeps, takes and answers, and what makes the router that it begins with.
+pub use flood::{Config, ConfigError, Core, CoreError, Event, Interface, Offered, Out, State};

@@ -13,34 +13,34 @@ use Rattle.operator.specs.declared.told.Told.TheVariants as told
 use Rattle.operator.specs.Shown.{IsCountersText, IsNeighborsText, IsTableText}
 
 -- a program was published that is safe within the steps that are told, or lines say why none was
-abbrev pub IsOfAttach : Told → Type 0
-IsOfAttach (told.Attached hook bound) = (code : List Slot) × Safe code hook bound
-IsOfAttach (told.Lines reason) = Unit {0}
-IsOfAttach told.Memory = Unit {0}
-IsOfAttach other = ⊥
+abbrev pub IsAnswerToAttach : Told → Type 0
+IsAnswerToAttach (told.Attached hook bound) = (code : List Slot) × Safe code hook bound
+IsAnswerToAttach (told.Lines reason) = Unit {0}
+IsAnswerToAttach told.Memory = Unit {0}
+IsAnswerToAttach other = ⊥
 
 -- that hook has no program
-abbrev pub IsOfDetach : Hook → Told → Type 0
-IsOfDetach hook (told.Detached of) = of ≡ hook
-IsOfDetach hook told.Memory = Unit {0}
-IsOfDetach hook other = ⊥
+abbrev pub IsAnswerToDetach : Hook → Told → Type 0
+IsAnswerToDetach hook (told.Detached of) = of ≡ hook
+IsAnswerToDetach hook told.Memory = Unit {0}
+IsAnswerToDetach hook other = ⊥
 
 -- the number of a turn's refusal
 abbrev pub IsRefusal : ℕ → Type 0
 IsRefusal number = (error : TurnError) × (number ≡ turn_error_number error)
 
 -- the destination is announced, is kept back, or the turn was refused
-abbrev pub IsOfAdd : Told → Type 0
-IsOfAdd told.Originated = Unit {0}
-IsOfAdd told.Withheld = Unit {0}
-IsOfAdd (told.Refused number) = IsRefusal number
-IsOfAdd other = ⊥
+abbrev pub IsAnswerToAdd : Told → Type 0
+IsAnswerToAdd told.Originated = Unit {0}
+IsAnswerToAdd told.Withheld = Unit {0}
+IsAnswerToAdd (told.Refused number) = IsRefusal number
+IsAnswerToAdd other = ⊥
 
 -- the destination is announced no longer, or the turn was refused
-abbrev pub IsOfWithdraw : Told → Type 0
-IsOfWithdraw told.Withdrawn = Unit {0}
-IsOfWithdraw (told.Refused number) = IsRefusal number
-IsOfWithdraw other = ⊥
+abbrev pub IsAnswerToWithdraw : Told → Type 0
+IsAnswerToWithdraw told.Withdrawn = Unit {0}
+IsAnswerToWithdraw (told.Refused number) = IsRefusal number
+IsAnswerToWithdraw other = ⊥
 
 -- lines, of this text
 abbrev pub AreLines : (IsText : List ℕ → Type 0) → Told → Type 0
@@ -50,10 +50,10 @@ AreLines IsText other = ⊥
 
 -- what each command is answered at a router of so many interfaces
 abbrev pub IsAnswerTo : (interfaces : ℕ) → Command → Told → Type 0
-IsAnswerTo interfaces (commands.Attach path) answer = IsOfAttach answer
-IsAnswerTo interfaces (commands.Detach hook) answer = IsOfDetach hook answer
-IsAnswerTo interfaces (commands.Add external) answer = IsOfAdd answer
-IsAnswerTo interfaces (commands.Withdraw prefix) answer = IsOfWithdraw answer
+IsAnswerTo interfaces (commands.Attach path) answer = IsAnswerToAttach answer
+IsAnswerTo interfaces (commands.Detach hook) answer = IsAnswerToDetach hook answer
+IsAnswerTo interfaces (commands.Add external) answer = IsAnswerToAdd answer
+IsAnswerTo interfaces (commands.Withdraw prefix) answer = IsAnswerToWithdraw answer
 IsAnswerTo interfaces commands.Table answer = AreLines IsTableText answer
 IsAnswerTo interfaces commands.Neighbors answer = AreLines (IsNeighborsText interfaces) answer
 IsAnswerTo interfaces commands.Counters answer = AreLines IsCountersText answer

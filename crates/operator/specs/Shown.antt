@@ -6,7 +6,7 @@ use Rattle.words.specs.declared.route.Route.{Route}
 use Rattle.adjacency.specs.declared.state.State.{State}
 use Rattle.tables.specs.Parts.{Ascend}
 use Rattle.events.specs.Routers.{Router}
-use Rattle.flood.specs.Offers.{IsTableNow}
+use Rattle.worker.specs.Offers.{IsTableNow}
 use Rattle.console.specs.Answers.{counters_text, neighbors_text, table_text}
 
 -- routes that all stand in a list, both in the order of their prefixes

@@ -2,29 +2,29 @@
 ghost use Rattle.std.specs.Prelude.{◌≡◌};
 ghost use Rattle.hooks.specs.Known.{history_of};
 ghost use Rattle.operator.specs.Answers.{
+  IsAnswerToAdd,
+  IsAnswerToAttach,
+  IsAnswerToDetach,
+  IsAnswerToWithdraw,
   IsCarriedOut,
   IsObeyed,
-  IsOfAdd,
-  IsOfAttach,
-  IsOfDetach,
-  IsOfWithdraw,
 };
 
 use crate::lists::{counters, lines, neighbors, table};
 use crate::outlet::Outlet;
 use crate::programs::read_program;
 use crate::told::Told;
-use book::Book;
 use console::{Command, read_command};
 use hooks::Loader;
 use isa::Hook;
+use links::{Link, Seconds};
 use std::alloc::Global;
 use std::marker::PhantomData;
 use std::rt::Files;
 use std::sync::Wait;
 use verifier::Accepted;
 use words::{External, Prefix};
-use worker::{Hub, Link, Port, Seconds, Site, Work};
+use worker::{Book, Hub, Port, Site, Work};
 
 /// What an operator has: the loader of the programs, and where port 0 sends.
 #[derive(Drop)]
@@ -45,7 +45,7 @@ fn add<L: Site, R: Wait, K: Link + Drop, C: Seconds + Drop>(
     outlet: &mut Outlet<K, C>,
     external: External,
 ) -> Told
-    ensures { IsOfAdd result }
+    ensures { IsAnswerToAdd result }
 {
     let prefix = external.prefix;
     match outlet.take(rt, hub, port, &Work::Add(external)) {
@@ -68,7 +68,7 @@ fn withdraw<L: Site, R: Wait, K: Link + Drop, C: Seconds + Drop>(
     outlet: &mut Outlet<K, C>,
     prefix: Prefix,
 ) -> Told
-    ensures { IsOfWithdraw result }
+    ensures { IsAnswerToWithdraw result }
 {
     match outlet.take(rt, hub, port, &Work::Withdraw(prefix)) {
         Ok(()) => Told::Withdrawn,
@@ -93,7 +93,7 @@ impl<L: Site, Q: Wait + Drop, K: Link + Drop, C: Seconds + Drop> Desk<L, Q, K, C
         port: &mut Port<L>,
         program: Accepted,
     ) -> Told
-        ensures told { IsOfAttach result }
+        ensures told { IsAnswerToAttach result }
         ensures interfaces { self.new.interfaces ≡ self.old.interfaces }
     {
         let hook = program.hook();
@@ -112,7 +112,7 @@ impl<L: Site, Q: Wait + Drop, K: Link + Drop, C: Seconds + Drop> Desk<L, Q, K, C
         port: &mut Port<L>,
         path: &str,
     ) -> Told
-        ensures told { IsOfAttach result }
+        ensures told { IsAnswerToAttach result }
         ensures interfaces { self.new.interfaces ≡ self.old.interfaces }
     {
         match read_program(rt, path) {
@@ -128,7 +128,7 @@ impl<L: Site, Q: Wait + Drop, K: Link + Drop, C: Seconds + Drop> Desk<L, Q, K, C
         port: &mut Port<L>,
         hook: Hook,
     ) -> Told
-        ensures told { IsOfDetach hook result }
+        ensures told { IsAnswerToDetach hook result }
         ensures interfaces { self.new.interfaces ≡ self.old.interfaces }
     {
         if self.loader.detach(hook).is_err() {

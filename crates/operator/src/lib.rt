@@ -4,13 +4,11 @@
 #![tactic(auto)]
 
 mod desk;
-mod gate;
 mod lists;
 mod outlet;
 mod programs;
 mod told;
 
 pub use desk::Desk;
-pub use gate::Open;
 pub use outlet::Outlet;
 pub use told::Told;

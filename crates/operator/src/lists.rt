@@ -6,12 +6,11 @@ ghost use Rattle.operator.specs.Shown.{IsCountersText, IsNeighborsText, IsPartOf
 ghost use Rattle.operator.specs.declared.told.Told.TheVariants as told;
 
 use crate::told::Told;
-use book::Book;
 use console::{counters_text, neighbors_text, table_text};
 use std::alloc::{AllocError, Global};
 use std::sync::Wait;
 use words::{Route, TableRow};
-use worker::{Hub, Port, Site};
+use worker::{Book, Hub, Port, Site};
 
 /// The answer of these lines.
 pub fn lines(made: Result<String, AllocError>) -> Told

@@ -1,8 +1,7 @@
 //! Where port 0 sends.
-use crate::gate::Open;
-use book::Book;
+use links::{Link, Seconds};
 use std::sync::Wait;
-use worker::{Hub, Link, Port, Seconds, Site, TurnError, Work, send_all, tried};
+use worker::{Book, Hub, Open, Port, Site, TurnError, Work, send_all, tried};
 
 /// The link and the clock of port 0.
 #[derive(Drop)]

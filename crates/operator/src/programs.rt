@@ -1,14 +1,10 @@
 //! Programs from object files.
 use object_verdicts::{VerifyError, verify_object};
 use std::alloc::{AllocError, AllocFailed};
-use std::fs;
-use std::io::{ErrorKind, Read};
 use std::rt::Files;
 use thiserror::Error;
 use verifier::{Accepted, Rule};
-
-/// No object file is longer than this.
-const MOST_BYTES: u64 = 16_777_216;
+use whole_files::{ReadFault, read};
 
 /// Why no program is attached. The text is the line that is printed.
 #[derive(Debug, Drop, Error)]
@@ -68,17 +64,9 @@ pub fn read_program<'a, R: Files + AllocGlobal>(
     rt: &R,
     path: &'a str,
 ) -> Result<Accepted, AttachError<'a>> {
-    let Ok(file) = fs::open(rt, path) else {
-        return Err(AttachError::Read(path));
-    };
-    let mut bytes = Vec::new(rt.alloc());
-    match file.take(MOST_BYTES + 1).read_to_end(&mut bytes) {
-        Ok(_) if bytes.len() as u64 <= MOST_BYTES => {}
-        Ok(_) => return Err(AttachError::Read(path)),
-        Err(error) if matches!(error.kind(), ErrorKind::OutOfMemory) => {
-            return Err(AttachError::Memory);
-        }
-        Err(_) => return Err(AttachError::Read(path)),
+    match read(rt, path) {
+        Ok(bytes) => Ok(verify_object(rt.alloc(), &bytes)?),
+        Err(ReadFault::Unreadable) => Err(AttachError::Read(path)),
+        Err(ReadFault::Memory) => Err(AttachError::Memory),
     }
-    Ok(verify_object(rt.alloc(), &bytes)?)
 }

@@ -2,21 +2,11 @@
 ghost use Rattle.std.specs.Prelude.{◌≡◌};
 ghost use Rattle.worker.specs.Opening.{IsSetUpFor};
 
-use book::Book;
 use console::table_text;
-use flood::{Core, Out};
 use std::alloc::{AllocError, Global};
 use std::sync::Wait;
 use words::Second;
-use worker::{Gate, Hub, Port, Setup, Site, Work, open_hub, turn};
-
-// A gate that stands open.
-#[derive(Drop)]
-struct Open {}
-
-impl Gate for Open {
-    fn pass(&self, _port: u16) {}
-}
+use worker::{Book, Core, Hub, Open, Out, Port, Setup, Site, Work, open_hub, turn};
 
 /// A worker's port, with what came in at the first interface and how much of it was heard.
 #[derive(Drop)]

@@ -4,7 +4,6 @@ ghost use Rattle.worker.specs.Opening.{IsSetUpFor};
 
 use crate::member::{Member, opened, table_of};
 use crate::samples::{destination, first, second};
-use book::Book;
 use hooks::Loader;
 use std::alloc::Global;
 use std::marker::Brand;
@@ -12,7 +11,7 @@ use std::process::Abort;
 use std::sync::Wait;
 use std::test::Fail;
 use words::{ExternalType, Second};
-use worker::{Hub, Setup, Site, Work};
+use worker::{Book, Hub, Setup, Site, Work};
 
 // The worker of `from` does this work, and what it sends comes in at `to`. Whether all was taken.
 fn works<L: Site, M: Site, R: Wait>(

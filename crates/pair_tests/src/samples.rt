@@ -1,9 +1,9 @@
 //! The two routers, and a destination.
 use events::{Config, Interface};
-use flood::Core;
 use std::alloc::Global;
 use std::test::Fail;
 use words::{Address, External, ExternalType, Prefix, RouterId, Second, Sequence};
+use worker::Core;
 
 // The interface of this address on a network of 24 bits.
 fn interface(address: u32, cost: u16) -> Interface {

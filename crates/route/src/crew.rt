@@ -5,10 +5,7 @@ ghost use Rattle.worker.specs.Opening.{IsSetUpFor};
 
 use crate::labor::{Workers, work};
 use crate::talk::{Console, talk};
-use book::Book;
-use flood::Core;
 use log::Log;
-use maps::{Seat, Shared};
 use operator::Desk;
 use sockets::{Sockets, SystemSeconds};
 use std::alloc::{AllocError, Global};
@@ -16,26 +13,16 @@ use std::io::{BufRead, Write};
 use std::rt::Files;
 use std::sync::Wait;
 use std::sync::atomic::Ordering;
-use std::sync::ledger::Share;
 use std::thread;
 use std::thread::{JoinHandle, Scope, Threads};
 use std::time::Clock;
-use worker::{Hub, Port, Settled, Setup, Site, open_hub, settle};
-
-/// What comes back from all workers: the book, the share that counts all its events, and the shared
-/// words with all their seats, as [`Shared::close`](maps::Shared::close) asks for them.
-#[derive(Drop)]
-pub struct Returned<L: Site> {
-    pub book: Book<L>,
-    pub share: Share<L>,
-    pub shared: Shared,
-    pub seats: Vec<Seat>,
-}
+use worker::{Book, Closed, Core, Hub, Port, Setup, Site, close_hub, open_hub};
 
 /// Lets each worker run on a thread with a port of its own, and the operator on this thread at port
 /// 0, until the operator is done. Every thread is joined before it answers, whatever it answers.
-/// There is a link for each port but the operator's. The book has taken just as many events as all
-/// shares count.
+/// There is a link for each port but the operator's. The book took just as many events as all shares
+/// count; the shared words come back with all their seats, as [`Shared::close`](maps::Shared::close)
+/// asks for them.
 ///
 /// `AllocError` comes where an allocation was refused, or where a thread couldn't be started.
 pub fn side_by_side<
@@ -54,24 +41,17 @@ pub fn side_by_side<
     links: Vec<Sockets<'_>>,
     desk: &mut Desk<L, Q, Sockets<'_>, SystemSeconds<'_, S>>,
     console: &mut Console<'_, S, I, O>,
-) -> Result<Returned<L>, AllocError>
+) -> Result<Closed<L>, AllocError>
     requires setup { IsSetUpFor L.name L.parts L.words L.history setup }
     requires links { vec_len setup.seats ≡ vec_len links + 1 }
     ensures taken { IfOk result (λ r.
-        (r.book.taken ≡ r.share.amount) × (r.share.parts ≡ L.parts)) }
+        (r.taken ≡ r.share.amount) × (r.share.parts ≡ L.parts)) }
     ensures seats { IfOk result (λ r.
         (length r.seats.items ≡ r.shared.seats) × All (IsOf r.shared) r.seats.items) }
 {
     let (hub, ports, rest) = open_hub::<L>(alloc, setup, core)?;
-    let ports = in_scope(rt, &hub, ports, workers, links, desk, console)?;
-    let (mut book, shared) = hub.into_parts();
-    let Settled { share, seats } = settle(alloc, &mut book, rest, ports)?;
-    Ok(Returned {
-        book,
-        share,
-        shared,
-        seats,
-    })
+    let back = in_scope(rt, &hub, ports, workers, links, desk, console);
+    close_hub(alloc, hub, rest, back)
 }
 
 // Starts the threads in a scope, so that they borrow the hub.

@@ -1,13 +1,11 @@
 //! What the threads of the interfaces do.
-use book::Book;
 use log::{Level, Log, Logged, warn};
-use operator::Open;
 use sockets::{Sockets, SystemSeconds};
 use std::alloc::Global;
 use std::sync::Wait;
 use std::sync::atomic::{AtomicBool, Ordering};
 use std::time::Clock;
-use worker::{Ended, Hub, Port, Site, run};
+use worker::{Book, Ended, Hub, Open, Port, Site, run};
 
 /// What the workers of all interfaces have.
 #[derive(Drop)]

@@ -1,19 +1,17 @@
 //! A router from its configuration to its end.
-ghost use Rattle.std.specs.Prelude.{◌≡◌, ◌⊎◌, ◌≤◌, ◌+◌, All, IfOk, IsTrue, if◌then◌else◌, length, vec_len};
-ghost use Rattle.maps.specs.Words.{IsOf};
+ghost use Rattle.std.specs.Prelude.{◌≡◌, ◌⊎◌, ◌≤◌, ◌+◌, IfOk, IsTrue, if◌then◌else◌, vec_len};
 ghost use Rattle.hooks.specs.Known.{history_of};
 ghost use Rattle.worker.specs.Opening.{IsSetUpFor};
 
-use crate::crew::{Returned, side_by_side};
+use crate::crew::side_by_side;
 use crate::error::RouteError;
 use crate::labor::Workers;
 use crate::talk::Console;
 use console::{Configured, read_configuration, totals_text};
 use events::Config;
-use flood::{ConfigError, Core};
 use hooks::Loader;
+use links::Seconds;
 use log::Log;
-use maps::{Seat, Shared};
 use operator::{Desk, Outlet};
 use sockets::{Sockets, SystemSeconds, Wire, bind_each, listening};
 use std::alloc::Global;
@@ -26,40 +24,32 @@ use std::sync::atomic::{AtomicBool, Ordering};
 use std::thread::Threads;
 use std::time::Clock;
 use words::Sequence;
-use worker::{Seconds, Setup, Site};
+use worker::{Closed, ConfigError, Core, Setup, Site};
 
-// The core of a configuration, at the clock's second.
-fn core_of<R: Clock>(rt: &R, alloc: Global, configured: &Configured) -> Result<Core, RouteError> {
+// The router of a configuration, from the clock's second on.
+fn config_of<R: Clock>(
+    rt: &R,
+    alloc: Global,
+    configured: &Configured,
+) -> Result<Config, RouteError> {
     let mut interfaces = Vec::new(alloc);
     for configured in configured.interfaces.as_slice() {
         interfaces.push(configured.interface)?;
     }
-    let config = Config {
+    Ok(Config {
         router: configured.router,
         start: SystemSeconds::new(rt).second(),
         interfaces: Sequence::from_vec(interfaces),
-    };
-    match Core::new(alloc, &config) {
+    })
+}
+
+fn core_of(alloc: Global, config: &Config) -> Result<Core, RouteError> {
+    match Core::new(alloc, config) {
         Ok(core) => Ok(core),
         Err(ConfigError::Memory) => Err(RouteError::Memory),
         // What was read is within the profile.
         Err(ConfigError::Interface) => Err(RouteError::Configuration(1)),
     }
-}
-
-// The shared words and their seats. The book is let go.
-fn words_of<L: Site>(returned: Returned<L>) -> (Shared, Vec<Seat>)
-    requires { (length returned.seats.items ≡ returned.shared.seats)
-        × All (IsOf returned.shared) returned.seats.items }
-    ensures { (length result.1.items ≡ result.0.seats) × All (IsOf result.0) result.1.items }
-{
-    let Returned {
-        book: _,
-        share: _,
-        shared,
-        seats,
-    } = returned;
-    (shared, seats)
 }
 
 // Prints the exact counters.
@@ -92,7 +82,7 @@ fn run_crew<
 >(
     rt: &R,
     setup: Setup,
-    core: Core,
+    config: &Config,
     workers: &Workers<'_, R>,
     links: Vec<Sockets<'_>>,
     desk: &mut Desk<L, Q, Sockets<'_>, SystemSeconds<'_, R>>,
@@ -104,8 +94,14 @@ fn run_crew<
     ensures own { IsTrue desk.new.outlet.failed → IfOk result (λ status. status ≡ 3) }
 {
     let alloc = workers.alloc;
-    let returned = side_by_side(rt, alloc, setup, core, workers, links, desk, console)?;
-    let (shared, seats) = words_of(returned);
+    let core = core_of(alloc, config)?;
+    let closed = side_by_side(rt, alloc, setup, core, workers, links, desk, console)?;
+    let Closed {
+        taken: _,
+        share: _,
+        shared,
+        seats,
+    } = closed;
     let totals = shared.close(seats);
     print_totals(alloc, &totals.sums, console)?;
     Ok(status_of(desk.outlet.failed || workers.failed.load(Ordering::SeqCst)))
@@ -123,7 +119,7 @@ fn run_all<
     rt: &'x R,
     setup: Setup,
     loader: Loader<Q>,
-    core: Core,
+    config: &Config,
     links: Vec<Sockets<'x>>,
     own: Sockets<'x>,
     input: &'x mut I,
@@ -163,15 +159,15 @@ fn run_all<
         output,
         mute: false,
     };
-    run_crew(rt, setup, core, &workers, links, &mut desk, &mut console)
+    run_crew(rt, setup, config, &workers, links, &mut desk, &mut console)
 }
 
-/// Runs a router over these sockets, that of the first interface last, and over one of the console's own, as [`run_router`] does.
+/// Runs this router over these sockets, that of the first interface last, and over one of the console's own, as [`run_router`] does.
 ///
 /// # Errors
 ///
-/// `Hooks` where the programs have no places, also for more than 63 sockets; `Output` where the output can't be written, `Memory` where memory
-/// was refused or a thread couldn't be started.
+/// `Hooks` where the programs have no places, also for more than 63 sockets; `Configuration` with line 1 where the router isn't within the
+/// profile; `Output` where the output can't be written, `Memory` where memory was refused or a thread couldn't be started.
 #[tactic(auto, using(crate::proofs::Fresh::all_ask))]
 pub fn operate<
     'x,
@@ -180,7 +176,7 @@ pub fn operate<
     O: Write,
 >(
     rt: &'x R,
-    core: Core,
+    config: &Config,
     links: Vec<Sockets<'x>>,
     own: Sockets<'x>,
     input: &'x mut I,
@@ -190,7 +186,7 @@ pub fn operate<
 {
     let ports = links.len().saturating_add(1);
     let (loader, setup) = Setup::new(rt.alloc(), rt, ports)?;
-    run_all::<Brand, R, &R, I, O>(rt, setup, loader, core, links, own, input, output)
+    run_all::<Brand, R, &R, I, O>(rt, setup, loader, config, links, own, input, output)
 }
 
 // Runs the router of a configuration over the sockets of its interfaces.
@@ -207,9 +203,16 @@ fn run_over<
 ) -> Result<u8, RouteError>
     ensures ended { IfOk result (λ status. (status ≡ 0) ⊎ (status ≡ 3)) }
 {
+    let config = config_of(rt, rt.alloc(), configured)?;
     let links = listening(rt, rt.alloc(), wires)?;
-    let core = core_of(rt, rt.alloc(), configured)?;
-    operate(rt, core, links, Sockets::of_console(wires), input, output)
+    operate(
+        rt,
+        &config,
+        links,
+        Sockets::of_console(wires),
+        input,
+        output,
+    )
 }
 
 /// Runs the router that a configuration's text says, with a console that reads commands from `input` and answers on `output`, until `quit` or

@@ -1,11 +1,11 @@
 //! The console: lines in, lines out, at port 0.
-use book::Book;
+use links::{Link, Seconds};
 use operator::Desk;
 use std::alloc::Global;
 use std::io::{BufRead, Write};
 use std::rt::Files;
 use std::sync::Wait;
-use worker::{Hub, Link, Port, Seconds, Site};
+use worker::{Book, Hub, Port, Site};
 
 /// Where an operator's lines come from, what they are carried out with, and where the answers go.
 #[derive(Drop)]

@@ -1,10 +1,10 @@
 //! A router one of whose sockets fails. Nothing can be sent to port 0, which no configuration says.
 use console::ConfiguredInterface;
-use flood::{Config, Core, Interface};
+use events::{Config, Interface};
 use log::Log;
 use route::{RouteError, operate};
 use sockets::{SocketError, Sockets, Wire, bind_each, listening};
-use std::alloc::Global;
+use std::alloc::{AllocError, Global};
 use std::io::{self, Cursor, Write};
 use std::net::Net;
 use std::rt::Files;
@@ -86,18 +86,14 @@ fn interface() -> Interface {
 }
 
 // 1.1.1.1 with this interface.
-fn core(alloc: Global) -> Result<Core, RouteError> {
+fn config(alloc: Global) -> Result<Config, AllocError> {
     let mut interfaces = Vec::new(alloc);
     interfaces.push(interface())?;
-    let config = Config {
+    Ok(Config {
         router: RouterId::new(0x0101_0101),
         start: Second::new(0),
         interfaces: Sequence::from_vec(interfaces),
-    };
-    match Core::new(alloc, &config) {
-        Ok(core) => Ok(core),
-        Err(_) => Err(RouteError::Memory),
-    }
+    })
 }
 
 // A socket at this port for each port that it sends to, of which there is at most one.
@@ -126,10 +122,10 @@ fn run<R: Net + Threads + Wait + Clock + Log + Files + AllocGlobal + Sync + Drop
         seconds,
         written: 0,
     };
+    let config = config(rt.alloc())?;
     let links = listening(rt, rt.alloc(), wires)?;
-    let core = core(rt.alloc())?;
     let own = Sockets::of_console(own);
-    let status = operate(rt, core, links, own, &mut input, &mut output)?;
+    let status = operate(rt, &config, links, own, &mut input, &mut output)?;
     Ok(if output.written == 4 { status } else { 9 })
 }
 

@@ -25,6 +25,10 @@ const EMPTY: &[u8] =
 const UNKNOWN: &[u8] =
     b"BPFH\x01\x04\x00\x00\x00\x00\x00\x00\x01\x00\x00\x00\xff\x00\x00\x00\x00\x00\x00\x00";
 
+/// That of `r1 = 5; r2 = 3; call 1; r0 = 20; exit` at `price`: it adds 3 at counter 5, and answers 20.
+const COUNTING: &[u8] =
+    b"BPFH\x01\x03\x00\x00\x00\x00\x00\x00\x05\x00\x00\x00\xb7\x01\x00\x00\x05\x00\x00\x00\xb7\x02\x00\x00\x03\x00\x00\x00\x85\x00\x00\x00\x01\x00\x00\x00\xb7\x00\x00\x00\x14\x00\x00\x00\x95\x00\x00\x00\x00\x00\x00\x00";
+
 /// The lines of a session, and what they are answered.
 #[derive(Clone, Copy)]
 struct Session {
@@ -45,6 +49,11 @@ const SESSIONS: &[Session] = &[
         lines: b"attach nowhere\nattach prose\nattach unknown\nattach empty\ntable",
         answers: b"cannot read nowhere\nobject refusal 1\ncode refusal 2 slot 0\nrefused slot 0 rule 5\n10.0.1.0/24 intra 10 via 0\nend\n",
     },
+    // Its price is asked once; what it counted is shown, and once more at the end.
+    Session {
+        lines: b"counters\nattach counting\nadd 203.0.113.0/24 10 2 0\ncounters\nquit\n",
+        answers: b"end\nattached price bound 5\noriginated\ncounter 5 3\nend\ncounter 5 3\n",
+    },
 ];
 
 // The status of a router with this configuration, and what it printed.
@@ -62,6 +71,7 @@ fn routed<R: Net + Threads + Wait + Clock + Log + Files + AllocGlobal + Sync + D
 #[test]
 fn each_line_is_answered(rt: HostRuntime) -> Result<(), Fail> {
     fs::write(&rt, "vetoing", VETOING)?;
+    fs::write(&rt, "counting", COUNTING)?;
     fs::write(&rt, "unknown", UNKNOWN)?;
     fs::write(&rt, "empty", EMPTY)?;
     fs::write(&rt, "prose", "r0 = 1; exit")?;

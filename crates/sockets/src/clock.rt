@@ -1,9 +1,9 @@
 //! The clock of a thread.
 ghost use Rattle.std.specs.Prelude.{◌≤◌};
 
+use links::Seconds;
 use std::time::{Clock, SystemTime, UNIX_EPOCH};
 use words::Second;
-use worker::Seconds;
 
 /// The system clock's whole seconds since 1970, as one thread sees them: they never go back.
 #[derive(Drop)]

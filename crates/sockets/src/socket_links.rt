@@ -3,6 +3,7 @@ ghost use Rattle.std.specs.Prelude.{◌≡◌, ◌≤◌, ◌<◌, ℕ, IfOk, If
 
 use crate::error::SocketError;
 use console::ConfiguredInterface;
+use links::{Link, LinkFault};
 use mio::net::UdpSocket;
 use mio::unix::SourceFd;
 use mio::{Events, Interest, Poll, Token};
@@ -11,7 +12,6 @@ use std::io::{self, ErrorKind};
 use std::net::{Ipv4Addr, Net, SocketAddr};
 use std::os::fd::AsRawFd;
 use std::time::Duration;
-use worker::{Link, LinkFault};
 
 /// An interface's socket, and the port that its packets go to.
 #[derive(Drop)]

@@ -7,9 +7,9 @@ use Rattle.words.specs.declared.route.TableRow.{TableRow}
 use Rattle.events.specs.declared.model.Out.{Out}
 use Rattle.events.specs.Events.{Happens}
 use Rattle.events.specs.Routers.{Router}
-use Rattle.flood.specs.declared.event.Event.{Event}
-use Rattle.flood.specs.Occurrences.{occurrence_of}
-use Rattle.flood.specs.Offers.{IsOffered}
+use Rattle.book.specs.Event.{Event}
+use Rattle.book.specs.Occurrences.{occurrence_of}
+use Rattle.book.specs.Offers.{IsOffered}
 use Rattle.worker.specs.Turns.{IsOfferedBySome, Sends}
 
 pub sent_by_some : {V E : Type 0} (items : V → List Out) (moment : Moment) (e : Event) (old new : Router) (r : Result V E)

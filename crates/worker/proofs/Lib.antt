@@ -1,4 +1,5 @@
 mod FromSome
 mod FreshSeats
+mod SeatsOf
 mod Sending
 mod Vetoes

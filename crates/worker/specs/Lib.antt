@@ -1,3 +1,5 @@
+-- what a router offers, for those above
+pub use Rattle.book.specs.Offers
 pub mod Turns
 pub mod Sending
 pub mod Opening

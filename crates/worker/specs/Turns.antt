@@ -13,10 +13,10 @@ use Rattle.events.specs.Routers.{Router}
 use Rattle.hooks.specs.declared.operation.Operation.{Operation}
 use Rattle.hooks.specs.Operations.{Answers}
 use Rattle.hooks.specs.Questions.{ExternalAnswer, RouteAnswer, price_input, tag_input, veto_input}
-use Rattle.flood.specs.declared.event.Event.{Event}
-use Rattle.flood.specs.declared.event.Event.TheVariants as event
-use Rattle.flood.specs.Occurrences.{occurrence_of}
-use Rattle.flood.specs.Offers.{IsOffered}
+use Rattle.book.specs.Event.{Event}
+use Rattle.book.specs.Event.TheVariants as event
+use Rattle.book.specs.Occurrences.{occurrence_of}
+use Rattle.book.specs.Offers.{IsOffered}
 use Rattle.worker.specs.declared.work.Work.{Work}
 use Rattle.worker.specs.declared.work.Work.TheVariants as work
 

@@ -4,8 +4,7 @@ ghost use Rattle.std.specs.Prelude.{◌≡◌, ◌+◌, ◌<◌, IfOk, OnOk, OnE
 use crate::port::Port;
 use crate::site::Site;
 use crate::taker::Taker;
-use book::{Book, BookError};
-use flood::{Event, Offered, Out, State};
+use book::{Book, BookError, Event, Offered, Out, State};
 use maps::Shared;
 use std::alloc::AllocError;
 use std::marker::PhantomData;

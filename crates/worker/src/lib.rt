@@ -5,12 +5,11 @@
 //! type [`book::Book`] and a ledger tell, in which each worker's share counts its own events.
 #![tactic(auto)]
 
+mod gate;
 mod hub;
-mod link;
 mod opening;
 mod port;
 mod questions;
-mod script;
 mod serving;
 mod settling;
 mod setup;
@@ -20,13 +19,15 @@ mod turned;
 mod turns;
 mod work;
 
+pub use book::{
+    Book, BookError, Config, ConfigError, Core, CoreError, Event, Interface, Offered, Out, State,
+};
+pub use gate::{Gate, Open};
 pub use hub::Hub;
-pub use link::{Link, LinkFault, Seconds};
 pub use opening::open_hub;
-pub use port::{Gate, Port};
-pub use script::{Answer, Script, Times};
+pub use port::Port;
 pub use serving::{Ended, run, send_all, tried};
-pub use settling::{Settled, settle};
+pub use settling::{Closed, Settled, close_hub, settle};
 pub use setup::Setup;
 pub use site::{Place, Site};
 pub use taker::Taker;

@@ -9,11 +9,6 @@ use hooks::{Asker, Notice};
 use maps::Seat;
 use std::sync::ledger::Share;
 
-/// What each turn passes once, after the programs were asked and before the lock is taken.
-pub trait Gate {
-    fn pass(&self, port: u16);
-}
-
 /// A worker's access to the hub: one part of the ledger, a seat of the hub's table, and an asker of
 /// the published programs. Each worker has its own, and takes one turn at a time.
 #[derive(Drop)]

@@ -9,7 +9,7 @@ use crate::site::Site;
 use crate::taker::Taker;
 use crate::turned::TurnError;
 use crate::work::Work;
-use flood::{Event, Offered};
+use book::{Event, Offered};
 use hooks::{Asker, PriceAnswer, TagAnswer, VetoAnswer};
 use maps::{Seat, Shared};
 use std::alloc::AllocError;

@@ -2,10 +2,11 @@
 ghost use Rattle.std.specs.Prelude.{◌≡◌, ◌+◌, All, vec_len, IfOk};
 ghost use Rattle.maps.specs.Words.{IsOf};
 
+use crate::hub::Hub;
 use crate::port::Port;
 use crate::site::Site;
 use book::Book;
-use maps::Seat;
+use maps::{Seat, Shared};
 use std::alloc::{AllocError, Global};
 use std::sync::ledger::Share;
 
@@ -45,4 +46,63 @@ pub fn settle<L: Site>(
     }
     book.audit(&mut all);
     Ok(Settled { share: all, seats })
+}
+
+/// What is left of a hub: how many events its book took, the share that counts them, and the shared
+/// words with the ports' seats.
+#[derive(Drop)]
+pub struct Closed<L: Site> {
+    pub taken: u64,
+    pub share: Share<L>,
+    pub shared: Shared,
+    pub seats: Vec<Seat>,
+}
+
+/// Settles with the ports, once all came back, and lets the book go. The book had taken just as many
+/// events as the share counts; the words come with all their seats, as
+/// [`Shared::close`](maps::Shared::close) asks for them.
+///
+/// `AllocError` comes where the ports didn't come back, or an allocation was refused.
+pub fn close_hub<L: Site>(
+    alloc: Global,
+    hub: Hub<L, Book<L>>,
+    rest: Share<L>,
+    back: Result<Vec<Port<L>>, AllocError>,
+) -> Result<Closed<L>, AllocError>
+    requires parts { IfOk back (λ ports. rest.parts + vec_len ports ≡ L.parts) }
+    requires every { IfOk back (λ ports. vec_len ports ≡ L.words.seats) }
+    ensures taken { IfOk result (λ r. r.taken ≡ r.share.amount) }
+    ensures parts { IfOk result (λ r. r.share.parts ≡ L.parts) }
+    ensures every { IfOk result (λ r. vec_len r.seats ≡ r.shared.seats) }
+    ensures seated { IfOk result (λ r. All (IsOf r.shared) r.seats.items) }
+{
+    let (mut book, shared) = hub.into_parts();
+    close_book(alloc, &mut book, shared, rest, back)
+}
+
+// The same of a book and its words.
+#[tactic(auto, using(crate::proofs::SeatsOf::of_the_same))]
+fn close_book<L: Site>(
+    alloc: Global,
+    book: &mut Book<L>,
+    shared: Shared,
+    rest: Share<L>,
+    back: Result<Vec<Port<L>>, AllocError>,
+) -> Result<Closed<L>, AllocError>
+    requires parts { IfOk back (λ ports. rest.parts + vec_len ports ≡ L.parts) }
+    requires every { IfOk back (λ ports. vec_len ports ≡ L.words.seats) }
+    requires words { shared ≡ L.words }
+    ensures taken { IfOk result (λ r. r.taken ≡ r.share.amount) }
+    ensures parts { IfOk result (λ r. r.share.parts ≡ L.parts) }
+    ensures every { IfOk result (λ r. vec_len r.seats ≡ r.shared.seats) }
+    ensures seated { IfOk result (λ r. All (IsOf r.shared) r.seats.items) }
+{
+    let ports = back?;
+    let Settled { share, seats } = settle(alloc, book, rest, ports)?;
+    Ok(Closed {
+        taken: book.taken(),
+        share,
+        shared,
+        seats,
+    })
 }

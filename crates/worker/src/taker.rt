@@ -4,11 +4,10 @@ ghost use Rattle.words.specs.Numbers.{Moment};
 ghost use Rattle.words.specs.declared.route.Route.{Route};
 ghost use Rattle.words.specs.declared.route.TableRow.{TableRow};
 ghost use Rattle.events.specs.declared.model.Out.{Out};
-ghost use Rattle.flood.specs.declared.event.Event.{Event};
+ghost use Rattle.book.specs.Event.{Event};
 ghost use Rattle.worker.specs.Turns.{IsOfferedBySome, Sends};
 
-use book::{Book, BookError};
-use flood::{Event, Offered, Out};
+use book::{Book, BookError, Event, Offered, Out};
 use std::alloc::AllocError;
 use std::sync::ledger::{Ledger, Share};
 use words::Second;

@@ -2,8 +2,7 @@
 ghost use Rattle.std.specs.Prelude.{◌≡◌};
 ghost use Rattle.worker.specs.Numbers.{turn_error_number};
 
-use book::BookError;
-use flood::{CoreError, Out};
+use book::{BookError, CoreError, Out};
 use std::alloc::AllocError;
 use thiserror::Error;
 

@@ -2,14 +2,15 @@
 ghost use Rattle.std.specs.Prelude.{◌≡◌, ◌+◌, IfOk, OnOk, OnErr, MatchOption};
 ghost use Rattle.worker.specs.Turns.{TakesFor};
 
+use crate::gate::Gate;
 use crate::hub::Hub;
-use crate::port::{Gate, Port};
+use crate::port::Port;
 use crate::questions::{asked, installation};
 use crate::site::Site;
 use crate::taker::Taker;
 use crate::turned::{TurnError, Turned};
 use crate::work::Work;
-use flood::Out;
+use book::Out;
 use std::sync::Wait;
 use words::Second;
 

@@ -1,14 +1,13 @@
 //! A link that fails.
 use crate::samples::HELLO;
 use crate::scenes::{End, Scene, play};
-use crate::stage::Open;
-use book::Book;
+use links::{Answer, Script, Times};
 use std::alloc::{AllocError, Global};
 use std::sync::Wait;
 use std::sync::atomic::AtomicBool;
 use std::test::Fail;
 use words::Sequence;
-use worker::{Answer, Ended, Hub, Port, Script, Site, Times, run};
+use worker::{Book, Ended, Hub, Open, Port, Site, run};
 
 // Forty calls of a link, of which one fails: the others send, or receive the Hello.
 fn calls(alloc: Global, fails: usize) -> Result<Vec<Answer>, AllocError> {

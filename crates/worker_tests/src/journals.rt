@@ -2,8 +2,6 @@
 ghost use Rattle.std.specs.Prelude.{◌≡◌, ◌<◌};
 
 use crate::samples::first;
-use book::{Book, BookError};
-use flood::{Core, Event, Out};
 use hooks::{VetoAnswer, programs};
 use maps::Shared;
 use std::alloc::{AllocError, Global};
@@ -13,6 +11,7 @@ use std::sync::Wait;
 use std::sync::ledger::{Blank, Ledger, Share};
 use std::test::Fail;
 use words::{Address, Hops, Prefix, Route, RouteKind, Second, Sequence};
+use worker::{Book, BookError, Core, Event, Out};
 
 // What a book is called for.
 #[derive(Clone, Copy, Debug)]

@@ -1,10 +1,9 @@
 //! A router, a destination, packets and programs for tests.
 use events::{Config, Interface};
-use flood::Core;
 use std::alloc::{AllocError, Global};
 use std::test::Fail;
 use words::{Address, External, ExternalType, Prefix, RouterId, Second, Sequence};
-use worker::Work;
+use worker::{Core, Work};
 
 /// Router 2.2.2.2's Hello on a network of 24 bits (RFC 2328, A.3.2), which names nobody.
 pub const HELLO: &[u8] =

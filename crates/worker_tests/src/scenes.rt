@@ -7,8 +7,6 @@ use crate::failing_links::serve;
 use crate::samples::{destination, first};
 use crate::side_by_side::{hold, tick};
 use crate::stage::{Stage, Step};
-use book::Book;
-use flood::Core;
 use hooks::Loader;
 use std::alloc::Global;
 use std::marker::Brand;
@@ -18,7 +16,7 @@ use std::test::Fail;
 use std::thread::Threads;
 use std::time::Clock;
 use words::{External, ExternalType};
-use worker::{Hub, Port, Setup, Site, open_hub};
+use worker::{Book, Core, Hub, Port, Setup, Site, open_hub};
 
 /// What is played at a router with the ports 0, 1 and 2.
 #[derive(Clone, Copy, Debug)]

@@ -1,8 +1,7 @@
 //! Turns of one port while another is held at its gate.
 use crate::samples::hello;
 use crate::scenes::{End, Scene, play};
-use crate::stage::{Open, Stage};
-use book::Book;
+use crate::stage::Stage;
 use std::alloc::Global;
 use std::sync::Wait;
 use std::sync::atomic::{AtomicBool, Ordering};
@@ -10,7 +9,7 @@ use std::test::Fail;
 use std::thread::{Threads, join, sleep};
 use std::time::{Clock, Duration};
 use words::Second;
-use worker::{Gate, Hub, Port, Site, TurnError, Turned, Work, turn};
+use worker::{Book, Gate, Hub, Open, Port, Site, TurnError, Turned, Work, turn};
 
 // Holds a turn until it is released, or gives up after 10,000 tries of a millisecond.
 #[derive(Drop)]

@@ -3,7 +3,6 @@ ghost use Rattle.std.specs.Prelude.{◌≡◌};
 ghost use Rattle.hooks.specs.Known.{history_of};
 
 use crate::samples::hello;
-use book::Book;
 use hooks::Loader;
 use isa::Hook;
 use object_verdicts::verify_object;
@@ -12,15 +11,7 @@ use std::process::Abort;
 use std::sync::Wait;
 use std::test::Fail;
 use words::{External, Second};
-use worker::{Gate, Hub, Port, Site, TurnError, Work, turn};
-
-/// A gate that stands open.
-#[derive(Drop)]
-pub struct Open {}
-
-impl Gate for Open {
-    fn pass(&self, _port: u16) {}
-}
+use worker::{Book, Hub, Open, Port, Site, TurnError, Work, turn};
 
 /// What is done: a turn, or a change of the programs, which each port learns then.
 #[derive(Clone, Copy, Debug)]

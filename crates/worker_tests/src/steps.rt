@@ -2,7 +2,6 @@
 use crate::samples::{COUNTING, VETOING};
 use crate::scenes::{End, Scene, play};
 use crate::stage::{Deed, Seen, Step};
-use book::BookError;
 use events::CoreError;
 use isa::Hook;
 use packet::Fault;
@@ -12,7 +11,7 @@ use std::sync::Wait;
 use std::test::Fail;
 use std::thread::Threads;
 use std::time::Clock;
-use worker::TurnError;
+use worker::{BookError, TurnError};
 
 // What is seen at the router after the first Tick: its two own routes are in the table.
 const STARTED: Seen = Seen {

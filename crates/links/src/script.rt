@@ -1,6 +1,6 @@
 //! A link and a clock that play lists, for tests.
 ghost use Rattle.std.specs.Prelude.{◌≡◌, ◌≢◌, ℕ, ◌+◌, ◌<◌, ◌≤◌};
-ghost use Rattle.worker.specs.declared.script.Played.TheVariants.{Fault};
+ghost use Rattle.links.specs.declared.script.Played.TheVariants.{Fault};
 
 use crate::link::{Link, LinkFault, Seconds};
 use std::sync::atomic::{AtomicBool, Ordering};
