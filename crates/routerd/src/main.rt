@@ -1,5 +1,14 @@
-//! `routerd`: runs a router, and assembles, lists, verifies and runs its programs. What it does stands in `commands` and `route`.
+//! `routerd`: runs a router, and assembles, lists, verifies and runs its programs. What it does stands in `commands` and `route`. Its tests are of routers that run.
 #![tactic(auto)]
+
+#[cfg(test)]
+mod failing_sockets;
+#[cfg(test)]
+mod pair;
+#[cfg(test)]
+mod refusals;
+#[cfg(test)]
+mod sessions;
 
 use commands::{Routing, program};
 use route::RouteError;
