@@ -147,3 +147,25 @@ fn a_socket_that_fails_ends_it_with_status_3(rt: HostRuntime) -> Result<(), Fail
     }
     Ok(())
 }
+
+// A router without an interface.
+fn without_interfaces(alloc: Global) -> Config {
+    Config {
+        router: RouterId::new(0x0101_0101),
+        start: Second::new(0),
+        interfaces: Sequence::from_vec(Vec::new(alloc)),
+    }
+}
+
+#[test]
+fn a_router_outside_the_profile_is_refused(rt: HostRuntime) -> Result<(), Fail> {
+    let config = without_interfaces(rt.alloc());
+    let links = Vec::new(rt.alloc());
+    let mut input = Cursor::new(b"quit\n".as_slice());
+    let mut output = Vec::new(rt.alloc());
+    let own = Sockets::of_console(&[]);
+    let ended = operate(&rt, &config, links, own, &mut input, &mut output);
+    assert!(rt; matches!(ended, Err(RouteError::Configuration(1))));
+    assert!(rt; output.is_empty());
+    Ok(())
+}
