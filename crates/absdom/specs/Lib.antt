@@ -1,2 +1,2 @@
 pub mod Unary
-pub mod SideBySide
+pub mod Narrowing

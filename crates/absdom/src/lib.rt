@@ -4,6 +4,7 @@
 
 pub mod arithmetic;
 mod domain;
+mod narrowing;
 mod pair;
 mod test;
 mod unary;

@@ -1,21 +1,26 @@
--- Intervals of numbers below 2^64, and their two bounds.
+-- Spans of numbers below 2^64, and their two bounds.
 use Rattle.std.specs.Prelude.{◌≡◌, ℕ, ◌-◌, ◌/◌, ◌%◌, ◌<◌, ◌≤◌, ◌^◌, ◌==◌, if◌then◌else◌}
 use Rattle.isa.specs.declared.instruction.Width.{Width}
 use Rattle.isa.specs.Arithmetic.{bits}
-use Rattle.interval.specs.declared.value.Interval.{Interval}
+use Rattle.interval.specs.declared.span.Span.{Span}
 
--- a number of the interval
-pub record IsIn (interval : Interval) (n : ℕ) : Type 0 where
-  pub low : interval.low ≤ n
-  pub high : n ≤ interval.high
+-- a number of the span
+pub record IsIn (span : Span) (n : ℕ) : Type 0 where
+  pub low : span.low ≤ n
+  pub high : n ≤ span.high
   pub small : n < 2 ^ 64
 
 pub record Bounds : Type 0 where
   pub low : ℕ
   pub high : ℕ
 
-abbrev pub bounds_of : Interval → Bounds
-bounds_of interval = record { low = interval.low; high = interval.high }
+abbrev pub bounds_of : Span → Bounds
+bounds_of span = record { low = span.low; high = span.high }
+
+-- bounds that aren't wider
+pub record IsInside (inner outer : Bounds) : Type 0 where
+  pub low : outer.low ≤ inner.low
+  pub high : inner.high ≤ outer.high
 
 abbrev pub every_of : Width → Bounds
 every_of w = record { low = 0; high = 2 ^ bits w - 1 }

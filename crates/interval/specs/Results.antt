@@ -1,4 +1,4 @@
--- The results of an operation on intervals, and how narrow an interval of them is.
+-- The results of an operation on spans, and how narrow a span of them is.
 use Rattle.std.specs.Prelude.{◌≡◌, ℕ, ◌+◌, ◌-◌, ◌*◌, ◌%◌, ◌<◌, ◌≤◌, ◌^◌, ◌⊎◌}
 use Rattle.isa.specs.declared.instruction.Width.{Width}
 use Rattle.isa.specs.declared.instruction.Operation.{Operation}
@@ -9,11 +9,11 @@ use Rattle.isa.specs.Arithmetic.{bits, operate}
 use Rattle.absdom.specs.declared.unary.UnaryOperation.{UnaryOperation}
 use Rattle.absdom.specs.declared.unary.UnaryOperation.TheVariants.{Negate}
 use Rattle.absdom.specs.Unary.{unary_modulus}
-use Rattle.interval.specs.declared.value.Interval.{Interval}
+use Rattle.interval.specs.declared.span.Span.{Span}
 use Rattle.interval.specs.Bounds.{IsIn, Bounds, IsBetween, IsSingle, cut_bounds}
 
 -- the result has each result of a pair
-abbrev pub HasResults : Width → Operation → Interval → Interval → Interval → Type 0
+abbrev pub HasResults : Width → Operation → Span → Span → Span → Type 0
 HasResults w operation left right result =
     (a b : ℕ) → IsIn left a → IsIn right b → IsIn result (operate w operation a b)
 
@@ -22,12 +22,12 @@ abbrev pub IsResult : Width → Operation → Bounds → Bounds → ℕ → Type
 IsResult w operation l r n =
     (a : ℕ) × (b : ℕ) × IsBetween l a × IsBetween r b × (operate w operation a b ≡ n)
 
--- both bounds are results, so no interval that has every result is narrower
+-- both bounds are results, so no span that has every result is narrower
 pub record IsLeast (w : Width) (operation : Operation) (l r result : Bounds) : Type 0 where
   pub low : IsResult w operation l r result.low
   pub high : IsResult w operation l r result.high
 
--- How narrow the results of each operation are, on intervals of numbers of the width.
+-- How narrow the results of each operation are, on spans of numbers of the width.
 abbrev pub IsNarrow : Width → Operation → Bounds → Bounds → Bounds → Type 0
 -- no sum wraps, or every one does
 IsNarrow w Add l r result =

@@ -1,28 +1,16 @@
-//! The pairs of numbers of two intervals that meet a test.
+//! The pairs of numbers of two spans that meet a test.
 ghost use Rattle.std.specs.Prelude.{◌≡◌, ℕ, ◌*◌, ◌<◌, ◌≤◌, ◌^◌, ◌⊎◌, ◌↔◌, ◌==◌, not, nat_lt, nat_le, Bool, IsTrue, IsSome, IsSomeAnd, IfSome};
 ghost use Rattle.isa.specs.declared.instruction.Width.{Width};
 ghost use Rattle.isa.specs.Arithmetic.{bits, low, test_holds};
-ghost use Rattle.interval.specs.Bounds.{IsIn, bounds_of};
-ghost use Rattle.interval.specs.Order.{KeepsPairs, IsInside, HasPartner, StaysInside, IsTightAnswer, IsUnsigned, AreNotNegative, IsTrimmed};
+ghost use Rattle.interval.specs.Bounds.{IsIn, bounds_of, IsInside};
+ghost use Rattle.interval.specs.Order.{KeepsPairs, HasPartner, StaysInside, IsTightAnswer, IsUnsigned, AreNotNegative, IsTrimmed};
 
-use crate::bounds::modulus;
-use crate::value::Interval;
+use crate::bounds::{between, modulus};
+use crate::span::Span;
 use isa::{Test, Width};
 
-/// The numbers from low to high, if there are any.
-fn between(low: u64, high: u64) -> Option<Interval>
-    ensures some { IsSome result ↔ (low ≤ high) }
-    ensures ends { IfSome result (λ i. (i.low ≡ low) × (i.high ≡ high)) }
-{
-    if low <= high {
-        Some(Interval { low, high })
-    } else {
-        None
-    }
-}
-
 /// The equal pairs.
-fn equal(left: Interval, right: Interval) -> Option<(Interval, Interval)>
+fn equal(left: Span, right: Span) -> Option<(Span, Span)>
     ensures holds { KeepsPairs (λ a b. a == b) left right result }
     ensures inside { StaysInside left right result }
     ensures tight { IsTightAnswer (λ a b. a == b) left right result }
@@ -32,7 +20,7 @@ fn equal(left: Interval, right: Interval) -> Option<(Interval, Interval)>
 }
 
 /// The pairs whose first number is less.
-fn less(left: Interval, right: Interval) -> Option<(Interval, Interval)>
+fn less(left: Span, right: Span) -> Option<(Span, Span)>
     ensures holds { KeepsPairs nat_lt left right result }
     ensures inside { StaysInside left right result }
     ensures tight { IsTightAnswer nat_lt left right result }
@@ -40,11 +28,11 @@ fn less(left: Interval, right: Interval) -> Option<(Interval, Interval)>
     if left.low >= right.high {
         return None;
     }
-    let before = Interval {
+    let before = Span {
         low: left.low,
         high: left.high.min(right.high - 1),
     };
-    let after = Interval {
+    let after = Span {
         low: right.low.max(left.low + 1),
         high: right.high,
     };
@@ -52,7 +40,7 @@ fn less(left: Interval, right: Interval) -> Option<(Interval, Interval)>
 }
 
 /// The pairs whose first number is less or equal.
-fn at_most(left: Interval, right: Interval) -> Option<(Interval, Interval)>
+fn at_most(left: Span, right: Span) -> Option<(Span, Span)>
     ensures holds { KeepsPairs nat_le left right result }
     ensures inside { StaysInside left right result }
     ensures tight { IsTightAnswer nat_le left right result }
@@ -60,19 +48,19 @@ fn at_most(left: Interval, right: Interval) -> Option<(Interval, Interval)>
     if left.low > right.high {
         return None;
     }
-    let before = Interval {
+    let before = Span {
         low: left.low,
         high: left.high.min(right.high),
     };
-    let after = Interval {
+    let after = Span {
         low: right.low.max(left.low),
         high: right.high,
     };
     Some((before, after))
 }
 
-/// The interval without an end that is the only number of the other.
-fn trimmed(left: Interval, right: Interval) -> Option<Interval>
+/// The span without an end that is the only number of the other.
+fn trimmed(left: Span, right: Span) -> Option<Span>
     ensures holds { (a b : ℕ) → IsIn left a → IsIn right b → IsTrue (not (a == b)) → IsSomeAnd result (λ i. IsIn i a) }
     ensures inside { IfSome result (λ i. IsInside (bounds_of i) (bounds_of left)) }
     ensures tight { IfSome result (λ i. HasPartner (λ b. not (i.low == b)) (bounds_of right) × HasPartner (λ b. not (i.high == b)) (bounds_of right)) }
@@ -93,7 +81,7 @@ fn trimmed(left: Interval, right: Interval) -> Option<Interval>
 }
 
 /// The pairs that differ.
-fn different(left: Interval, right: Interval) -> Option<(Interval, Interval)>
+fn different(left: Span, right: Span) -> Option<(Span, Span)>
     ensures holds { KeepsPairs (λ a b. not (a == b)) left right result }
     ensures inside { StaysInside left right result }
     ensures tight { IsTightAnswer (λ a b. not (a == b)) left right result }
@@ -104,17 +92,17 @@ fn different(left: Interval, right: Interval) -> Option<(Interval, Interval)>
 }
 
 /// The pairs the other way round.
-fn swapped(answer: Option<(Interval, Interval)>) -> Option<(Interval, Interval)>
-    ensures holds { (meets : ℕ → ℕ → Bool) (left right : Interval) → KeepsPairs meets right left answer → KeepsPairs (λ a b. meets b a) left right result }
-    ensures inside { (left right : Interval) → StaysInside right left answer → StaysInside left right result }
-    ensures tight { (meets : ℕ → ℕ → Bool) (left right : Interval) → IsTightAnswer meets right left answer → IsTightAnswer (λ a b. meets b a) left right result }
+fn swapped(answer: Option<(Span, Span)>) -> Option<(Span, Span)>
+    ensures holds { (meets : ℕ → ℕ → Bool) (left right : Span) → KeepsPairs meets right left answer → KeepsPairs (λ a b. meets b a) left right result }
+    ensures inside { (left right : Span) → StaysInside right left answer → StaysInside left right result }
+    ensures tight { (meets : ℕ → ℕ → Bool) (left right : Span) → IsTightAnswer meets right left answer → IsTightAnswer (λ a b. meets b a) left right result }
 {
     let (left, right) = answer?;
     Some((right, left))
 }
 
 /// The pairs of numbers that meet a test without signs. Another test trims nothing here.
-fn met_unsigned(test: Test, left: Interval, right: Interval) -> Option<(Interval, Interval)>
+pub(crate) fn met_unsigned(test: Test, left: Span, right: Span) -> Option<(Span, Span)>
     ensures holds { (width : Width) → KeepsPairs (test_holds width test) left right result }
     ensures inside { StaysInside left right result }
     ensures tight { (width : Width) → IsUnsigned test → IsTightAnswer (test_holds width test) left right result }
@@ -146,7 +134,7 @@ fn unsigned(test: Test) -> Test
 }
 
 /// Whether no number is negative, read as one of the width with its sign.
-fn are_not_negative(width: Width, left: Interval, right: Interval) -> bool
+fn are_not_negative(width: Width, left: Span, right: Span) -> bool
     ensures { IsTrue result ↔ AreNotNegative width left right }
 {
     let half = modulus(width) / 2;
@@ -155,12 +143,7 @@ fn are_not_negative(width: Width, left: Interval, right: Interval) -> bool
 
 /// The pairs whose low bits meet a test. Numbers above the width's greatest are left as they are, and for an order with
 /// signs those that have negative ones.
-pub(crate) fn assumed(
-    test: Test,
-    width: Width,
-    left: Interval,
-    right: Interval,
-) -> Option<(Interval, Interval)>
+pub(crate) fn assumed(test: Test, width: Width, left: Span, right: Span) -> Option<(Span, Span)>
     ensures holds { KeepsPairs (λ a b. test_holds width test (low width a) (low width b)) left right result }
     ensures trimmed { IsTrimmed test width left right result }
 {

@@ -1,4 +1,4 @@
-//! The results of each operation on the numbers of two intervals.
+//! The results of each operation on the numbers of two spans.
 ghost use Rattle.std.specs.Prelude.{◌≡◌, ℕ, ◌+◌, ◌-◌, ◌*◌, ◌%◌, ◌<◌, ◌≤◌, ◌^◌};
 ghost use Rattle.isa.specs.declared.instruction.Operation.TheVariants.{Add, Subtract, Multiply, Divide, And, ShiftLeft, ShiftRight, Modulo};
 ghost use Rattle.isa.specs.Arithmetic.{bits, low};
@@ -7,13 +7,13 @@ ghost use Rattle.interval.specs.Bounds.{IsIn, bounds_of, IsSingle};
 ghost use Rattle.interval.specs.Results.{HasResults, IsNarrow, IsNarrowResult, IsNarrowUnaryResult};
 
 use crate::bounds::{cut, every, modulus, single, wrapped};
-use crate::value::Interval;
+use crate::span::Span;
 use absdom::UnaryOperation;
 use absdom::arithmetic::unary;
 use isa::{Extension, Operation, SwapWidth, Width, arithmetic};
 
 /// The sums.
-fn sum(width: Width, left: Interval, right: Interval) -> Interval
+fn sum(width: Width, left: Span, right: Span) -> Span
     requires left { left.high < 2 ^ bits width }
     requires right { right.high < 2 ^ bits width }
     ensures holds { HasResults width Add left right result }
@@ -28,7 +28,7 @@ fn sum(width: Width, left: Interval, right: Interval) -> Interval
 }
 
 /// The differences.
-fn difference(width: Width, left: Interval, right: Interval) -> Interval
+fn difference(width: Width, left: Span, right: Span) -> Span
     requires left { left.high < 2 ^ bits width }
     requires right { right.high < 2 ^ bits width }
     ensures holds { HasResults width Subtract left right result }
@@ -44,7 +44,7 @@ fn difference(width: Width, left: Interval, right: Interval) -> Interval
 }
 
 /// The products.
-fn product(width: Width, left: Interval, right: Interval) -> Interval
+fn product(width: Width, left: Span, right: Span) -> Span
     ensures holds { HasResults width Multiply left right result }
     ensures narrow { IsNarrow width Multiply (bounds_of left) (bounds_of right) (bounds_of result) }
     ensures small { result.high < 2 ^ bits width }
@@ -57,38 +57,38 @@ fn product(width: Width, left: Interval, right: Interval) -> Interval
 }
 
 /// The quotients. A quotient by 0 is 0.
-fn quotient(width: Width, left: Interval, right: Interval) -> Interval
+fn quotient(width: Width, left: Span, right: Span) -> Span
     requires left { left.high < 2 ^ bits width }
     ensures holds { HasResults width Divide left right result }
     ensures narrow { IsNarrow width Divide (bounds_of left) (bounds_of right) (bounds_of result) }
     ensures small { result.high < 2 ^ bits width }
 {
     if right.low == 0 {
-        return Interval {
+        return Span {
             low: 0,
             high: left.high,
         };
     }
-    Interval {
+    Span {
         low: left.low / right.high,
         high: left.high / right.low,
     }
 }
 
 /// The remainders. A remainder by 0 is the dividend.
-fn remainder(width: Width, left: Interval, right: Interval) -> Interval
+fn remainder(width: Width, left: Span, right: Span) -> Span
     requires left { left.high < 2 ^ bits width }
     ensures holds { HasResults width Modulo left right result }
     ensures narrow { IsNarrow width Modulo (bounds_of left) (bounds_of right) (bounds_of result) }
     ensures small { result.high < 2 ^ bits width }
 {
     if right.low == 0 {
-        return Interval {
+        return Span {
             low: 0,
             high: left.high,
         };
     }
-    Interval {
+    Span {
         low: 0,
         high: left.high.min(right.high - 1),
     }
@@ -96,13 +96,13 @@ fn remainder(width: Width, left: Interval, right: Interval) -> Interval
 
 /// What an AND may give.
 #[tactic(auto, using(std::proofs::lemmas::Nat::and_le_l, std::proofs::lemmas::Nat::and_le_r))]
-fn conjunction(width: Width, left: Interval, right: Interval) -> Interval
+fn conjunction(width: Width, left: Span, right: Span) -> Span
     requires left { left.high < 2 ^ bits width }
     ensures holds { HasResults width And left right result }
     ensures narrow { IsNarrow width And (bounds_of left) (bounds_of right) (bounds_of result) }
     ensures small { result.high < 2 ^ bits width }
 {
-    Interval {
+    Span {
         low: 0,
         high: left.high.min(right.high),
     }
@@ -127,7 +127,7 @@ fn power(width: Width, number: u64) -> u64
 }
 
 /// The numbers shifted to the left: by one number the products by its power of two.
-fn left_shift(width: Width, left: Interval, right: Interval) -> Interval
+fn left_shift(width: Width, left: Span, right: Span) -> Span
     ensures holds { HasResults width ShiftLeft left right result }
     ensures narrow { IsNarrow width ShiftLeft (bounds_of left) (bounds_of right) (bounds_of result) }
     ensures small { result.high < 2 ^ bits width }
@@ -139,32 +139,27 @@ fn left_shift(width: Width, left: Interval, right: Interval) -> Interval
 }
 
 /// The numbers shifted to the right: no result is above the number.
-fn right_shift(width: Width, left: Interval, right: Interval) -> Interval
+fn right_shift(width: Width, left: Span, right: Span) -> Span
     requires left { left.high < 2 ^ bits width }
     ensures holds { HasResults width ShiftRight left right result }
     ensures narrow { IsNarrow width ShiftRight (bounds_of left) (bounds_of right) (bounds_of result) }
     ensures small { result.high < 2 ^ bits width }
 {
     if right.low != right.high {
-        return Interval {
+        return Span {
             low: 0,
             high: left.high,
         };
     }
     let count = shift_count(width, right.low);
-    Interval {
+    Span {
         low: left.low >> count,
         high: left.high >> count,
     }
 }
 
 /// The results of an operation on numbers of the width.
-pub(crate) fn results(
-    width: Width,
-    operation: Operation,
-    left: Interval,
-    right: Interval,
-) -> Interval
+pub(crate) fn results(width: Width, operation: Operation, left: Span, right: Span) -> Span
     requires left { left.high < 2 ^ bits width }
     requires right { right.high < 2 ^ bits width }
     ensures holds { HasResults width operation left right result }
@@ -188,7 +183,7 @@ pub(crate) fn results(
 }
 
 /// The negations of numbers of the width.
-fn negation(width: Width, operand: Interval) -> Interval
+fn negation(width: Width, operand: Span) -> Span
     requires { operand.high < 2 ^ bits width }
     ensures holds { (n : ℕ) → IsIn operand n → IsIn result (low width (2 ^ bits width - n)) }
     ensures narrow { 0 < operand.low → (result.low ≡ 2 ^ bits width - operand.high) × (result.high ≡ 2 ^ bits width - operand.low) }
@@ -216,7 +211,7 @@ fn greatest(operation: UnaryOperation) -> u64
 }
 
 /// The results of an operation on one number.
-pub(crate) fn unary_results(operation: UnaryOperation, operand: Interval) -> Interval
+pub(crate) fn unary_results(operation: UnaryOperation, operand: Span) -> Span
     ensures holds { (n : ℕ) → IsIn operand n → IsIn result (unary_result operation n) }
     ensures narrow { IsNarrowUnaryResult operation (bounds_of operand) (bounds_of result) }
 {
@@ -225,7 +220,7 @@ pub(crate) fn unary_results(operation: UnaryOperation, operand: Interval) -> Int
     }
     match operation {
         UnaryOperation::Negate(width) => negation(width, cut(width, operand)),
-        _ => Interval {
+        _ => Span {
             low: 0,
             high: greatest(operation),
         },

@@ -31,5 +31,5 @@ trailing (suc n) small = low_zeros (suc n) _ small ((bit_at-trailing_zeros w64 (
 
 pub returns-then-self-clause-holds : goal.returns-then-self-clause-holds
 returns-then-self-clause-holds c = λ n inside.
-    let same : c.args.self.low ≡ n = let e = c.if-self.true in omega (arith, inside.low, inside.high) in
-    subst (λ m. n % 2 ^ trailing_zeros w64 m ≡ 0) (sym same) (trailing n inside.small)
+    let same : c.args.self.unsigned.low ≡ n = let e = c.if-self.true in omega (arith, inside.unsigned.low, inside.unsigned.high) in
+    subst (λ m. n % 2 ^ trailing_zeros w64 m ≡ 0) (sym same) (trailing n inside.unsigned.small)

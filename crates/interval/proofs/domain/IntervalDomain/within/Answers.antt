@@ -1,8 +1,9 @@
 use Rattle.std.proofs.Common.{◌≤◌, arith, lit<}
-use Rattle.std.proofs.lemmas.Bool.Decides.{nat_tests}
 use Rattle.interval.proofs.domain.IntervalDomain.within.Goals as goal
 
-pub returns-then-other-self-clause-everything : goal.returns-then-other-self-clause-everything
-returns-then-other-self-clause-everything c = λ all.
-    let top : 18446744073709551615 ≤ c.args.other.high = (all 18446744073709551615 (lit< tt)).high in
-    grind (arith, nat_tests)
+-- the least signed number is 2^63 without its sign, the greatest 2^63 - 1
+pub returns-then-is_inside-clause-everything : goal.returns-then-is_inside-clause-everything
+returns-then-is_inside-clause-everything c = λ all.
+    let least : c.args.other.signed.low ≤ 0 = (all 9223372036854775808 (lit< tt)).signed.low in
+    let greatest : 18446744073709551615 ≤ c.args.other.signed.high = (all 9223372036854775807 (lit< tt)).signed.high in
+    c.is_inside-then-is_inside.ensures.1 (record { low = omega (arith, least); high = omega (arith, greatest) })

@@ -1,0 +1,51 @@
+//! The signed results of 64-bit operations. The numbers of the spans are biased.
+ghost use Rattle.std.specs.Prelude.{◌≡◌, ℕ, ◌+◌, ◌-◌, ◌*◌, ◌%◌, ◌<◌, ◌≤◌, ◌^◌};
+ghost use Rattle.isa.specs.declared.instruction.Operation.TheVariants.{Add, Subtract};
+ghost use Rattle.isa.specs.declared.instruction.Width.TheVariants.{Bits64};
+ghost use Rattle.isa.specs.Arithmetic.{low, operate};
+ghost use Rattle.interval.specs.Bounds.{IsIn, bounds_of};
+ghost use Rattle.interval.specs.Signs.{biased, IsNarrowSigned};
+
+use crate::bounds::{every, wrapped};
+use crate::span::Span;
+use isa::{Operation, Width};
+
+/// What is added to a signed number.
+const BIAS: u128 = 1 << 63;
+
+/// The sums. One bias of two is taken away by the third, modulo 2^64.
+fn signed_sum(left: Span, right: Span) -> Span
+    ensures holds { (a b : ℕ) → IsIn left (biased a) → IsIn right (biased b) → IsIn result (biased (low Bits64 (a + b))) }
+    ensures narrow { IsNarrowSigned Bits64 Add (bounds_of left) (bounds_of right) (bounds_of result) }
+{
+    wrapped(
+        Width::Bits64,
+        left.low as u128 + right.low as u128 + BIAS,
+        left.high as u128 + right.high as u128 + BIAS,
+    )
+}
+
+/// The differences. The two biases cancel out, so it is added once more.
+fn signed_difference(left: Span, right: Span) -> Span
+    ensures holds { (a b : ℕ) → b < 2 ^ 64 → IsIn left (biased a) → IsIn right (biased b) → IsIn result (biased (low Bits64 (a + (2 ^ 64 - b)))) }
+    ensures narrow { IsNarrowSigned Bits64 Subtract (bounds_of left) (bounds_of right) (bounds_of result) }
+{
+    wrapped(
+        Width::Bits64,
+        left.low as u128 + (3 * BIAS - right.high as u128),
+        left.high as u128 + (3 * BIAS - right.low as u128),
+    )
+}
+
+/// The results of an operation. Of others than these every number may be one.
+pub(crate) fn signed_results(width: Width, operation: Operation, left: Span, right: Span) -> Span
+    ensures holds { (a b : ℕ) → a < 2 ^ 64 → b < 2 ^ 64 → IsIn left (biased a) → IsIn right (biased b) → IsIn result (biased (operate width operation (low width a) (low width b))) }
+    ensures narrow { IsNarrowSigned width operation (bounds_of left) (bounds_of right) (bounds_of result) }
+{
+    match (width, operation) {
+        (Width::Bits64, Operation::Add) => signed_sum(left, right),
+        (Width::Bits64, Operation::Subtract) => signed_difference(left, right),
+        (Width::Bits64, Operation::Move) => right,
+        _ => every(Width::Bits64),
+    }
+}
