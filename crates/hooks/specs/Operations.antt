@@ -11,24 +11,34 @@ use Rattle.machine.specs.Label.{Label}
 use Rattle.machine.specs.Memory.{number_of}
 use Rattle.machine.specs.State.{setting_of}
 use Rattle.machine.specs.Runs.{Ends}
+use Rattle.regions.specs.declared.Region.{Region}
 use Rattle.verifier.specs.Programs as verifier
 use Rattle.hooks.specs.declared.operation.Operation.{Operation}
 use Rattle.hooks.specs.declared.operation.Operation.TheVariants.{Attach, Detach}
 
--- the code, the hook that it is for, and a number of instructions within which every run ends
+-- The code, the hook that it is for, a number of instructions within which every run ends, and for
+-- each slot the region that a load or store there goes to.
 pub record Program : Type 0 where
   pub code : List Slot
   pub hook : Hook
   pub bound : ℕ
+  pub regions : List Region
 
 -- the program, whatever room it has
 abbrev pub program_of : verifier.Program → Program
-program_of p = record { code = p.code; hook = p.hook; bound = p.bound }
+program_of p = record { code = p.code; hook = p.hook; bound = p.bound; regions = p.regions }
 
 -- the verifier accepts it
 abbrev pub IsAccepted : Program → Type 0
 IsAccepted p =
-    verifier.IsAccepted (record { code = p.code; hook = p.hook; bound = p.bound; room = 0 })
+    verifier.IsAccepted (record {
+      code = p.code;
+      hook = p.hook;
+      bound = p.bound;
+      regions = p.regions;
+      room = 0;
+      region_room = 0;
+    })
 
 abbrev pub hook_of : Operation → Hook
 hook_of (Attach accepted) = accepted.hook

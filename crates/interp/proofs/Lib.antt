@@ -2,4 +2,3 @@ pub mod Classes
 pub mod Clean
 pub mod Lists
 pub mod Runs
-pub mod NeverTraps

@@ -1,3 +1,6 @@
+-- how a run ends, and how one of an accepted program does, for those above
+pub use Rattle.word_machine.specs.declared.ending.Run
+pub use Rattle.word_machine.specs.Ends
 pub mod Classes
 pub mod Outcome
 pub mod Performs

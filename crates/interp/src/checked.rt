@@ -4,12 +4,12 @@ ghost use Rattle.machine.specs.State.{setting_of};
 ghost use Rattle.maps.specs.Words.{IsOf};
 ghost use Rattle.interp.specs.Outcome.{Outcome};
 
-use crate::ending::Run;
 use crate::steps;
 use crate::trap::Trap;
 use isa::Code;
 use machine::{Hook, Input};
 use maps::{Seat, Shared};
+use word_machine::Run;
 
 /// Runs a program at a hook on an input, for at most `limit` instructions, with every test that the machine asks for.
 ///

@@ -1,15 +1,13 @@
-//! Runs programs on the machine with every test that it asks for.
+//! Runs programs on the machine: any code with every test that it asks for, and accepted programs with none.
 //!
 //! A run takes no memory and waits for nobody. What it did to the shared words is the list of its labels: by exactly
 //! these the list of its seat has grown.
 #![tactic(auto)]
 
-mod accepted;
 mod assignments;
 mod checked;
 mod contents;
 mod control;
-mod ending;
 mod loads;
 mod pieces;
 mod registers;
@@ -17,7 +15,6 @@ mod steps;
 mod stores;
 mod trap;
 
-pub use accepted::run;
 pub use checked::run_checked;
-pub use ending::Run;
 pub use trap::Trap;
+pub use word_machine::{Run, run};

@@ -28,7 +28,7 @@ fn load_context(
     ensures ok { OnOk result (LoadsInto size (pointers.Context at) (given_by input.now) target state.old Silent state.new) }
     ensures err { IfErr result (λ fault. fault_of_load state.old size (pointers.Context at) target ≡ Some fault) }
 {
-    let length = pieces::load_length(size);
+    let length = word_machine::load_length(size);
     if at > 64 - length as u64 {
         return Err(Fault::Bounds);
     }
@@ -36,8 +36,8 @@ fn load_context(
         return Err(Fault::Frame);
     }
     let start = at as usize;
-    let number = pieces::number_of(&input.context[start..start + length]);
-    let content = Content::Number(pieces::loaded(size, number));
+    let number = word_machine::number_of(&input.context[start..start + length]);
+    let content = Content::Number(word_machine::loaded(size, number));
     registers::fill(state, target, content);
     Ok(())
 }
@@ -47,14 +47,14 @@ fn stack_content(state: &State, size: LoadSize, at: u64) -> Result<Content, Faul
     ensures ok { IfOk result (λ content. (input : Given) → Loads size (pointers.Stack at) input state.now Silent content) }
     ensures err { IfErr result (λ fault. (target : ℕ) → fault_of_load state.now size (pointers.Stack at) target ≡ Some fault) }
 {
-    let length = pieces::load_length(size);
+    let length = word_machine::load_length(size);
     if at > 512 - length as u64 {
         return Err(Fault::Bounds);
     }
     let start = at as usize;
     let found = &state.stack[start..start + length];
     if let Some(number) = pieces::number_in(found) {
-        return Ok(Content::Number(pieces::loaded(size, number)));
+        return Ok(Content::Number(word_machine::loaded(size, number)));
     }
     if pieces::has_nothing(found) {
         return Err(Fault::Empty);
@@ -108,7 +108,7 @@ fn load_map(
     ensures err { IfErr result (λ fault. fault_of_load state.old size (pointers.Map map at) target ≡ Some fault) }
     ensures unchanged { OnErr result (seat.new ≡ seat.old) }
 {
-    if at > map_length(map) - pieces::load_length(size) as u64 {
+    if at > map_length(map) - word_machine::load_length(size) as u64 {
         return Err(Fault::Bounds);
     }
     let is_word = matches!(size, LoadSize::Unsigned64);

@@ -20,7 +20,7 @@ fn store_bytes(state: &mut State, size: StoreSize, at: u64, number: u64) -> Resu
     ensures ok { OnOk result (StoresAt size (pointers.Stack at) (Number number) state.old Silent state.new) }
     ensures err { IfErr result (λ fault. fault_of_store size (pointers.Stack at) (Number number) ≡ Some fault) }
 {
-    let length = pieces::store_length(size);
+    let length = word_machine::store_length(size);
     if at > 512 - length as u64 {
         return Err(Fault::Bounds);
     }
@@ -63,7 +63,7 @@ fn store_cell(
     ensures err { IfErr result (λ fault. fault_of_store size (pointers.Map Cells at) (Number number) ≡ Some fault) }
     ensures unchanged { OnErr result (seat.new ≡ seat.old) }
 {
-    if at > loads::map_length(Map::Cells) - pieces::store_length(size) as u64 {
+    if at > loads::map_length(Map::Cells) - word_machine::store_length(size) as u64 {
         return Err(Fault::Bounds);
     }
     let is_word = matches!(size, StoreSize::Bits64);

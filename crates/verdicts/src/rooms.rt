@@ -2,8 +2,7 @@
 ghost use Rattle.std.specs.Prelude.{◌≡◌, IfOk};
 ghost use Rattle.verifier.specs.Programs.{idle};
 
-use crate::programs::verified;
-use asm::assemble;
+use crate::programs::{object_of, verified};
 use isa::Hook;
 use std::alloc::{AllocError, Global};
 use std::process::Abort;
@@ -22,7 +21,7 @@ fn room_of(alloc: Global) -> Result<Accepted, AllocError>
 
 /// The accepted program of the text.
 fn program(rt: &impl Abort, alloc: Global, text: &str) -> Result<Accepted, Fail> {
-    let object = assemble(alloc, text)?;
+    let object = object_of(alloc, text)?;
     let accepted = verified(rt, alloc, &object)?.map_err(|_| "refused")?;
     Ok(accepted)
 }
@@ -32,6 +31,7 @@ fn same(rt: &impl Abort, one: &Accepted, other: &Accepted) {
     assert_eq!(rt; one.bound(), other.bound());
     assert!(rt; one.hook() == other.hook());
     assert!(rt; one.slots() == other.slots());
+    assert!(rt; one.regions() == other.regions());
 }
 
 #[test]

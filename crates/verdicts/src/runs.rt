@@ -5,8 +5,7 @@ ghost use Rattle.isa.specs.Hooks.{hook_number};
 ghost use Rattle.machine.specs.Memory.{number_of};
 ghost use Rattle.maps.specs.Words.{IsOf, fresh};
 
-use crate::programs::{sum_to, verified};
-use asm::assemble;
+use crate::programs::{counter_of_the_moment, object_of, verified};
 use interp::run;
 use isa::Hook;
 use machine::Input;
@@ -24,11 +23,12 @@ fn table(alloc: Global, count: usize) -> Result<(Shared, Vec<Seat>), MapsError>
     }
 }
 
-/// The context of a hook: its number, and zeros.
-fn context_of(hook: Hook) -> [u8; 64]
+/// The context of a hook: its number, this moment, and zeros.
+fn context_of(hook: Hook, moment: u8) -> [u8; 64]
     ensures { number_of (slice_range result 0 4) ≡ hook_number hook }
 {
     let mut context = [0; 64];
+    context[24] = moment;
     context[0] = match hook {
         Hook::Count => 1,
         Hook::Tag => 2,
@@ -38,37 +38,35 @@ fn context_of(hook: Hook) -> [u8; 64]
     context
 }
 
-/// The bound of the program of the text, what it answers on a context of zeros, and the instructions
+/// The bound of the program of the text, what it answers at this moment where counter 5 has 77, and the instructions
 /// that it takes.
-fn outcome(rt: &impl Abort, alloc: Global, text: &str) -> Result<(u64, u64, u64), Fail> {
-    let object = assemble(alloc, text)?;
+fn outcome(
+    rt: &impl Abort,
+    alloc: Global,
+    text: &str,
+    moment: u8,
+) -> Result<(u64, u64, u64), Fail> {
+    let object = object_of(alloc, text)?;
     let accepted = verified(rt, alloc, &object)?.map_err(|_| "refused")?;
     let input = Input {
-        context: context_of(accepted.hook()),
+        context: context_of(accepted.hook(), moment),
         packet: &[],
         rows: &[],
     };
     let (words, mut seats) = table(alloc, 1)?;
     let mut seat = seats.pop().ok_or("no seat")?;
+    let _added = words.add(&mut seat, 5, 77);
     let ended = run(&accepted, &input, &words, &mut seat);
     Ok((accepted.bound(), ended.answer, ended.used))
 }
 
-/// What the countdown from n comes to: its bound, the sum of the numbers up to n, and three
-/// instructions for each number and three more.
-fn sum_of(n: u64) -> (u64, u64, u64) {
-    let sum = n.wrapping_mul(n.wrapping_add(1)) / 2;
-    let used = n.wrapping_mul(3).wrapping_add(3);
-    (used.wrapping_mul(2), sum, used)
-}
-
 #[test]
-fn a_countdown_from_each_number_adds_them_up(rt: HostRuntime) -> Result<(), Fail> {
+fn the_counter_of_the_moment_is_read(rt: HostRuntime) -> Result<(), Fail> {
     let alloc = rt.alloc();
-    for n in 1..1001u32 {
-        let text = sum_to(alloc, n, n, 1)?;
-        let seen = outcome(&rt, alloc, &text)?;
-        assert_eq!(rt; seen, sum_of(u64::from(n)));
-    }
+    let text = counter_of_the_moment(alloc, "if r1 s> 63 goto L\nif r1 s< 0 goto L\n")?;
+    let seen = outcome(&rt, alloc, &text, 5)?;
+    assert_eq!(rt; seen, (11, 77, 8));
+    let late = outcome(&rt, alloc, &text, 64)?;
+    assert_eq!(rt; late, (11, 0, 4));
     Ok(())
 }

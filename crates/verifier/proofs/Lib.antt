@@ -1,4 +1,5 @@
 pub mod SegmentLemmas
+pub mod Kept
 pub mod Soundness
 pub mod Entries
 pub mod Refused

@@ -94,6 +94,12 @@ follow_refused hook code entry_rank statements slot i rules.ExitKind here made m
 follow_refused hook code entry_rank statements slot i rules.Frame here made may = (record { instruction = i; at = here; writes = may }, made)
 follow_refused hook code entry_rank statements slot i rules.Memory here made may = absurd may
 
+-- what may be empty is used
+pub empty_refused : (hook : Hook) (code : List Slot) (entry_rank : ℕ) (statements : List StatementParts) (slot : ℕ) (i : Instruction) (rule : Rule)
+    → BeginsAt i code slot → IsWellMade code statements slot → rule ≡ rules.Empty → IsRefusal hook code entry_rank statements slot rule
+empty_refused hook code entry_rank statements slot i rule here made is =
+    subst (λ (r : Rule). IsRefusal hook code entry_rank statements slot r) (sym is) (follow_refused hook code entry_rank statements slot i rules.Empty here made tt)
+
 -- an edge from the entry
 pub entry_refused : (hook : Hook) (code : List Slot) (entry_rank : ℕ) (statements : List StatementParts) (slot : ℕ) (rule : Rule)
     → Begins code slot → IsOfEdge rule → IsRefusal hook code entry_rank statements slot rule

@@ -1,4 +1,4 @@
--- A program whose slots are all fine is safe.
+-- A program whose slots are all fine is safe, and its loads and stores go to the regions that are kept.
 use Rattle.std.proofs.Common.{◌≡◌, ℕ, suc, ◌+◌, ◌-◌, ◌*◌, ◌<◌, ◌≤◌, true, false, List, [], ◌∷◌, Option, Some, None, ⊎_elim, refl, subst, length, arith}
 use Rattle.std.specs.Prelude.{IsSomeAnd, nat_le, if◌then◌else◌}
 use Rattle.std.proofs.Math.Nat.{mul-le-mul_left}
@@ -17,10 +17,13 @@ use Rattle.machine.specs.Runs.{Leads, Run, Safe}
 use Rattle.kinds.specs.declared.statement.Target.{Target}
 use Rattle.kinds.specs.Meaning.{TargetHolds}
 use Rattle.ranks.specs.Lines.{rank_value}
+use Rattle.regions.specs.declared.Region.{Region}
+use Rattle.regions.specs.Regions.{AreKeptRegions, IsKeptAt}
 use Rattle.transfer.specs.Given.{Given, setting_of}
 use Rattle.segments.specs.Places.{target_at}
 use Rattle.segments.specs.Segments.{Visits, at_entry, at_target, falls, Enters, EntersNext, IsFine}
 use Rattle.segments.proofs.Made.{inside_code}
+use Rattle.verifier.specs.Kept.{IsKept}
 use Rattle.verifier.proofs.SegmentLemmas.{size_some}
 
 -- The steps that are left: the rank counts the turns that the code may still be gone through, and the slot what is left of this one.
@@ -135,9 +138,23 @@ module _ {D : Type 0} (contains : D → ℕ → Type 0) (code : List Slot) (hook
       let inside = inside_code code s.slot reached.begins in
       (omega (arith, run.steps, reached.bounded, inside), λ fault stuck. (fine s.slot reached.begins).free input reached.segment reached.begin s fault reached.visit refl stuck)
 
+  pub met_kept : ((slot : ℕ) → Begins code slot → IsFine contains code hook targets entry slot) → Begins code 0 → TargetHolds contains entry start → ((target : Target D) → target_at targets 0 ≡ Some target → Enters contains false entry target start start)
+      → (rank_value entry.statement.now.rank start + 1) * length code ≤ limit → (kept : List Region) → ((slot : ℕ) → Begins code slot → IsKept contains code hook targets entry kept slot)
+      → (m : ℕ) (labels : List Label) (s : Machine) → Run (setting_of code hook input) m labels s → IsKeptAt (setting_of code hook input) kept s
+  met_kept fine begins holds edge room kept keeps m labels s run =
+      let reached = reached_along fine labels 0 start s (first_reached begins holds edge room (target_at targets 0) refl) run.leads in
+      (keeps s.slot reached.begins).keeps input reached.segment reached.begin s reached.visit refl
+
 -- What the verifier has found when it accepts makes the program safe.
 pub safe_program : {D : Type 0} (contains : D → ℕ → Type 0) (code : List Slot) (hook : Hook) (targets : List (Option (Target D))) (entry : Target D) (rank : ℕ) → Begins code 0 → TargetHolds contains entry start
     → rank_value entry.statement.now.rank start ≡ rank → ((target : Target D) → target_at targets 0 ≡ Some target → Enters contains false entry target start start)
     → ((slot : ℕ) → Begins code slot → IsFine contains code hook targets entry slot) → Safe code hook ((rank + 1) * length code)
 safe_program contains code hook targets entry rank begins holds rank_is edge fine =
     λ input m labels s run. met contains code hook targets entry ((rank + 1) * length code) input fine begins holds edge (rw rank_is (omega arith)) m labels s run
+
+-- And the regions that it has written down are those of the program's loads and stores.
+pub kept_regions : {D : Type 0} (contains : D → ℕ → Type 0) (code : List Slot) (hook : Hook) (targets : List (Option (Target D))) (entry : Target D) → Begins code 0 → TargetHolds contains entry start
+    → ((target : Target D) → target_at targets 0 ≡ Some target → Enters contains false entry target start start) → ((slot : ℕ) → Begins code slot → IsFine contains code hook targets entry slot)
+    → (kept : List Region) → ((slot : ℕ) → Begins code slot → IsKept contains code hook targets entry kept slot) → AreKeptRegions code hook kept
+kept_regions contains code hook targets entry begins holds edge fine kept keeps =
+    λ input m labels s run. met_kept contains code hook targets entry ((rank_value entry.statement.now.rank start + 1) * length code) input fine begins holds edge (omega arith) kept keeps m labels s run

@@ -2,3 +2,4 @@ pub mod Programs
 pub mod Plain
 pub mod Pass
 pub mod Examples
+pub mod Kept

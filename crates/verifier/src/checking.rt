@@ -9,6 +9,7 @@ use crate::accepted::Accepted;
 use crate::entry::{enter_start, entry_of, entry_statement, unknown};
 use crate::pass::pass_all;
 use crate::refusal::Refusal;
+use crate::region::any_regions;
 use absdom::Domain;
 use isa::{Code, Hook};
 use object::Statement;
@@ -75,9 +76,11 @@ pub fn verify<D: Domain>(
     let entry = entry_of::<D>(alloc, &statement)?;
     let targets = targets_of::<D>(alloc, code.len(), statements)?;
     let known = enter_start(&targets, &entry, unknown(alloc)?)?;
-    pass_all(&code, hook, &targets, &entry, known)?;
+    let room = any_regions(alloc, code.len())?;
+    let regions = pass_all(&code, hook, &targets, &entry, known, room)?;
     Ok(Accepted {
         slots: code.into_slots(),
+        regions,
         hook,
         bound,
     })

@@ -7,6 +7,7 @@ mod entry;
 pub mod laws;
 mod pass;
 mod refusal;
+mod region;
 
 pub use accepted::Accepted;
 pub use checking::{BUDGET, verify};

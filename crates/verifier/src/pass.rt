@@ -8,6 +8,7 @@ ghost use Rattle.kinds.specs.Meaning.{StateHolds, TargetHolds};
 ghost use Rattle.object.specs.Statements.{StatementParts};
 ghost use Rattle.kinds.specs.Plain.{kind_in};
 ghost use Rattle.kinds.specs.declared.statement.Target.{Target as AnyTarget};
+ghost use Rattle.verifier.specs.Kept.{GoesInto, IsKept};
 ghost use Rattle.verifier.specs.Pass.{ComesPlainly, HasRank, IsPlainIfLive, IsPlainProgram, KeepsPlain};
 ghost use Rattle.segments.specs.Places.{IsWellPlaced, segment_of, target_at};
 ghost use Rattle.segments.specs.Refusals.{IsFirst, IsFirstHere, IsPassedTo, IsWellMade, MayFollow, MayRefuse};
@@ -15,6 +16,7 @@ ghost use Rattle.segments.specs.Segments.{IsCurrentUnlessStated, IsFine, IsFollo
 ghost use Rattle.segments.specs.Stated.{AreTargets};
 
 use crate::refusal::Refusal;
+use crate::region::region_at;
 use absdom::Domain;
 use isa::laws::{
     a_wide_instruction_has_its_second_half, an_instruction_is_followed,
@@ -22,6 +24,7 @@ use isa::laws::{
 };
 use isa::{Code, Hook, Instruction, Slot};
 use kinds::{Target, reset};
+use regions::Region;
 use segments::follow::follow;
 use segments::known::Known;
 use segments::places::{check_places, falls_through, slots_of};
@@ -122,7 +125,7 @@ fn pass_in<'a, D: Domain>(
     Ok(after)
 }
 
-/// Goes from one instruction to the slot behind it.
+/// Goes from one instruction to the slot behind it, and says which region a load or store goes to.
 fn step<'a, D: Domain>(
     code: &Code,
     hook: Hook,
@@ -133,7 +136,7 @@ fn step<'a, D: Domain>(
     is_passed_to: bool,
     slot: usize,
     instruction: &Instruction,
-) -> Result<(Option<usize>, Known<D>), Rule>
+) -> Result<(Option<usize>, Known<D>, Region), Rule>
     requires small { slot < 4096 }
     requires here { slice_get code.now slot ≡ Some (Start instruction.now) }
     ensures fine { IfOk result (λ _. IsCurrentUnlessStated D.contains code.now hook targets.now
@@ -143,6 +146,9 @@ fn step<'a, D: Domain>(
         targets.now entry.now slot (segment_of targets.now entry.now begun) known
         → IsCurrentUnlessStated D.contains code.now hook targets.now entry.now
         (slot + size instruction.now) (segment_of targets.now entry.now next.0) next.1) }
+    ensures kept { IfOk result (λ next. IsCurrentUnlessStated D.contains code.now hook targets.now
+        entry.now slot (segment_of targets.now entry.now begun) known
+        → GoesInto D.contains code.now hook targets.now entry.now slot next.2) }
     ensures made { (statements : List StatementParts) → AreTargets D.contains statements targets.now
         → IsPassedTo is_passed_to code.now slot
         → IfOk result (λ _. IsWellMade code.now statements slot) }
@@ -168,8 +174,9 @@ fn step<'a, D: Domain>(
     let _is_code = code.slots();
     check_places(code, targets, is_passed_to, slot, instruction)?;
     let (here, arrived) = arrive(targets, slot, begun, known);
+    let region = region_at(&arrived, instruction)?;
     let after = pass_in(code, hook, targets, entry, here, arrived, slot, instruction)?;
-    Ok((here, after))
+    Ok((here, after, region))
 }
 
 /// Whether a statement stands at the second half of the instruction.
@@ -187,20 +194,26 @@ fn splits<'a, D: Domain>(
     instruction.is_wide() && is_stated(targets, slot + 1)
 }
 
-/// Passes once over the instructions.
+/// Passes once over the instructions. What it gives has at each slot the region that a load or
+/// store there goes to, in the room that it is given.
 pub fn pass_all<'a, D: Domain>(
     code: &Code,
     hook: Hook,
     targets: &[Option<Target<'a, D>>],
     entry: &Target<'a, D>,
     start: Known<D>,
-) -> Result<(), Refusal>
+    mut regions: Vec<Region>,
+) -> Result<Vec<Region>, Refusal>
     requires live { start.is_live ≡ true }
     requires own { (machine : Machine) → TargetHolds D.contains entry.now machine
         → StateHolds D.contains start.state machine machine }
     requires ten { length start.state.kinds.items ≡ 10 }
+    requires long { length regions.items ≡ length code.now }
     ensures fine { IfOk result (λ _. (slot : ℕ) → Begins code.now slot
         → IsFine D.contains code.now hook targets.now entry.now slot) }
+    ensures kept { IfOk result (λ kept. (slot : ℕ) → Begins code.now slot
+        → IsKept D.contains code.now hook targets.now entry.now kept.items slot) }
+    ensures long { IfOk result (λ kept. length kept.items ≡ length code.now) }
     ensures named { (statements : List StatementParts) (entry_rank : ℕ)
         → AreTargets D.contains statements targets.now
         → IfErr result (λ refusal.
@@ -223,7 +236,7 @@ pub fn pass_all<'a, D: Domain>(
         let Some(Slot::Start(instruction)) = code.at(slot as u64) else {
             unreachable!()
         };
-        let (here, after) = match step(
+        let (here, after, region) = match step(
             code,
             hook,
             targets,
@@ -239,6 +252,7 @@ pub fn pass_all<'a, D: Domain>(
         };
         begun = here;
         known = after;
+        regions[slot] = region;
         is_passed_to = falls_through(&instruction);
         if splits(targets, slot, &instruction) {
             return Err(Refusal {
@@ -248,5 +262,5 @@ pub fn pass_all<'a, D: Domain>(
         }
         slot += slots_of(&instruction);
     }
-    Ok(())
+    Ok(regions)
 }

@@ -11,11 +11,11 @@ use super::{Entry, Programs};
 use crate::history::Front;
 use crate::input::{default_word, hook_of};
 use crate::slot::Slot;
-use interp::run;
 use left_right::Absorb;
 use machine::{Hook, Input};
 use maps::{Seat, Shared};
 use std::alloc::{AllocError, Global};
+use word_machine::run;
 
 impl Programs {
     pub fn empty(alloc: Global, front: Front) -> Result<Programs, AllocError>
@@ -55,6 +55,7 @@ impl Programs {
             Some(program) => {
                 let _bound = program.bound();
                 let _code = program.slots();
+                let _regions = program.regions();
                 run(program, input, shared, seat).answer
             }
             None => default_word(hook, input),

@@ -1,7 +1,7 @@
 use Rattle.std.proofs.Common.{◌≡◌, ℕ, ◌+◌, ◌-◌, ◌^◌, ◌*◌, ◌<◌, List, ◌∷◌, length, drop, get_or, ap, subst, ◌∙◌, arith}
 use Rattle.machine.specs.declared.state.StackByte.{StackByte}
 use Rattle.machine.specs.declared.state.StackByte.TheVariants.{Nothing, Byte}
-use Rattle.interp.proofs.Lists.{drop_back, step_below, seven_below}
+use Rattle.word_machine.proofs.Bytes.{drop_back, step_below, seven_below}
 use Rattle.interp.proofs.pieces.number_in.Goals as goal
 
 pub overflow_mul-number : goal.overflow_mul-number

@@ -1,10 +1,12 @@
-use Rattle.std.proofs.Common.{◌≡◌, ◌<◌, ◌+◌, ◌⊎◌, Some, inr, arith, subst, sym, length}
+use Rattle.std.proofs.Common.{◌≡◌, ◌∙◌, ◌<◌, ◌+◌, ◌⊎◌, Some, inr, arith, subst, sym, length}
 use Rattle.isa.specs.Flow.{Begins}
 use Rattle.segments.specs.Places.{segment_of}
 use Rattle.segments.specs.Segments.{IsCurrentUnlessStated}
 use Rattle.segments.proofs.Made.{inside_code}
 use Rattle.std.specs.Prelude.{slice_get}
 use Rattle.isa.specs.declared.code.Slot.TheVariants.{Start}
+use Rattle.std.proofs.lemmas.List.{length-set}
+use Rattle.verifier.proofs.Kept.{kept_more}
 use Rattle.verifier.proofs.SegmentLemmas.{code_begins, entry_current, fine_more}
 use Rattle.segments.specs.Refusals.{IsPassedTo}
 use Rattle.verifier.proofs.Refused.{made_more, passed_behind, passed_to_start, split_first, split_refused}
@@ -16,6 +18,8 @@ use Rattle.verifier.proofs.pass.pass_all.Goals as goal
 pub loop-slot-init : goal.loop-slot-init
 loop-slot-init g c = record {
   fine = λ k none begins. absurd (omega (arith, none));
+  kept = λ k none begins. absurd (omega (arith, none));
+  long = c.requires.long;
   current = entry_current g.D.Domain.contains c.args.code.now c.args.hook c.args.targets.now c.args.entry.now c.requires.live c.requires.own;
   place = inr (code_begins c.args.code.now c.slots-is_code.ensures.code);
   passed = passed_to_start c.args.code.now;
@@ -28,9 +32,14 @@ loop-slot-preserved g c =
     let code = c.args.code.now in
     let here : slice_get c.args.code.now c.loop-slot.slot ≡ Some (Start c.in-Some-Start.instruction) = cc (c.at.ensures.value, c.in-Some-Start.is, c.in-Some-Start.field-0-is, c.in-Some-Start.ensures.value) in
     let this = c.in-Ok.ensures.fine c.loop-slot.invariant.current in
+    let into = c.in-Ok.ensures.kept c.loop-slot.invariant.current in
+    let inside : c.loop-slot.slot < length c.loop-slot.regions.items = omega (arith, inside_code code c.loop-slot.slot (c.in-Some-Start.instruction, here), c.loop-slot.invariant.long) in
     record {
       fine = λ k below begins. fine_more g.D.Domain.contains code c.args.hook c.args.targets.now c.args.entry.now c.a_wide_instruction_has_its_second_half.ensures c.slots-is_code.ensures.code c.loop-slot.slot c.in-Some-Start.instruction here
           c.loop-slot.invariant.fine this k (subst (λ n. k < c.loop-slot.slot + n) c.slots_of-slot.ensures.value below) begins;
+      kept = λ k below begins. kept_more g.D.Domain.contains code c.args.hook c.args.targets.now c.args.entry.now c.a_wide_instruction_has_its_second_half.ensures c.slots-is_code.ensures.code c.loop-slot.slot c.in-Some-Start.instruction here
+          c.loop-slot.regions.items c.in-Ok.next.2 inside c.loop-slot.invariant.kept into k (subst (λ n. k < c.loop-slot.slot + n) c.slots_of-slot.ensures.value below) begins;
+      long = length-set c.loop-slot.regions.items c.loop-slot.slot c.in-Ok.next.2 ∙ c.loop-slot.invariant.long;
       current = subst (λ n. IsCurrentUnlessStated g.D.Domain.contains code c.args.hook c.args.targets.now c.args.entry.now (c.loop-slot.slot + n) (segment_of c.args.targets.now c.args.entry.now c.in-Ok.next.0) c.in-Ok.next.1) (sym c.slots_of-slot.ensures.value)
           (c.in-Ok.ensures.current c.loop-slot.invariant.current);
       place = subst (λ n. (c.loop-slot.slot + n ≡ length code) ⊎ Begins code (c.loop-slot.slot + n)) (sym c.slots_of-slot.ensures.value)
@@ -46,6 +55,9 @@ loop-slot-preserved g c =
 
 pub returns-clause-fine : goal.returns-clause-fine
 returns-clause-fine g c = λ slot begins. let inside = inside_code c.args.code.now slot begins in c.loop-slot.invariant.fine slot (omega (arith, inside)) begins
+
+pub returns-clause-kept : goal.returns-clause-kept
+returns-clause-kept g c = λ slot begins. let inside = inside_code c.args.code.now slot begins in c.loop-slot.invariant.kept slot (omega (arith, inside)) begins
 
 pub returns-in-Err-clause-named : goal.returns-in-Err-clause-named
 returns-in-Err-clause-named g c = λ statements entry_rank are. (c.in-Err.ensures.named statements entry_rank are c.loop-slot.invariant.passed).0

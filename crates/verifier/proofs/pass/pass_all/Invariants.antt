@@ -5,14 +5,17 @@ use Rattle.segments.specs.Refusals.{IsPassedTo, IsWellMade}
 use Rattle.segments.specs.Stated.{AreTargets}
 use Rattle.segments.specs.Places.{segment_of}
 use Rattle.segments.specs.Segments.{IsFine, IsCurrentUnlessStated}
+use Rattle.verifier.specs.Kept.{IsKept}
 use Rattle.verifier.specs.Pass.{ComesPlainly, HasRank, IsPlainProgram}
 use Rattle.verifier.proofs.pass.pass_all.Given as goal
 
--- The instructions so far are fine and well made, what is known is known of every visit of this slot, and
+-- The instructions so far are fine and well made, and their regions are kept. What is known is known of every visit of this slot, and
 -- the slot is the end or begins an instruction. Of a plain program what is filled is known.
 abbrev pub invariant-loop-slot : goal.invariant-loop-slot
 invariant-loop-slot g l = record {
   fine : (k : ℕ) → k < l.slot → Begins l.code k → IsFine g.D.Domain.contains l.code l.hook l.targets l.entry k;
+  kept : (k : ℕ) → k < l.slot → Begins l.code k → IsKept g.D.Domain.contains l.code l.hook l.targets l.entry l.regions.items k;
+  long : length l.regions.items ≡ length l.code;
   current : IsCurrentUnlessStated g.D.Domain.contains l.code l.hook l.targets l.entry l.slot (segment_of l.targets l.entry l.begun) l.known;
   place : (l.slot ≡ length l.code) ⊎ Begins l.code l.slot;
   passed : IsPassedTo l.is_passed_to l.code l.slot;

@@ -1,5 +1,6 @@
+use Rattle.verifier.proofs.Kept.{current_into, no_base}
 use Rattle.verifier.proofs.SegmentLemmas.{arrived, current_fine, next_current}
-use Rattle.verifier.proofs.Refused.{IsRefusal, follow_refused, handed_on, place_refused}
+use Rattle.verifier.proofs.Refused.{IsRefusal, empty_refused, follow_refused, handed_on, place_refused}
 use Rattle.segments.specs.Places.{segment_of}
 use Rattle.segments.proofs.Plain.{never}
 use Rattle.verifier.proofs.Plain.{arrives, comes_behind, no_place, plain_here}
@@ -10,6 +11,11 @@ returns-clause-fine g c = λ current.
     let found = arrived g.D.Domain.contains c.args.code.now c.args.hook c.args.targets.now c.args.entry.now c.args.slot c.args.begun c.arrive-here.result.0 c.args.known c.arrive-here.result.1 current c.arrive-here.ensures.arrived in
     current_fine g.D.Domain.contains c.args.code.now c.args.hook c.args.targets.now c.args.entry.now c.arrive-here.result.1 c.in_ok-after.after c.args.instruction.now c.requires.here found c.in_ok-after.ensures.passed
 
+pub returns-clause-kept : goal.returns-clause-kept
+returns-clause-kept g c = λ current.
+    let found = arrived g.D.Domain.contains c.args.code.now c.args.hook c.args.targets.now c.args.entry.now c.args.slot c.args.begun c.arrive-here.result.0 c.args.known c.arrive-here.result.1 current c.arrive-here.ensures.arrived in
+    current_into g.D.Domain.contains c.args.code.now c.args.hook c.args.targets.now c.args.entry.now c.arrive-here.result.1 c.args.instruction.now c.in_ok-region.region c.requires.here found c.in_ok-region.ensures.points
+
 pub returns-clause-current : goal.returns-clause-current
 returns-clause-current g c = λ current.
     let found = arrived g.D.Domain.contains c.args.code.now c.args.hook c.args.targets.now c.args.entry.now c.args.slot c.args.begun c.arrive-here.result.0 c.args.known c.arrive-here.result.1 current c.arrive-here.ensures.arrived in
@@ -19,6 +25,15 @@ pub returns-in_err-check_places-clause-named : goal.returns-in_err-check_places-
 returns-in_err-check_places-clause-named g c = λ statements entry_rank are passed.
     handed_on c.from_residual.result c.in_err-check_places.field-0.0 (IsRefusal c.args.hook c.args.code.now entry_rank statements c.args.slot) c.from_residual.ensures.1
     (place_refused c.args.hook c.args.code.now entry_rank statements c.args.slot c.in_err-check_places.field-0.0 (c.in_err-check_places.ensures.made statements are passed))
+
+pub returns-in_err-region-clause-named : goal.returns-in_err-region-clause-named
+returns-in_err-region-clause-named g c = λ statements entry_rank are passed.
+    handed_on c.from_residual-in_err-region.result c.in_err-region.field-0.0 (IsRefusal c.args.hook c.args.code.now entry_rank statements c.args.slot) c.from_residual-in_err-region.ensures.1
+    (empty_refused c.args.hook c.args.code.now entry_rank statements c.args.slot c.args.instruction.now c.in_err-region.field-0.0 c.requires.here (c.in_ok-check_places.ensures.made statements are passed) c.in_err-region.ensures.named)
+
+pub returns-in_err-region-clause-plain : goal.returns-in_err-region-clause-plain
+returns-in_err-region-clause-plain g c = λ statements entry_rank program passed comes.
+    never (c.in_err-region.ensures.plain (no_base c.args.instruction.now (program.plain.instructions c.args.slot c.args.instruction.now c.requires.here)))
 
 pub returns-in_err-after-clause-named : goal.returns-in_err-after-clause-named
 returns-in_err-after-clause-named g c = λ statements entry_rank are passed.
