@@ -92,6 +92,11 @@ found_or_0 None = 0
 abbrev pub first_hop : (hops : ℕ) → InterfaceNumber
 first_hop hops = found_or_0 (find (has_interface hops) (range_with_len 0 64))
 
+-- the distance of a type 2 route; a route of another kind has none
+abbrev pub type_2_distance : RouteKind → (distance : ℕ) → ℕ
+type_2_distance External2 distance = distance
+type_2_distance other distance = 0
+
 -- `veto` is asked of a route at a moment
 abbrev pub veto_context : Route → Moment → List ℕ
 veto_context route moment = context_of (
@@ -102,7 +107,7 @@ veto_context route moment = context_of (
     ∷ four_bytes 16 route.tag
     ∷ four_bytes 20 (route_kind_number route.kind)
     ∷ eight_bytes 24 moment
-    ∷ four_bytes 32 route.distance
+    ∷ four_bytes 32 (type_2_distance route.kind route.distance)
     ∷ four_bytes 36 (count_ones route.hops)
     ∷ four_bytes 40 (first_hop route.hops)
     ∷ [])

@@ -1,6 +1,6 @@
 //! The contexts of external destinations and of routes.
 ghost use Rattle.std.specs.Prelude.{◌≡◌};
-ghost use Rattle.contexts.specs.Contexts.{external_type_number, external_context, tag_context, price_context, route_kind_number, first_hop, veto_context};
+ghost use Rattle.contexts.specs.Contexts.{external_type_number, external_context, tag_context, price_context, route_kind_number, first_hop, type_2_distance, veto_context};
 
 use crate::Context;
 use crate::fields::{put_eight, put_four};
@@ -67,6 +67,16 @@ fn first_hop(hops: Hops) -> u64
     0
 }
 
+/// The distance of a type 2 route, 0 for a route of another kind.
+fn type_2_distance(kind: RouteKind, distance: u32) -> u32
+    ensures { result ≡ type_2_distance kind distance }
+{
+    match kind {
+        RouteKind::External2 => distance,
+        RouteKind::Intra | RouteKind::Inter | RouteKind::External1 => 0,
+    }
+}
+
 /// What `veto` is asked of a route at the moment.
 pub fn veto_context(route: Route, moment: Second) -> Context
     ensures { result ≡ veto_context route moment }
@@ -79,7 +89,8 @@ pub fn veto_context(route: Route, moment: Second) -> Context
     put_four(&mut context, 16, u64::from(route.tag));
     put_four(&mut context, 20, route_kind_number(route.kind));
     put_eight(&mut context, 24, moment.count());
-    put_four(&mut context, 32, u64::from(route.distance));
+    let distance = type_2_distance(route.kind, route.distance);
+    put_four(&mut context, 32, u64::from(distance));
     put_four(&mut context, 36, u64::from(route.hops.len()));
     put_four(&mut context, 40, first_hop(route.hops));
     context

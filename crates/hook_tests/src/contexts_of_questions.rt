@@ -93,17 +93,18 @@ fn route(kind: RouteKind, hops: Hops) -> Result<Route, Fail> {
 
 #[test]
 fn veto_tells_of_the_route(rt: HostRuntime) -> Result<(), Fail> {
+    // Only a type 2 route has a distance that is told.
     let kinds = [
-        (RouteKind::Intra, 1),
-        (RouteKind::Inter, 2),
-        (RouteKind::External1, 3),
-        (RouteKind::External2, 4),
+        (RouteKind::Intra, 1, 0),
+        (RouteKind::Inter, 2, 0),
+        (RouteKind::External1, 3, 0),
+        (RouteKind::External2, 4, 17),
     ];
-    for (kind, number) in kinds {
+    for (kind, number, distance) in kinds {
         let hops = Hops::only(1).join(Hops::only(2));
         let bytes = [
             4, 0, 0, 0, 0, 2, 0, 0xc0, 24, 0, 0, 0, 20, 0, 0, 0, 9, 0, 0, 0, number, 0, 0, 0, 5, 0,
-            0, 0, 0, 0, 0, 0, 17, 0, 0, 0, 2, 0, 0, 0, 1, 0, 0, 0,
+            0, 0, 0, 0, 0, 0, distance, 0, 0, 0, 2, 0, 0, 0, 1, 0, 0, 0,
         ];
         begins(
             &rt,

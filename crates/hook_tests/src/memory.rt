@@ -1,7 +1,6 @@
 //! Where memory is refused: once in a run of the tests, at any allocation.
 use crate::samples::{SEVEN, accepted};
 use crate::trial::loader_and_askers;
-use hooks::programs;
 use machine::Hook;
 use std::test::Fail;
 
@@ -21,9 +20,7 @@ fn programs_are_made_after_a_refusal(rt: HostRuntime) -> Result<(), Fail> {
 fn attaching_and_detaching_take_no_memory(rt: HostRuntime) -> Result<(), Fail> {
     let first = accepted(rt.alloc(), SEVEN).ok_or("refused")?;
     let second = accepted(rt.alloc(), "hook veto\nrank 0\nr0 = 3\nexit\n").ok_or("refused")?;
-    let Ok((mut loader, _askers)) = programs(rt.alloc(), &rt, 1) else {
-        return Ok(());
-    };
+    let (mut loader, _askers) = loader_and_askers(rt.alloc(), &rt, 1)?;
     assert!(rt; loader.attach(first).is_ok());
     assert!(rt; loader.attach(second).is_ok());
     for _turn in 0..9 {
