@@ -57,6 +57,14 @@ one_more P keys n last within here holds all key (k, low, is) =
       | inr other ↦ all key (k, omega (arith, low, other), is)
     ]
 
+-- ---- within one moment
+
+-- each copy that has MaxAge had it
+pub all_old_within : (last_type : Option ℕ) (before moment : ℕ) (db : Database) (keys : List Key) → before ≡ moment
+    → AreOld last_type before moment db keys
+all_old_within last_type before moment db keys same = λ key among copy up_to here aged.
+    subst (λ m. is_aged_out m copy ≡ true) (sym same) aged
+
 -- ---- what a copy says
 
 grows : (age stored before moment : ℕ) → before ≤ moment → (min 3600 (age + (before - stored)) == 3600) ≡ true → (min 3600 (age + (moment - stored)) == 3600) ≡ true

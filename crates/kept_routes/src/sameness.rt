@@ -38,6 +38,10 @@ pub fn say_the_same(
     if !db.keeps(alloc, last_type)? {
         return Ok(false);
     }
+    // Within one moment nothing comes of age.
+    if before.count() == moment.count() {
+        return Ok(true);
+    }
     let keys = db.aged_keys(alloc, moment)?;
     Ok(are_old(db, last_type, before, moment, &keys))
 }

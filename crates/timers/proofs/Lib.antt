@@ -6,3 +6,4 @@ pub mod Greeted
 pub mod Aged
 pub mod Again
 pub mod OfAge
+mod Within

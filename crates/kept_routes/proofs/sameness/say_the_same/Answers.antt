@@ -1,6 +1,6 @@
-use Rattle.std.proofs.Common.{◌∙◌, subst, sym}
+use Rattle.std.proofs.Common.{◌∙◌, refl, subst, sym}
 use Rattle.kept_routes.specs.Ages.{AreOld}
-use Rattle.kept_routes.proofs.Aging.{all_left, all_same, keeps_all, olds_all}
+use Rattle.kept_routes.proofs.Aging.{all_left, all_old_within, all_same, keeps_all, olds_all}
 use Rattle.kept_routes.proofs.sameness.say_the_same.Goals as goal
 
 pub returns-clause-same : goal.returns-clause-same
@@ -27,3 +27,20 @@ returns-then-not-branch-clause-left c = (
   (λ t. absurd cc),
   (λ left. sym c.if-not-branch.true ∙ c.in_ok-keeps.ensures.1 (keeps_all c.args.last_type c.args.before c.args.moment c.args.db.now.settled c.args.db.now.present left)),
 )
+
+pub returns-then-count-clause-same : goal.returns-then-count-clause-same
+returns-then-count-clause-same c = λ t.
+    let old = c.args.db.now.settled in
+    let new = c.args.db.now.present in
+    all_same c.args.last_type c.args.before c.args.moment old new c.requires
+    (all_left c.args.last_type c.args.before c.args.moment old new (c.in_ok-keeps.ensures.0 c.if-not-branch.false)
+    (all_old_within c.args.last_type c.args.before c.args.moment new _ cc))
+
+pub returns-then-count-clause-left : goal.returns-then-count-clause-left
+returns-then-count-clause-left c =
+    let old = c.args.db.now.settled in
+    let new = c.args.db.now.present in (
+      (λ t. all_left c.args.last_type c.args.before c.args.moment old new (c.in_ok-keeps.ensures.0 c.if-not-branch.false)
+          (all_old_within c.args.last_type c.args.before c.args.moment new _ cc)),
+      (λ left. refl),
+    )

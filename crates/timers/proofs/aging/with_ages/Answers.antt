@@ -1,10 +1,13 @@
-use Rattle.std.proofs.Common.{ap, ◌∙◌}
+use Rattle.std.proofs.Common.{◌≡◌, ap, sym, ◌∙◌}
 use Rattle.keyed_map.proofs.Helds.{on_ok}
 use Rattle.lsdb.specs.Copies.{aged_keys}
 use Rattle.received.specs.Links.{Area}
 use Rattle.flooding.specs.Drafted.{drafted}
 use Rattle.timers.specs.Aging.{each_come_of_age}
 use Rattle.timers.proofs.OfAge.{ages_are}
+use Rattle.timers.proofs.Within.{nothing_ages}
+use Rattle.flooding.proofs.Sends.{drafted_none}
+use Rattle.flooding.specs.Links.{start}
 use Rattle.timers.proofs.aging.with_ages.Goals as goal
 
 pub returns-clause-ok : goal.returns-clause-ok
@@ -27,3 +30,17 @@ returns-clause-drafts c =
     on_ok c.each_come_of_age.result
     (λ is. is ∙ ap (λ ks. drafted (each_come_of_age b m ks a).sends a.links ds) keys ∙ ap (λ o. drafted o.sends a.links ds) (ages_are b m a))
     c.each_come_of_age.ensures.drafts
+
+pub returns-then-count-clause-ok : goal.returns-then-count-clause-ok
+returns-then-count-clause-ok c =
+    let a : Area = c.args.area.now.present in
+    let same : c.args.before ≡ c.args.moment = cc in
+    ap (λ o. o.area) (sym (nothing_ages c.args.before c.args.moment same (start a)))
+
+pub returns-then-count-clause-drafts : goal.returns-then-count-clause-drafts
+returns-then-count-clause-drafts c =
+    let a : Area = c.args.area.now.present in
+    let ds = c.args.drafts.now in
+    let same : c.args.before ≡ c.args.moment = cc in
+    drafted_none 1 a.links ds
+    ∙ ap (λ o. drafted o.sends a.links ds) (sym (nothing_ages c.args.before c.args.moment same (start a)))
