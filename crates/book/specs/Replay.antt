@@ -1,5 +1,5 @@
 -- A journal, and what it says of a router.
-use Rattle.std.specs.Prelude.{◌≡◌, ℕ, ◌≤◌, List, [], length, map}
+use Rattle.std.specs.Prelude.{◌≡◌, ◌⊎◌, ℕ, ◌≤◌, List, [], ◌∷◌, ◌++◌, length, map}
 use Rattle.words.specs.Numbers.{Moment}
 use Rattle.events.specs.Events.{Run, Step}
 use Rattle.events.specs.Routers.{Occurrence, Router}
@@ -35,6 +35,20 @@ pub record BookView : Type 0 where
 -- a book that has taken nothing
 abbrev pub started : Router → BookView
 started core = record { start = core; journal = []; current = core; taken = 0 }
+
+-- the book starts from the router as it is now, with an empty journal
+abbrev pub marked : BookView → BookView
+marked b = record b { start = b.current; journal = [] }
+
+-- it is the same book, or the one that was marked
+abbrev pub IsSameOrMarked : (old new : BookView) → Type 0
+IsSameOrMarked old new = (new ≡ old) ⊎ (new ≡ marked old)
+
+-- the entry stands last in the journal, which goes on or was emptied by a mark before
+abbrev pub IsNoted : (old : BookView) → Entry → (new : BookView) → Type 0
+IsNoted old e new =
+    ((new.start ≡ old.start) × (new.journal ≡ old.journal ++ e ∷ []))
+    ⊎ ((new.start ≡ old.current) × (new.journal ≡ e ∷ []))
 
 -- what holds of the fields of every book, beside the total of its ledger
 pub record IsKept (start : Router) (journal : List Entry) (now : Router) (taken total : ℕ)

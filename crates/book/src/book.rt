@@ -4,7 +4,7 @@ ghost use Rattle.events.specs.Events.{Happens};
 ghost use Rattle.flood.specs.Occurrences.{occurrence_of};
 ghost use Rattle.flood.specs.Offers.{IsStaleNow};
 ghost use Rattle.book.specs.Refusals.{Answers, AnswersAnew};
-ghost use Rattle.book.specs.Replay.{Replays, entry, started};
+ghost use Rattle.book.specs.Replay.{IsNoted, IsSameOrMarked, Replays, entry, marked, started};
 
 use crate::entry::Entry;
 use crate::error::BookError;
@@ -156,15 +156,28 @@ impl<L: Ledger> Book<L> {
     ///
     /// `AllocError` comes where an allocation was refused; the book is as it was then.
     pub fn mark(&mut self) -> Result<(), AllocError>
-        ensures ok { OnOk result (self.new ≡ record self.old {
-          start = self.old.current;
-          journal = [];
-        }) }
+        ensures ok { OnOk result (self.new ≡ marked self.old) }
         ensures err { OnErr result (self.new ≡ self.old) }
     {
         self.start = self.current.copy()?;
         self.journal.clear();
         self.noted = 0;
+        Ok(())
+    }
+
+    // Marks a book whose journal is full, or whose events hold more than 64 MiB. Only a full journal's
+    // mark is refused where it gets no memory.
+    fn make_room(&mut self) -> Result<(), AllocError>
+        ensures book { IsSameOrMarked self.old self.new }
+        ensures room { OnOk result (length self.new.journal < 65536) }
+        ensures err { OnErr result (self.new ≡ self.old) }
+    {
+        if self.journal.len() == JOURNAL {
+            return self.mark();
+        }
+        if self.noted > NOTED {
+            let _marked = self.mark();
+        }
         Ok(())
     }
 
@@ -183,13 +196,13 @@ impl<L: Ledger> Book<L> {
         requires { 0 < mine.old.parts }
         ensures ok { IfOk result (λ outs. Happens
             self.old.current moment (occurrence_of event.now) outs.items self.new.current) }
+        ensures noted { OnOk result (IsNoted self.old (entry moment event.now) self.new) }
         ensures taken { OnOk result (self.new.taken ≡ self.old.taken + 1) }
         ensures share { OnOk result (mine.new.amount ≡ mine.old.amount + 1) }
         ensures parts { mine.new.parts ≡ mine.old.parts }
         ensures refused { AnswersAnew self.old moment event.now result }
         ensures err { OnErr result
-            ((self.new.current ≡ self.old.current) × (self.new.taken ≡ self.old.taken)
-            × (mine.new.amount ≡ mine.old.amount)) }
+            (IsSameOrMarked self.old self.new × (mine.new.amount ≡ mine.old.amount)) }
     {
         if self.taken == TAKEN {
             return Err(BookError::Journal);
@@ -198,11 +211,7 @@ impl<L: Ledger> Book<L> {
         if let Some(error) = self.now().refuses(moment, event) {
             return Err(BookError::Core(error));
         }
-        if self.journal.len() == JOURNAL {
-            self.mark()?;
-        } else if self.noted > NOTED {
-            let _marked = self.mark();
-        }
+        self.make_room()?;
         self.apply(mine, moment, event)
     }
 

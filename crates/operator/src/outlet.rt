@@ -21,8 +21,8 @@ impl<K: Link + Drop, C: Seconds + Drop> Outlet<K, C> {
         port: &mut Port<L>,
         work: &Work,
     ) -> Result<(), TurnError> {
-        let now = self.clock.second();
-        let turned = tried(rt, hub, port, &Open {}, &mut self.clock, now, work)?;
+        let mut moment = self.clock.second();
+        let turned = tried(rt, hub, port, &Open {}, &mut self.clock, &mut moment, work)?;
         if send_all(&mut self.link, &turned).is_err() {
             self.failed = true;
         }

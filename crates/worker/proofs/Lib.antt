@@ -3,3 +3,4 @@ mod FreshSeats
 mod SeatsOf
 mod Sending
 mod Vetoes
+mod Counted

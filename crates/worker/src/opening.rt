@@ -1,8 +1,8 @@
 //! A hub and its ports.
-ghost use Rattle.std.specs.Prelude.{◌≡◌, ◌+◌, ◌≤◌, All, IfNone, IfOk, IfSome, vec_len};
+ghost use Rattle.std.specs.Prelude.{◌≡◌, ◌+◌, ◌≤◌, All, IfNone, IfOk, IfSome, map, vec_len};
 ghost use Rattle.maps.specs.Words.{IsOf};
 ghost use Rattle.hooks.specs.Known.{asks_of};
-ghost use Rattle.worker.specs.Opening.{IsSetUpFor};
+ghost use Rattle.worker.specs.Opening.{CountDownTo, IsSetUpFor};
 
 use crate::hub::Hub;
 use crate::port::Port;
@@ -26,6 +26,7 @@ pub fn open_hub<L: Site>(
 ) -> Result<(Hub<L, Book<L>>, Vec<Port<L>>, Share<L>), AllocError>
     requires { IsSetUpFor L.name L.parts L.words L.history setup }
     ensures ports { IfOk result (λ r. vec_len r.1 ≡ vec_len setup.seats) }
+    ensures numbers { IfOk result (λ r. CountDownTo 0 (map (λ p. p.number) r.1.items)) }
     ensures parts { IfOk result (λ r. r.2.parts + vec_len r.1 ≡ L.parts) }
 {
     let Setup {
@@ -85,8 +86,9 @@ fn ports<L: Site>(
 ) -> Result<Vec<Port<L>>, AllocError>
     requires parts { (all.old.parts ≡ vec_len places) × (all.old.amount ≡ 0) }
     requires few { vec_len places ≤ 64 }
-    ensures { IfOk result (λ ports.
+    ensures ports { IfOk result (λ ports.
         (vec_len ports ≡ vec_len places) × (all.new.parts ≡ 0)) }
+    ensures numbers { IfOk result (λ ports. CountDownTo 0 (map (λ p. p.number) ports.items)) }
 {
     let mut places = places;
     let mut ports = Vec::with_capacity(alloc, places.len())?;

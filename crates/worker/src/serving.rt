@@ -1,7 +1,7 @@
 //! The loop of a worker.
 ghost use Rattle.std.specs.Prelude.{◌≡◌, ℕ, ◌+◌, ◌<◌, ◌++◌, ◌↔◌, IfOk, MatchOption, OnOk, OnErr};
 ghost use Rattle.worker.specs.Sending.{IsGivenEach};
-ghost use Rattle.worker.specs.Turns.{TakesOnce};
+ghost use Rattle.worker.specs.Turns.{TakesFor};
 ghost use Rattle.worker.specs.declared.serving.Ended.TheVariants.{Fault};
 
 use crate::gate::Gate;
@@ -58,18 +58,19 @@ pub fn run<L: Site, B: Taker<L>, G: Gate, K: Link, S: Seconds, R: Wait>(
 ) -> Ended
     ensures { (result ≡ Fault) ↔ (K.faults link.old < K.faults link.new) }
 {
+    // the moment of the last Tick
     let mut ticked = None;
     let mut buffer = [0u8; 8193];
     for _ in rt.forever() {
         if quit.load(Ordering::SeqCst) {
             break;
         }
-        let now = clock.second();
+        let mut now = clock.second();
         if ticked != Some(now) {
-            ticked = Some(now);
-            if serve(rt, hub, port, gate, link, clock, now, &Work::Tick).is_err() {
+            if serve(rt, hub, port, gate, link, clock, &mut now, &Work::Tick).is_err() {
                 return Ended::Fault;
             }
+            ticked = Some(now);
         }
         match link.receive(&mut buffer) {
             Ok(None) => {}
@@ -103,11 +104,12 @@ fn hear<L: Site, B: Taker<L>, G: Gate, K: Link, S: Seconds, R: Wait>(
         return Ok(());
     };
     let work = Work::Datagram(port.number, Sequence::from_vec(bytes));
-    let now = clock.second();
-    serve(rt, hub, port, gate, link, clock, now, &work)
+    let mut now = clock.second();
+    serve(rt, hub, port, gate, link, clock, &mut now, &work)
 }
 
-// A turn, and its outs are sent. Where the turn is refused, nothing is.
+// A turn, and its outs are sent. Where the turn is refused, nothing is. The moment is that of the
+// turn's last try then.
 fn serve<L: Site, B: Taker<L>, G: Gate, K: Link, S: Seconds, R: Wait>(
     rt: &R,
     hub: &Hub<L, B>,
@@ -115,46 +117,47 @@ fn serve<L: Site, B: Taker<L>, G: Gate, K: Link, S: Seconds, R: Wait>(
     gate: &G,
     link: &mut K,
     clock: &mut S,
-    now: Second,
+    moment: &mut Second,
     work: &Work,
 ) -> Result<(), LinkFault>
     ensures fine { OnOk result (K.faults link.new ≡ K.faults link.old) }
     ensures fault { OnErr result (K.faults link.old < K.faults link.new) }
 {
-    let Ok(turned) = tried(rt, hub, port, gate, clock, now, work) else {
+    let Ok(turned) = tried(rt, hub, port, gate, clock, moment, work) else {
         return Ok(());
     };
     send_all(link, &turned)
 }
 
-/// A turn that is tried again, at most three times, each at a new moment, where the clock of the
-/// router is ahead of this one. What it gives and how it is refused is as the last [`turn`] says.
+/// A turn at the moment. Where the clock of the router is ahead of this one it is tried again, at most
+/// three times, each time at a new moment, which asks the programs anew. What it gives and how it is
+/// refused is as the last [`turn`] says; the moment is that of this last one then.
 pub fn tried<L: Site, B: Taker<L>, G: Gate, S: Seconds, R: Wait>(
     rt: &R,
     hub: &Hub<L, B>,
     port: &mut Port<L>,
     gate: &G,
     clock: &mut S,
-    now: Second,
+    moment: &mut Second,
     work: &Work,
 ) -> Result<Turned, TurnError>
-    ensures outs { IfOk result (λ r. TakesOnce B.offers B.took work.now r.outs.items) }
+    ensures outs { IfOk result (λ r.
+        TakesFor B.offers B.took moment.new work.now r.outs.items) }
     ensures refreshed { IfOk result (λ r. MatchOption r.refreshed
         (port.new.share.amount ≡ port.old.share.amount + 1)
-        (λ outs. TakesOnce B.offers B.took Work.Refresh outs.items
+        (λ outs. TakesFor B.offers B.took moment.new Work.Refresh outs.items
         × (port.new.share.amount ≡ port.old.share.amount + 2))) }
     ensures err { OnErr result (port.new.share.amount ≡ port.old.share.amount) }
 {
-    let mut moment = now;
     for _again in 0..3u32 {
-        match turn(rt, hub, port, gate, moment, work) {
+        match turn(rt, hub, port, gate, *moment, work) {
             Err(TurnError::Book(BookError::Core(CoreError::ClockBack))) => {
-                moment = clock.second();
+                *moment = clock.second();
             }
             other => return other,
         }
     }
-    turn(rt, hub, port, gate, moment, work)
+    turn(rt, hub, port, gate, *moment, work)
 }
 
 /// Sends what a turn sends, and then what its refresh sends: each out once, in their order, at its
