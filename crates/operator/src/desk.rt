@@ -33,6 +33,8 @@ pub struct Desk<L: Site, Q: Wait + Drop, K: Link + Drop, C: Seconds + Drop> {
     pub loader: Loader<Q>,
     pub interfaces: u16,
     pub outlet: Outlet<K, C>,
+    /// The programs changed, and the refresh after that was refused.
+    pub unrefreshed: bool,
     pub of: PhantomData<L>,
     pub ghost loaded: { history_of loader ≡ L.history },
 }
@@ -77,12 +79,19 @@ fn withdraw<L: Site, R: Wait, K: Link + Drop, C: Seconds + Drop>(
 }
 
 impl<L: Site, Q: Wait + Drop, K: Link + Drop, C: Seconds + Drop> Desk<L, Q, K, C> {
-    // After the programs changed: the port's are no older, and the table is made anew.
+    // The table is made anew. Where that is refused, it is tried again before the next line.
     fn refresh<R: Wait>(&mut self, rt: &R, hub: &Hub<L, Book<L>>, port: &mut Port<L>)
         ensures { self.new.interfaces ≡ self.old.interfaces }
     {
+        self.unrefreshed = self.outlet.take(rt, hub, port, &Work::Refresh).is_err();
+    }
+
+    // After the programs changed: the port's are no older, and the table is made anew.
+    fn follow<R: Wait>(&mut self, rt: &R, hub: &Hub<L, Book<L>>, port: &mut Port<L>)
+        ensures { self.new.interfaces ≡ self.old.interfaces }
+    {
         port.learn(self.loader.notice());
-        let _refreshed = self.outlet.take(rt, hub, port, &Work::Refresh);
+        self.refresh(rt, hub, port);
     }
 
     // Publishes a program.
@@ -101,7 +110,7 @@ impl<L: Site, Q: Wait + Drop, K: Link + Drop, C: Seconds + Drop> Desk<L, Q, K, C
         if self.loader.attach(program).is_err() {
             return Told::Memory;
         }
-        self.refresh(rt, hub, port);
+        self.follow(rt, hub, port);
         Told::Attached(hook, bound)
     }
 
@@ -134,7 +143,7 @@ impl<L: Site, Q: Wait + Drop, K: Link + Drop, C: Seconds + Drop> Desk<L, Q, K, C
         if self.loader.detach(hook).is_err() {
             return Told::Memory;
         }
-        self.refresh(rt, hub, port);
+        self.follow(rt, hub, port);
         Told::Detached(hook)
     }
 
@@ -179,6 +188,9 @@ impl<L: Site, Q: Wait + Drop, K: Link + Drop, C: Seconds + Drop> Desk<L, Q, K, C
         ensures told { IsObeyed self.old.interfaces line.now result }
         ensures interfaces { self.new.interfaces ≡ self.old.interfaces }
     {
+        if self.unrefreshed {
+            self.refresh(rt, hub, port);
+        }
         let read = read_command(self.alloc, line);
         match &read {
             Ok(Some(command)) => self.carry_out(rt, hub, port, command),

@@ -65,7 +65,7 @@ fn print_totals<S, I, O: Write>(
     Ok(())
 }
 
-// The status of a router that ran: 3 where a socket failed.
+// The status of a router that ran: 3 where a socket or the input failed.
 fn status_of(failed: bool) -> u8
     ensures { result ≡ (if failed then 3 else 0) }
 {
@@ -104,7 +104,8 @@ fn run_crew<
     } = closed;
     let totals = shared.close(seats);
     print_totals(alloc, &totals.sums, console)?;
-    Ok(status_of(desk.outlet.failed || workers.failed.load(Ordering::SeqCst)))
+    let failed = desk.outlet.failed || workers.failed.load(Ordering::SeqCst);
+    Ok(status_of(failed || console.deaf))
 }
 
 // The workers' and the operator's things, and what runs with them.
@@ -151,6 +152,7 @@ fn run_all<
             clock: SystemSeconds::new(rt),
             failed: false,
         },
+        unrefreshed: false,
         of: PhantomData::<L>,
     };
     let mut console = Console {
@@ -158,6 +160,7 @@ fn run_all<
         input,
         output,
         mute: false,
+        deaf: false,
     };
     run_crew(rt, setup, config, &workers, links, &mut desk, &mut console)
 }
@@ -217,7 +220,7 @@ fn run_over<
 
 /// Runs the router that a configuration's text says, with a console that reads commands from `input` and answers on `output`, until `quit` or
 /// the end of input. Every thread is joined before it answers. The answer is the status: 0, or 3 where a worker or the console's own link
-/// failed; each worker that failed is told by a warning `worker N stopped`.
+/// failed, or the input could not be read; each worker that failed is told by a warning `worker N stopped`.
 ///
 /// # Errors
 ///

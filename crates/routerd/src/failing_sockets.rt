@@ -27,20 +27,20 @@ struct Row {
 // Of the rows with a worker the console's own link never fails, so a fault is the worker's.
 const ROWS: &[Row] = &[
     Row {
-        worker: &[47106],
-        own: 47108,
+        worker: &[27106],
+        own: 27108,
         seconds: 3,
         status: 0,
     },
     Row {
         worker: &[0],
-        own: 47108,
+        own: 27108,
         seconds: 3,
         status: 3,
     },
     Row {
         worker: &[],
-        own: 47108,
+        own: 27108,
         seconds: 0,
         status: 0,
     },
@@ -134,8 +134,8 @@ fn play<R: Net + Threads + Wait + Clock + Log + Files + AllocGlobal + Sync + Dro
     rt: &R,
     row: &Row,
 ) -> Result<u8, RouteError> {
-    let wires_of_worker = wires(rt, 47105, row.worker)?;
-    let own = wires(rt, 47107, &[row.own])?;
+    let wires_of_worker = wires(rt, 27105, row.worker)?;
+    let own = wires(rt, 27107, &[row.own])?;
     run(rt, &wires_of_worker, &own, row.seconds)
 }
 

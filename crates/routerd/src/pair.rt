@@ -11,10 +11,10 @@ use std::thread::{Threads, join, sleep};
 use std::time::{Clock, Duration};
 
 const ONE: &str =
-    "router 1.1.1.1\ninterface 1 10.0.1.1/24 cost 10 hello 1 dead 8 rxmt 1 delay 1 port 47201 peer 47202\n";
+    "router 1.1.1.1\ninterface 1 10.0.1.1/24 cost 10 hello 1 dead 8 rxmt 1 delay 1 port 27201 peer 27202\n";
 
 const TWO: &str =
-    "router 2.2.2.2\ninterface 1 10.0.1.2/24 cost 10 hello 1 dead 8 rxmt 1 delay 1 port 47202 peer 47201\n";
+    "router 2.2.2.2\ninterface 1 10.0.1.2/24 cost 10 hello 1 dead 8 rxmt 1 delay 1 port 27202 peer 27201\n";
 
 // What the two consoles have printed.
 #[derive(Drop)]

@@ -11,7 +11,7 @@ use std::thread::Threads;
 use std::time::Clock;
 
 const ONE: &str =
-    "router 1.1.1.1\ninterface 1 10.0.1.1/24 cost 10 hello 10 dead 40 rxmt 5 delay 1 port 47101 peer 47102\n";
+    "router 1.1.1.1\ninterface 1 10.0.1.1/24 cost 10 hello 10 dead 40 rxmt 5 delay 1 port 27101 peer 27102\n";
 
 /// The object file of `r0 = 1; exit` at `veto`: no route comes into the table.
 const VETOING: &[u8] =
@@ -85,11 +85,11 @@ fn each_line_is_answered(rt: HostRuntime) -> Result<(), Fail> {
 
 /// Two interfaces at one port.
 const TWICE: &str =
-    "router 1.1.1.1\ninterface 1 10.0.1.1/24 cost 10 hello 10 dead 40 rxmt 5 delay 1 port 47103 peer 47104\ninterface 2 10.0.2.1/24 cost 10 hello 10 dead 40 rxmt 5 delay 1 port 47103 peer 47104\n";
+    "router 1.1.1.1\ninterface 1 10.0.1.1/24 cost 10 hello 10 dead 40 rxmt 5 delay 1 port 27103 peer 27104\ninterface 2 10.0.2.1/24 cost 10 hello 10 dead 40 rxmt 5 delay 1 port 27103 peer 27104\n";
 
 #[test]
 fn a_port_that_is_taken_ends_it(rt: HostRuntime) {
     let (status, printed) = routed(&rt, TWICE, b"quit\n");
-    assert_eq!(rt; printed.as_slice(), b"cannot bind 47103\n".as_slice());
+    assert_eq!(rt; printed.as_slice(), b"cannot bind 27103\n".as_slice());
     assert_eq!(rt; status, 3);
 }

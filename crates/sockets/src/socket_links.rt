@@ -74,15 +74,16 @@ fn listen<R: Net>(rt: &R, alloc: Global, wire: &Wire) -> io::Result<Ear> {
 }
 
 impl<'a> Sockets<'a> {
-    /// The link of the worker at the interface of this index.
+    /// The link of the worker at the interface of this index. `Wait` where the socket can't be waited
+    /// at, or there is none of this index; `Memory` where memory was refused.
     pub fn of_interface<R: Net>(
         rt: &R,
         alloc: Global,
         wires: &'a [Wire],
         index: usize,
-    ) -> Result<Sockets<'a>, LinkFault> {
+    ) -> Result<Sockets<'a>, SocketError> {
         let Some(wire) = wires.get(index) else {
-            return Err(LinkFault {});
+            return Err(SocketError::Wait);
         };
         match listen(rt, alloc, wire) {
             Ok(ear) => Ok(Sockets {
@@ -91,7 +92,10 @@ impl<'a> Sockets<'a> {
                 ear: Some(ear),
                 faults: 0,
             }),
-            Err(_) => Err(LinkFault {}),
+            Err(error) => match error.kind() {
+                ErrorKind::OutOfMemory => Err(SocketError::Memory),
+                _ => Err(SocketError::Wait),
+            },
         }
     }
 
@@ -116,10 +120,8 @@ pub fn listening<'x, R: Net>(
 {
     let mut links = Vec::with_capacity(alloc, wires.len())?;
     for before in 0..wires.len() {
-        match Sockets::of_interface(rt, alloc, wires, wires.len() - 1 - before) {
-            Ok(link) => links.push(link)?,
-            Err(_) => return Err(SocketError::Wait),
-        }
+        let link = Sockets::of_interface(rt, alloc, wires, wires.len() - 1 - before)?;
+        links.push(link)?;
     }
     Ok(links)
 }
