@@ -31,6 +31,15 @@ pub fn read_text<'a, R: Files + AllocGlobal>(rt: &R, path: &'a str) -> Result<St
     }
 }
 
+fn write_fault<'a>(path: &'a str, error: ErrorKind) -> Fault<'a>
+    ensures { (result ≡ Fault.Write path.entry) ⊎ (result ≡ Fault.Memory) }
+{
+    match error {
+        ErrorKind::OutOfMemory => Fault::Memory,
+        _ => Fault::Write { path },
+    }
+}
+
 // Takes a file away that was begun. Where that fails too, nothing is left to do.
 fn give_up<'a, R: Files + AllocGlobal>(
     rt: &R,
@@ -41,14 +50,19 @@ fn give_up<'a, R: Files + AllocGlobal>(
     ensures { (result ≡ Fault.Write path.entry) ⊎ (result ≡ Fault.Memory) }
 {
     let _left = fs::remove_file(rt, begun);
-    match error {
-        ErrorKind::OutOfMemory => Fault::Memory,
-        _ => Fault::Write { path },
+    write_fault(path, error)
+}
+
+// Whether what is there already is no regular file, as a device or a pipe.
+fn is_special<R: Files>(rt: &R, path: &str) -> bool {
+    match fs::metadata(rt, path) {
+        Ok(found) => !found.is_file(),
+        Err(_) => false,
     }
 }
 
 /// Makes the file at `path` one of these bytes. They are written beside it first and take its name once they are whole, so that after a
-/// fault it is as before. `Fault::Write` where that can't be done.
+/// fault it is as before; only where a device or a pipe is there, they are written to it. `Fault::Write` where that can't be done.
 pub fn write<'a, R: Files + AllocGlobal>(
     rt: &R,
     path: &'a str,
@@ -56,6 +70,12 @@ pub fn write<'a, R: Files + AllocGlobal>(
 ) -> Result<(), Fault<'a>>
     ensures { IfErr result (λ fault. (fault ≡ Fault.Write path.entry) ⊎ (fault ≡ Fault.Memory)) }
 {
+    if is_special(rt, path) {
+        return match fs::write(rt, path, bytes) {
+            Ok(()) => Ok(()),
+            Err(error) => Err(write_fault(path, error.kind())),
+        };
+    }
     let begun = format!(in rt.alloc(); "{path}.part")?;
     if let Err(error) = fs::write(rt, begun.as_str(), bytes) {
         return Err(give_up(rt, begun.as_str(), path, error.kind()));
