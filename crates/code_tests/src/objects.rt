@@ -112,10 +112,10 @@ fn longer() -> [u8; 549] {
 #[test]
 fn refuses_files_of_other_lengths(rt: HostRuntime) -> Result<(), Fail> {
     let bytes = counting();
-    assert!(rt; refusal(rt.alloc(), &[])? == 1);
-    for count in [15, 16, 547] {
+    for count in 0..548usize {
         let front = bytes.get(..count).expect(&rt, "a front");
-        assert!(rt; refusal(rt.alloc(), front)? == 1);
+        let found = refusal(rt.alloc(), front)?;
+        assert!(rt; found == 1, "{count} bytes: {found}");
     }
     assert!(rt; refusal(rt.alloc(), &bytes)? == 0);
     assert!(rt; refusal(rt.alloc(), &longer())? == 7);
@@ -178,6 +178,31 @@ fn refuses_each_fault_of_one_byte(rt: HostRuntime) -> Result<(), Fail> {
         }
         let found = refusal(rt.alloc(), &bytes)?;
         assert!(rt; found == want, "byte {at} as {value}: {found}");
+    }
+    Ok(())
+}
+
+/// The number of slots and of statements, and the refusal of the counting program's object with these, or 0.
+const COUNTS: [(u32, u16, u8); 6] = [
+    (6, 1, 0),
+    (0, 1, 6),
+    (4_096, 1, 1),
+    (4_097, 1, 6),
+    (u32::MAX, 1, 6),
+    (6, u16::MAX, 1),
+];
+
+#[test]
+fn refuses_counts_that_lie(rt: HostRuntime) -> Result<(), Fail> {
+    for (slots, statements, want) in COUNTS {
+        let mut bytes = counting();
+        bytes[6..8].copy_from_slice(&statements.to_le_bytes());
+        bytes[12..16].copy_from_slice(&slots.to_le_bytes());
+        let found = refusal(rt.alloc(), &bytes)?;
+        assert!(rt;
+            found == want,
+            "{slots} slots, {statements} statements: {found}"
+        );
     }
     Ok(())
 }

@@ -1,12 +1,12 @@
 //! How two routers become Full: the exchange of databases from bytes to bytes (RFC 2328, sections
 //! 10 and 12.4).
-use crate::hello_packets::{DESCRIPTION, GREETING, HEARD, NAMING};
+use crate::hello_packets::{ALONE, DESCRIPTION, GREETING, HEARD, NAMING};
 use crate::packets::{
     BEGUN_AGAIN, FIRST_ATTEMPT, FLUSH_ACKNOWLEDGED, FLUSHED, LAST_ACKNOWLEDGED, LAST_DESCRIPTION,
     LAST_NUMBER, OWN_ACKNOWLEDGED, OWN_HEADER, OWN_LSA, OWN_LSA_BACK, OWN_SUMMARY,
     OWN_SUMMARY_ACKNOWLEDGED, OWN_SUMMARY_AGED, OWN_SUMMARY_FLUSHED, OWN_SUMMARY_GONE,
-    PEER_ACKNOWLEDGED, PEER_HEADER, PEER_LSA, PEER_SECOND_HEADER, REQUESTED, SECOND_ATTEMPT,
-    SKIPPED, THIRD_ATTEMPT,
+    PEER_ACKNOWLEDGED, PEER_HEADER, PEER_LSA, PEER_SECOND_HEADER, RENEWED_ROUTER_LSA, REQUESTED,
+    SECOND_ATTEMPT, SKIPPED, THIRD_ATTEMPT,
 };
 use crate::steps::{OWN, PEER, Step, What, play};
 use flood::{CoreError, State};
@@ -141,6 +141,15 @@ const SILENT: &[Step] = &[
     Step::Holds(2),
 ];
 
+/// The router-LSA waits since 3, and at the next Tick the neighbor's time has run out: it is Down
+/// before the router-LSA is originated, which has no link to it.
+const SILENT_WHILE_IT_WAITS: &[Step] = &[
+    Step::Sends(3, What::Packet(1, PEER_LSA), &[]),
+    Step::Sends(40, What::Tick, &[(1, ALONE), (1, PEER_ACKNOWLEDGED)]),
+    Step::Sees(1, None),
+    Step::Has(1, OWN, OWN, Some(RENEWED_ROUTER_LSA)),
+];
+
 /// A link that goes down is no longer described.
 const DOWN: &[Step] = &[
     Step::Sends(12, What::LinkDown(1), &[]),
@@ -197,6 +206,11 @@ fn what_is_not_acknowledged_is_sent_again(rt: HostRuntime) -> Result<(), Fail> {
 #[test]
 fn a_silent_neighbor_is_down(rt: HostRuntime) -> Result<(), Fail> {
     play(rt.alloc(), &rt, 1, &[LOADING, FULL, SILENT])
+}
+
+#[test]
+fn a_neighbor_is_down_before_the_links_are_described(rt: HostRuntime) -> Result<(), Fail> {
+    play(rt.alloc(), &rt, 1, &[LOADING, SILENT_WHILE_IT_WAITS])
 }
 
 #[test]

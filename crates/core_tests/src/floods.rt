@@ -6,8 +6,8 @@ use crate::packets::{
     EXTERNAL_OF_AGE_99, EXTERNAL_OF_AGE_100, EXTERNAL_OF_AGE_999, EXTERNAL_OF_AGE_3598,
     EXTERNAL_OF_AGE_3600, EXTERNAL_OF_LAST_NUMBER, LAST_NUMBER_SENT_BACK, LINKS_LEFT_OUT,
     LSA_OF_AGE_99, LSA_OF_AGE_1000, LSA_OF_AGE_3599, LSA_OF_LAST_NUMBER, MAX_AGE_ACKNOWLEDGED,
-    MAX_AGE_LSA, MAX_AGE_SENT_ON, PEER_HEADER, PEER_LSA, SHORT_LSA, THIRD_HEADER, THIRD_NAMING,
-    THIRD_OPENING,
+    MAX_AGE_LSA, MAX_AGE_SENT_ON, OWN_LSA, PEER_HEADER, PEER_LSA, SHORT_LSA, THIRD_HEADER,
+    THIRD_NAMING, THIRD_OPENING,
 };
 use crate::steps::{FAR, PEER, Step, What, play};
 use flood::{CoreError, State};
@@ -101,6 +101,27 @@ const OF_AGE: &[Step] = &[
     Step::Sends(12, What::Tick, &[(1, MAX_AGE_ACKNOWLEDGED)]),
 ];
 
+/// A copy that comes to MaxAge is flooded, to all alike, and leaves once it is acknowledged: here by
+/// the same instance.
+const COMES_OF_AGE: &[Step] = &[
+    Step::Sends(10, What::Packet(1, EXTERNAL_OF_AGE_3598), &[]),
+    Step::Sends(12, What::Packet(1, NAMING), &[(1, MAX_AGE_SENT_ON)]),
+    Step::Has(5, NETWORK, FAR, Some(MAX_AGE_LSA)),
+    Step::Sends(13, What::Packet(1, EXTERNAL_OF_AGE_3600), &[]),
+    Step::Has(5, NETWORK, FAR, None),
+];
+
+/// A copy at MaxAge that nobody is to acknowledge stays as long as a neighbor is Loading.
+const STAYS_FOR_ONE_THAT_LOADS: &[Step] = &[
+    Step::Sends(3, What::Packet(1, EXTERNAL_OF_AGE_3600), &[]),
+    Step::Has(5, NETWORK, FAR, Some(MAX_AGE_LSA)),
+    Step::Sends(4, What::Packet(1, NAMING), &[]),
+    Step::Has(5, NETWORK, FAR, Some(MAX_AGE_LSA)),
+    Step::Sends(6, What::Packet(1, PEER_LSA), &[(1, OWN_LSA)]),
+    Step::Sees(1, Some((PEER, State::Full))),
+    Step::Has(5, NETWORK, FAR, None),
+];
+
 /// What counts more than it has is refused, or skipped where it is one LSA alone.
 const HOSTILE: &[Step] = &[
     Step::Refuses(
@@ -141,6 +162,16 @@ fn the_newer_instance_is_kept(rt: HostRuntime) -> Result<(), Fail> {
 #[test]
 fn max_age_is_newer(rt: HostRuntime) -> Result<(), Fail> {
     play(rt.alloc(), &rt, 1, &[LOADING, FULL, OF_AGE])
+}
+
+#[test]
+fn a_copy_that_comes_to_max_age_is_flooded(rt: HostRuntime) -> Result<(), Fail> {
+    play(rt.alloc(), &rt, 1, &[LOADING, FULL, COMES_OF_AGE])
+}
+
+#[test]
+fn a_copy_at_max_age_stays_while_one_loads(rt: HostRuntime) -> Result<(), Fail> {
+    play(rt.alloc(), &rt, 1, &[LOADING, STAYS_FOR_ONE_THAT_LOADS])
 }
 
 #[test]

@@ -23,6 +23,8 @@ mod packets;
 #[cfg(test)]
 mod refusals;
 #[cfg(test)]
+mod retransmissions;
+#[cfg(test)]
 mod steps;
 #[cfg(test)]
 mod trial;

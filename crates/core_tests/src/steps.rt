@@ -192,7 +192,7 @@ impl<R: Wait + Drop> Trial<R> {
         self.walks.wrapping_sub(before)
     }
 
-    // One allocation may be refused.
+    // One allocation may be refused: then it is asked once more.
     fn shows_routes(&mut self, step: Step) -> bool {
         match step {
             Step::Walks(count) => self.walked() == count,
@@ -201,15 +201,15 @@ impl<R: Wait + Drop> Trial<R> {
                 true
             }
             Step::Candidates(count) => {
-                candidates(&self.core) == Some(count) || candidates(&self.core) == Some(count)
+                candidates(&self.core).or(candidates(&self.core)) == Some(count)
             }
             Step::Offers(count, shown) => {
-                let expected = Some((count, shown));
-                (offers(&self.core) == expected || offers(&self.core) == expected)
-                    && (rows(&self.core) == Some(shown) || rows(&self.core) == Some(shown))
+                offers(&self.core).or(offers(&self.core)) == Some((count, shown))
+                    && rows(&self.core).or(rows(&self.core)) == Some(shown)
             }
             Step::Stale(stale) => {
-                self.core.stale() == Ok(stale) || self.core.stale() == Ok(stale)
+                let seen = self.core.stale();
+                seen == Ok(stale) || (seen.is_err() && self.core.stale() == Ok(stale))
             }
             _ => false,
         }

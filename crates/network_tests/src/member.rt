@@ -1,6 +1,7 @@
 //! A router, and what it knows.
+use crate::flooded::Flooded;
 use crate::named::{Kind, Named, first_place, header_in, kind_of, place_behind};
-use flood::{Config, Core, Event, Interface, Out};
+use flood::{Config, Core, Event, Interface, Out, State};
 use lsa::Header;
 use std::alloc::Global;
 use words::{Address, RouterId, Second, Sequence};
@@ -12,13 +13,26 @@ pub struct Member {
     /// How many instances it has acknowledged.
     pub acknowledged: usize,
     known: Vec<Named>,
+    flooded: Flooded,
 }
 
-// Whether a packet came in or went out.
+// Whether a packet came in or went out: at a Tick, for a packet that came in there, or for what else
+// happened.
 #[derive(Clone, Copy, PartialEq, Eq)]
 enum Way {
     In,
+    AtTick,
+    There,
     Out,
+}
+
+// How what an event makes goes out at an interface.
+fn way_of(event: &Event, interface: u16) -> Way {
+    match event {
+        Event::Tick => Way::AtTick,
+        Event::Packet(number, _) if *number == interface => Way::There,
+        _ => Way::Out,
+    }
 }
 
 /// The Router ID of the router at a place: 0.0.0.1 and so on.
@@ -83,6 +97,7 @@ impl Member {
             core,
             acknowledged: 0,
             known: Vec::new(alloc),
+            flooded: Flooded::new(alloc),
         })
     }
 
@@ -107,24 +122,41 @@ impl Member {
         match (way, kind) {
             (Way::In, Kind::Update) => self.learns(&instance),
             (Way::In, _) => true,
-            (Way::Out, Kind::Update) if is_own => self.learns(&instance),
-            (Way::Out, Kind::Update) => self.knows(&instance),
-            (Way::Out, _) => {
+            (_, Kind::Update) if is_own => self.learns(&instance),
+            (_, Kind::Update) => self.knows(&instance),
+            (_, _) => {
                 self.acknowledged = self.acknowledged.saturating_add(1);
                 self.knows(&instance)
             }
         }
     }
 
-    // Takes note of each instance that the packet names.
-    fn looks_at(&mut self, way: Way, bytes: &[u8]) -> bool {
+    // Acknowledged isn't sent again, as far as packets tell.
+    fn lists(&mut self, way: Way, place: (u16, u64), kind: Kind, header: &Header) -> bool {
+        let instance = Named::by(header);
+        let (interface, moment) = place;
+        match (way, kind) {
+            (Way::In, _) => {
+                self.flooded.hears(interface, kind, &instance);
+                true
+            }
+            (Way::AtTick | Way::Out, Kind::Update) => {
+                self.flooded
+                    .tells(interface, &instance, moment, way == Way::AtTick)
+            }
+            _ => true,
+        }
+    }
+
+    // Takes note of each instance that the packet names, at this interface and moment.
+    fn looks_at(&mut self, way: Way, place: (u16, u64), bytes: &[u8]) -> bool {
         let kind = kind_of(bytes);
         let mut at = first_place(kind, bytes);
         for _header in 0..bytes.len() {
             let Some(header) = header_in(bytes, at) else {
                 break;
             };
-            if !self.takes_note(way, kind, &header) {
+            if !self.takes_note(way, kind, &header) || !self.lists(way, place, kind, &header) {
                 return false;
             }
             at = place_behind(kind, at, &header);
@@ -132,28 +164,50 @@ impl Member {
         at == bytes.len()
     }
 
-    fn hears(&mut self, event: &Event) -> bool {
+    fn hears(&mut self, moment: u64, event: &Event) -> bool {
         match event {
-            Event::Packet(_, bytes) => self.looks_at(Way::In, bytes.as_slice()),
+            Event::Packet(number, bytes) => {
+                self.looks_at(Way::In, (*number, moment), bytes.as_slice())
+            }
             _ => true,
         }
     }
 
-    fn tells(&mut self, outs: &[Out]) -> bool {
+    fn tells(&mut self, moment: u64, event: &Event, outs: &[Out]) -> bool {
         for out in outs {
-            if !self.looks_at(Way::Out, out.bytes.as_slice()) {
+            let way = way_of(event, out.interface);
+            if !self.looks_at(way, (out.interface, moment), out.bytes.as_slice()) {
                 return false;
             }
         }
         true
     }
 
-    /// What the router sends; None where it refuses the event, or tells what it doesn't know.
-    pub fn takes(&mut self, moment: Second, event: &Event) -> Option<Vec<Out>> {
-        if !self.hears(event) {
+    // Whether what isn't acknowledged was sent again to neighbors that are Full.
+    fn sends_again(&mut self, moment: u64, event: &Event) -> bool {
+        for interface in 1..=2u16 {
+            match self.core.neighbor(interface) {
+                Some((_, State::Full)) => {}
+                _ => self.flooded.forgets(interface),
+            }
+        }
+        match event {
+            Event::Tick => self.flooded.is_sent_again(moment),
+            _ => true,
+        }
+    }
+
+    /// What the router sends; None where it refuses the event, tells what it doesn't know, or sends
+    /// again what is acknowledged or not what isn't.
+    pub fn takes(&mut self, moment: u64, event: &Event) -> Option<Vec<Out>> {
+        if !self.hears(moment, event) {
             return None;
         }
-        let outs = stepped(&mut self.core, moment, event)?;
-        if self.tells(&outs) { Some(outs) } else { None }
+        let outs = stepped(&mut self.core, Second::new(moment), event)?;
+        if self.tells(moment, event, &outs) && self.sends_again(moment, event) {
+            Some(outs)
+        } else {
+            None
+        }
     }
 }

@@ -3,12 +3,14 @@
 use lsa::{HEADER_LENGTH, Header, header_at};
 use words::{Key, SequenceNumber};
 
-/// An instance of an LSA.
+/// An instance of an LSA, and whether it is at MaxAge. No LSA of these tests is so old unless it is
+/// flushed.
 #[derive(Clone, Copy, PartialEq, Eq)]
 pub struct Named {
     pub key: Key,
     pub sequence: SequenceNumber,
     pub checksum: u16,
+    pub is_flushed: bool,
 }
 
 impl Named {
@@ -18,6 +20,7 @@ impl Named {
             key: header.key(),
             sequence: header.sequence,
             checksum: header.checksum,
+            is_flushed: header.age == 3600,
         }
     }
 }

@@ -106,7 +106,7 @@ fn holds_the_same(one: &Core, other: &Core) -> bool {
 
 // What the router at a place sends; None where it isn't there or doesn't take the event.
 fn taken(members: &mut [Member], place: usize, moment: u64, event: &Event) -> Option<Vec<Out>> {
-    members.get_mut(place)?.takes(Second::new(moment), event)
+    members.get_mut(place)?.takes(moment, event)
 }
 
 fn members(alloc: Global, count: usize) -> Option<Vec<Member>> {

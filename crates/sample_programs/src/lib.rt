@@ -3,9 +3,13 @@
 #![tactic(auto)]
 
 #[cfg(test)]
+mod flipped;
+#[cfg(test)]
 mod loops;
 #[cfg(test)]
 mod mended;
+#[cfg(test)]
+mod orders;
 #[cfg(test)]
 mod pointers;
 #[cfg(test)]

@@ -1,6 +1,5 @@
 //! For each rule the smallest program that breaks it, and the same one mended, as docs/VERIFIER.md tells them.
-use crate::trials::{object_of, verdict_of};
-use object_verdicts::VerifyError;
+use crate::trials::{object_of, refuses_at, verdict_of};
 use std::test::Fail;
 
 /// A program, the slot and the rule of its refusal, and the program mended.
@@ -112,17 +111,7 @@ const RULES: [(&str, usize, u8, &str); 16] = [
 fn a_program_that_breaks_a_rule_is_mended(rt: HostRuntime) -> Result<(), Fail> {
     let alloc = rt.alloc();
     for (broken, slot, rule, mended) in RULES {
-        let object = object_of(alloc, broken)?;
-        match verdict_of(alloc, &object)? {
-            Err(VerifyError::Refused(refusal)) => {
-                let number = refusal.rule.number();
-                assert!(rt;
-                    refusal.slot == slot && number == rule,
-                    "{broken}: {refusal:?}"
-                );
-            }
-            _ => assert!(rt; false, "{broken}"),
-        }
+        refuses_at(&rt, alloc, broken, slot, rule)?;
         let object = object_of(alloc, mended)?;
         assert!(rt; verdict_of(alloc, &object)?.is_ok(), "{mended}");
     }

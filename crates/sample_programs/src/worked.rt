@@ -4,7 +4,7 @@ ghost use Rattle.std.specs.Prelude.{◌≤◌};
 use crate::trials::{ends, object_of, rich_context, table, verdict_of};
 use interp::{Run, run};
 use machine::Input;
-use std::alloc::Global;
+use std::alloc::{AllocError, Global};
 use std::process::Abort;
 use std::test::Fail;
 
@@ -67,15 +67,27 @@ fn worked_programs_end_as_told(rt: HostRuntime) -> Result<(), Fail> {
     Ok(())
 }
 
+fn sum_from(alloc: Global, n: u64) -> Result<String, AllocError> {
+    format!(in alloc;
+        "hook price; rank {n}; r1 = {n}; r0 = 0; L: r0 += r1; r1 += -1; if r1 != 0 goto L; exit; \
+        state L rank 0 r1 * 1; with r0 any; with r1 number 1 {n} 0 0"
+    )
+}
+
+/// The sum of the numbers from n down to 1. An allocation may be refused once.
+pub fn sum_down_from(alloc: Global, n: u64) -> Result<String, AllocError> {
+    match sum_from(alloc, n) {
+        Err(_) => sum_from(alloc, n),
+        made => made,
+    }
+}
+
 /// The sum of the numbers from n down to 1, for each of these n, takes 3 * n + 3 instructions.
 fn sums(rt: &impl Abort, alloc: Global, least: u64, most: u64) -> Result<(), Fail>
     requires { most ≤ 1000 }
 {
     for n in least..=most {
-        let text = format!(in alloc;
-            "hook price; rank {n}; r1 = {n}; r0 = 0; L: r0 += r1; r1 += -1; if r1 != 0 goto L; exit; \
-            state L rank 0 r1 * 1; with r0 any; with r1 number 1 {n} 0 0"
-        )?;
+        let text = sum_down_from(alloc, n)?;
         let wanted = Run {
             answer: n * (n + 1) / 2,
             used: 3 * n + 3,

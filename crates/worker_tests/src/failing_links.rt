@@ -1,6 +1,6 @@
 //! A link that fails.
 use crate::samples::HELLO;
-use crate::scenes::{End, Scene, play};
+use crate::scenes::{End, Scene, ends};
 use links::{Answer, Script, Times};
 use std::alloc::{AllocError, Global};
 use std::sync::Wait;
@@ -33,7 +33,11 @@ pub fn serve<L: Site, R: Wait>(
     fails: usize,
 ) -> Result<(u8, usize), AllocError> {
     let quit = AtomicBool::new(false);
-    let mut link = Script::new(calls(alloc, fails)?, &quit);
+    let answers = match calls(alloc, fails) {
+        Err(_) => calls(alloc, fails)?,
+        Ok(answers) => answers,
+    };
+    let mut link = Script::new(answers, &quit);
     let mut clock = Times::new(Vec::new(alloc));
     let ended = run(rt, alloc, hub, port, &Open {}, &mut link, &mut clock, &quit);
     Ok((ended.status(), link.sent))
@@ -44,7 +48,6 @@ pub fn serve<L: Site, R: Wait>(
 #[test]
 fn a_worker_ends_at_a_fault_and_keeps_the_events_before(rt: HostRuntime) -> Result<(), Fail> {
     for fails in 0..41usize {
-        let end = play(&rt, rt.alloc(), Scene::FailingLink(fails))?;
         let events = fails.max(2);
         let wanted = End {
             status: if fails < 40 { 3 } else { 0 },
@@ -52,7 +55,7 @@ fn a_worker_ends_at_a_fault_and_keeps_the_events_before(rt: HostRuntime) -> Resu
             journal: events,
             taken: events as u64,
         };
-        assert_eq!(rt; end, wanted, "at {fails}");
+        ends(&rt, rt.alloc(), Scene::FailingLink(fails), wanted)?;
     }
     Ok(())
 }

@@ -14,7 +14,7 @@ use words::{Address, Hops, Prefix, Route, RouteKind, Second, Sequence};
 use worker::{Book, BookError, Core, Event, Out};
 
 // What a book is called for.
-#[derive(Clone, Copy, Debug)]
+#[derive(Clone, Copy, Debug, PartialEq, Eq)]
 enum Call {
     Apply,
     ApplyAnew,
@@ -49,7 +49,6 @@ fn number_of(answer: Result<Vec<Out>, BookError>) -> u8 {
     }
 }
 
-// The answer of a call.
 fn called<L: Ledger>(book: &mut Book<L>, share: &mut Share<L>, call: Call, event: &Event) -> u8
     requires { 0 < share.old.parts }
     ensures { share.new.parts ≡ share.old.parts }
@@ -59,8 +58,39 @@ fn called<L: Ledger>(book: &mut Book<L>, share: &mut Share<L>, call: Call, event
         Call::Apply => number_of(book.apply(share, now, event)),
         Call::ApplyAnew => number_of(book.apply_anew(share, now, event)),
         Call::Mark if book.mark().is_ok() => 0,
-        Call::Mark => 6,
+        Call::Mark => MEMORY,
     }
+}
+
+// The number of a refusal for want of memory.
+const MEMORY: u8 = 6;
+
+// What a refusal leaves as it was: the journal's length and how many events were taken, the router's moment, how many LSAs it has, and
+// whether there are neighbors.
+fn shown<L: Ledger>(book: &Book<L>) -> (usize, u64, Second, usize, bool) {
+    let router = book.now();
+    let heard = router.neighbor(1).is_some() || router.neighbor(2).is_some();
+    (
+        book.journal().len(),
+        book.taken(),
+        router.moment(),
+        router.database().len(),
+        heard,
+    )
+}
+
+// The answer of a call. An allocation may be refused once, as a run of the tests with a refusal makes it: then the book is as it was, and
+// answers in full the next time.
+fn answered<L: Ledger>(book: &mut Book<L>, share: &mut Share<L>, call: Call, event: &Event) -> u8
+    requires { 0 < share.old.parts }
+    ensures { share.new.parts ≡ share.old.parts }
+{
+    let before = shown(book);
+    let answer = called(book, share, call, event);
+    if answer == MEMORY && shown(book) == before {
+        return called(book, share, call, event);
+    }
+    answer
 }
 
 // The last answer of so many calls.
@@ -70,25 +100,33 @@ fn called_often<L: Ledger>(book: &mut Book<L>, share: &mut Share<L>, row: &Row, 
 {
     let mut answer = 0;
     for _time in 0..row.times {
-        answer = called(book, share, row.call, event);
+        answer = answered(book, share, row.call, event);
     }
     answer
 }
 
+// Whether the journal grew on where it was to start anew, which no memory was left for: a mark for the journal's bytes alone refuses nothing.
 fn play_rows<L: Ledger, R: Abort>(
     rt: &R,
     book: &mut Book<L>,
     share: &mut Share<L>,
     event: &Event,
     rows: &[Row],
-)
+) -> bool
     requires { 0 < share.old.parts }
 {
+    let mut is_late = false;
     for row in rows {
+        let grown = book.journal().len().saturating_add(row.times as usize);
         let answer = called_often(book, share, row, event);
         let after = (answer, book.journal().len(), book.taken());
+        if row.call == Call::ApplyAnew && grown != row.journal && after.1 == grown {
+            is_late = true;
+            break;
+        }
         assert_eq!(rt; after, (row.answer, row.journal, row.taken), "{row:?}");
     }
+    is_late
 }
 
 fn play<L: Ledger, R: Abort>(
@@ -98,18 +136,23 @@ fn play<L: Ledger, R: Abort>(
     core: Core,
     event: &Event,
     rows: &[Row],
-) -> Result<(), AllocError>
+) -> Result<bool, AllocError>
     requires name { blank.name ≡ L.name }
     requires parts { (blank.parts ≡ L.parts) × (blank.parts ≡ 1) }
 {
     let mut made = Book::<L>::new(alloc, blank, core)?;
-    play_rows(rt, &mut made.0, &mut made.1, event, rows);
-    Ok(())
+    Ok(play_rows(rt, &mut made.0, &mut made.1, event, rows))
 }
 
+// Where there was no memory for a book, or for a mark, all is played once more.
 fn play_all<R: Abort>(rt: &R, alloc: Global, event: &Event, rows: &[Row]) -> Result<(), Fail> {
-    let core = first(alloc)?;
-    Ok(play::<Brand, R>(rt, alloc, Blank::new(1), core, event, rows)?)
+    let (core, other) = (first(alloc)?, first(alloc)?);
+    let is_late = play::<Brand, R>(rt, alloc, Blank::new(1), core, event, rows);
+    if is_late != Ok(false) {
+        let is_late = play::<Brand, R>(rt, alloc, Blank::new(1), other, event, rows)?;
+        assert!(rt; !is_late);
+    }
+    Ok(())
 }
 
 #[test]
@@ -123,38 +166,51 @@ fn a_full_journal_takes_nothing_until_it_is_marked(rt: HostRuntime) -> Result<()
     play_all(&rt, rt.alloc(), &Event::Tick, &rows)
 }
 
-// That 192.0.2.0/24 comes into the table.
-fn answer<R: Wait>(rt: &R, alloc: Global) -> Result<VetoAnswer, Fail> {
-    let prefix = Prefix::new(Address::new(0xc000_0200), 24).ok_or("a prefix")?;
-    let route = Route {
-        prefix,
+// 192.0.2.0/24
+fn route() -> Option<Route> {
+    Some(Route {
+        prefix: Prefix::new(Address::new(0xc000_0200), 24)?,
         kind: RouteKind::Intra,
         cost: 20,
         distance: 0,
         hops: Hops::only(1),
         tag: 0,
-    };
-    let (shared, mut seats) = Shared::new(alloc, 1)?;
-    let (loader, mut askers) = programs(alloc, rt, 1)?;
-    let (Some(mut seat), Some(mut asker)) = (seats.pop(), askers.pop()) else {
-        return Err("no seat".into());
-    };
-    let answered = asker.veto(&route, Second::new(0), &[], &shared, &mut seat);
+    })
+}
+
+fn vetoed<R: Wait>(rt: &R, alloc: Global, route: &Route) -> Option<VetoAnswer> {
+    let (shared, mut seats) = Shared::new(alloc, 1).ok()?;
+    let (loader, mut askers) = programs(alloc, rt, 1).ok()?;
+    let (mut seat, mut asker) = (seats.pop()?, askers.pop()?);
+    let answered = asker.veto(route, Second::new(0), &[], &shared, &mut seat);
     drop(loader);
-    Ok(answered.ok_or("no reading")?)
+    answered
+}
+
+// That the route comes into the table, so many times.
+fn installation(alloc: Global, answer: VetoAnswer, count: usize) -> Result<Event, AllocError> {
+    let mut answers = Vec::new(alloc);
+    answers.resize(count, answer)?;
+    Ok(Event::Install(Sequence::from_vec(answers)))
 }
 
 // An Install of 262,144 answers counts as 16 MiB, so that four of them, with what each entry takes, are
 // more than 64 MiB.
 #[test]
 fn a_journal_of_64_mebibytes_starts_anew(rt: HostRuntime) -> Result<(), Fail> {
-    let answer = answer(&rt, rt.alloc())?;
-    let mut answers = Vec::new(rt.alloc());
-    answers.resize(262_144, answer)?;
-    let event = Event::Install(Sequence::from_vec(answers));
+    let alloc = rt.alloc();
+    let route = route().ok_or("a prefix")?;
+    let answer = match vetoed(&rt, alloc, &route) {
+        Some(answer) => answer,
+        None => vetoed(&rt, alloc, &route).ok_or("no reading")?,
+    };
+    let event = match installation(alloc, answer, 262_144) {
+        Ok(event) => event,
+        Err(_) => installation(alloc, answer, 262_144)?,
+    };
     let rows = [
         calls(4, Call::ApplyAnew, 0, 4, 4),
         calls(1, Call::ApplyAnew, 0, 1, 5),
     ];
-    play_all(&rt, rt.alloc(), &event, &rows)
+    play_all(&rt, alloc, &event, &rows)
 }

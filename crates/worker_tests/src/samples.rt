@@ -1,4 +1,5 @@
-//! A router, a destination, packets and programs for tests.
+//! A router, a destination, packets and programs for tests. What is refused memory is made once more, since an allocation may be refused
+//! once, in a run of the tests with a refusal.
 use events::{Config, Interface};
 use std::alloc::{AllocError, Global};
 use std::test::Fail;
@@ -17,10 +18,18 @@ pub const COUNTING: &[u8] =
 pub const VETOING: &[u8] =
     b"BPFH\x01\x04\x00\x00\x00\x00\x00\x00\x02\x00\x00\x00\xb7\x00\x00\x00\x01\x00\x00\x00\x95\x00\x00\x00\x00\x00\x00\x00";
 
-/// The Hello at the interface of this number, with so many zeros behind it.
-pub fn hello(alloc: Global, number: u16, zeros: usize) -> Result<Work, AllocError> {
+fn datagram(alloc: Global, zeros: usize) -> Result<Vec<u8>, AllocError> {
     let mut bytes = Vec::from_slice(alloc, HELLO)?;
     bytes.resize(HELLO.len().saturating_add(zeros), 0)?;
+    Ok(bytes)
+}
+
+/// The Hello at the interface of this number, with so many zeros behind it.
+pub fn hello(alloc: Global, number: u16, zeros: usize) -> Result<Work, AllocError> {
+    let bytes = match datagram(alloc, zeros) {
+        Err(_) => datagram(alloc, zeros)?,
+        Ok(bytes) => bytes,
+    };
     Ok(Work::Datagram(number, Sequence::from_vec(bytes)))
 }
 
@@ -37,15 +46,22 @@ pub fn interface(address: u32, cost: u16) -> Interface {
     }
 }
 
-/// The router of this ID with these interfaces, from moment 0 on.
-pub fn router(alloc: Global, id: u32, interfaces: &[Interface]) -> Result<Core, Fail> {
-    let interfaces = Vec::from_slice(alloc, interfaces)?;
+fn begun(alloc: Global, id: u32, interfaces: &[Interface]) -> Option<Core> {
+    let interfaces = Vec::from_slice(alloc, interfaces).ok()?;
     let config = Config {
         router: RouterId::new(id),
         start: Second::new(0),
         interfaces: Sequence::from_vec(interfaces),
     };
-    Ok(Core::new(alloc, &config)?)
+    Core::new(alloc, &config).ok()
+}
+
+/// The router of this ID with these interfaces, from moment 0 on.
+pub fn router(alloc: Global, id: u32, interfaces: &[Interface]) -> Result<Core, Fail> {
+    match begun(alloc, id, interfaces) {
+        Some(core) => Ok(core),
+        None => Ok(begun(alloc, id, interfaces).ok_or("no router")?),
+    }
 }
 
 /// 1.1.1.1 with the interfaces 10.0.1.1/24 and 10.0.2.1/24.

@@ -1,13 +1,13 @@
 //! What is played at a router, and what its book holds in the end.
-ghost use Rattle.std.specs.Prelude.{◌≡◌};
-ghost use Rattle.hooks.specs.Known.{history_of};
+ghost use Rattle.std.specs.Prelude.{◌≡◌, All, IfOk};
+ghost use Rattle.hooks.specs.Known.{IsNew, history_of};
 ghost use Rattle.worker.specs.Opening.{IsSetUpFor};
 
 use crate::failing_links::serve;
 use crate::samples::{destination, first};
 use crate::side_by_side::{hold, tick};
 use crate::stage::{Stage, Step};
-use hooks::Loader;
+use hooks::{HookError, Loader};
 use std::alloc::Global;
 use std::marker::Brand;
 use std::process::Abort;
@@ -35,7 +35,7 @@ pub enum Scene<'a> {
 /// What is seen in the end.
 #[derive(Clone, Copy, Debug, PartialEq, Eq)]
 pub struct End {
-    /// The number of the turn's refusal or of a refusal among the turns, or the worker's status.
+    /// The number of the turn's refusal or of a refusal among the turns, that of a refresh too, or the worker's status.
     pub status: u8,
     /// How many datagrams were sent.
     pub sent: usize,
@@ -43,6 +43,14 @@ pub struct End {
     pub journal: usize,
     pub taken: u64,
 }
+
+// The end where memory for the hub was refused.
+const UNOPENED: End = End {
+    status: 6,
+    sent: 0,
+    journal: 0,
+    taken: 0,
+};
 
 // The ports 0, 1 and 2.
 fn three<L: Site>(ports: Vec<Port<L>>) -> Option<(Port<L>, Port<L>, Port<L>)> {
@@ -59,14 +67,14 @@ fn act<L: Site + Send + Sync, R: Threads + Wait + Clock + Abort + Sync, Q: Wait 
     scene: Scene<'_>,
 ) -> Result<(u8, usize), Fail> {
     match scene {
-        Scene::Steps(steps) => stage.play(rt, alloc, hub, steps)?,
-        Scene::FailingLink(fails) => {
-            return Ok(serve(rt, alloc, hub, &mut stage.first, fails)?);
+        Scene::Steps(steps) => {
+            stage.play(rt, alloc, hub, steps)?;
+            Ok((if stage.is_late { 6 } else { 0 }, 0))
         }
-        Scene::Ticks(until) => return Ok((tick(rt, hub, &mut stage.first, 0, until), 0)),
-        Scene::Held(until) => return Ok((hold(rt, alloc, hub, stage, until)?, 0)),
+        Scene::FailingLink(fails) => Ok(serve(rt, alloc, hub, &mut stage.first, fails)?),
+        Scene::Ticks(until) => Ok((tick(rt, hub, &mut stage.first, 0, until), 0)),
+        Scene::Held(until) => Ok((hold(rt, alloc, hub, stage, until)?, 0)),
     }
-    Ok((0, 0))
 }
 
 // Opens the hub, plays the scene, and looks into the book.
@@ -82,7 +90,9 @@ fn play_at<L: Site + Send + Sync, R: Threads + Wait + Clock + Abort + Sync, Q: W
     requires setup { IsSetUpFor L.name L.parts L.words L.history setup }
     requires history { history_of loader ≡ L.history }
 {
-    let (hub, ports, rest) = open_hub::<L>(alloc, setup, core)?;
+    let Ok((hub, ports, rest)) = open_hub::<L>(alloc, setup, core) else {
+        return Ok(UNOPENED);
+    };
     let (console, first, second) = three(ports).ok_or("three ports")?;
     let mut stage = Stage {
         console,
@@ -90,6 +100,8 @@ fn play_at<L: Site + Send + Sync, R: Threads + Wait + Clock + Abort + Sync, Q: W
         second,
         loader,
         destination,
+        in_vain: 0,
+        is_late: false,
     };
     let (status, sent) = act(rt, alloc, &hub, &mut stage, scene)?;
     drop((stage, rest));
@@ -111,6 +123,16 @@ fn ended<L: Site>(hub: Hub<L, Book<L>>, status: u8, sent: usize) -> End {
     }
 }
 
+// What workers start with. An allocation may be refused once.
+fn set_up<R: Wait + Drop + Copy>(alloc: Global, rt: R) -> Result<(Loader<R>, Setup), HookError>
+    ensures { IfOk result (λ r. All (IsNew (history_of r.0)) r.1.askers.items) }
+{
+    match Setup::new(alloc, rt, 3) {
+        Err(HookError::Memory | HookError::Places) => Setup::new(alloc, rt, 3),
+        made => made,
+    }
+}
+
 /// Plays the scene at a new router.
 #[tactic(auto, using(crate::proofs::Fresh::all_ask))]
 pub fn play<R: Threads + Wait + Clock + Abort + Sync>(
@@ -119,6 +141,26 @@ pub fn play<R: Threads + Wait + Clock + Abort + Sync>(
     scene: Scene<'_>,
 ) -> Result<End, Fail> {
     let (core, destination) = (first(alloc)?, destination(ExternalType::Type2)?);
-    let (loader, setup) = Setup::new(alloc, rt, 3)?;
+    let (loader, setup) = set_up(alloc, rt)?;
     play_at::<Brand, R, &R>(rt, alloc, setup, loader, core, destination, scene)
+}
+
+/// Plays the scene, which ends so. An allocation may be refused once, as a run of the tests with a refusal makes it: where the scene doesn't
+/// end so, it is played once more, from its start; one of two threads only where a turn was refused memory.
+pub fn ends<R: Threads + Wait + Clock + Abort + Sync>(
+    rt: &R,
+    alloc: Global,
+    scene: Scene<'_>,
+    wanted: End,
+) -> Result<(), Fail> {
+    let mut end = play(rt, alloc, scene)?;
+    let again = match scene {
+        Scene::Held(_) => end.status == 6,
+        _ => end != wanted,
+    };
+    if again {
+        end = play(rt, alloc, scene)?;
+    }
+    assert_eq!(rt; end, wanted, "{scene:?}");
+    Ok(())
 }

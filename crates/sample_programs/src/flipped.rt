@@ -1,0 +1,58 @@
+//! The object of the sum of the numbers from 10 down to 1, with one bit of it flipped.
+use crate::trials::{code_of, file_of, object_in, object_of, runs_agree, verdict_on};
+use crate::worked::sum_down_from;
+use std::alloc::Global;
+use std::test::Fail;
+
+/// The bits of a byte.
+const BITS: [u8; 8] = [1, 2, 4, 8, 16, 32, 64, 128];
+
+/// The hook may be `count` or `tag` in place of `price`. The entry rank 10 may have one more of its bits below 2^18, of which there are 16:
+/// with one of its own two less, or one that is higher, it is refused.
+const SURELY_ACCEPTED: usize = 18;
+
+fn flip(bytes: &mut [u8], at: usize, bit: u8) {
+    if let Some(byte) = bytes.get_mut(at) {
+        *byte ^= bit;
+    }
+}
+
+// Whether its runs are right, where it is accepted.
+fn tried(alloc: Global, bytes: &[u8]) -> Result<Option<bool>, Fail> {
+    let Ok(accepted) = verdict_on(alloc, bytes) else {
+        return Ok(None);
+    };
+    let object = object_in(alloc, bytes)?;
+    let code = code_of(alloc, &object)?;
+    Ok(Some(runs_agree(alloc, &accepted, &code)?))
+}
+
+// How many of the objects with one flipped bit are accepted. The runs of each are right.
+fn tried_all(alloc: Global, bytes: &mut [u8]) -> Result<usize, Fail> {
+    let mut accepted = 0_usize;
+    for at in 0..bytes.len() {
+        for bit in BITS {
+            flip(bytes, at, bit);
+            match tried(alloc, bytes)? {
+                None => {}
+                Some(true) => accepted = accepted.saturating_add(1),
+                Some(false) => return Err(Fail::new(format_args!("bit {bit} of byte {at}"))),
+            }
+            flip(bytes, at, bit);
+        }
+    }
+    Ok(accepted)
+}
+
+#[test]
+fn a_flipped_bit_is_refused_or_runs_within_its_bound(rt: HostRuntime) -> Result<(), Fail> {
+    let text = sum_down_from(rt.alloc(), 10)?;
+    let object = object_of(rt.alloc(), &text)?;
+    let mut bytes = file_of(rt.alloc(), &object)?;
+    let accepted = tried_all(rt.alloc(), &mut bytes)?;
+    assert!(&rt;
+        bytes.len() == 548 && accepted >= SURELY_ACCEPTED,
+        "{accepted} accepted"
+    );
+    Ok(())
+}
