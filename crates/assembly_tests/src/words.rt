@@ -10,54 +10,89 @@ use isa::{
 use std::process::Abort;
 use std::test::Fail;
 
+fn each_holds(rt: &impl Abort, rows: &[bool]) {
+    for (row, holds) in rows.iter().enumerate() {
+        assert!(rt; *holds, "row {row}");
+    }
+}
+
+fn words_are(rt: &impl Abort, rows: &[(&str, &str)]) {
+    for (word, wanted) in rows.iter().copied() {
+        assert!(rt; word == wanted, "{word}");
+    }
+}
+
 #[test]
-fn operators(rt: HostRuntime) -> Result<(), Fail> {
-    let signed = Operation::SignedDivide;
-    assert!(rt; operation_word(signed) == "s/=" && operation_of("s/=") == Some(signed));
-    assert!(rt; operation_word(Operation::Move) == "=" && operation_of("==").is_none());
-    let test = Test::SignedLessOrEqual;
-    assert!(rt; test_word(test) == "s<=" && test_of("s<=") == Some(test));
-    assert!(rt; test_of("=").is_none());
+fn things_are_written_as_words(rt: HostRuntime) -> Result<(), Fail> {
+    let register = Register::new(10).ok_or("r10")?;
+    let rows = [
+        (operation_word(Operation::SignedDivide), "s/="),
+        (operation_word(Operation::Move), "="),
+        (test_word(Test::SignedLessOrEqual), "s<="),
+        (load_word(LoadSize::Signed16), "*s16"),
+        (store_word(StoreSize::Bits32), "*u32"),
+        (reorder_word(ByteOrder::Big, SwapWidth::Bits16), "be16"),
+        (extension_word(Extension::Half(Width::Bits32)), "s16"),
+        (hook_word(Hook::Veto), "veto"),
+        (register_word(Width::Bits32, register), "w10"),
+    ];
+    words_are(&rt, &rows);
     Ok(())
 }
 
 #[test]
-fn sizes_and_orders(rt: HostRuntime) -> Result<(), Fail> {
-    let load = LoadSize::Signed16;
-    assert!(rt; load_word(load) == "*s16" && load_of("*s16") == Some(load));
-    let store = StoreSize::Bits32;
-    assert!(rt; store_word(store) == "*u32" && store_of("*u32") == Some(store));
-    assert!(rt; store_of("*s32").is_none() && load_of("*s64").is_none());
-    let big = (ByteOrder::Big, SwapWidth::Bits16);
-    assert!(rt; reorder_word(big.0, big.1) == "be16" && reorder_of("be16") == Some(big));
-    assert!(rt; reorder_of("be8").is_none());
+fn operators_are_read(rt: HostRuntime) {
+    let rows = [
+        operation_of("s/=") == Some(Operation::SignedDivide),
+        operation_of("==").is_none(),
+        test_of("s<=") == Some(Test::SignedLessOrEqual),
+        test_of("=").is_none(),
+    ];
+    each_holds(&rt, &rows);
+}
+
+#[test]
+fn sizes_and_orders_are_read(rt: HostRuntime) {
     let half = Extension::Half(Width::Bits32);
-    assert!(rt; extension_word(half) == "s16");
-    assert!(rt; extension_of(Width::Bits32, "s16") == Some(half));
-    assert!(rt; extension_of(Width::Bits32, "s32").is_none());
+    let rows = [
+        load_of("*s16") == Some(LoadSize::Signed16),
+        load_of("*s64").is_none(),
+        store_of("*u32") == Some(StoreSize::Bits32),
+        store_of("*s32").is_none(),
+        reorder_of("be16") == Some((ByteOrder::Big, SwapWidth::Bits16)),
+        reorder_of("be8").is_none(),
+        extension_of(Width::Bits32, "s16") == Some(half),
+        extension_of(Width::Bits32, "s32").is_none(),
+    ];
+    each_holds(&rt, &rows);
+}
+
+#[test]
+fn names_are_read(rt: HostRuntime) -> Result<(), Fail> {
+    let register = Register::new(10).ok_or("r10")?;
+    let rows = [
+        hook_of("veto") == Some(Hook::Veto),
+        hook_of("vetoes").is_none(),
+        register_of("w10") == Some((Width::Bits32, register)),
+        register_of("r11").is_none(),
+        is_name("Loop_2"),
+        !is_name("2nd"),
+        !is_name(""),
+    ];
+    each_holds(&rt, &rows);
     Ok(())
 }
 
 #[test]
-fn names(rt: HostRuntime) -> Result<(), Fail> {
-    assert!(rt; hook_word(Hook::Veto) == "veto" && hook_of("veto") == Some(Hook::Veto));
-    assert!(rt; hook_of("vetoes").is_none());
-    let register = Register::new(10).expect(&rt, "r10");
-    assert!(rt; register_word(Width::Bits32, register) == "w10");
-    assert!(rt; register_of("w10") == Some((Width::Bits32, register)));
-    assert!(rt; register_of("r11").is_none());
-    assert!(rt; is_name("Loop_2") && !is_name("2nd") && !is_name(""));
-    Ok(())
-}
-
-#[test]
-fn numbers(rt: HostRuntime) -> Result<(), Fail> {
-    assert!(rt; read_number("-4294967296") == Some(Numeral::Negative(0xffff_ffff)));
-    assert!(rt; read_number("18446744073709551616") == Some(Numeral::Huge));
-    assert!(rt; read_number("+1").is_none());
-    assert!(rt; read_distance("+1") == Some(Numeral::Natural(1)));
-    assert!(rt; read_distance("1").is_none());
-    assert!(rt; Numeral::from_signed(-2) == Numeral::Negative(1));
-    assert!(rt; Numeral::from_signed(7) == Numeral::Natural(7));
-    Ok(())
+fn numbers_are_read(rt: HostRuntime) {
+    let rows = [
+        read_number("-4294967296") == Some(Numeral::Negative(0xffff_ffff)),
+        read_number("18446744073709551616") == Some(Numeral::Huge),
+        read_number("+1").is_none(),
+        read_distance("+1") == Some(Numeral::Natural(1)),
+        read_distance("1").is_none(),
+        Numeral::from_signed(-2) == Numeral::Negative(1),
+        Numeral::from_signed(7) == Numeral::Natural(7),
+    ];
+    each_holds(&rt, &rows);
 }

@@ -7,6 +7,7 @@ mod routers;
 mod streams;
 mod verdicts;
 
+use crate::requests::MISTAKES;
 use commands::Routing;
 use commands::program::program;
 use std::io::{BufRead, Write};
@@ -42,6 +43,10 @@ fn run<R: Files + AllocGlobal + Threads + Sync>(rt: &R, words: &[&str]) -> Resul
     let mut output = Vec::new(rt.alloc());
     let mut errors = Vec::new(rt.alloc());
     let status = program(rt, &Echo {}, words, &mut input, &mut output, &mut errors);
+    outcome_of(status, output, errors)
+}
+
+fn outcome_of(status: u8, output: Vec<u8>, errors: Vec<u8>) -> Result<Outcome, Fail> {
     let lines = String::from_utf8(output).map_err(|_| "the lines are no text")?;
     let usage = String::from_utf8(errors).map_err(|_| "the usage is no text")?;
     Ok(Outcome {
@@ -252,94 +257,117 @@ fn small(rank: u8, first: [u8; 8], second: [u8; 8]) -> [u8; 32] {
     bytes
 }
 
+// The words end with this status and print nothing but usage, which has these parts.
+fn tells_usage<R: Files + AllocGlobal + Threads + Sync + Abort>(
+    rt: &R,
+    words: &[&str],
+    status: u8,
+    parts: &[&str],
+) -> Result<(), Fail> {
+    let outcome = run(rt, words)?;
+    has_usage(rt, &outcome, status, parts);
+    Ok(())
+}
+
+fn has_usage<R: Abort>(rt: &R, outcome: &Outcome, status: u8, parts: &[&str]) {
+    let usage = outcome.usage.as_str();
+    assert!(rt;
+        outcome.status == status && outcome.lines.is_empty(),
+        "{usage}"
+    );
+    for part in parts.iter().copied() {
+        assert!(rt; usage.contains(part), "{usage}");
+    }
+}
+
 #[test]
 fn wrong_words_are_a_matter_of_usage(rt: HostRuntime) -> Result<(), Fail> {
-    let wrong: [&[&str]; 21] = [
-        &["routerd"],
-        &["routerd", "fly"],
-        &["routerd", "raw"],
-        &["routerd", "raw", "count", "adds.bin"],
-        &["routerd", "raw", "count", "adds.bin", "0"],
-        &["routerd", "raw", "count", "adds.bin", "65"],
-        &["routerd", "raw", "count", "adds.bin", "two"],
-        &["routerd", "raw", "counts", "adds.bin", "2"],
-        &["routerd", "raw", "count", "adds.bin", "2", "3"],
-        &["routerd", "asm"],
-        &["routerd", "asm", "a"],
-        &["routerd", "asm", "a", "b", "c"],
-        &["routerd", "list"],
-        &["routerd", "list", "a", "b"],
-        &["routerd", "verify"],
-        &["routerd", "verify", "a", "b"],
-        &["routerd", "run"],
-        &["routerd", "run", "o", "-"],
-        &["routerd", "run", "o", "-", "-", "-"],
-        &["routerd", "route"],
-        &["routerd", "route", "a", "b"],
-    ];
-    for words in wrong {
-        let outcome = run(&rt, words)?;
-        assert_eq!(rt; outcome.status, 2);
-        assert!(rt; outcome.lines.as_str() == "");
-        assert!(rt; !outcome.usage.as_str().is_empty());
+    tells_usage(&rt, &["routerd", "fly"], 2, &["Usage: routerd"])?;
+    for (words, _) in MISTAKES.iter().copied() {
+        tells_usage(&rt, words, 2, &["help"])?;
     }
     Ok(())
 }
 
+// What the help of the program has.
+const COMMANDS: [&str; 14] = [
+    "Runs a router, and assembles, lists, verifies and runs its programs.",
+    "\n  raw     Runs bare code",
+    "\n  run     Runs the program of an object file",
+    "\n  asm     Assembles a text into an object file",
+    "\n  list    Prints a text that assembles to the object file",
+    "\n  verify  Verifies the program of an object file",
+    "\n  route   Runs a router (OSPFv2, RFC 2328) by a configuration",
+    "\n  routerd raw count adds.bin 2  prints seat 1 answer 0 used 4, seat 2 answer 0 used 4, counter 5 6\n",
+    "\n  routerd asm sum.s sum.o       prints ok 6\n",
+    "\n  routerd list sum.o            prints hook price, rank 10, r1 = 10",
+    "\n  routerd verify sum.o          prints accepted bound 66\n",
+    "\n  routerd run sum.o - -         prints answer 55 used 33\n",
+    "\n  routerd route one.conf        runs a router with a console\n",
+    "\nStatuses: 0 done, 1 refused or stuck, 2 usage, 3 file, socket or stream, 4 memory.",
+];
+
+// What the help of each command has: a line for each status.
+const STATUSES: [&str; 5] = [
+    "\nStatuses:\n  0  ",
+    "\n  1  ",
+    "\n  2  ",
+    "\n  3  ",
+    "\n  4  ",
+];
+
+// What the help of a command has besides: an example and a page. That of verify has lines for the rules.
+const HELPS: [(&str, &[&str]); 6] = [
+    (
+        "raw",
+        &[
+            "\nExample: routerd raw count adds.bin 2\n",
+            "docs/FORMATS.md",
+        ],
+    ),
+    (
+        "run",
+        &["\nExample: routerd run sum.o - -\n", "docs/FORMATS.md"],
+    ),
+    (
+        "asm",
+        &["\nExample: routerd asm sum.s sum.o\n", "docs/FORMATS.md"],
+    ),
+    (
+        "list",
+        &["\nExample: routerd list sum.o\n", "docs/FORMATS.md"],
+    ),
+    (
+        "verify",
+        &[
+            "\nExample: routerd verify sum.o\n",
+            "docs/FORMATS.md",
+            "docs/VERIFIER.md",
+            "accepted bound N, with status 0",
+            "refused slot S rule R, with status 1",
+            "\n   1 Target ",
+            "\n   5 Empty ",
+            "\n  11 NotWithin ",
+            "\n  15 Frame ",
+        ],
+    ),
+    (
+        "route",
+        &["\nExample: routerd route one.conf\n", "docs/OPERATING.md"],
+    ),
+];
+
 #[test]
 fn help_names_each_command(rt: HostRuntime) -> Result<(), Fail> {
-    let outcome = run(&rt, &["routerd", "--help"])?;
-    assert_eq!(rt; outcome.status, 0);
-    assert!(rt; outcome.lines.as_str() == "");
-    let help = outcome.usage.as_str();
-    for part in [
-        "Runs a router, and assembles, lists, verifies and runs its programs.",
-        "\n  raw     Runs bare code",
-        "\n  run     Runs the program of an object file",
-        "\n  asm     Assembles a text into an object file",
-        "\n  list    Prints a text that assembles to the object file",
-        "\n  verify  Verifies the program of an object file",
-        "\n  route   Runs a router (OSPFv2, RFC 2328) by a configuration",
-        "\n  routerd raw count adds.bin 2  prints seat 1 answer 0 used 4, seat 2 answer 0 used 4, counter 5 6\n",
-        "\n  routerd asm sum.s sum.o       prints ok 6\n",
-        "\n  routerd list sum.o            prints hook price, rank 10, r1 = 10",
-        "\n  routerd verify sum.o          prints accepted bound 66\n",
-        "\n  routerd run sum.o - -         prints answer 55 used 33\n",
-        "\n  routerd route one.conf        runs a router with a console\n",
-        "\nStatuses: 0 done, 1 refused or stuck, 2 usage, 3 file, socket or stream, 4 memory.",
-    ] {
-        assert!(rt; help.contains(part), "{help}");
-    }
-    Ok(())
+    tells_usage(&rt, &["routerd", "--help"], 0, &COMMANDS)
 }
 
 #[test]
 fn help_of_a_command_has_an_example_its_statuses_and_a_page(rt: HostRuntime) -> Result<(), Fail> {
-    for (command, example, page) in [
-        ("raw", "raw count adds.bin 2", "docs/FORMATS.md"),
-        ("run", "run sum.o - -", "docs/FORMATS.md"),
-        ("asm", "asm sum.s sum.o", "docs/FORMATS.md"),
-        ("list", "list sum.o", "docs/FORMATS.md"),
-        ("verify", "verify sum.o", "docs/FORMATS.md"),
-        ("route", "route one.conf", "docs/OPERATING.md"),
-    ] {
-        let outcome = run(&rt, &["routerd", command, "--help"])?;
-        assert!(rt; outcome.status == 0 && outcome.lines.as_str() == "");
-        let help = outcome.usage.as_str();
-        let example = format!(in rt.alloc(); "\nExample: routerd {example}\n")?;
-        assert!(rt;
-            help.contains(example.as_str()) && help.contains(page),
-            "{help}"
-        );
-        for status in [
-            "\nStatuses:\n  0  ",
-            "\n  1  ",
-            "\n  2  ",
-            "\n  3  ",
-            "\n  4  ",
-        ] {
-            assert!(rt; help.contains(status), "{help}");
-        }
+    for (command, parts) in HELPS {
+        let words = ["routerd", command, "--help"];
+        tells_usage(&rt, &words, 0, &STATUSES)?;
+        tells_usage(&rt, &words, 0, parts)?;
     }
     Ok(())
 }

@@ -3,7 +3,8 @@ ghost use Rattle.std.specs.Prelude.{◌≡◌, ◌≢◌};
 ghost use Rattle.lsa.specs.Text.{reserved_sequence};
 
 use lsa::{Body, Header, Lsa, SummaryLsa, SummaryTos, checksum_holds, read, write};
-use std::alloc::Global;
+use std::alloc::{AllocError, Global};
+use std::process::Abort;
 use std::test::Fail;
 use words::{Address, LinkStateId, RouterId, Sequence, SequenceNumber};
 
@@ -102,7 +103,7 @@ fn a_type_4_is_read_as_one_to_a_router(rt: HostRuntime) -> Result<(), Fail> {
 }
 
 #[test]
-fn faults_of_summaries_are_told_by_their_numbers(rt: HostRuntime) -> Result<(), Fail> {
+fn faults_of_summaries_are_told_by_their_numbers(rt: HostRuntime) {
     for bytes in [
         ZERO_BYTE,
         ROUTER_ZERO_BYTE,
@@ -113,9 +114,20 @@ fn faults_of_summaries_are_told_by_their_numbers(rt: HostRuntime) -> Result<(), 
         assert!(rt; checksum_holds(bytes));
         assert_eq!(rt; refusal(rt.alloc(), bytes), 5);
     }
-    let mut bytes = NETWORK.to_vec(rt.alloc())?;
-    assert_eq!(rt; bytes.len(), 28);
-    bytes[17] = 0x5e;
+}
+
+// The bytes with another second check byte.
+fn with_check_byte(alloc: Global, bytes: &[u8], byte: u8) -> Result<Vec<u8>, AllocError> {
+    let mut changed = bytes.to_vec(alloc)?;
+    if let Some(check) = changed.get_mut(17) {
+        *check = byte;
+    }
+    Ok(changed)
+}
+
+#[test]
+fn a_wrong_checksum_of_a_summary_is_refused(rt: HostRuntime) -> Result<(), Fail> {
+    let bytes = with_check_byte(rt.alloc(), NETWORK, 0x5e)?;
     assert_eq!(rt; refusal(rt.alloc(), &bytes), 3);
     Ok(())
 }
@@ -137,28 +149,41 @@ fn header(link_state_id: u32) -> Header
     }
 }
 
-#[test]
-fn a_summary_to_a_network_is_made_by_its_body(rt: HostRuntime) -> Result<(), Fail> {
+// The first, of its fields.
+fn to_the_network(alloc: Global) -> Result<Lsa, AllocError> {
     let body = Body::NetworkSummary(SummaryLsa {
         mask: Address::new(0xffff_ff00),
         metric: 5,
-        tos: Sequence::from_vec(Vec::new(rt.alloc())),
+        tos: Sequence::from_vec(Vec::new(alloc)),
     });
-    let lsa = Lsa::new(rt.alloc(), header(0xc633_6400), body)?;
-    let written = write(rt.alloc(), &lsa)?;
-    assert_eq!(rt; written.as_slice(), NETWORK);
+    Lsa::new(alloc, header(0xc633_6400), body)
+}
+
+// The second, of its fields.
+fn to_the_router(alloc: Global) -> Result<Lsa, AllocError> {
+    let body = Body::RouterSummary(SummaryLsa {
+        mask: Address::UNSPECIFIED,
+        metric: 7,
+        tos: Sequence::from_vec(Vec::new(alloc)),
+    });
+    Lsa::new(alloc, header(0x0909_0909), body)
+}
+
+// The LSA is written so.
+fn is_written(rt: &impl Abort, alloc: Global, lsa: &Lsa, text: &[u8]) -> Result<(), Fail> {
+    let written = write(alloc, lsa)?;
+    assert_eq!(rt; written.as_slice(), text);
     Ok(())
 }
 
 #[test]
+fn a_summary_to_a_network_is_made_by_its_body(rt: HostRuntime) -> Result<(), Fail> {
+    let lsa = to_the_network(rt.alloc())?;
+    is_written(&rt, rt.alloc(), &lsa, NETWORK)
+}
+
+#[test]
 fn a_summary_to_a_router_is_made_by_its_body(rt: HostRuntime) -> Result<(), Fail> {
-    let body = Body::RouterSummary(SummaryLsa {
-        mask: Address::UNSPECIFIED,
-        metric: 7,
-        tos: Sequence::from_vec(Vec::new(rt.alloc())),
-    });
-    let lsa = Lsa::new(rt.alloc(), header(0x0909_0909), body)?;
-    let written = write(rt.alloc(), &lsa)?;
-    assert_eq!(rt; written.as_slice(), ROUTER);
-    Ok(())
+    let lsa = to_the_router(rt.alloc())?;
+    is_written(&rt, rt.alloc(), &lsa, ROUTER)
 }

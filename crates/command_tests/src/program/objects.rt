@@ -1,6 +1,6 @@
 //! Object files by `run`: answers, traps, refusals.
 
-use super::{EXIT_SLOT, Step, counting, expect, play, small, write_file};
+use super::{EXIT_SLOT, counting, expect, remove, small, write_file};
 use std::process;
 use std::process::Abort;
 use std::rt::{Env, Files};
@@ -18,7 +18,7 @@ fn expect_cases<R: Files + AllocGlobal + Threads + Sync + Env + Abort>(
     for (bytes, context, packet, status, lines) in cases.iter().copied() {
         write_file(rt, id, "object", bytes)?;
         expect(rt, id, &["run", "@object", context, packet], status, lines)?;
-        play(rt, id, &[Step::Remove("object")])?;
+        remove(rt, id, "object")?;
     }
     Ok(())
 }
@@ -64,6 +64,6 @@ fn an_object_that_is_none_is_refused(rt: HostRuntime) -> Result<(), Fail> {
     ];
     let id = process::id(rt.process());
     expect_cases(&rt, id, &cases)?;
-    let missing = Step::Run(&["run", "@missing", "-", "-"], 3, "cannot read @missing\n");
-    play(&rt, id, &[missing])
+    let missing = ["run", "@missing", "-", "-"];
+    expect(&rt, id, &missing, 3, "cannot read @missing\n")
 }

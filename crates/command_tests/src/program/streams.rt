@@ -1,7 +1,9 @@
 //! Writers that fail, and words that can't be read.
 
-use super::{ADDS, Echo, path_for, run};
+use super::{ADDS, Echo, Outcome, compare, has_usage, outcome_of, path_for, run};
 use commands::program::{end_without_words, program};
+use std::alloc::Global;
+use std::process::Abort;
 use std::rt::Files;
 use std::test::Fail;
 use std::thread::Threads;
@@ -46,74 +48,91 @@ fn status_with<R: Files + AllocGlobal + Threads + Sync>(
     )
 }
 
-#[test]
-fn a_report_that_cant_be_printed_ends_with_3(rt: HostRuntime) -> Result<(), Fail> {
-    let path = path_for(&rt, process::id(rt.process()), "report")?;
-    let path = path.as_str();
-    fs::write(&rt, path, ADDS.as_slice())?;
-    let words = ["routerd", "raw", "count", path, "1"];
-    // seat 1 answer 0 used 4, counter 5 3, with their line feeds
-    for taken in 0..35 {
-        assert_eq!(rt; status_with(&rt, &words, taken, 0), 3, "{taken}");
+// The words have a text of so many bytes to print: where the output takes fewer they end with 3, and where it takes all with this status.
+fn fails_below<R: Files + AllocGlobal + Threads + Sync + Abort>(
+    rt: &R,
+    words: &[&str],
+    length: usize,
+    status: u8,
+) {
+    for taken in 0..length {
+        assert_eq!(rt; status_with(rt, words, taken, 0), 3, "{taken}");
     }
-    assert_eq!(rt; status_with(&rt, &words, 35, 0), 0);
-    fs::remove_file(&rt, path)?;
+    assert_eq!(rt; status_with(rt, words, length, 0), status);
+}
+
+// Writes a file with this path.
+fn texts_fail_below<R: Files + AllocGlobal + Threads + Sync + Abort>(
+    rt: &R,
+    path: &str,
+) -> Result<(), Fail> {
+    fs::write(rt, path, ADDS.as_slice())?;
+    // seat 1 answer 0 used 4, counter 5 3, with their line feeds
+    fails_below(rt, &["routerd", "raw", "count", path, "1"], 35, 0);
+    // object refusal 1, with its line feed
+    fails_below(rt, &["routerd", "list", path], 17, 1);
+    fs::remove_file(rt, path)?;
     Ok(())
 }
 
 #[test]
-fn a_fault_that_cant_be_told_ends_with_3(rt: HostRuntime) -> Result<(), Fail> {
-    let path = path_for(&rt, process::id(rt.process()), "fault")?;
-    let path = path.as_str();
-    fs::write(&rt, path, "")?;
-    let words = ["routerd", "list", path];
-    // object refusal 1, with its line feed
-    for taken in 0..17 {
-        assert_eq!(rt; status_with(&rt, &words, taken, 0), 3, "{taken}");
+fn a_text_that_cant_be_printed_ends_with_3(rt: HostRuntime) -> Result<(), Fail> {
+    let path = path_for(&rt, process::id(rt.process()), "text")?;
+    texts_fail_below(&rt, path.as_str())
+}
+
+// The same of usage, for a few lengths.
+fn usage_fails_below<R: Files + AllocGlobal + Threads + Sync + Abort>(
+    rt: &R,
+    words: &[&str],
+    length: usize,
+    status: u8,
+) {
+    for part in 0..8usize {
+        let taken = (length / 8).wrapping_mul(part);
+        assert_eq!(rt; status_with(rt, words, 0, taken), 3, "{taken}");
     }
-    assert_eq!(rt; status_with(&rt, &words, 17, 0), 1);
-    fs::remove_file(&rt, path)?;
-    Ok(())
+    let short = length.saturating_sub(1);
+    assert_eq!(rt; status_with(rt, words, 0, short), 3);
+    assert_eq!(rt; status_with(rt, words, 0, length), status);
 }
 
 #[test]
 fn usage_that_cant_be_told_ends_with_3(rt: HostRuntime) -> Result<(), Fail> {
     for (words, status) in [(["routerd", "fly"], 2), (["routerd", "--help"], 0)] {
-        let whole = run(&rt, &words)?.usage.len();
-        for taken in [0, 1, whole / 2, whole.saturating_sub(1)] {
-            assert_eq!(rt; status_with(&rt, &words, 0, taken), 3, "{taken}");
-        }
-        assert_eq!(rt; status_with(&rt, &words, 0, whole), status);
+        let length = run(&rt, &words)?.usage.len();
+        usage_fails_below(&rt, &words, length, status);
     }
     Ok(())
 }
 
+// What is printed where the words can't be read for this cause.
+fn without_words(alloc: Global, cause: io::ErrorKind) -> Result<Outcome, Fail> {
+    let mut output = Vec::new(alloc);
+    let mut errors = Vec::new(alloc);
+    let error = io::Error::from(cause);
+    let status = end_without_words(alloc, &error, &mut output, &mut errors);
+    outcome_of(status, output, errors)
+}
+
 #[test]
 fn words_that_cant_be_read_are_told(rt: HostRuntime) -> Result<(), Fail> {
-    let mut output = Vec::new(rt.alloc());
-    let mut errors = Vec::new(rt.alloc());
-    let error = io::Error::from(io::ErrorKind::InvalidData);
-    let status = end_without_words(rt.alloc(), &error, &mut output, &mut errors);
-    assert_eq!(rt; status, 2);
-    assert!(rt; output.is_empty());
-    let told = String::from_utf8(errors).map_err(|_| "the usage is no text")?;
+    let outcome = without_words(rt.alloc(), io::ErrorKind::InvalidData)?;
     assert!(rt;
-        told.as_str().starts_with("error: a word isn't UTF-8\n"),
-        "{told}"
+        outcome
+            .usage
+            .as_str()
+            .starts_with("error: a word isn't UTF-8\n")
     );
-    assert!(rt; told.as_str().contains("Usage: routerd"), "{told}");
+    has_usage(&rt, &outcome, 2, &["Usage: routerd"]);
     Ok(())
 }
 
 #[test]
-fn want_of_memory_for_words_is_told(rt: HostRuntime) {
-    let mut output = Vec::new(rt.alloc());
-    let mut errors = Vec::new(rt.alloc());
-    let error = io::Error::from(io::ErrorKind::OutOfMemory);
-    let status = end_without_words(rt.alloc(), &error, &mut output, &mut errors);
-    assert_eq!(rt; status, 4);
-    assert!(rt; output.as_slice() == b"out of memory\n".as_slice());
-    assert!(rt; errors.is_empty());
+fn want_of_memory_for_words_is_told(rt: HostRuntime) -> Result<(), Fail> {
+    let outcome = without_words(rt.alloc(), io::ErrorKind::OutOfMemory)?;
+    compare(&rt, &outcome, 4, "out of memory\n");
+    Ok(())
 }
 
 #[test]

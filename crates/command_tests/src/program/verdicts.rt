@@ -1,6 +1,6 @@
 //! Verdicts of `verify`: the lines and statuses of programs that are accepted and refused, and of files that hold none.
 
-use super::{EXIT_SLOT, Step, counting, play, run, small};
+use super::{EXIT_SLOT, counting, expect, remove, small, write_file};
 use std::process;
 use std::process::Abort;
 use std::rt::{Env, Files};
@@ -16,12 +16,9 @@ fn expect_cases<R: Files + AllocGlobal + Threads + Sync + Env + Abort>(
     cases: &[Case<'_>],
 ) -> Result<(), Fail> {
     for (bytes, status, lines) in cases.iter().copied() {
-        let steps = [
-            Step::Write("verdict", bytes),
-            Step::Run(&["verify", "@verdict"], status, lines),
-            Step::Remove("verdict"),
-        ];
-        play(rt, id, &steps)?;
+        write_file(rt, id, "verdict", bytes)?;
+        expect(rt, id, &["verify", "@verdict"], status, lines)?;
+        remove(rt, id, "verdict")?;
     }
     Ok(())
 }
@@ -61,28 +58,6 @@ fn a_file_without_a_program_has_no_verdict(rt: HostRuntime) -> Result<(), Fail> 
     ];
     let id = process::id(rt.process());
     expect_cases(&rt, id, &cases)?;
-    let missing = Step::Run(&["verify", "@missing"], 3, "cannot read @missing\n");
-    play(&rt, id, &[missing])
-}
-
-#[test]
-fn help_of_verify_names_each_rule(rt: HostRuntime) -> Result<(), Fail> {
-    let outcome = run(&rt, &["routerd", "verify", "--help"])?;
-    assert_eq!(rt; outcome.status, 0);
-    assert!(rt; outcome.lines.as_str() == "");
-    let help = outcome.usage.as_str();
-    for part in [
-        "Example: routerd verify sum.o",
-        "accepted bound N, with status 0",
-        "refused slot S rule R, with status 1",
-        "\n   1 Target ",
-        "\n   5 Empty ",
-        "\n  11 NotWithin ",
-        "\n  15 Frame ",
-        "docs/VERIFIER.md",
-        "docs/FORMATS.md",
-    ] {
-        assert!(rt; help.contains(part), "{help}");
-    }
-    Ok(())
+    let missing = ["verify", "@missing"];
+    expect(&rt, id, &missing, 3, "cannot read @missing\n")
 }
