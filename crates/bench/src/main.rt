@@ -1,15 +1,6 @@
 //! Figures of speed, printed on demand: `bench run`, and so with the other names. With no words it prints nothing.
 #![tactic(auto)]
 
-mod asm_speed;
-mod code_speed;
-mod figures;
-mod maps_speed;
-mod object_speed;
-mod programs;
-mod run_speed;
-mod texts_speed;
-
 use std::env;
 use std::process::ExitCode;
 use std::rt::Clock;
@@ -25,13 +16,13 @@ fn measure<R: Clock + Print + AllocGlobal + Threads + Wait + Copy + Send + Sync 
     name: &str,
 ) -> anyhow::Result<bool> {
     match name {
-        "run" => run_speed::print(rt)?,
-        "decode" => code_speed::print_decode(rt)?,
-        "encode" => code_speed::print_encode(rt)?,
-        "asm" => asm_speed::print(rt)?,
-        "objects" => object_speed::print(rt)?,
-        "maps" => maps_speed::print(*rt)?,
-        "texts" => texts_speed::print(rt)?,
+        "run" => bench_code::print_run(rt)?,
+        "decode" => bench_code::print_decode(rt)?,
+        "encode" => bench_code::print_encode(rt)?,
+        "asm" => bench_code::print_asm(rt)?,
+        "objects" => bench_code::print_objects(rt)?,
+        "maps" => bench_code::print_maps(*rt)?,
+        "texts" => bench_texts::print(rt)?,
         "core" => bench_core::print(rt)?,
         "database" => bench_database::print(rt)?,
         "hooks" => bench_hooks::print(*rt)?,

@@ -2,7 +2,7 @@ use Rattle.std.proofs.Common.{vec_len}
 use Rattle.std.specs.List.{All}
 use Rattle.std.specs.Arc.{arc_value}
 use Rattle.maps.specs.Words.{IsOf}
-use Rattle.bench.proofs.maps_speed.start_threads.Given as goal
+use Rattle.bench_code.proofs.maps_speed.start_threads.Given as goal
 
 -- the seats that are left are of the table
 abbrev pub invariant-loop-seat : goal.invariant-loop-seat

@@ -1,8 +1,8 @@
 //! How long assembling and listing take.
 
-use crate::figures::report;
 use anyhow::{Result, anyhow, ensure};
 use asm::{assemble, listing};
+use bench_figures::{Round, report};
 use object::Object;
 use std::alloc::{AllocError, Global};
 use std::rt::Clock;
@@ -36,40 +36,68 @@ fn text_of(alloc: Global, slots: usize, has_labels: bool) -> Result<String, Allo
     Ok(text)
 }
 
-// How often the text was assembled.
-fn assemble_often(alloc: Global, text: &str, rounds: u64) -> u64 {
-    let mut done = 0u64;
-    for _round in 0..rounds {
-        if assemble(alloc, text).is_ok() {
-            done = done.wrapping_add(1);
-        }
-    }
-    done
+// Assembles a text.
+#[derive(Drop)]
+struct Assembling<'a> {
+    alloc: Global,
+    text: &'a str,
 }
 
-// How often the object was listed.
-fn list_often(alloc: Global, object: &Object, rounds: u64) -> u64 {
-    let mut done = 0u64;
-    for _round in 0..rounds {
-        if listing(alloc, object).is_ok() {
-            done = done.wrapping_add(1);
-        }
+impl Round for Assembling<'_> {
+    fn succeeds(&mut self) -> bool {
+        assemble(self.alloc, self.text).is_ok()
     }
-    done
+}
+
+// Lists an object.
+#[derive(Drop)]
+struct Listing<'a> {
+    alloc: Global,
+    object: &'a Object,
+}
+
+impl Round for Listing<'_> {
+    fn succeeds(&mut self) -> bool {
+        listing(self.alloc, self.object).is_ok()
+    }
+}
+
+fn by_slot<R: Clock + Print, W: Round>(
+    rt: &R,
+    what: &str,
+    slots: usize,
+    work: &mut W,
+) -> Result<()> {
+    report(rt, what, ROUNDS, slots as u64, "a slot", work)?;
+    Ok(())
+}
+
+fn print_text<R: Clock + Print + AllocGlobal>(rt: &R, slots: usize, text: &str) -> Result<()> {
+    let alloc = rt.alloc();
+    let Ok(object) = assemble(alloc, text) else {
+        return Err(anyhow!("the text isn't assembled"));
+    };
+    ensure!(
+        object.slots() == slots,
+        "a text of other than {slots} slots"
+    );
+    print_figures(rt, text, &object)
 }
 
 fn print_figures<R: Clock + Print + AllocGlobal>(
     rt: &R,
-    slots: u64,
     text: &str,
     object: &Object,
 ) -> Result<()> {
     let alloc = rt.alloc();
-    let assembling = |rounds| assemble_often(alloc, text, rounds);
-    report(rt, "assembling it", ROUNDS, slots, "a slot", &assembling)?;
-    let listings = |rounds| list_often(alloc, object, rounds);
-    report(rt, "listing its object", ROUNDS, slots, "a slot", &listings)?;
-    Ok(())
+    let slots = object.slots();
+    by_slot(rt, "assembling it", slots, &mut Assembling { alloc, text })?;
+    by_slot(
+        rt,
+        "listing its object",
+        slots,
+        &mut Listing { alloc, object },
+    )
 }
 
 fn print_each<R: Clock + Print + AllocGlobal>(
@@ -77,22 +105,14 @@ fn print_each<R: Clock + Print + AllocGlobal>(
     slots: usize,
     has_labels: bool,
 ) -> Result<()> {
-    let alloc = rt.alloc();
-    let text = text_of(alloc, slots, has_labels)?;
-    let Ok(object) = assemble(alloc, text.as_str()) else {
-        return Err(anyhow!("the text isn't assembled"));
-    };
-    ensure!(
-        object.slots() == slots,
-        "a text of other than {slots} slots"
-    );
     let labels = if has_labels {
         "one for each four slots"
     } else {
         "none"
     };
     println!(rt; "a text of {slots} slots, labels: {labels}")?;
-    print_figures(rt, slots as u64, text.as_str(), &object)
+    let text = text_of(rt.alloc(), slots, has_labels)?;
+    print_text(rt, slots, &text)
 }
 
 /// Prints how long texts take to assemble, with labels and with none, and how long their objects take to list.

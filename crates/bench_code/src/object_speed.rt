@@ -2,9 +2,9 @@
 ghost use Rattle.std.specs.Prelude.{◌≡◌, ◌≤◌, IfOk, length};
 ghost use Rattle.object.specs.Objects.{slots_of};
 
-use crate::figures::report;
 use crate::programs;
 use anyhow::{Result, anyhow};
+use bench_figures::{Round, report};
 use isa::{Hook, Map};
 use object::{
     ContextOffset, Kind, Object, Rank, RankTerm, StackBytes, StackOffset, StatedNumber, Statement,
@@ -55,26 +55,30 @@ fn object_of(alloc: Global, slots: usize, statements: u16) -> Result<Object>
     }
 }
 
-// How often the bytes were read.
-fn read_often(alloc: Global, bytes: &[u8], rounds: u64) -> u64 {
-    let mut done = 0u64;
-    for _round in 0..rounds {
-        if object::read(alloc, bytes).is_ok() {
-            done = done.wrapping_add(1);
-        }
-    }
-    done
+// Reads an object.
+#[derive(Drop)]
+struct Reading<'a> {
+    alloc: Global,
+    bytes: &'a [u8],
 }
 
-// How often the object was written.
-fn write_often(alloc: Global, object: &Object, rounds: u64) -> u64 {
-    let mut done = 0u64;
-    for _round in 0..rounds {
-        if object::write(alloc, object).is_ok() {
-            done = done.wrapping_add(1);
-        }
+impl Round for Reading<'_> {
+    fn succeeds(&mut self) -> bool {
+        object::read(self.alloc, self.bytes).is_ok()
     }
-    done
+}
+
+// Writes an object.
+#[derive(Drop)]
+struct Writing<'a> {
+    alloc: Global,
+    object: &'a Object,
+}
+
+impl Round for Writing<'_> {
+    fn succeeds(&mut self) -> bool {
+        object::write(self.alloc, self.object).is_ok()
+    }
 }
 
 fn print_figures<R: Clock + Print + AllocGlobal>(
@@ -84,10 +88,10 @@ fn print_figures<R: Clock + Print + AllocGlobal>(
 ) -> Result<()> {
     let alloc = rt.alloc();
     let size = bytes.len() as u64;
-    let reading = |rounds| read_often(alloc, bytes, rounds);
-    report(rt, "reading it", ROUNDS, size, "a byte", &reading)?;
-    let writing = |rounds| write_often(alloc, object, rounds);
-    report(rt, "writing it", ROUNDS, size, "a byte", &writing)?;
+    let mut reading = Reading { alloc, bytes };
+    report(rt, "reading it", ROUNDS, size, "a byte", &mut reading)?;
+    let mut writing = Writing { alloc, object };
+    report(rt, "writing it", ROUNDS, size, "a byte", &mut writing)?;
     Ok(())
 }
 

@@ -1,5 +1,5 @@
 use Rattle.std.proofs.Common.{◌≡◌, ◌+◌, ◌*◌, vec_len}
-use Rattle.bench.proofs.programs.straight_line.Given as goal
+use Rattle.bench_code.proofs.programs.straight_line.Given as goal
 
 -- the slots before this one, and one for the last instruction, are there but for that one
 abbrev pub invariant-loop-slot : goal.invariant-loop-slot

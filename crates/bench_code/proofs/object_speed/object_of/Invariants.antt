@@ -1,5 +1,5 @@
 use Rattle.std.proofs.Common.{◌≡◌, vec_len}
-use Rattle.bench.proofs.object_speed.object_of.Given as goal
+use Rattle.bench_code.proofs.object_speed.object_of.Given as goal
 
 -- one statement for each index so far
 abbrev pub invariant-loop-index : goal.invariant-loop-index

@@ -2,9 +2,9 @@
 ghost use Rattle.std.specs.Prelude.{◌≡◌};
 ghost use Rattle.maps.specs.Words.{IsOf};
 
-use crate::figures::{Figure, report};
 use crate::programs;
 use anyhow::{Result, anyhow};
+use bench_figures::{Figure, Round, report};
 use interp::run_checked;
 use isa::{Code, Hook, decode};
 use machine::Input;
@@ -15,10 +15,10 @@ use std::rt::Clock;
 /// More than any program here takes.
 const LIMIT: u64 = 10_000_000;
 
-/// Runs the code once, and answers how many instructions it took; 0 where it didn't end.
+// Runs the code once, and answers how many instructions it took; 0 where it didn't end.
 fn once(code: &Code, input: &Input, shared: &Shared, seat: &mut Seat) -> u64
     requires { IsOf shared.now seat.old }
-    ensures { seat.new.table ≡ seat.old.table }
+    ensures { IsOf shared.now seat.new }
 {
     match run_checked(code, Hook::Count, LIMIT, input, shared, seat) {
         Ok(run) => run.used,
@@ -26,46 +26,7 @@ fn once(code: &Code, input: &Input, shared: &Shared, seat: &mut Seat) -> u64
     }
 }
 
-/// Runs the code so many times, and answers how many of the runs took so many instructions.
-fn repeat(
-    code: &Code,
-    input: &Input,
-    shared: &Shared,
-    seat: &mut Seat,
-    used: u64,
-    rounds: u64,
-) -> u64
-    requires { IsOf shared.now seat.old }
-{
-    let mut done = 0u64;
-    for _round in 0..rounds {
-        if once(code, input, shared, seat) == used {
-            done = done.wrapping_add(1);
-        }
-    }
-    done
-}
-
-/// The same on the only seat of a table of its own.
-fn repeat_afresh(alloc: Global, code: &Code, input: &Input, used: u64, rounds: u64) -> u64 {
-    let Ok((shared, mut seats)) = Shared::new(alloc, 1) else {
-        return 0;
-    };
-    let mut seat = seats.remove(0);
-    repeat(code, input, &shared, &mut seat, used, rounds)
-}
-
-/// How many instructions one run takes.
-fn instructions(alloc: Global, code: &Code, input: &Input) -> Result<u64> {
-    let (shared, mut seats) = Shared::new(alloc, 1)?;
-    let mut seat = seats.remove(0);
-    match once(code, input, &shared, &mut seat) {
-        0 => Err(anyhow!("a run that didn't end")),
-        used => Ok(used),
-    }
-}
-
-/// An input of zeros with no packet and no table rows.
+// An input of zeros with no packet and no table rows.
 fn empty_input() -> Input<'static> {
     Input {
         context: [0; 64],
@@ -74,26 +35,64 @@ fn empty_input() -> Input<'static> {
     }
 }
 
-/// Decodes the bytes, runs the code so many times for each measurement, and prints how long an instruction takes. The answer is how long
-/// a run takes.
+// Runs code that takes so many instructions, on the only seat of a table of its own.
+#[derive(Drop)]
+struct Running<'a> {
+    code: &'a Code,
+    input: Input<'static>,
+    used: u64,
+    shared: Shared,
+    seat: Seat,
+    ghost table: { IsOf shared seat },
+}
+
+impl<'a> Running<'a> {
+    fn new(alloc: Global, code: &'a Code) -> Result<Running<'a>> {
+        let (shared, mut seats) = Shared::new(alloc, 1)?;
+        let mut seat = seats.remove(0);
+        let input = empty_input();
+        match once(code, &input, &shared, &mut seat) {
+            0 => Err(anyhow!("a run that didn't end")),
+            used => Ok(Running {
+                code,
+                input,
+                used,
+                shared,
+                seat,
+            }),
+        }
+    }
+}
+
+impl Round for Running<'_> {
+    fn succeeds(&mut self) -> bool {
+        once(self.code, &self.input, &self.shared, &mut self.seat) == self.used
+    }
+}
+
+fn print_runs<R: Clock + Print>(
+    rt: &R,
+    what: &str,
+    rounds: u64,
+    running: &mut Running<'_>,
+) -> Result<Figure> {
+    let used = running.used;
+    println!(rt; "{what}: {used} instructions a run")?;
+    report(rt, "  they take", rounds, used, "each", running)
+}
+
+// Runs the code so many times for each measurement, and prints how long an instruction takes. The answer is how long a run takes.
 fn print_each<R: Clock + Print + AllocGlobal>(
     rt: &R,
     what: &str,
-    bytes: &[u8],
     rounds: u64,
+    code: &Code,
 ) -> Result<Figure> {
-    let alloc = rt.alloc();
-    let Ok(code) = decode(alloc, bytes) else {
-        return Err(anyhow!("the code of {what} isn't decoded"));
-    };
-    let input = empty_input();
-    let used = instructions(alloc, &code, &input)?;
-    println!(rt; "{what}: {used} instructions a run")?;
-    let runs = |n| repeat_afresh(alloc, &code, &input, used, n);
-    report(rt, "  they take", rounds, used, "each", &runs)
+    let mut running = Running::new(rt.alloc(), code)?;
+    print_runs(rt, what, rounds, &mut running)
 }
 
-/// The same of bytes that are let go with it.
+// The same of code as bytes, which are let go with it.
 fn print_code<R: Clock + Print + AllocGlobal>(
     rt: &R,
     what: &str,
@@ -101,7 +100,10 @@ fn print_code<R: Clock + Print + AllocGlobal>(
     rounds: u64,
 ) -> Result<Figure> {
     let bytes = bytes?;
-    print_each(rt, what, &bytes, rounds)
+    let Ok(code) = decode(rt.alloc(), &bytes) else {
+        return Err(anyhow!("the code of {what} isn't decoded"));
+    };
+    print_each(rt, what, rounds, &code)
 }
 
 /// Prints how long short straight-line code takes: what a run costs before its first instruction counts in there, and in the

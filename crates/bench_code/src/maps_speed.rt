@@ -4,8 +4,8 @@ ghost use Rattle.std.specs.List.{All};
 ghost use Rattle.std.specs.Arc.{arc_value};
 ghost use Rattle.maps.specs.Words.{IsOf};
 
-use crate::figures::{MEASUREMENTS, Times, nanoseconds_since};
 use anyhow::{Result, ensure};
+use bench_figures::{MEASUREMENTS, Times, nanoseconds_since};
 use maps::{Seat, Shared};
 use std::rt::Clock;
 use std::sync::{Arc, Barrier, Wait};

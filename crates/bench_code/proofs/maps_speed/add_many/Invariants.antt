@@ -1,5 +1,5 @@
 use Rattle.std.proofs.Common.{◌≡◌}
-use Rattle.bench.proofs.maps_speed.add_many.Given as goal
+use Rattle.bench_code.proofs.maps_speed.add_many.Given as goal
 
 -- the seat stays one of this table
 abbrev pub invariant-loop-turn : goal.invariant-loop-turn

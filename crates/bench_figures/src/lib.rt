@@ -1,4 +1,6 @@
-//! How a figure is taken, and how it is printed.
+//! How a figure of speed is taken, and how it is printed.
+#![tactic(auto)]
+
 ghost use Rattle.std.specs.Prelude.{◌≡◌, ◌≤◌};
 
 use anyhow::{Result, ensure};
@@ -33,21 +35,34 @@ pub fn nanoseconds_since<R: Clock>(rt: &R, start: Instant) -> Result<u64> {
     Ok(u64::try_from(start.elapsed(rt)?.as_nanos()).unwrap_or(u64::MAX))
 }
 
+/// Work that is measured, round by round.
+pub trait Round {
+    /// Does it once, and tells whether that succeeded.
+    fn succeeds(&mut self) -> bool;
+}
+
+// How many of so many rounds succeed.
+fn successes<W: Round>(rounds: u64, work: &mut W) -> u64 {
+    let mut done = 0u64;
+    for _round in 0..rounds {
+        if work.succeeds() {
+            done = done.wrapping_add(1);
+        }
+    }
+    done
+}
+
 // One measurement: how long so many rounds take. A round that fails is an error, since it would count as a fast one.
-fn measure_once<R: Clock, F: Fn(u64) -> u64>(rt: &R, rounds: u64, work: &F) -> Result<u64>
-    requires { F.IsAlwaysCallable work.now }
-{
+fn measure_once<R: Clock, W: Round>(rt: &R, rounds: u64, work: &mut W) -> Result<u64> {
     let start = Instant::now(rt)?;
-    let done = work(rounds);
+    let done = successes(rounds, work);
     let nanos = nanoseconds_since(rt, start)?;
     ensure!(done == rounds, "{done} of {rounds} rounds succeeded");
     Ok(nanos)
 }
 
-/// How long so many rounds of the work take: it does them, and answers how many succeeded.
-fn measure<R: Clock, F: Fn(u64) -> u64>(rt: &R, rounds: u64, work: &F) -> Result<Times>
-    requires { F.IsAlwaysCallable work.now }
-{
+// How long so many rounds of the work take.
+fn measure<R: Clock, W: Round>(rt: &R, rounds: u64, work: &mut W) -> Result<Times> {
     let _warm_up = measure_once(rt, rounds, work)?;
     let mut measured = [0; MEASUREMENTS];
     for turn in 0..MEASUREMENTS {
@@ -131,16 +146,14 @@ impl Figure {
 
 /// Measures so many rounds of the work, each of which handles so many of a `unit`, and prints the time of each of these. The answer is the
 /// time of a round.
-pub fn report<R: Clock + Print, F: Fn(u64) -> u64>(
+pub fn report<R: Clock + Print, W: Round>(
     rt: &R,
     what: &str,
     rounds: u64,
     size: u64,
     unit: &str,
-    work: &F,
-) -> Result<Figure>
-    requires { F.IsAlwaysCallable work.now }
-{
+    work: &mut W,
+) -> Result<Figure> {
     let times = measure(rt, rounds, work)?;
     Figure::each(times, rounds.saturating_mul(size)).print(rt, what, unit)?;
     Ok(Figure::each(times, rounds))
