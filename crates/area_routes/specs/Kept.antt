@@ -20,8 +20,8 @@ KnowsAnswered said answers kept =
     kept.answered ≡ true → IsStale said kept.walk.root answers → ⊥
 
 -- All that a walk rests on has stayed since the moment before: it begins where it began, and of
--- the LSAs of the types up to this one, of all types where there is none, none was installed, was
--- removed or has come to MaxAge.
+-- the LSAs of the types up to this one, of all types where there is none, none came, left or has
+-- come to MaxAge, and none says something else (section 13.2).
 pub record HasStayed (last_type : Option ℕ) (before : Moment) (moment : Moment)
     (router : RouterNumber) (old : Area) (new : Area) (walk : KeptWalk) : Type 0 where
   pub root : walk.root ≡ root_by router new.links

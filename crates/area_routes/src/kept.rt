@@ -93,8 +93,8 @@ impl AreaRoutes {
     }
 
     /// Follows a router over an event, from what its area was when it was last settled, at the moment before, to what it is at this moment. It walks
-    /// again only where the router's addresses are others, or an LSA of type 1 or 2 was installed, was removed or has come to MaxAge. There are at
-    /// most 63 links and 16,384 LSAs.
+    /// again only where the router's addresses are others, or an LSA of type 1 or 2 came, left, has come to MaxAge or says something else;
+    /// another instance below MaxAge that says the same doesn't count (RFC 2328, section 13.2). There are at most 63 links and 16,384 LSAs.
     ///
     /// # Errors
     /// Where memory for the walk, or for the keys of the LSAs at MaxAge, is refused; the routes stay as they were then.
@@ -118,7 +118,7 @@ impl AreaRoutes {
         ensures answered { OnOk result ((answers : Answers)
             → KnowsAnswered (said_at before area.now.settled.database) answers self.old
             → KnowsAnswered (said_at moment area.now.present.database) answers self.new) }
-        // It walks again only where the router's addresses are others, or an LSA of type 1 or 2 was installed, was removed or has come to MaxAge.
+        // It walks again only where the router's addresses are others, or an LSA of type 1 or 2 came, left, has come to MaxAge or says something else.
         ensures walks { OnOk result (WalksAgainOnlyThen before moment router
             area.now.settled area.now.present self.old.walk self.new.walk) }
         // Where that holds of LSAs of all types, what is known of the answers stays too.

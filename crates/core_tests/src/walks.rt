@@ -1,6 +1,6 @@
 //! What a router keeps for its routes from one event to the next (RFC 2328, section 16).
 use crate::exchanges::{FULL, LOADING};
-use crate::packets::PEER_LSA_WITHOUT_LINKS;
+use crate::packets::{PEER_LSA_AGAIN, PEER_LSA_WITHOUT_LINKS};
 use crate::steps::{Step, What, play};
 use std::test::Fail;
 
@@ -13,7 +13,8 @@ const EXTERNALS: &[Step] = &[
     Step::Walks(0),
 ];
 
-/// A link that is gone is walked once more, and so are LSAs that are renewed or come to MaxAge.
+/// A link that is gone is walked once more, and so is an LSA that comes to MaxAge. The router's own
+/// that is renewed after an hour says the same.
 const LINKS: &[Step] = &[
     Step::Sends(10, What::Packet(1, PEER_LSA_WITHOUT_LINKS), &[]),
     Step::Walks(1),
@@ -22,7 +23,7 @@ const LINKS: &[Step] = &[
     Step::Sends(12, What::LinkDown(1), &[]),
     Step::Walks(1),
     Step::Counts(3600, What::Tick, 1),
-    Step::Walks(1),
+    Step::Walks(0),
     Step::Sends(3609, What::Tick, &[]),
     Step::Walks(1),
     Step::Candidates(1),
@@ -49,6 +50,23 @@ const ANSWERS: &[Step] = &[
     Step::Offers(2, 0),
 ];
 
+/// Instances that say the same, the neighbor's router-LSA, which is acknowledged, and 100 external
+/// LSAs, which are newer by their ages: nothing is walked, and the answers last.
+const RENEWED: &[Step] = &[
+    Step::Sends(10, What::LetAllIn, &[]),
+    Step::Sends(10, What::Packet(1, PEER_LSA_AGAIN), &[]),
+    Step::Walks(0),
+    Step::Stale(false),
+    Step::Counts(11, What::Tick, 1),
+    Step::Sends(12, What::Lsas(1000, 0, 100), &[]),
+    Step::Stale(true),
+    Step::Sends(12, What::LetAllIn, &[]),
+    Step::Sends(14, What::Lsas(1, 0, 100), &[]),
+    Step::Walks(0),
+    Step::Stale(false),
+    Step::Offers(101, 101),
+];
+
 /// The walks of the exchange don't count.
 const LOOKED: &[Step] = &[Step::CountWalks];
 
@@ -65,4 +83,9 @@ fn links_that_change_are_walked_again(rt: HostRuntime) -> Result<(), Fail> {
 #[test]
 fn answers_last_until_an_lsa_changes(rt: HostRuntime) -> Result<(), Fail> {
     play(rt.alloc(), &rt, 1, &[LOADING, FULL, ANSWERS])
+}
+
+#[test]
+fn instances_that_say_the_same_do_not_count(rt: HostRuntime) -> Result<(), Fail> {
+    play(rt.alloc(), &rt, 1, &[LOADING, FULL, LOOKED, RENEWED])
 }

@@ -24,8 +24,8 @@ abbrev pub IsStaleNow : Router → Type 0
 IsStaleNow r = IsStaleOf r.id r.area r.moment r.answers
 
 -- from one router to the next the kept walk stays, or it is another one, and counted: only where
--- an LSA of type 1 or 2 was installed, was removed or has come to MaxAge, or the addresses are
--- others
+-- an LSA of type 1 or 2 came, left, has come to MaxAge or says something else, or the addresses
+-- are others
 abbrev pub WalksOnlyThen : (old : Router) → (new : Router) → KeptWalk → KeptWalk → Type 0
 WalksOnlyThen old new walk next =
     WalksAgainOnlyThen old.moment new.moment new.id old.area new.area walk next

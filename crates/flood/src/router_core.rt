@@ -270,8 +270,8 @@ impl Core {
     }
 
     /// How many walks were made of its database since it began or was copied; it stays at its greatest
-    /// value. An event makes one at most, and only where an LSA of type 1 or 2 was installed, was
-    /// removed or has come to MaxAge.
+    /// value. An event makes one at most, and only where an LSA of type 1 or 2 came, left, has come to
+    /// MaxAge or says something else, or the addresses are others.
     pub fn walks(&self) -> u64 {
         self.routes.walks()
     }

@@ -6,9 +6,10 @@ use Rattle.std.specs.Cmp.{Equal-is}
 use Rattle.std.specs.List.{Contains, filter}
 use Rattle.std.specs.Ordering.{eq_by_cmp}
 use Rattle.std.proofs.lemmas.Bool.{cases_eq}
+use mathlib.Core.Bool.{false≢true}
 use Rattle.keyed_map.specs.Keys.{key_cmp}
 use Rattle.keyed_map.proofs.Keys.{keys_exact}
-use Rattle.lsdb.specs.Changes.{IsSameLsa, IsUpTo}
+use Rattle.lsdb.specs.Changes.{HaveNoMaxAge, HaveOneAge, IsUpTo, SaysTheSame}
 use Rattle.lsdb.specs.Copies.{Database, DatabaseCopy, aged_keys, is_aged_out}
 use Rattle.routes.specs.Said.{said_at, said_by}
 use Rattle.kept_routes.specs.Ages.{AreOld}
@@ -80,16 +81,37 @@ alike true b forth back = sym (forth refl)
 alike false true forth back = back refl
 alike false false forth back = refl
 
-pub says_same : (before moment : ℕ) → before ≤ moment → (a b : Option DatabaseCopy) → IsSameLsa a b
+-- what has no MaxAge later had none before
+younger : (a b : Bool) → (a ≡ true → b ≡ true) → b ≡ false → a ≡ false
+younger true b later is = absurd (false≢true (sym is ∙ later refl))
+younger false b later is = refl
+
+module _ (before moment : ℕ) (order : before ≤ moment) (a b : DatabaseCopy) (body : a.lsa.body ≡ b.lsa.body) where
+  -- of one age they are both old, or neither is
+  says_of_one_age : HaveOneAge a b → (is_aged_out moment b ≡ true → is_aged_out before b ≡ true) → said_by before (Some a) ≡ said_by moment (Some b)
+  says_of_one_age same old =
+      let first : is_aged_out before a ≡ is_aged_out before b = λ i. min 3600 (same.0 i + (before - same.1 i)) == 3600 in
+      let aged : is_aged_out before b ≡ is_aged_out moment b = alike (is_aged_out before b) (is_aged_out moment b) (later_aged before moment order b) old in
+      let both = first ∙ aged in
+      λ i. cond (both i) None (Some (body i))
+
+  -- below MaxAge both say their body
+  says_below_max_age : HaveNoMaxAge moment a b → said_by before (Some a) ≡ said_by moment (Some b)
+  says_below_max_age none =
+      let first : is_aged_out before a ≡ false = younger (is_aged_out before a) (is_aged_out moment a) (later_aged before moment order a) none.0 in
+      let both = first ∙ sym none.1 in
+      λ i. cond (both i) None (Some (body i))
+
+pub says_same : (before moment : ℕ) → before ≤ moment → (a b : Option DatabaseCopy) → SaysTheSame moment a b
     → ((copy : DatabaseCopy) → b ≡ Some copy → is_aged_out moment copy ≡ true → is_aged_out before copy ≡ true) → said_by before a ≡ said_by moment b
 says_same before moment order None None same old = refl
 says_same before moment order None (Some b) same old = absurd same
 says_same before moment order (Some a) None same old = absurd same
 says_same before moment order (Some a) (Some b) same old =
-    let first : is_aged_out before a ≡ is_aged_out before b = λ i. min 3600 ((same.0 i).header.age + (before - same.1 i)) == 3600 in
-    let aged : is_aged_out before b ≡ is_aged_out moment b = alike (is_aged_out before b) (is_aged_out moment b) (later_aged before moment order b) (old b refl) in
-    let both = first ∙ aged in
-    λ i. cond (both i) None (Some (same.0 i).body)
+    elim same.1 [
+      | inl age ↦ says_of_one_age before moment order a b same.0 age (old b refl)
+      | inr none ↦ says_below_max_age before moment order a b same.0 none
+    ]
 
 pub all_same : (last_type : Option ℕ) (before moment : ℕ) (old new : Database) → before ≤ moment → AreLeft last_type before moment old new
     → SayTheSame last_type (said_at before old) (said_at moment new)
@@ -100,7 +122,7 @@ all_same last_type before moment old new order left key of =
 
 -- only copies at MaxAge could have come to it
 pub all_left : (last_type : Option ℕ) (before moment : ℕ) (old new : Database)
-    → ((key : Key) → IsUpTo last_type key → IsSameLsa (finite.get old key) (finite.get new key))
+    → ((key : Key) → IsUpTo last_type key → SaysTheSame moment (finite.get old key) (finite.get new key))
     → AreOld last_type before moment new (aged_keys moment new) → AreLeft last_type before moment old new
 all_left last_type before moment old new same old_ones key of = record {
   same = same key of;
@@ -108,7 +130,7 @@ all_left last_type before moment old new same old_ones key of = record {
 }
 
 pub keeps_all : (last_type : Option ℕ) (before moment : ℕ) (old new : Database) → AreLeft last_type before moment old new
-    → (key : Key) → IsUpTo last_type key → IsSameLsa (finite.get old key) (finite.get new key)
+    → (key : Key) → IsUpTo last_type key → SaysTheSame moment (finite.get old key) (finite.get new key)
 keeps_all last_type before moment old new left key of = (left key of).same
 
 pub olds_all : (last_type : Option ℕ) (before moment : ℕ) (old new : Database) (keys : List Key) → AreLeft last_type before moment old new

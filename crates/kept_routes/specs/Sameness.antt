@@ -1,7 +1,7 @@
 -- What the LSAs say stays as it was (RFC 2328, section 16).
 use Rattle.std.specs.Prelude.{◌≡◌, ℕ, Option, Some}
 use Rattle.std.specs.FinMap as finite
-use Rattle.lsdb.specs.Changes.{IsSameLsa, IsUpTo}
+use Rattle.lsdb.specs.Changes.{IsUpTo, SaysTheSame}
 use Rattle.lsdb.specs.Copies.{Database, DatabaseCopy}
 use Rattle.kept_routes.specs.Ages.{IsOldCopy}
 use Rattle.routes.specs.Said.{Said}
@@ -12,14 +12,14 @@ use Rattle.words.specs.declared.key.Key.{Key}
 abbrev pub SayTheSame : Option ℕ → Said → Said → Type 0
 SayTheSame last_type old new = (key : Key) → IsUpTo last_type key → old key ≡ new key
 
--- since the moment before, the LSA of a key wasn't installed, wasn't removed and hasn't come to
--- MaxAge; that it comes in once more with its age doesn't count
+-- since the moment before, the LSA of a key didn't come or leave, says nothing else and hasn't come
+-- to MaxAge; another instance below MaxAge that says the same doesn't count (section 13.2)
 pub record IsLeft (before : Moment) (moment : Moment) (old : Option DatabaseCopy)
     (new : Option DatabaseCopy) : Type 0 where
-  pub same : IsSameLsa old new
+  pub same : SaysTheSame moment old new
   pub old_copy : (copy : DatabaseCopy) → new ≡ Some copy → IsOldCopy before moment copy
 
--- nor were those of the types up to this one, of all types where there is none
+-- this holds of the LSAs of the types up to this one, of all types where there is none
 abbrev pub AreLeft : Option ℕ → (before : Moment) → (moment : Moment) → (old : Database)
     → (new : Database) → Type 0
 AreLeft last_type before moment old new =

@@ -14,10 +14,11 @@ use std::alloc::{AllocError, Global};
 use words::{Key, Second};
 
 /// Tells whether the LSAs of the types up to this one, or of all types where there is none, are left as they were: since the database was
-/// settled, at the moment before, none of them was installed or removed, and none has come to MaxAge. They say at the moment what those of the
-/// settled database said then.
+/// settled, at the moment before, none of them came, left or has come to MaxAge, and none says something else. They say at the moment what those
+/// of the settled database said then.
 ///
-/// That one was sent doesn't count. The time is that of the event's edits and of `Lsdb::aged_keys`.
+/// Another instance below MaxAge that says the same doesn't count (RFC 2328, section 13.2), and neither does that one was sent. The time is that
+/// of the event's edits and of `Lsdb::aged_keys`.
 ///
 /// # Errors
 /// Where memory for the keys of the LSAs at MaxAge, or to compare texts, is refused.
@@ -35,7 +36,7 @@ pub fn say_the_same(
     ensures left { IfOk result (λ same. IsTrue same
         ↔ AreLeft last_type before moment db.now.settled db.now.present) }
 {
-    if !db.keeps(alloc, last_type)? {
+    if !db.keeps(alloc, last_type, moment)? {
         return Ok(false);
     }
     // Within one moment nothing comes of age.

@@ -1,8 +1,10 @@
--- Which copies an event left as they were.
-use Rattle.std.specs.Prelude.{◌≡◌, ℕ, ◌≤◌, Option, None, Some}
-use Rattle.lsdb.specs.Copies.{DatabaseCopy}
-use Rattle.lsdb.specs.Headers.{Lsa, lsa_aged}
+-- Which copies say what those before them said (RFC 2328, section 13.2).
+use Rattle.std.specs.Prelude.{◌≡◌, ◌⊎◌, ℕ, ◌≤◌, false, Option, None, Some}
+use Rattle.lsdb.specs.Copies.{DatabaseCopy, is_aged_out}
+use Rattle.lsdb.specs.Headers.{Lsa}
+use Rattle.lsdb.specs.Joined.{aged_at}
 use Rattle.lsdb.specs.declared.times.Times.{Times}
+use Rattle.words.specs.Numbers.{Moment}
 use Rattle.words.specs.declared.key.Key.{Key}
 
 -- a key of a type up to this one, of any type where there is none
@@ -10,23 +12,48 @@ abbrev pub IsUpTo : Option ℕ → Key → Type 0
 IsUpTo None key = Unit {0}
 IsUpTo (Some last) key = key.ls_type ≤ last
 
--- the same LSA with the same age at the same moment, or none; when it was sent doesn't count
-abbrev pub IsSameLsa : Option DatabaseCopy → Option DatabaseCopy → Type 0
-IsSameLsa None None = Unit {0}
-IsSameLsa None (Some b) = ⊥
-IsSameLsa (Some a) None = ⊥
-IsSameLsa (Some a) (Some b) = (a.lsa ≡ b.lsa) × (a.stored ≡ b.stored)
+-- ---- copies
 
--- the same LSA whatever its age, or none
-abbrev pub IsSameButForAge : Option Lsa → Option Lsa → Type 0
-IsSameButForAge None None = Unit {0}
-IsSameButForAge None (Some b) = ⊥
-IsSameButForAge (Some a) None = ⊥
-IsSameButForAge (Some a) (Some b) = lsa_aged 0 a ≡ lsa_aged 0 b
+-- both have had one age at one moment
+abbrev pub HaveOneAge : DatabaseCopy → DatabaseCopy → Type 0
+HaveOneAge a b = (a.lsa.header.age ≡ b.lsa.header.age) × (a.stored ≡ b.stored)
 
--- the same age at the same moment, or none
-abbrev pub IsSameAge : Option Times → Option Times → Type 0
-IsSameAge None None = Unit {0}
-IsSameAge None (Some b) = ⊥
-IsSameAge (Some a) None = ⊥
-IsSameAge (Some a) (Some b) = (a.age ≡ b.age) × (a.stored ≡ b.stored)
+-- neither has MaxAge at the moment
+abbrev pub HaveNoMaxAge : Moment → DatabaseCopy → DatabaseCopy → Type 0
+HaveNoMaxAge moment a b = (is_aged_out moment a ≡ false) × (is_aged_out moment b ≡ false)
+
+-- The copy before and the one now say the same at the moment, or there is neither: their LSAs have
+-- one body, and ages that count alike. What else the headers say doesn't count, nor do the moments
+-- at which they were installed and sent.
+abbrev pub SaysTheSame : Moment → (before : Option DatabaseCopy) → (now : Option DatabaseCopy)
+    → Type 0
+SaysTheSame moment None None = Unit {0}
+SaysTheSame moment None (Some b) = ⊥
+SaysTheSame moment (Some a) None = ⊥
+SaysTheSame moment (Some a) (Some b) =
+    (a.lsa.body ≡ b.lsa.body) × (HaveOneAge a b ⊎ HaveNoMaxAge moment a b)
+
+-- ---- the LSAs and the times of copies apart
+
+-- one body, or neither LSA
+abbrev pub IsSameBody : (before : Option Lsa) → (now : Option Lsa) → Type 0
+IsSameBody None None = Unit {0}
+IsSameBody None (Some b) = ⊥
+IsSameBody (Some a) None = ⊥
+IsSameBody (Some a) (Some b) = a.body ≡ b.body
+
+-- both tell of one age at one moment
+abbrev pub TellOneAge : Times → Times → Type 0
+TellOneAge t u = (t.age ≡ u.age) × (t.stored ≡ u.stored)
+
+-- neither tells of MaxAge at the moment
+abbrev pub TellNoMaxAge : Moment → Times → Times → Type 0
+TellNoMaxAge moment t u =
+    (aged_at moment (Some t) ≡ false) × (aged_at moment (Some u) ≡ false)
+
+-- ages that count alike at the moment, or neither
+abbrev pub CountsAlike : Moment → (before : Option Times) → (now : Option Times) → Type 0
+CountsAlike moment None None = Unit {0}
+CountsAlike moment None (Some u) = ⊥
+CountsAlike moment (Some t) None = ⊥
+CountsAlike moment (Some t) (Some u) = TellOneAge t u ⊎ TellNoMaxAge moment t u

@@ -1,5 +1,5 @@
 //! The database itself.
-ghost use Rattle.std.specs.Prelude.{◌≡◌, ◌↔◌, take, IfOk, IsTrue, OnOk, option_copied};
+ghost use Rattle.std.specs.Prelude.{◌≡◌, ◌≤◌, ◌↔◌, ◌⊎◌, drop, length, take, IfOk, IsTrue, OnOk, option_copied};
 ghost use Rattle.std.specs.FinMap as finite;
 ghost use Rattle.lsdb.specs.Copies.{
   age_out,
@@ -9,8 +9,15 @@ ghost use Rattle.lsdb.specs.Copies.{
   mark_sent,
   put_copy,
 };
-ghost use Rattle.lsdb.specs.Changes.{IsSameAge, IsSameButForAge, IsSameLsa, IsUpTo};
-ghost use Rattle.lsdb.specs.Headers.{lsa_aged};
+ghost use Rattle.lsdb.specs.Changes.{
+  CountsAlike,
+  IsSameBody,
+  IsUpTo,
+  SaysTheSame,
+  TellNoMaxAge,
+  TellOneAge,
+};
+ghost use Rattle.lsdb.specs.Joined.{aged_at};
 ghost use Rattle.words.specs.declared.key.Key.{Key as KeyValue};
 ghost use Rattle.lsdb.specs.Limits.{exceeds, has_room, own_externals};
 
@@ -22,7 +29,7 @@ use crate::stored::StoredLsa;
 use crate::times::Times;
 use keyed_map::{ChangeTest, KeyTest, KeyedMap, KeysInOrder};
 use lsa::laws::texts_are_determined;
-use lsa::{Lsa, write_at_age};
+use lsa::{HEADER_LENGTH, Lsa, write_at_age};
 use std::alloc::{AllocError, Global};
 use std::marker::Model;
 use words::{Key, RouterId, Second};
@@ -109,16 +116,16 @@ impl<'a> KeyTest<()> for AgedAndThere<'a> {
     }
 }
 
-// Whether LSAs of the types up to this one, or of all types, are what they were but for their ages.
+// Whether LSAs of the types up to this one, or of all types, have the bodies that they had.
 #[derive(Drop)]
-struct SameLsas {
+struct SameBodies {
     last_type: Option<u32>,
 }
 
-impl ChangeTest<StoredLsa> for SameLsas {
-    ghost use Rattle.lsdb.specs.Changes.{IsSameButForAge, IsUpTo};
+impl ChangeTest<StoredLsa> for SameBodies {
+    ghost use Rattle.lsdb.specs.Changes.{IsSameBody, IsUpTo};
 
-    ghost same = { λ a key before now. IsUpTo a.last_type key → IsSameButForAge before now };
+    ghost same = { λ a key before now. IsUpTo a.last_type key → IsSameBody before now };
 
     fn is_same(
         &self,
@@ -130,23 +137,25 @@ impl ChangeTest<StoredLsa> for SameLsas {
         if !is_up_to(self.last_type, key) {
             return Ok(true);
         }
-        is_same_lsa(alloc, before, now)
+        is_same_body(alloc, before, now)
     }
 }
 
-// Whether the ages of LSAs of the types up to this one, or of all types, are what they were.
+// Whether the ages of LSAs of the types up to this one, or of all types, count at the moment as
+// those that they had.
 #[derive(Drop)]
-struct SameAges<'a> {
+struct AlikeAges<'a> {
     lsas: &'a KeyedMap<StoredLsa>,
     last_type: Option<u32>,
+    moment: Second,
 }
 
-impl<'a> ChangeTest<Times> for SameAges<'a> {
+impl<'a> ChangeTest<Times> for AlikeAges<'a> {
     ghost use Rattle.std.specs.Prelude.{◌≡◌, true};
-    ghost use Rattle.lsdb.specs.Changes.{IsSameAge, IsUpTo};
+    ghost use Rattle.lsdb.specs.Changes.{CountsAlike, IsUpTo};
 
     ghost same = { λ a key before now. IsUpTo a.last_type key
-        → finite.contains_key a.lsas.now.present key ≡ true → IsSameAge before now };
+        → finite.contains_key a.lsas.now.present key ≡ true → CountsAlike a.moment before now };
 
     fn is_same(
         &self,
@@ -156,36 +165,56 @@ impl<'a> ChangeTest<Times> for SameAges<'a> {
         now: Option<&Times>,
     ) -> Result<bool, AllocError> {
         let counts = is_up_to(self.last_type, key) && self.lsas.contains(key);
-        Ok(!counts || is_same_age(before, now))
+        Ok(!counts || counts_alike(self.moment, before, now))
     }
 }
 
-// Whether it is the same LSA, whatever its age.
-fn is_same_lsa(
+// Whether both LSAs have one body, or there is neither.
+fn is_same_body(
     alloc: Global,
     before: Option<&StoredLsa>,
     now: Option<&StoredLsa>,
 ) -> Result<bool, AllocError>
     ensures { IfOk result (λ same. IsTrue same
-        ↔ IsSameButForAge (option_copied before.entry) (option_copied now.entry)) }
+        ↔ IsSameBody (option_copied before.entry) (option_copied now.entry)) }
 {
     match before {
         None => Ok(now.is_none()),
         Some(old) => match now {
             None => Ok(false),
-            Some(new) => have_one_text(alloc, old.lsa(), new.lsa()),
+            Some(new) => have_one_body(alloc, old.lsa(), new.lsa()),
         },
     }
 }
 
-// Whether both LSAs have one text, whatever their ages.
-fn have_one_text(alloc: Global, old: &Lsa, new: &Lsa) -> Result<bool, AllocError>
-    ensures { IfOk result (λ same. IsTrue same ↔ (lsa_aged 0 old.now ≡ lsa_aged 0 new.now)) }
+// Whether both LSAs have one body: one type, and the same bytes behind their headers.
+fn have_one_body(alloc: Global, old: &Lsa, new: &Lsa) -> Result<bool, AllocError>
+    ensures { IfOk result (λ same. IsTrue same ↔ (old.now.body ≡ new.now.body)) }
 {
     let old_text = write_at_age(alloc, old, 0)?;
     let new_text = write_at_age(alloc, new, 0)?;
     texts_are_determined();
-    Ok(old_text.as_slice() == new_text.as_slice())
+    if old.header().ls_type != new.header().ls_type {
+        return Ok(false);
+    }
+    Ok(have_one_rest(old_text.as_slice(), new_text.as_slice()))
+}
+
+// Whether the texts are the same behind their headers.
+fn have_one_rest(old: &[u8], new: &[u8]) -> bool
+    requires first { 20 ≤ length old.now }
+    requires second { 20 ≤ length new.now }
+    ensures { IsTrue result ↔ (drop 20 old.now ≡ drop 20 new.now) }
+{
+    behind_header(old) == behind_header(new)
+}
+
+// The bytes of an LSA behind its header (RFC 2328, section A.4.1).
+fn behind_header(text: &[u8]) -> &[u8]
+    requires { 20 ≤ length text.now }
+    ensures { result.now ≡ drop 20 text.now }
+{
+    &text[HEADER_LENGTH..]
 }
 
 fn is_up_to(last_type: Option<u32>, key: &Key) -> bool
@@ -197,16 +226,46 @@ fn is_up_to(last_type: Option<u32>, key: &Key) -> bool
     }
 }
 
-fn is_same_age(before: Option<&Times>, now: Option<&Times>) -> bool
-    ensures { IsTrue result ↔ IsSameAge (option_copied before.entry) (option_copied now.entry) }
+// Whether the ages of both count alike at the moment, or there is neither.
+fn counts_alike(moment: Second, before: Option<&Times>, now: Option<&Times>) -> bool
+    ensures { IsTrue result
+        ↔ CountsAlike moment (option_copied before.entry) (option_copied now.entry) }
 {
     match before {
         None => now.is_none(),
         Some(old) => match now {
             None => false,
-            Some(new) => old.age == new.age && old.stored.count() == new.stored.count(),
+            Some(new) => count_alike(moment, old, new),
         },
     }
+}
+
+// Whether both tell of one age at one moment, or neither of MaxAge at this one.
+fn count_alike(moment: Second, old: &Times, new: &Times) -> bool
+    ensures { IsTrue result ↔ (TellOneAge old.now new.now ⊎ TellNoMaxAge moment old.now new.now) }
+{
+    if tell_one_age(old, new) {
+        return true;
+    }
+    tell_no_max_age(moment, old, new)
+}
+
+fn tell_one_age(old: &Times, new: &Times) -> bool
+    ensures { IsTrue result ↔ TellOneAge old.now new.now }
+{
+    old.age == new.age && old.stored.count() == new.stored.count()
+}
+
+fn tell_no_max_age(moment: Second, old: &Times, new: &Times) -> bool
+    ensures { IsTrue result ↔ TellNoMaxAge moment old.now new.now }
+{
+    !tells_max_age(moment, old) && !tells_max_age(moment, new)
+}
+
+fn tells_max_age(moment: Second, times: &Times) -> bool
+    ensures { result ≡ aged_at moment (Some times.now) }
+{
+    age_at(times.age, times.stored, moment) == MAX_AGE
 }
 
 impl Lsdb {
@@ -327,23 +386,32 @@ impl Lsdb {
         self.lsas.keys_where(alloc, &aged_out)
     }
 
-    /// Tells whether each copy of a type up to this one, or of any type where there is none, has the
-    /// LSA and the age that it had when the database was last settled: none was installed, removed or
-    /// aged out since. It looks at the edits since then. That a copy was sent doesn't count, and
-    /// neither does that the very LSA was installed again.
+    /// Tells whether each copy of a type up to this one, or of any type where there is none, says at
+    /// the moment what the copy of its key said when the database was last settled (RFC 2328, section
+    /// 13.2): none came or left, each has the body that it had, and neither the copy of then nor the
+    /// one of now is at MaxAge at the moment, unless they have one age. It looks at the edits since
+    /// then. Another sequence number, checksum, age below MaxAge or other Options don't count, nor
+    /// does that a copy was sent.
     ///
     /// # Errors
     /// Where memory for the texts of LSAs, to compare them, is refused.
-    pub fn keeps(&self, alloc: Global, last_type: Option<u32>) -> Result<bool, AllocError>
+    pub fn keeps(
+        &self,
+        alloc: Global,
+        last_type: Option<u32>,
+        moment: Second,
+    ) -> Result<bool, AllocError>
         ensures { IfOk result (λ keeps. IsTrue keeps ↔ ((key : KeyValue) → IsUpTo last_type key
-            → IsSameLsa (finite.get self.now.settled key) (finite.get self.now.present key))) }
+            → SaysTheSame moment
+            (finite.get self.now.settled key) (finite.get self.now.present key))) }
     {
-        if !self.lsas.keeps(alloc, &SameLsas { last_type })? {
+        if !self.lsas.keeps(alloc, &SameBodies { last_type })? {
             return Ok(false);
         }
-        let ages = SameAges {
+        let ages = AlikeAges {
             lsas: &self.lsas,
             last_type,
+            moment,
         };
         self.times.keeps(alloc, &ages)
     }

@@ -16,6 +16,8 @@ use words::{Key, LinkStateId, RouterId, Second};
 enum Step {
     // the router-LSA of the other router comes in with this metric of its only link
     Install(u16),
+    // each LSA comes in again
+    Renew,
     // so many external destinations come in
     Announce(u32),
     // the LSA of the other router is sent, flushed, removed
@@ -57,6 +59,13 @@ fn other_router(alloc: Global, metric: u16) -> Result<Lsa, Fail> {
     router(alloc, name, 2, &[link])
 }
 
+fn renew(alloc: Global, db: &mut Lsdb) -> Result<(), Fail> {
+    for lsa in lsas_of(alloc, &TWO, &[])? {
+        db.install_flooded(later(1), lsa)?;
+    }
+    Ok(())
+}
+
 fn announce(alloc: Global, db: &mut Lsdb, count: u32) -> Result<(), Fail> {
     for number in 0..count {
         let network = 0xcb00_0000_u32.wrapping_add(number.wrapping_mul(256));
@@ -81,6 +90,7 @@ fn same_later(alloc: Global, db: &Lsdb, seconds: u64) -> Result<(bool, bool), Fa
 fn took(alloc: Global, db: &mut Lsdb, step: Step) -> Result<bool, Fail> {
     match step {
         Step::Install(metric) => db.install_flooded(later(1), other_router(alloc, metric)?)?,
+        Step::Renew => renew(alloc, db)?,
         Step::Announce(count) => announce(alloc, db, count)?,
         Step::Send => db.mark_sent(later(1), &other_key())?,
         Step::Flush => db.age_out(later(1), &other_key())?,
@@ -109,7 +119,7 @@ fn two(alloc: Global) -> Result<Lsdb, Fail> {
     Ok(database(alloc, &lsas)?)
 }
 
-const STEPS: [Step; 20] = [
+const STEPS: [Step; 24] = [
     // nothing is new; the LSAs were of age 1 when they came in, and are of MaxAge 3599 seconds later
     Step::Same(0, true, true),
     Step::Same(100, true, true),
@@ -118,6 +128,11 @@ const STEPS: [Step; 20] = [
     // that one is sent changes nothing
     Step::Send,
     Step::Same(1, true, true),
+    Step::RollBack,
+    // what comes in again a second later says the same, until what was there is of MaxAge
+    Step::Renew,
+    Step::Same(3598, true, true),
+    Step::Same(3599, false, false),
     Step::RollBack,
     // external destinations leave links alone
     Step::Announce(100),
