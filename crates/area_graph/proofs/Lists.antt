@@ -3,7 +3,7 @@ use Rattle.std.proofs.Common.{◌≡◌, ℕ, zero, suc, ◌+◌, ◌<◌, ◌�
 use Rattle.std.proofs.lemmas.List.Elements.{All-contains, Contains-append_left, Contains-get_or, Contains-push, Contains-push_cases}
 use Rattle.std.proofs.lemmas.List.{take_all, take_more}
 use Rattle.std.specs.List.{All, AllPairs, Contains, cons_option, filter_map}
-use Rattle.area_graph.specs.Graphs.{Adds}
+use Rattle.area_graph.specs.Graphs.{Adds, OfEach}
 use Rattle.routes.proofs.Lists.{first_is, later_is, of_cons, of_empty}
 
 -- ---- what passes a test
@@ -125,10 +125,7 @@ module _ {X : Type 0} where
 
 module _ {X Y : Type 0} (Q : Y → X → Type 0) (ys : List Y) where
   abbrev pub OfFront : ℕ → X → Type 0
-  OfFront i x = (y : Y) × Contains (take i ys) y × Q y x
-
-  abbrev pub OfAll : X → Type 0
-  OfAll x = (y : Y) × Contains ys y × Q y x
+  OfFront i = OfEach Q (take i ys)
 
   pub each_none : (xs : List X) → Adds (OfFront 0) xs xs
   each_none xs = adds_none (OfFront 0) xs (λ x o. of_empty o.0 o.1)
@@ -146,9 +143,9 @@ module _ {X Y : Type 0} (Q : Y → X → Type 0) (ys : List Y) where
   pub each_skip : (i : ℕ) (y : Y) (xs bs : List X) → i < length ys → y ≡ get_or ys i y → ((x : X) → Q y x → ⊥) → Adds (OfFront i) xs bs → Adds (OfFront (i + 1)) xs bs
   each_skip i y xs bs lt is never a = each_more i y xs bs bs lt is a (adds_none (Q y) bs never)
 
-  pub each_all : (i : ℕ) (xs bs : List X) → length ys ≤ i → Adds (OfFront i) xs bs → Adds OfAll xs bs
+  pub each_all : (i : ℕ) (xs bs : List X) → length ys ≤ i → Adds (OfFront i) xs bs → Adds (OfEach Q ys) xs bs
   each_all i xs bs done a =
       let e : take i ys ≡ ys = take_all i ys done in
-      adds_same (OfFront i) OfAll xs bs
+      adds_same (OfFront i) (OfEach Q ys) xs bs
       (λ x o. let P : List Y → Type 0 = λ zs. Contains zs o.0 in (o.0, subst P e o.1, o.2))
       (λ x o. let P : List Y → Type 0 = λ zs. Contains zs o.0 in (o.0, subst P (sym e) o.1, o.2)) a

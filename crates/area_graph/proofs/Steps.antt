@@ -1,40 +1,40 @@
--- The steps of the loops that add the links of a node.
-use Rattle.std.proofs.Common.{◌≡◌, ℕ, ◌+◌, ◌<◌, ◌≤◌, inl, inr, List, [], ◌∷◌, ◌++◌, length, get_or, ◌↔◌, None, Some, Ok, Err, Result, slice_get, refl, sym, ◌∙◌, ap, subst, arith}
-use Rattle.std.proofs.lemmas.Bool.{cases_eq, cases_lt}
-use Rattle.std.proofs.lemmas.Cmp.{ranked}
-use Rattle.std.proofs.lemmas.Option.{get_or_from_slice_get, none-some, same_Some, slice_get_within}
-use Rattle.std.specs.Cmp.{nat_cmp_total, tied_itself}
-use Rattle.std.specs.FinMap.{nat_cmp-IsAntisymmetric}
-use Rattle.std.specs.List.{Contains}
+-- The steps by which links are added.
+use Rattle.std.proofs.Common.{◌≡◌, ℕ, ◌+◌, ◌<◌, ◌≤◌, inl, inr, List, [], ◌∷◌, ◌++◌, length, None, Some, Ok, Err, Option, Result, slice_get, refl, sym, ◌∙◌, ap, subst, arith}
+use Rattle.std.proofs.lemmas.Bool.{cases_lt}
+use Rattle.std.proofs.lemmas.Option.{same_Some, slice_get_within}
+use Rattle.std.specs.List.{All, Contains}
+use Rattle.std.specs.List.Sorted.{IsSorted}
 use Rattle.std.specs.Result.{OnOk}
-use Rattle.std.specs.Ordering.{nat_cmp, ordering_then}
-use Rattle.std.specs.declared.cmp.Ordering.TheVariants.{Equal, Greater, Less}
+use Rattle.std.specs.declared.cmp.Ordering.TheVariants.{Less}
 use Rattle.lsa.specs.declared.body.Link.{Link as Told}
-use Rattle.lsa.specs.declared.body.LinkKind.{LinkKind}
-use Rattle.lsa.specs.declared.body.NetworkLsa.{NetworkLsa}
-use Rattle.lsa.specs.declared.body.RouterLsa.{RouterLsa}
-use Rattle.routes.specs.Links.{IsNetworkLsa, IsRouterLsa}
-use Rattle.routes.specs.Said.{Said}
+use Rattle.lsa.specs.declared.body.LinkKind.TheVariants as kinds
 use Rattle.routes.specs.declared.graph.Link.{Link}
 use Rattle.routes.specs.declared.node.Node.{Node}
-use Rattle.routes.specs.declared.node.Node.TheVariants.{ANetwork, ARouter}
+use Rattle.routes.specs.declared.node.Node.TheVariants.{ARouter}
 use Rattle.routes.specs.declared.root.Root.{Root}
-use Rattle.routes.proofs.Lists.{of_empty}
-use Rattle.area_graph.specs.Graphs.{Adds, IsLinkFrom, StandsAt, StandsFor, StandsForLink}
-use Rattle.area_graph.specs.Nodes.{Ascend, network_in, network_lsa, node_cmp, router_in, router_lsa}
-use Rattle.area_graph.specs.OneWay.{IsExit, LeadsToward, TellsBack, least_of, least_toward, of_link, to_attached}
-use Rattle.area_graph.specs.declared.one_way.OneWayLink.{OneWayLink}
-use Rattle.area_graph.proofs.Lists.{OfAll, adds_both, adds_more, adds_none, adds_same}
-use Rattle.area_graph.proofs.KeyNodes.{network_said, router_said}
+use Rattle.area_graph.specs.Entries.{HasEntry, IsLeastMetric, attached_entry, entry_cmp}
+use Rattle.area_graph.specs.Graphs.{Adds, CostFits, OfEach, StandsAt}
+use Rattle.area_graph.specs.Links.{IsCheapest, IsExitTo, IsNeighborAt, IsOwnTo, IsOwnTransit, IsToListed, IsToNetwork, IsToRouter, IsToSomeNetwork}
+use Rattle.area_graph.specs.Nodes.{Ascend, node_cmp}
+use Rattle.area_graph.specs.declared.entry.Entry.{Entry}
+use Rattle.area_graph.specs.declared.entry.EntryKind.{EntryKind}
+use Rattle.area_graph.specs.declared.entry.EntryKind.TheVariants.{Attached, PointToPoint, Transit}
+use Rattle.area_graph.proofs.Lists.{adds_all, adds_both, adds_more, adds_none, adds_one, adds_same}
+use Rattle.area_graph.proofs.Order.{in_order, not_before, of_kind}
+use Rattle.area_graph.proofs.Whole.{at_its_place, contained, one_place, placed}
+
+pub on_ok : {T E : Type 0} (r : Result T E) (P Q : Type 0) → (P → Q) → OnOk r P → OnOk r Q
+on_ok (Ok x) P Q f p = f p
+on_ok (Err e) P Q f p = p
+
+pub pushed_fits : (xs : List Link) (link : Link) → link.cost < 65536 → All CostFits xs → All CostFits (xs ++ link ∷ [])
+pushed_fits xs link fits = adds_all (λ (x : Link). x ≡ link) CostFits xs (xs ++ link ∷ []) (adds_one (λ (x : Link). x ≡ link) xs link refl (λ x e. e)) (λ x e. omega (arith, ap (λ (y : Link). y.cost) e, fits))
 
 -- ---- a link by each own interface of the address
 
-module _ (addresses : List ℕ) (to cost address : ℕ) where
-  abbrev pub Own : Link → Type 0
-  Own link = (link.to ≡ to) × (link.cost ≡ cost) × ((n : ℕ) × (link.interface ≡ n + 1) × (slice_get addresses n ≡ Some address))
-
+module _ (root : Root) (to cost address : ℕ) where
   abbrev pub OwnBelow : ℕ → Link → Type 0
-  OwnBelow i link = (link.to ≡ to) × (link.cost ≡ cost) × ((n : ℕ) × (link.interface ≡ n + 1) × (slice_get addresses n ≡ Some address) × (n < i))
+  OwnBelow i link = (link.to ≡ to) × (link.cost ≡ cost) × ((n : ℕ) × (link.interface ≡ n + 1) × (slice_get root.addresses n ≡ Some address) × (n < i))
 
   pub own_none : (xs : List Link) → Adds (OwnBelow 0) xs xs
   own_none xs = adds_none (OwnBelow 0) xs (λ x o. omega (arith, o.2.3))
@@ -42,7 +42,7 @@ module _ (addresses : List ℕ) (to cost address : ℕ) where
   wider : (i : ℕ) (x : Link) → OwnBelow i x → OwnBelow (i + 1) x
   wider i x o = (o.0, o.1, (o.2.0, o.2.1, o.2.2, omega (arith, o.2.3)))
 
-  pub own_more : (i : ℕ) (xs ys : List Link) → slice_get addresses i ≡ Some address → Adds (OwnBelow i) xs ys → Adds (OwnBelow (i + 1)) xs (ys ++ record { to = to; cost = cost; interface = i + 1 } ∷ [])
+  pub own_more : (i : ℕ) (xs ys : List Link) → slice_get root.addresses i ≡ Some address → Adds (OwnBelow i) xs ys → Adds (OwnBelow (i + 1)) xs (ys ++ record { to = to; cost = cost; interface = i + 1 } ∷ [])
   own_more i xs ys here a =
       let link : Link = record { to = to; cost = cost; interface = i + 1 } in
       adds_more (OwnBelow i) (OwnBelow (i + 1)) xs ys link a (refl, refl, (i, refl, here, omega arith))
@@ -52,197 +52,160 @@ module _ (addresses : List ℕ) (to cost address : ℕ) where
       ])
       (wider i)
 
-  pub own_skip : (i : ℕ) (xs ys : List Link) → (slice_get addresses i ≡ Some address → ⊥) → Adds (OwnBelow i) xs ys → Adds (OwnBelow (i + 1)) xs ys
+  pub own_skip : (i : ℕ) (xs ys : List Link) → (slice_get root.addresses i ≡ Some address → ⊥) → Adds (OwnBelow i) xs ys → Adds (OwnBelow (i + 1)) xs ys
   own_skip i xs ys never a =
       adds_same (OwnBelow i) (OwnBelow (i + 1)) xs ys (wider i)
       (λ x o. elim (cases_lt o.2.0 i) [
         | inl lt ↦ (o.0, o.1, (o.2.0, o.2.1, o.2.2, lt))
         | inr past ↦
-            let P : ℕ → Type 0 = λ n. slice_get addresses n ≡ Some address in
+            let P : ℕ → Type 0 = λ n. slice_get root.addresses n ≡ Some address in
             let same : o.2.0 ≡ i = omega (arith, o.2.3, past) in
             absurd (never (subst P same o.2.2))
       ]) a
 
-  pub own_all : (i : ℕ) (xs ys : List Link) → length addresses ≤ i → Adds (OwnBelow i) xs ys → Adds Own xs ys
+  pub own_all : (i : ℕ) (xs ys : List Link) → length root.addresses ≤ i → Adds (OwnBelow i) xs ys → Adds (IsOwnTo root to cost address) xs ys
   own_all i xs ys done a =
-      adds_same (OwnBelow i) Own xs ys (λ x o. (o.0, o.1, (o.2.0, o.2.1, o.2.2)))
-      (λ x o. (o.0, o.1, (o.2.0, o.2.1, o.2.2, omega (arith, done, slice_get_within addresses o.2.0 address o.2.2)))) a
+      adds_same (OwnBelow i) (IsOwnTo root to cost address) xs ys (λ x o. (o.0, o.1, (o.2.0, o.2.1, o.2.2)))
+      (λ x o. (o.0, o.1, (o.2.0, o.2.1, o.2.2, omega (arith, done, slice_get_within root.addresses o.2.0 address o.2.2)))) a
 
--- ---- a link to each node that it leads toward
+  pub own_fits : cost < 65536 → (xs ys : List Link) → Adds (IsOwnTo root to cost address) xs ys → All CostFits xs → All CostFits ys
+  own_fits fits xs ys a = adds_all (IsOwnTo root to cost address) CostFits xs ys a (λ x o. omega (arith, o.1, fits))
 
-never_less : Greater ≡ Less → ⊥
-never_less e = cc
+  -- ---- of the root, or of another router
 
-itself : (n : ℕ) → nat_cmp n n ≡ Equal
-itself n = tied_itself nat_cmp_total n
+  module _ (router : ℕ) where
+    pub exits_at_root : (xs ys : List Link) → router ≡ root.router → Adds (IsOwnTo root to cost address) xs ys → Adds (IsExitTo root router to cost address) xs ys
+    exits_at_root xs ys own a =
+        adds_same (IsOwnTo root to cost address) (IsExitTo root router to cost address) xs ys (λ x o. (o.0, o.1, record { by_interface = λ _. o.2; elsewhere = λ off. absurd (off own) }))
+        (λ x e. (e.0, e.1, e.2.by_interface own)) a
 
-above_zero : (n : ℕ) → nat_cmp n 0 ≡ Less → ⊥
-above_zero n e = omega (arith, ranked n 0 Less (sym e))
+    pub exit_elsewhere : (xs : List Link) → (router ≡ root.router → ⊥) → Adds (IsExitTo root router to cost address) xs (xs ++ record { to = to; cost = cost; interface = 0 } ∷ [])
+    exit_elsewhere xs off =
+        let link : Link = record { to = to; cost = cost; interface = 0 } in
+        adds_one (IsExitTo root router to cost address) xs link (refl, refl, record { by_interface = λ own. absurd (off own); elsewhere = λ _. refl })
+        (λ x e. let at : x.interface ≡ 0 = e.2.elsewhere off in let to_end = e.0 in let costs = e.1 in λ j. record { to = to_end j; cost = costs j; interface = at j })
 
--- no node that a link leads toward is before the first one that it may lead to
-no_less : (way : OneWayLink) (node : Node) → LeadsToward way node → node_cmp node (least_toward way) ≡ Less → ⊥
-no_less way (ARouter r) toward before =
-    let P : LinkKind → Type 0 = λ k. node_cmp (ARouter r) (least_of k way.id) ≡ Less in
-    let Q : ℕ → Type 0 = λ n. nat_cmp r n ≡ Less in
-    let f : Equal ≡ Less = sym (itself r) ∙ subst Q toward.1 (subst P toward.0 before) in cc
-no_less way (ANetwork id by) toward before =
-    let P : LinkKind → Type 0 = λ k. node_cmp (ANetwork id by) (least_of k way.id) ≡ Less in
-    let Q : ℕ → Type 0 = λ n. ordering_then (nat_cmp id n) (nat_cmp by 0) ≡ Less in
-    let e = subst Q toward.1 (subst P toward.0 before) in
-    above_zero by (sym (ap (λ r. ordering_then r (nat_cmp by 0)) (itself id)) ∙ e)
+    pub exits_fit : cost < 65536 → (xs ys : List Link) → Adds (IsExitTo root router to cost address) xs ys → All CostFits xs → All CostFits ys
+    exits_fit fits xs ys a = adds_all (IsExitTo root router to cost address) CostFits xs ys a (λ x e. omega (arith, e.1, fits))
 
--- a lesser Link State ID comes first, whoever originated
-sooner : (m id its by other : ℕ) → (m ≡ id → ⊥) → ordering_then (nat_cmp m id) (nat_cmp its by) ≡ Less → ordering_then (nat_cmp m id) (nat_cmp its other) ≡ Less
-sooner m id its by other apart e =
-    elim (nat_cmp m id) as (λ r. nat_cmp m id ≡ r → ordering_then r (nat_cmp its by) ≡ Less → ordering_then r (nat_cmp its other) ≡ Less) [
-      | Less ↦ λ _ _. refl
-      | Equal ↦ λ is _. absurd (apart (nat_cmp-IsAntisymmetric m id is))
-      | Greater ↦ λ _ f. absurd (never_less f)
-    ] refl e
+-- ---- to the router at the far end
 
--- a node between the first one and one that the link leads toward is another such
-between : (way : OneWayLink) (middle node : Node) → LeadsToward way node → (node_cmp middle (least_toward way) ≡ Less → ⊥) → node_cmp middle node ≡ Less → LeadsToward way middle
-between way (ARouter m) (ARouter r) toward low high =
-    let P : LinkKind → Type 0 = λ k. node_cmp (ARouter m) (least_of k way.id) ≡ Less in
-    let Q : ℕ → Type 0 = λ n. nat_cmp m n ≡ Less in
-    absurd (low (subst P (sym toward.0) (subst Q (sym toward.1) high)))
-between way (ARouter m) (ANetwork id by) toward low high =
-    let P : LinkKind → Type 0 = λ k. node_cmp (ARouter m) (least_of k way.id) ≡ Less in
-    absurd (low (subst P (sym toward.0) refl))
-between way (ANetwork m its) (ARouter r) toward low high = absurd (never_less high)
-between way (ANetwork m its) (ANetwork id by) toward low high =
-    let P : LinkKind → Type 0 = λ k. node_cmp (ANetwork m its) (least_of k way.id) ≡ Less in
-    let Q : ℕ → Type 0 = λ n. ordering_then (nat_cmp m n) (nat_cmp its 0) ≡ Less in
-    elim (cases_eq m id) [
-      | inl e ↦ (toward.0, toward.1 ∙ sym e)
-      | inr apart ↦ absurd (low (subst P (sym toward.0) (subst Q (sym toward.1) (sooner m id its by 0 apart high))))
-    ]
+pub neighbor_is : (nodes : List Node) (entries : List Entry) (router : ℕ) (kind : EntryKind) (id at : ℕ) → Ascend nodes → Contains nodes (ARouter router) → HasEntry entries router kind id
+    → ((k : ℕ) (other : Node) → slice_get nodes k ≡ Some other → k < at → node_cmp other (ARouter router) ≡ Less)
+    → ((k : ℕ) (other : Node) → slice_get nodes k ≡ Some other → at ≤ k → node_cmp other (ARouter router) ≡ Less → ⊥)
+    → IsNeighborAt nodes entries router kind id (Some at)
+neighbor_is nodes entries router kind id at ascend among has before beyond = (at_its_place nodes ascend (ARouter router) at among before beyond, has)
 
--- what one node gets
-abbrev pub ToPlace : Root → Node → OneWayLink → ℕ → Link → Type 0
-ToPlace root from way at link = (link.to ≡ at) × (link.cost ≡ way.cost) × IsExit root from way link.interface
+pub same_neighbor : (nodes : List Node) (entries : List Entry) (kind : EntryKind) (router other id its : ℕ) (at to : Option ℕ) → router ≡ other → id ≡ its → at ≡ to → IsNeighborAt nodes entries router kind id at → IsNeighborAt nodes entries other kind its to
+same_neighbor nodes entries kind router other id its at to e f g is =
+    let P : ℕ → Type 0 = λ r. IsNeighborAt nodes entries r kind id at in
+    let Q : ℕ → Type 0 = λ n. IsNeighborAt nodes entries other kind n at in
+    let R : Option ℕ → Type 0 = λ o. IsNeighborAt nodes entries other kind its o in
+    subst R g (subst Q f (subst P e is))
 
-pub exits_at_root : (root : Root) (from : Node) (router : ℕ) (way : OneWayLink) (to : ℕ) (xs ys : List Link) → from ≡ ARouter router → router ≡ root.router → Adds (Own root.addresses to way.cost way.address) xs ys → Adds (ToPlace root from way to) xs ys
-exits_at_root root from router way to xs ys is own a =
-    let P : Node → Type 0 = λ n. Adds (ToPlace root n way to) xs ys in
-    subst P (sym is) (adds_same (Own root.addresses to way.cost way.address) (ToPlace root (ARouter router) way to) xs ys
-    (λ x o. (o.0, o.1, record { by_interface = λ _. o.2; elsewhere = λ off. absurd (off own) }))
-    (λ x t. (t.0, t.1, t.2.by_interface own)) a)
+module _ (root : Root) (nodes : List Node) (entries : List Entry) (router : ℕ) (told : Told) where
+  pub no_neighbor : (xs : List Link) → IsNeighborAt nodes entries told.link_id PointToPoint router None → Adds (IsToRouter root nodes entries router told) xs xs
+  no_neighbor xs none = adds_none (IsToRouter root nodes entries router told) xs (λ x t. none t.back)
 
-pub on_ok : {T E : Type 0} (r : Result T E) (P Q : Type 0) → (P → Q) → OnOk r P → OnOk r Q
-on_ok (Ok x) P Q f p = f p
-on_ok (Err e) P Q f p = p
+  -- there is one place of it
+  pub to_neighbor : (to : ℕ) (xs ys : List Link) → Ascend nodes → told.kind ≡ kinds.PointToPoint → 0 < told.metric → IsNeighborAt nodes entries told.link_id PointToPoint router (Some to)
+      → Adds (IsExitTo root router to told.metric told.link_data) xs ys → Adds (IsToRouter root nodes entries router told) xs ys
+  to_neighbor to xs ys ascend kind counts at a =
+      adds_same (IsExitTo root router to told.metric told.link_data) (IsToRouter root nodes entries router told) xs ys
+      (λ x e.
+      let P : ℕ → Type 0 = λ k. StandsAt nodes (ARouter told.link_id) k in
+      record { is_kind = kind; counts = counts; stands = subst P (sym e.0) at.0; back = at.1; leads = (refl, e.1, e.2) })
+      (λ x t. (one_place nodes ascend (ARouter told.link_id) x.to to t.stands at.0, t.leads.1, t.leads.2)) a
 
-module _ (said : Said) (root : Root) (nodes : List Node) (from : Node) (way : OneWayLink) where
-  abbrev S : Link → Type 0
-  S = StandsFor said root nodes from way
+-- ---- to the network of one entry
 
-  abbrev pub StandsBelow : ℕ → Link → Type 0
-  StandsBelow at link = S link × (link.to < at)
+module _ (root : Root) (entries : List Entry) (router : ℕ) (tolds : List Told) (entry : Entry) where
+  pub network_at_root : (xs ys : List Link) → router ≡ root.router → Adds (OfEach (IsOwnTransit root entry.id entry.place) tolds) xs ys → Adds (IsToNetwork root entries router tolds entry) xs ys
+  network_at_root xs ys own a =
+      adds_same (OfEach (IsOwnTransit root entry.id entry.place) tolds) (IsToNetwork root entries router tolds entry) xs ys (λ x o. record { own = λ _. o; other = λ off. absurd (off own) }) (λ x t. t.own own) a
 
-  pub links_none : (first : ℕ) (xs : List Link) → ((k : ℕ) (node : Node) → StandsAt nodes node k → k < first → node_cmp node (least_toward way) ≡ Less) → Adds (StandsBelow first) xs xs
-  links_none first xs before = adds_none (StandsBelow first) xs (λ x o. no_less way o.0.target o.0.toward (before x.to o.0.target o.0.stands o.1))
+  pub network_elsewhere : (xs ys : List Link) → (router ≡ root.router → ⊥) → Adds (IsCheapest entries router entry) xs ys → Adds (IsToNetwork root entries router tolds entry) xs ys
+  network_elsewhere xs ys off a =
+      adds_same (IsCheapest entries router entry) (IsToNetwork root entries router tolds entry) xs ys (λ x c. record { own = λ own. absurd (off own); other = λ _. c }) (λ x t. t.other off) a
 
-  wide : (at : ℕ) (x : Link) → StandsBelow at x → StandsBelow (at + 1) x
-  wide at x o = (o.0, omega (arith, o.1))
+module _ (entries : List Entry) (router : ℕ) (entry : Entry) where
+  pub none_cheapest : (xs : List Link) → IsLeastMetric entries router Transit entry.id 1 None → Adds (IsCheapest entries router entry) xs xs
+  none_cheapest xs none = adds_none (IsCheapest entries router entry) xs (λ x c. none x.cost c.least.0 c.least.1)
 
-  -- the node that the link leads to stands at this place
-  same_target : (at : ℕ) (node : Node) (x : Link) (s : S x) → StandsAt nodes node at → x.to ≡ at → s.target ≡ node
-  same_target at node x s here e =
-      let P : ℕ → Type 0 = λ k. slice_get nodes k ≡ Some s.target in
-      same_Some s.target node (sym (subst P e s.stands) ∙ here)
+  pub one_cheapest : (cost : ℕ) (xs : List Link) → IsLeastMetric entries router Transit entry.id 1 (Some cost) → Adds (IsCheapest entries router entry) xs (xs ++ record { to = entry.place; cost = cost; interface = 0 } ∷ [])
+  one_cheapest cost xs least =
+      let link : Link = record { to = entry.place; cost = cost; interface = 0 } in
+      adds_one (IsCheapest entries router entry) xs link (record { same_end = refl; least = least; exit = refl })
+      (λ x c.
+      let to = c.same_end in
+      let exit = c.exit in
+      let costs : x.cost ≡ cost = omega (arith, c.least.2 cost least.0 least.1, least.2 x.cost c.least.0 c.least.1) in
+      λ j. record { to = to j; cost = costs j; interface = exit j })
 
-  pub links_skip : (at : ℕ) (node : Node) (xs ys : List Link) → StandsAt nodes node at → (TellsBack said from node → ⊥) → Adds (StandsBelow at) xs ys → Adds (StandsBelow (at + 1)) xs ys
-  links_skip at node xs ys here never a =
-      adds_same (StandsBelow at) (StandsBelow (at + 1)) xs ys (wide at)
-      (λ x o. elim (cases_lt x.to at) [
-        | inl lt ↦ (o.0, lt)
+-- ---- to the networks of all entries that list the router
+
+module _ (root : Root) (entries : List Entry) (router : ℕ) (tolds : List Told) where
+  abbrev To : Entry → Link → Type 0
+  To = IsToNetwork root entries router tolds
+
+  abbrev ToSome : Link → Type 0
+  ToSome = IsToSomeNetwork root entries router tolds
+
+  abbrev pub WalkedTo : ℕ → Link → Type 0
+  WalkedTo at link = (k : ℕ) × (entry : Entry) × (slice_get entries k ≡ Some entry) × (entry.router ≡ router) × (entry.kind ≡ Attached) × (k < at) × To entry link
+
+  pub walk_none : (first : ℕ) (xs : List Link) → ((k : ℕ) (other : Entry) → slice_get entries k ≡ Some other → k < first → entry_cmp other (attached_entry 0 0 router) ≡ Less) → Adds (WalkedTo first) xs xs
+  walk_none first xs before =
+      adds_none (WalkedTo first) xs
+      (λ x o. not_before (attached_entry 0 0 router) o.1 o.3 o.4 (omega arith) (omega arith) (omega arith) (before o.0 o.1 o.2 o.5))
+
+  pub walk_more : (at : ℕ) (entry : Entry) (xs ys zs : List Link) → slice_get entries at ≡ Some entry → entry.router ≡ router → entry.kind ≡ Attached → Adds (WalkedTo at) xs ys → Adds (To entry) ys zs → Adds (WalkedTo (at + 1)) xs zs
+  walk_more at entry xs ys zs here is_router is_kind a b =
+      adds_both (WalkedTo at) (To entry) (WalkedTo (at + 1)) xs ys zs a b
+      (λ x o. elim (cases_lt o.0 at) [
+        | inl lt ↦ inl (o.0, o.1, o.2, o.3, o.4, lt, o.6)
         | inr past ↦
-            let P : Node → Type 0 = λ n. TellsBack said from n in
-            absurd (never (subst P (same_target at node x o.0 here (omega (arith, o.1, past))) o.0.back))
-      ]) a
-
-  pub links_more : (at : ℕ) (node : Node) (xs ys zs : List Link) → StandsAt nodes node at → LeadsToward way node → TellsBack said from node → Adds (StandsBelow at) xs ys → Adds (ToPlace root from way at) ys zs → Adds (StandsBelow (at + 1)) xs zs
-  links_more at node xs ys zs here toward back a b =
-      adds_both (StandsBelow at) (ToPlace root from way at) (StandsBelow (at + 1)) xs ys zs a b
-      (λ x o. elim (cases_lt x.to at) [
-        | inl lt ↦ inl (o.0, lt)
-        | inr past ↦ inr (omega (arith, o.1, past), o.0.costs, o.0.exit)
+            let same : o.0 ≡ at = omega (arith, o.5, past) in
+            let P : ℕ → Type 0 = λ k. slice_get entries k ≡ Some o.1 in
+            let Q : Entry → Type 0 = λ e. To e x in
+            inr (subst Q (same_Some o.1 entry (sym (subst P same o.2) ∙ here)) o.6)
       ])
-      (wide at)
-      (λ x t.
-      let P : ℕ → Type 0 = λ k. slice_get nodes k ≡ Some node in
-      (record { target = node; stands = subst P (sym t.0) here; toward = toward; back = back; costs = t.1; exit = t.2 }, omega (arith, t.0)))
+      (λ x o. (o.0, o.1, o.2, o.3, o.4, omega (arith, o.5), o.6))
+      (λ x t. (at, entry, here, is_router, is_kind, omega arith, t))
 
-  pub links_end : (at : ℕ) (xs ys : List Link) → length nodes ≤ at → Adds (StandsBelow at) xs ys → Adds S xs ys
-  links_end at xs ys done a =
-      adds_same (StandsBelow at) S xs ys (λ x o. o.0) (λ x s. (s, omega (arith, done, slice_get_within nodes x.to s.target s.stands))) a
+  walked : (at : ℕ) (x : Link) → WalkedTo at x → ToSome x
+  walked at x o = record { entry = o.1; among = contained entries o.0 o.1 o.2; is_router = o.3; is_kind = o.4; leads = o.6 }
 
-  pub links_stop : (first at : ℕ) (node : Node) (xs ys : List Link) → Ascend nodes → ((k : ℕ) (node : Node) → StandsAt nodes node k → first ≤ k → node_cmp node (least_toward way) ≡ Less → ⊥) → first ≤ at → StandsAt nodes node at → (LeadsToward way node → ⊥) → Adds (StandsBelow at) xs ys → Adds S xs ys
-  links_stop first at node xs ys ascend beyond low here never a =
-      adds_same (StandsBelow at) S xs ys (λ x o. o.0)
-      (λ x s. elim (cases_lt x.to at) [
-        | inl lt ↦ (s, lt)
+  pub walk_end : (at : ℕ) (xs ys : List Link) → length entries ≤ at → Adds (WalkedTo at) xs ys → Adds ToSome xs ys
+  walk_end at xs ys done a =
+      adds_same (WalkedTo at) ToSome xs ys (walked at)
+      (λ x s. let stands = placed entries s.entry s.among in (stands.0, s.entry, stands.1, s.is_router, s.is_kind, omega (arith, done, slice_get_within entries stands.0 s.entry stands.1), s.leads)) a
+
+  pub walk_stop : (first at : ℕ) (entry : Entry) (xs ys : List Link) → IsSorted entry_cmp entries → ((k : ℕ) (other : Entry) → slice_get entries k ≡ Some other → first ≤ k → entry_cmp other (attached_entry 0 0 router) ≡ Less → ⊥) → first ≤ at
+      → slice_get entries at ≡ Some entry → (entry.router ≡ router → entry.kind ≡ Attached → ⊥) → Adds (WalkedTo at) xs ys → Adds ToSome xs ys
+  walk_stop first at entry xs ys sorted beyond low here never a =
+      adds_same (WalkedTo at) ToSome xs ys (walked at)
+      (λ x s.
+      let stands = placed entries s.entry s.among in
+      elim (cases_lt stands.0 at) [
+        | inl lt ↦ (stands.0, s.entry, stands.1, s.is_router, s.is_kind, lt, s.leads)
         | inr past ↦
-            elim (cases_eq x.to at) [
-              | inl e ↦ let P : Node → Type 0 = λ n. LeadsToward way n in absurd (never (subst P (same_target at node x s here e) s.toward))
-              | inr apart ↦
-                  let lt : at < x.to = omega (arith, past, apart) in
-                  let P : Node → Type 0 = λ n. node_cmp n (get_or nodes x.to node) ≡ Less in
-                  let Q : Node → Type 0 = λ n. node_cmp node n ≡ Less in
-                  let up : node_cmp node s.target ≡ Less =
-                  subst Q (get_or_from_slice_get nodes x.to s.target node s.stands) (subst P (get_or_from_slice_get nodes at node node here) (ascend at x.to node lt (slice_get_within nodes x.to s.target s.stands))) in
-                  absurd (never (between way node s.target s.toward (beyond at node here low) up))
-            ]
+            let o = of_kind (attached_entry 0 0 router) entry s.entry s.is_router s.is_kind (beyond at entry here low) (in_order entries sorted at stands.0 entry s.entry here stands.1 past) in
+            absurd (never o.router o.kind)
       ]) a
 
--- ---- all links of a node
+-- ---- from a network
 
-module _ (said : Said) (root : Root) (nodes : List Node) where
-  pub from_router : (router : ℕ) (lsa : RouterLsa) (links : List Link) → router_lsa said router ≡ Some lsa
-      → Adds (OfAll (λ (told : Told) (link : Link). StandsForLink said root nodes (ARouter router) told link) lsa.links) [] links
-      → (link : Link) → Contains links link ↔ IsLinkFrom said root nodes (ARouter router) link
-  from_router router lsa links is a link =
-      let its : IsRouterLsa said router lsa = router_said _ lsa is in (
-        (λ among. elim ((a link).0 among) [
-          | inl none ↦ absurd (of_empty link none)
-          | inr o ↦ (of_link o.0, (o.0, record { lsa = lsa; its = its; among = o.1 }, o.2.0, refl), o.2.1)
-        ]),
-        (λ f.
-            let told = f.1.0 in
-            let has = f.1.1 in
-            let L : RouterLsa → Type 0 = λ l. Contains l.links told in
-            let same : has.lsa ≡ lsa = same_Some has.lsa lsa (sym (ap router_in has.its) ∙ is) in
-            let W : OneWayLink → Type 0 = λ w. StandsFor said root nodes (ARouter router) w link in
-            (a link).1 (inr (told, subst L same has.among, (f.1.2, subst W f.1.3 f.2)))),
-      )
+module _ (nodes : List Node) (entries : List Entry) (id router : ℕ) where
+  pub not_listed : (xs : List Link) → IsNeighborAt nodes entries router Transit id None → Adds (IsToListed nodes entries id router) xs xs
+  not_listed xs none = adds_none (IsToListed nodes entries id router) xs (λ x t. none t.back)
 
-  pub from_no_router : (router : ℕ) (links : List Link) → router_lsa said router ≡ None → links ≡ [] → (link : Link) → Contains links link ↔ IsLinkFrom said root nodes (ARouter router) link
-  from_no_router router links is none link = (
-    (λ among. let P : List Link → Type 0 = λ ls. Contains ls link in absurd (of_empty link (subst P none among))),
-    (λ f. absurd (none-some f.1.1.lsa (sym is ∙ ap router_in f.1.1.its))),
-  )
-
-  pub from_network : (id by : ℕ) (lsa : NetworkLsa) (links : List Link) → network_lsa said id by ≡ Some lsa
-      → Adds (OfAll (λ (router : ℕ) (link : Link). StandsFor said root nodes (ANetwork id by) (to_attached router) link) lsa.attached) [] links
-      → (link : Link) → Contains links link ↔ IsLinkFrom said root nodes (ANetwork id by) link
-  from_network id by lsa links is a link =
-      let its : IsNetworkLsa said id by lsa = network_said _ lsa is in (
-        (λ among. elim ((a link).0 among) [
-          | inl none ↦ absurd (of_empty link none)
-          | inr o ↦ (to_attached o.0, (o.0, record { lsa = lsa; its = its; among = o.1 }, refl), o.2)
-        ]),
-        (λ f.
-            let router = f.1.0 in
-            let has = f.1.1 in
-            let L : NetworkLsa → Type 0 = λ l. Contains l.attached router in
-            let same : has.lsa ≡ lsa = same_Some has.lsa lsa (sym (ap network_in has.its) ∙ is) in
-            let W : OneWayLink → Type 0 = λ w. StandsFor said root nodes (ANetwork id by) w link in
-            (a link).1 (inr (router, subst L same has.among, subst W f.1.2 f.2))),
-      )
-
-  pub from_no_network : (id by : ℕ) (links : List Link) → network_lsa said id by ≡ None → links ≡ [] → (link : Link) → Contains links link ↔ IsLinkFrom said root nodes (ANetwork id by) link
-  from_no_network id by links is none link = (
-    (λ among. let P : List Link → Type 0 = λ ls. Contains ls link in absurd (of_empty link (subst P none among))),
-    (λ f. absurd (none-some f.1.1.lsa (sym is ∙ ap network_in f.1.1.its))),
-  )
+  pub to_listed : (to : ℕ) (xs : List Link) → Ascend nodes → IsNeighborAt nodes entries router Transit id (Some to) → Adds (IsToListed nodes entries id router) xs (xs ++ record { to = to; cost = 0; interface = 0 } ∷ [])
+  to_listed to xs ascend at =
+      let link : Link = record { to = to; cost = 0; interface = 0 } in
+      adds_one (IsToListed nodes entries id router) xs link (record { stands = at.0; back = at.1; free = refl; exit = refl })
+      (λ x t.
+      let same = one_place nodes ascend (ARouter router) x.to to t.stands at.0 in
+      let free = t.free in
+      let exit = t.exit in
+      λ j. record { to = same j; cost = free j; interface = exit j })

@@ -1,5 +1,5 @@
 -- Vertices that stand for all nodes are a graph of the database's links, and one as the search for least walks asks.
-use Rattle.std.proofs.Common.{◌≡◌, ℕ, zero, suc, ◌<◌, ◌≤◌, ◌⊎◌, inl, inr, List, [], ◌∷◌, ◌++◌, length, get_or, Some, slice_get, refl, sym, ◌∙◌, ap, subst, arith}
+use Rattle.std.proofs.Common.{◌≡◌, ℕ, zero, suc, ◌+◌, ◌<◌, ◌≤◌, ◌⊎◌, inl, inr, List, [], ◌∷◌, ◌++◌, length, get_or, Some, slice_get, refl, sym, ◌∙◌, ap, subst, arith}
 use Rattle.std.proofs.lemmas.Bool.{cases_eq, cases_lt}
 use Rattle.std.proofs.lemmas.List.Elements.{All-contains}
 use Rattle.std.proofs.lemmas.Option.{get_or_from_slice_get, none-some, same_Some, slice_get-get_or, slice_get_within}
@@ -7,8 +7,8 @@ use Rattle.std.specs.List.{Contains}
 use Rattle.std.specs.declared.cmp.Ordering.TheVariants.{Equal, Less}
 use Rattle.std.specs.Cmp.{nat_cmp_total, tied_itself}
 use Rattle.std.specs.Ordering.{nat_cmp, ordering_then}
-use Rattle.routes.specs.Graphs.{Graph, HasLink, IsGraph, IsGraphOf, IsSameStep}
-use Rattle.routes.specs.Links.{Leads}
+use Rattle.routes.specs.Graphs.{Graph, HasLink, IsGraph, IsGraphOf, IsNoDearer, IsSameStep}
+use Rattle.routes.specs.Links.{Leads, LeadsTo}
 use Rattle.routes.specs.Paths.{Step}
 use Rattle.routes.specs.Said.{Said}
 use Rattle.routes.specs.declared.graph.Kind.TheVariants.{Network, Router}
@@ -17,11 +17,10 @@ use Rattle.routes.specs.declared.graph.Vertex.{Vertex}
 use Rattle.routes.specs.declared.node.Node.{Node}
 use Rattle.routes.specs.declared.node.Node.TheVariants.{ANetwork, ARouter}
 use Rattle.routes.specs.declared.root.Root.{Root}
-use Rattle.area_graph.specs.Graphs.{CostFits, IsLinkFrom, IsVertexOf, StandsAt, kind_of}
+use Rattle.area_graph.specs.Graphs.{CostFits, IsVertexOf, StandsAt, kind_of}
 use Rattle.area_graph.specs.Nodes.{AreNodes, Ascend, node_cmp}
-use Rattle.area_graph.specs.OneWay.{IsExit, LeadsToward, Tells}
-use Rattle.area_graph.specs.declared.one_way.OneWayLink.{OneWayLink}
-use Rattle.area_graph.proofs.Leads.{far_end, leads, no_network, told}
+use Rattle.area_graph.proofs.KeyNodes.{in_places}
+use Rattle.area_graph.proofs.Leads.{far_end}
 
 -- ---- places
 
@@ -61,6 +60,23 @@ one_place nodes ascend node i j p q =
           ]
     ]
 
+-- the first place of a node that is no less than one of the list is the place of that one
+pub at_its_place : (nodes : List Node) → Ascend nodes → (node : Node) (at : ℕ) → Contains nodes node → ((k : ℕ) (other : Node) → slice_get nodes k ≡ Some other → k < at → node_cmp other node ≡ Less)
+    → ((k : ℕ) (other : Node) → slice_get nodes k ≡ Some other → at ≤ k → node_cmp other node ≡ Less → ⊥) → StandsAt nodes node at
+at_its_place nodes ascend node at among before beyond =
+    let stands = placed nodes node among in
+    let P : ℕ → Type 0 = λ k. StandsAt nodes node k in
+    elim (cases_lt stands.0 at) [
+      | inl lt ↦ absurd (never_before node (before stands.0 node stands.1 lt))
+      | inr past ↦
+          elim (cases_lt at stands.0) [
+            | inl lt ↦
+                let other = element nodes at (omega (arith, lt, slice_get_within nodes stands.0 node stands.1)) in
+                absurd (beyond at other.0 other.1 (omega arith) (in_places nodes ascend at stands.0 other.0 node other.1 stands.1 lt))
+            | inr not_before ↦ let same : stands.0 ≡ at = omega (arith, past, not_before) in subst P same stands.1
+          ]
+    ]
+
 -- ---- vertices that stand for the nodes
 
 pub pushed : {X : Type 0} (xs : List X) (y : X) (k : ℕ) (z : X) → slice_get (xs ++ y ∷ []) k ≡ Some z → (slice_get xs k ≡ Some z) ⊎ ((k ≡ length xs) × (y ≡ z))
@@ -88,25 +104,32 @@ pub record Stand (said : Said) (root : Root) (nodes : List Node) (g : Graph) : T
   pub count : length g ≡ length nodes
   pub each : (at : ℕ) (node : Node) (vertex : Vertex) → StandsAt nodes node at → slice_get g at ≡ Some vertex → IsVertexOf said root nodes node vertex
 
+-- by whatever interface the root sends, it is one of its own
+counted_exit : (root : Root) (router address exit : ℕ) → length root.addresses ≤ 63 → (router ≡ root.router → (n : ℕ) × (exit ≡ n + 1) × (slice_get root.addresses n ≡ Some address)) → (¬ (router ≡ root.router) → exit ≡ 0) → exit < 64
+counted_exit root router address exit few own elsewhere =
+    elim (cases_eq router root.router) [
+      | inl e ↦ let o = own e in omega (arith, o.1, slice_get_within root.addresses o.0 address o.2, few)
+      | inr off ↦ omega (arith, elsewhere off)
+    ]
+
 module _ (said : Said) (root : Root) (nodes : List Node) (g : Graph) (are : AreNodes said nodes) (s : Stand said root nodes g) where
-  forth : (v : Node) (at : ℕ) (step : Step Node) → StandsAt nodes v at → Leads said root v step → (link : Link) × HasLink g at link × IsSameStep (StandsAt nodes) step link
+  forth : (v : Node) (at : ℕ) (step : Step Node) → StandsAt nodes v at → Leads said root v step → (link : Link) × HasLink g at link × IsNoDearer (StandsAt nodes) step link
   forth v at step here l =
-      let t = told said root v step.target step.price step.exit l in
-      let to = placed nodes step.target ((are.each step.target).1 (far_end said v step.target t.back)) in
+      let to = placed nodes step.target ((are.each step.target).1 (far_end said root v step.target step.price step.exit l)) in
       let link : Link = record { to = to.0; cost = step.price; interface = step.exit } in
       let vertex = element g at (omega (arith, s.count, slice_get_within nodes at v here)) in
       let is = s.each at v vertex.0 here vertex.1 in
-      let from : IsLinkFrom said root nodes v link = (t.way, t.tells, record { target = step.target; stands = to.1; toward = t.toward; back = t.back; costs = t.costs; exit = t.by }) in
-      let among = placed vertex.0.links.items link ((is.links link).1 from) in
-      (link, record { vertex = vertex.0; here = vertex.1; place = among.0; among = among.1 }, record { target = to.1; price = refl; exit = refl })
+      let found = is.links.each link (record { target = step.target; stands = to.1; leads = l }) in
+      let among = placed vertex.0.links.items found.0 found.1 in
+      let P : ℕ → Type 0 = λ k. StandsAt nodes step.target k in
+      (found.0, record { vertex = vertex.0; here = vertex.1; place = among.0; among = among.1 }, record { target = subst P (sym found.2.same_end) to.1; price = found.2.costs; exit = sym found.2.same_exit })
 
   back : (v : Node) (at : ℕ) (link : Link) → StandsAt nodes v at → HasLink g at link → (step : Step Node) × Leads said root v step × IsSameStep (StandsAt nodes) step link
   back v at link here has =
       let is = s.each at v has.vertex here has.here in
-      let from = (is.links link).0 (contained has.vertex.links.items has.place link has.among) in
-      let stands = from.2 in
-      let step : Step Node = record { target = stands.target; price = link.cost; exit = link.interface } in
-      (step, leads said root v stands.target link.cost link.interface (record { way = from.0; tells = from.1; toward = stands.toward; back = stands.back; costs = stands.costs; by = stands.exit }), record { target = stands.stands; price = refl; exit = refl })
+      let from = is.links.only link (contained has.vertex.links.items has.place link has.among) in
+      let step : Step Node = record { target = from.target; price = link.cost; exit = link.interface } in
+      (step, from.leads, record { target = from.stands; price = refl; exit = refl })
 
   pub is_graph_of : IsGraphOf (Leads said root) (StandsAt nodes) g
   is_graph_of = record {
@@ -118,24 +141,18 @@ module _ (said : Said) (root : Root) (nodes : List Node) (g : Graph) (are : AreN
 
   -- ---- as the search asks
 
-  below_64 : (v : Node) (way : OneWayLink) (exit : ℕ) → length root.addresses ≤ 63 → IsExit root v way exit → exit < 64
-  below_64 (ARouter r) way exit few is =
-      elim (cases_eq r root.router) [
-        | inl e ↦ let own = is.by_interface e in omega (arith, own.1, slice_get_within root.addresses own.0 way.address own.2, few)
-        | inr off ↦ omega (arith, is.elsewhere off)
-      ]
-  below_64 (ANetwork id by) way exit few is = omega (arith, is)
+  below_64 : (v target : Node) (price exit : ℕ) → length root.addresses ≤ 63 → LeadsTo said root v target price exit → exit < 64
+  below_64 (ARouter r) (ARouter b) price exit few l = counted_exit root r l.0.link.link_data exit few l.0.by_interface l.0.elsewhere
+  below_64 (ARouter r) (ANetwork id by) price exit few l = counted_exit root r l.0.link.link_data exit few l.0.by_interface l.0.elsewhere
+  below_64 (ANetwork id by) (ARouter b) price exit few l = omega (arith, l.3)
+  below_64 (ANetwork id by) (ANetwork other its) price exit few l = absurd l
 
-  router : (id by : ℕ) (way : OneWayLink) → Tells said (ANetwork id by) way → (target : Node) → LeadsToward way target → kind_of target ≡ Router
-  router id by way tells (ARouter r) toward = refl
-  router id by way tells (ANetwork other its) toward = absurd (no_network said id by way tells toward.0)
-
-  free : (v : Node) (vertex : Vertex) (link : Link) → vertex.kind ≡ kind_of v → IsLinkFrom said root nodes v link → link.cost ≡ 0 → (vertex.kind ≡ Network) × ((to : Vertex) → slice_get g link.to ≡ Some to → to.kind ≡ Router)
-  free (ARouter r) vertex link kind from costs = absurd (omega (arith, from.2.costs, costs, ap (λ (w : OneWayLink). w.cost) from.1.3, from.1.2))
-  free (ANetwork id by) vertex link kind from costs = (
-    kind,
-    (λ to here. (s.each link.to from.2.target to from.2.stands here).kind ∙ router id by from.0 from.1 from.2.target from.2.toward),
-  )
+  free : (v target : Node) (vertex : Vertex) (link : Link) → vertex.kind ≡ kind_of v → StandsAt nodes target link.to → LeadsTo said root v target link.cost link.interface → link.cost ≡ 0
+      → (vertex.kind ≡ Network) × ((to : Vertex) → slice_get g link.to ≡ Some to → to.kind ≡ Router)
+  free (ARouter r) (ARouter b) vertex link kind stands l costs = absurd (omega (arith, l.0.not_free, costs))
+  free (ARouter r) (ANetwork id by) vertex link kind stands l costs = absurd (omega (arith, l.0.not_free, costs))
+  free (ANetwork id by) (ARouter b) vertex link kind stands l costs = (kind, (λ to here. (s.each link.to (ARouter b) to stands here).kind))
+  free (ANetwork id by) (ANetwork other its) vertex link kind stands l costs = absurd l
 
   node_of : (at : ℕ) → at < length g → (node : Node) × StandsAt nodes node at
   node_of at lt = element nodes at (omega (arith, s.count, lt))
@@ -145,10 +162,10 @@ module _ (said : Said) (root : Root) (nodes : List Node) (g : Graph) (are : AreN
       let node = node_of at (slice_get_within g at vertex here) in
       let is = s.each at node.0 vertex node.1 here in
       let member = contained vertex.links.items place link among in
-      let from = (is.links link).0 member in
+      let from = is.links.only link member in
       record {
-        inside = omega (arith, s.count, slice_get_within nodes link.to from.2.target from.2.stands);
-        interface = below_64 node.0 from.0 link.interface few from.2.exit;
+        inside = omega (arith, s.count, slice_get_within nodes link.to from.target from.stands);
+        interface = below_64 node.0 from.target link.cost link.interface few from.leads;
         fits = All-contains CostFits vertex.links.items link is.fits member;
-        free = free node.0 vertex link is.kind from;
+        free = free node.0 from.target vertex link is.kind from.stands from.leads;
       }

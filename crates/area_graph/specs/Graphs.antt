@@ -1,7 +1,7 @@
 -- The vertices that stand for the nodes of a database, at the places of the nodes.
-use Rattle.std.specs.Prelude.{◌≡◌, ℕ, ◌<◌, ◌^◌, List, Some, slice_get, ◌↔◌, ◌⊎◌}
+use Rattle.std.specs.Prelude.{◌≡◌, ℕ, ◌<◌, ◌≤◌, ◌^◌, List, Some, slice_get, ◌↔◌, ◌⊎◌}
 use Rattle.std.specs.List.{All, Contains}
-use Rattle.lsa.specs.declared.body.Link.{Link as Told}
+use Rattle.routes.specs.Links.{LeadsTo}
 use Rattle.routes.specs.Said.{Said}
 use Rattle.routes.specs.declared.graph.Kind.{Kind}
 use Rattle.routes.specs.declared.graph.Kind.TheVariants.{Network, Router}
@@ -10,8 +10,6 @@ use Rattle.routes.specs.declared.graph.Vertex.{Vertex}
 use Rattle.routes.specs.declared.node.Node.{Node}
 use Rattle.routes.specs.declared.node.Node.TheVariants.{ANetwork, ARouter}
 use Rattle.routes.specs.declared.root.Root.{Root}
-use Rattle.area_graph.specs.OneWay.{IsExit, LeadsToward, Tells, TellsBack, of_link}
-use Rattle.area_graph.specs.declared.one_way.OneWayLink.{OneWayLink}
 
 abbrev pub kind_of : Node → Kind
 kind_of (ARouter router) = Router
@@ -21,37 +19,40 @@ kind_of (ANetwork id by) = Network
 abbrev pub StandsAt : List Node → Node → ℕ → Type 0
 StandsAt nodes node at = slice_get nodes at ≡ Some node
 
--- the link of the graph stands for this one, which the node at the far end tells of too
-pub record StandsFor (said : Said) (root : Root) (nodes : List Node) (from : Node)
-    (way : OneWayLink) (link : Link) : Type 0 where
+-- the link of the graph stands for one that counts
+pub record IsLinkFrom (said : Said) (root : Root) (nodes : List Node) (from : Node)
+    (link : Link) : Type 0 where
   pub target : Node
   pub stands : StandsAt nodes target link.to
-  pub toward : LeadsToward way target
-  pub back : TellsBack said from target
-  pub costs : link.cost ≡ way.cost
-  pub exit : IsExit root from way link.interface
+  pub leads : LeadsTo said root from target link.cost link.interface
 
--- the graph has the link from the node
-abbrev pub IsLinkFrom : Said → Root → List Node → Node → Link → Type 0
-IsLinkFrom said root nodes from link =
-    (way : OneWayLink) × Tells said from way × StandsFor said root nodes from way link
+-- the other link leads to the same place, by the same exit, and costs no more
+pub record IsNoDearer (link other : Link) : Type 0 where
+  pub same_end : other.to ≡ link.to
+  pub same_exit : other.interface ≡ link.interface
+  pub costs : other.cost ≤ link.cost
 
--- the same for a link of a router-LSA, whose metric isn't 0
-abbrev pub StandsForLink : Said → Root → List Node → Node → Told → Link → Type 0
-StandsForLink said root nodes from told link =
-    (0 < told.metric) × StandsFor said root nodes from (of_link told) link
+-- each stands for a link that counts, and for each such link there is one that is no dearer
+pub record AreLinksFrom (said : Said) (root : Root) (nodes : List Node) (from : Node)
+    (links : List Link) : Type 0 where
+  pub only : (link : Link) → Contains links link → IsLinkFrom said root nodes from link
+  pub each : (link : Link) → IsLinkFrom said root nodes from link
+      → (other : Link) × Contains links other × IsNoDearer link other
 
 -- the list after elements were added: just those
 abbrev pub Adds : {X : Type 0} → (X → Type 0) → (old : List X) → (new : List X) → Type 0
 Adds {X} P old new = (x : X) → Contains new x ↔ (Contains old x ⊎ P x)
 
+-- some element of the list is what it is made from
+abbrev pub OfEach : {X Y : Type 0} → (Y → X → Type 0) → List Y → X → Type 0
+OfEach {X} {Y} P ys x = (y : Y) × Contains ys y × P y x
+
 abbrev pub CostFits : Link → Type 0
 CostFits link = link.cost < 2 ^ 16
 
--- the vertex has the node's kind and just its links
+-- the vertex has the node's kind and links that stand for its links
 pub record IsVertexOf (said : Said) (root : Root) (nodes : List Node) (node : Node)
     (vertex : Vertex) : Type 0 where
   pub kind : vertex.kind ≡ kind_of node
-  pub links : (link : Link)
-      → Contains vertex.links.items link ↔ IsLinkFrom said root nodes node link
+  pub links : AreLinksFrom said root nodes node vertex.links.items
   pub fits : All CostFits vertex.links.items

@@ -1,3 +1,4 @@
 pub mod Nodes
-pub mod OneWay
 pub mod Graphs
+pub mod Entries
+pub mod Links

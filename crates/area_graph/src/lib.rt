@@ -2,10 +2,11 @@
 #![tactic(auto)]
 
 mod advertised;
-mod back;
+mod entries;
+mod entry;
 mod links;
+mod lookups;
 mod nodes;
-mod one_way;
 mod vertices;
 
 pub use nodes::{is_before, nodes_of, place_of};

@@ -1,161 +1,312 @@
 //! The links of the graph that lead from a node.
-ghost use Rattle.std.specs.Prelude.{◌≡◌, ◌+◌, ◌<◌, ◌≤◌, ℕ, length, IfOk, OnOk, Some, slice_get, ◌↔◌};
-ghost use Rattle.std.specs.List.{All, Contains};
-ghost use Rattle.lsa.specs.declared.body.Link.{Link as Told};
+ghost use Rattle.std.specs.Prelude.{◌≡◌, ◌<◌, ◌≤◌, ◌↔◌, length, IfOk, IsTrue, OnOk};
+ghost use Rattle.std.specs.List.{All};
+ghost use Rattle.std.specs.List.Sorted.{IsSorted};
 ghost use Rattle.routes.specs.Said.{said_at};
-ghost use Rattle.area_graph.specs.Graphs.{Adds, CostFits, IsLinkFrom, StandsFor, StandsForLink};
-ghost use Rattle.area_graph.specs.Nodes.{Ascend};
-ghost use Rattle.area_graph.specs.OneWay.{IsExit, to_attached};
+ghost use Rattle.area_graph.specs.Entries.{AreEntries, AreOrdered, entry_cmp, rank};
+ghost use Rattle.area_graph.specs.Graphs.{Adds, AreLinksFrom, CostFits, OfEach};
+ghost use Rattle.area_graph.specs.Links.{IsCheapest, IsExitTo, IsNeighborAt, IsOwnTo, IsOwnTransit, IsToListed, IsToNetwork, IsToRouter, IsToSomeNetwork};
+ghost use Rattle.area_graph.specs.Nodes.{AreNodes};
 
 use crate::advertised::{network_lsa, router_lsa};
-use crate::back::tells_back;
+use crate::entry::{Entry, EntryKind, of_list};
+use crate::lookups::{first_at, has_entry, least_metric};
 use crate::nodes::place_of;
-use crate::one_way::{OneWayLink, leads_toward, least_toward, of_link, to_attached};
-use lsa::{NetworkLsa, RouterLsa};
+use lsa::{Link as ToldLink, LinkKind, NetworkLsa, RouterLsa};
 use lsdb::Lsdb;
 use routes::{Link, Node, Root};
 use std::alloc::{AllocError, Global};
-use words::Second;
+use words::{LinkStateId, RouterId, Second};
 
-/// All links of the graph from a node, to the places of the nodes in their list.
+/// The links of the graph from a node, to the places of the nodes in their list. Of a router's links to one network only a cheapest is among
+/// them, but of the root's one for each interface.
 pub fn links_from(
     alloc: Global,
     db: &Lsdb,
     root: &Root,
     moment: Second,
     nodes: &[Node],
+    entries: &[Entry],
     from: &Node,
 ) -> Result<Vec<Link>, AllocError>
-    requires ascend { Ascend nodes.now }
+    requires nodes { AreNodes (said_at moment db.now.present) nodes.now }
+    requires entries { AreEntries (said_at moment db.now.present) nodes.now entries.now }
     requires interfaces { length root.now.addresses ≤ 63 }
-    ensures links { IfOk result (λ links. (link : Link) → Contains links.items link ↔ IsLinkFrom (said_at moment db.now.present) root.now nodes.now from.now link) }
+    ensures links { IfOk result (λ links. AreLinksFrom (said_at moment db.now.present) root.now nodes.now from.now links.items) }
     ensures fits { IfOk result (λ links. All CostFits links.items) }
 {
     let mut links = Vec::new(alloc);
     match from {
         Node::ARouter(router) => {
             if let Some(lsa) = router_lsa(db, moment, *router) {
-                add_links_of(db, root, moment, nodes, from, lsa, &mut links)?;
+                add_routers(root, nodes, entries, *router, lsa, &mut links)?;
+                add_networks(root, entries, *router, lsa, &mut links)?;
             }
         }
         Node::ANetwork(id, by) => {
             if let Some(lsa) = network_lsa(db, moment, *id, *by) {
-                add_attached(db, root, moment, nodes, from, lsa, &mut links)?;
+                add_listed(nodes, entries, *id, lsa, &mut links)?;
             }
         }
     }
     Ok(links)
 }
 
-// Adds what the links of a router-LSA stand for.
-fn add_links_of(
-    db: &Lsdb,
+// ---- to routers
+
+// Adds the links to the routers at the far ends of point-to-point links.
+fn add_routers(
     root: &Root,
-    moment: Second,
     nodes: &[Node],
-    from: &Node,
+    entries: &[Entry],
+    router: RouterId,
     lsa: &RouterLsa,
     links: &mut Vec<Link>,
 ) -> Result<(), AllocError>
-    requires ascend { Ascend nodes.now }
+    requires ordered { AreOrdered nodes.now entries.now }
     requires interfaces { length root.now.addresses ≤ 63 }
-    ensures adds { OnOk result (Adds (λ link. (told : Told) × Contains lsa.now.links told × StandsForLink (said_at moment db.now.present) root.now nodes.now from.now told link) links.old.items links.new.items) }
+    ensures adds { OnOk result (Adds (OfEach (IsToRouter root.now nodes.now entries.now router) lsa.now.links) links.old.items links.new.items) }
     ensures fits { OnOk result (All CostFits links.old.items → All CostFits links.new.items) }
 {
     for told in lsa.links.as_slice() {
-        if told.metric > 0 {
-            add_links(db, root, moment, nodes, from, of_link(told), links)?;
+        if is_to_router(told) {
+            add_router(root, nodes, entries, router, told, links)?;
         }
     }
     Ok(())
 }
 
-// Adds the links to the routers that a network-LSA lists.
-fn add_attached(
-    db: &Lsdb,
+// Tells whether it is a point-to-point link that may count.
+fn is_to_router(told: &ToldLink) -> bool
+    ensures { IsTrue result ↔ ((told.now.kind ≡ LinkKind.PointToPoint) × (0 < told.now.metric)) }
+{
+    told.kind == LinkKind::PointToPoint && told.metric > 0
+}
+
+// Adds the links to the router at the far end of one, if that has a link back.
+fn add_router(
     root: &Root,
-    moment: Second,
     nodes: &[Node],
-    from: &Node,
-    lsa: &NetworkLsa,
+    entries: &[Entry],
+    router: RouterId,
+    told: &ToldLink,
     links: &mut Vec<Link>,
 ) -> Result<(), AllocError>
-    requires ascend { Ascend nodes.now }
+    requires ordered { AreOrdered nodes.now entries.now }
     requires interfaces { length root.now.addresses ≤ 63 }
-    ensures adds { OnOk result (Adds (λ link. (router : ℕ) × Contains lsa.now.attached router × StandsFor (said_at moment db.now.present) root.now nodes.now from.now (to_attached router) link) links.old.items links.new.items) }
+    requires is_kind { told.now.kind ≡ LinkKind.PointToPoint }
+    requires counts { 0 < told.now.metric }
+    ensures adds { OnOk result (Adds (IsToRouter root.now nodes.now entries.now router told.now) links.old.items links.new.items) }
     ensures fits { OnOk result (All CostFits links.old.items → All CostFits links.new.items) }
 {
-    for router in lsa.attached.as_slice() {
-        add_links(db, root, moment, nodes, from, to_attached(*router), links)?;
+    let far = RouterId::new(told.link_id);
+    match neighbor_at(
+        nodes,
+        entries,
+        far,
+        EntryKind::PointToPoint,
+        router.number(),
+    ) {
+        None => Ok(()),
+        Some(to) => add_exits(root, router, told.link_data, told.metric, to, links),
     }
-    Ok(())
 }
 
-// Adds the links that stand for this one, to each node that it leads to and that has a link back.
-fn add_links(
-    db: &Lsdb,
-    root: &Root,
-    moment: Second,
+// The place of a router, if its LSA has a link of this kind to this ID.
+fn neighbor_at(
     nodes: &[Node],
-    from: &Node,
-    way: OneWayLink,
-    links: &mut Vec<Link>,
-) -> Result<(), AllocError>
-    requires ascend { Ascend nodes.now }
-    requires interfaces { length root.now.addresses ≤ 63 }
-    ensures adds { OnOk result (Adds (StandsFor (said_at moment db.now.present) root.now nodes.now from.now way) links.old.items links.new.items) }
-    ensures fits { OnOk result (All CostFits links.old.items → All CostFits links.new.items) }
+    entries: &[Entry],
+    router: RouterId,
+    kind: EntryKind,
+    id: u32,
+) -> Option<usize>
+    requires ordered { AreOrdered nodes.now entries.now }
+    requires of_link { rank kind < 2 }
+    ensures { IsNeighborAt nodes.now entries.now router kind id result }
 {
-    let least = least_toward(way);
-    let first = place_of(nodes, &least);
-    for at in first..nodes.len() {
-        let to = &nodes[at];
-        if !leads_toward(way, to) {
-            return Ok(());
-        }
-        if tells_back(db, moment, from, to) {
-            add_exits(root, from, way, at, links)?;
-        }
+    if has_entry(entries, router, kind, id) {
+        Some(place_of(nodes, &Node::ARouter(router)))
+    } else {
+        None
     }
-    Ok(())
 }
 
-// Adds the links to one node: at the root one for each own interface that the link is of.
+// Adds the links to one place: at the root one for each own interface of this address.
 fn add_exits(
     root: &Root,
-    from: &Node,
-    way: OneWayLink,
+    router: RouterId,
+    address: u32,
+    cost: u16,
     to: usize,
     links: &mut Vec<Link>,
 ) -> Result<(), AllocError>
     requires { length root.now.addresses ≤ 63 }
-    ensures { OnOk result (Adds (λ link. (link.to ≡ to) × (link.cost ≡ way.cost) × IsExit root.now from.now way link.interface) links.old.items links.new.items) }
+    ensures adds { OnOk result (Adds (IsExitTo root.now router to cost address) links.old.items links.new.items) }
+    ensures fits { OnOk result (All CostFits links.old.items → All CostFits links.new.items) }
 {
-    if let Node::ARouter(router) = from {
-        if router.number() == root.router.number() {
-            return add_own(root, way, to, links);
-        }
+    if is_root(root, router) {
+        return add_own(root, address, cost, to, links);
     }
     links.push(Link {
         to,
-        cost: way.cost,
+        cost,
         interface: 0,
     })?;
     Ok(())
 }
 
+fn is_root(root: &Root, router: RouterId) -> bool
+    ensures { IsTrue result ↔ (router ≡ root.now.router) }
+{
+    router.number() == root.router.number()
+}
+
 // Adds a link for each own interface of this address.
-fn add_own(root: &Root, way: OneWayLink, to: usize, links: &mut Vec<Link>) -> Result<(), AllocError>
+fn add_own(
+    root: &Root,
+    address: u32,
+    cost: u16,
+    to: usize,
+    links: &mut Vec<Link>,
+) -> Result<(), AllocError>
     requires { length root.now.addresses ≤ 63 }
-    ensures { OnOk result (Adds (λ link. (link.to ≡ to) × (link.cost ≡ way.cost) × ((n : ℕ) × (link.interface ≡ n + 1) × (slice_get root.now.addresses n ≡ Some way.address))) links.old.items links.new.items) }
+    ensures adds { OnOk result (Adds (IsOwnTo root.now to cost address) links.old.items links.new.items) }
+    ensures fits { OnOk result (All CostFits links.old.items → All CostFits links.new.items) }
 {
     let addresses = root.addresses.as_slice();
     for n in 0..addresses.len() {
-        if addresses[n].bits() == way.address {
+        if addresses[n].bits() == address {
             links.push(Link {
                 to,
-                cost: way.cost,
+                cost,
                 interface: n as u8 + 1,
+            })?;
+        }
+    }
+    Ok(())
+}
+
+// ---- to networks
+
+// Adds the links to the networks that list the router.
+fn add_networks(
+    root: &Root,
+    entries: &[Entry],
+    router: RouterId,
+    lsa: &RouterLsa,
+    links: &mut Vec<Link>,
+) -> Result<(), AllocError>
+    requires sorted { IsSorted entry_cmp entries.now }
+    requires interfaces { length root.now.addresses ≤ 63 }
+    ensures adds { OnOk result (Adds (IsToSomeNetwork root.now entries.now router lsa.now.links) links.old.items links.new.items) }
+    ensures fits { OnOk result (All CostFits links.old.items → All CostFits links.new.items) }
+{
+    let least = of_list(LinkStateId::new(0), 0, router);
+    let first = first_at(entries, &least);
+    for at in first..entries.len() {
+        let entry = &entries[at];
+        if !is_listed(entry, router) {
+            return Ok(());
+        }
+        add_network(root, entries, router, lsa, entry, links)?;
+    }
+    Ok(())
+}
+
+fn is_listed(entry: &Entry, router: RouterId) -> bool
+    ensures { IsTrue result ↔ ((entry.now.router ≡ router) × (entry.now.kind ≡ EntryKind.Attached)) }
+{
+    entry.router.number() == router.number() && entry.kind == EntryKind::Attached
+}
+
+// Adds the links to the network whose list the entry tells of.
+fn add_network(
+    root: &Root,
+    entries: &[Entry],
+    router: RouterId,
+    lsa: &RouterLsa,
+    entry: &Entry,
+    links: &mut Vec<Link>,
+) -> Result<(), AllocError>
+    requires sorted { IsSorted entry_cmp entries.now }
+    requires interfaces { length root.now.addresses ≤ 63 }
+    ensures adds { OnOk result (Adds (IsToNetwork root.now entries.now router lsa.now.links entry.now) links.old.items links.new.items) }
+    ensures fits { OnOk result (All CostFits links.old.items → All CostFits links.new.items) }
+{
+    if is_root(root, router) {
+        return add_own_transits(root, lsa, entry.id, entry.place, links);
+    }
+    add_cheapest(entries, router, entry, links)
+}
+
+// Adds the root's links to one network: for each of its transit links one for each own interface of that link.
+fn add_own_transits(
+    root: &Root,
+    lsa: &RouterLsa,
+    id: u32,
+    to: usize,
+    links: &mut Vec<Link>,
+) -> Result<(), AllocError>
+    requires { length root.now.addresses ≤ 63 }
+    ensures adds { OnOk result (Adds (OfEach (IsOwnTransit root.now id to) lsa.now.links) links.old.items links.new.items) }
+    ensures fits { OnOk result (All CostFits links.old.items → All CostFits links.new.items) }
+{
+    for told in lsa.links.as_slice() {
+        if is_transit_to(told, id) {
+            add_own(root, told.link_data, told.metric, to, links)?;
+        }
+    }
+    Ok(())
+}
+
+// Tells whether it is a transit link to this ID that may count.
+fn is_transit_to(told: &ToldLink, id: u32) -> bool
+    ensures { IsTrue result ↔ ((told.now.kind ≡ LinkKind.Transit) × (told.now.link_id ≡ id) × (0 < told.now.metric)) }
+{
+    told.kind == LinkKind::Transit && told.link_id == id && told.metric > 0
+}
+
+// Adds one link to a network: of several transit links to its Link State ID only the cheapest can be on a least walk.
+fn add_cheapest(
+    entries: &[Entry],
+    router: RouterId,
+    entry: &Entry,
+    links: &mut Vec<Link>,
+) -> Result<(), AllocError>
+    requires { IsSorted entry_cmp entries.now }
+    ensures adds { OnOk result (Adds (IsCheapest entries.now router entry.now) links.old.items links.new.items) }
+    ensures fits { OnOk result (All CostFits links.old.items → All CostFits links.new.items) }
+{
+    if let Some(cost) = least_metric(entries, router, EntryKind::Transit, entry.id, 1) {
+        links.push(Link {
+            to: entry.place,
+            cost,
+            interface: 0,
+        })?;
+    }
+    Ok(())
+}
+
+// ---- from networks
+
+// Adds the links of the network of this Link State ID to the routers that its LSA lists and that have a link back.
+fn add_listed(
+    nodes: &[Node],
+    entries: &[Entry],
+    id: LinkStateId,
+    lsa: &NetworkLsa,
+    links: &mut Vec<Link>,
+) -> Result<(), AllocError>
+    requires { AreOrdered nodes.now entries.now }
+    ensures adds { OnOk result (Adds (OfEach (IsToListed nodes.now entries.now id) lsa.now.attached) links.old.items links.new.items) }
+    ensures fits { OnOk result (All CostFits links.old.items → All CostFits links.new.items) }
+{
+    for router in lsa.attached.as_slice() {
+        if let Some(to) = neighbor_at(nodes, entries, *router, EntryKind::Transit, id.number()) {
+            links.push(Link {
+                to,
+                cost: 0,
+                interface: 0,
             })?;
         }
     }

@@ -1,5 +1,5 @@
 //! How the figures are taken and printed.
-use crate::samples::{Shape, database, moment, root};
+use crate::samples::{CROWD, Shape, TRANSITS, crowd, database, moment, root};
 use anyhow::{Result, ensure};
 use candidates::routes_of;
 use lsdb::Lsdb;
@@ -150,10 +150,35 @@ fn print_shape<R: Clock + Print + AllocGlobal>(rt: &R, shape: Shape) -> Result<(
     print_times(rt, shape, times)
 }
 
+// What a walk beside the crowd takes, in microseconds.
+fn measure_crowd<R: Clock + AllocGlobal>(rt: &R, db: &Lsdb, root: &Root) -> Result<u64> {
+    ensure!(db.len() <= 16384, "{} LSAs", db.len());
+    ensure!(root.addresses.as_slice().len() <= 63, "too many interfaces");
+    let now = moment();
+    let start = Instant::now(rt)?;
+    let reached = walk(rt.alloc(), db, root, now)?;
+    let taken = since(rt, start)?;
+    let routes = routes_of(rt.alloc(), db, root, now, &reached)?;
+    ensure!(routes.len() == 1, "{} routes and not 1", routes.len());
+    Ok(taken)
+}
+
+fn print_crowd<R: Clock + Print + AllocGlobal>(rt: &R) -> Result<()> {
+    let db = crowd(rt.alloc())?;
+    let root = root(rt.alloc())?;
+    let mut taken = u64::MAX;
+    for _measurement in 0..MEASUREMENTS {
+        taken = taken.min(measure_crowd(rt, &db, &root)?);
+    }
+    println!(rt; "{TRANSITS} equal links to {CROWD} networks of one Link State ID:")?;
+    println!(rt; "  walk {taken}")?;
+    Ok(())
+}
+
 /// Prints what a walk takes, what its candidates take, what their table takes and what the test whether it is stale takes, in microseconds,
 /// the least of 11 measurements: over rings, grids and circles with a long step of 100, 1,000 and 4,000 routers, with so many externals that
 /// there are 16,384 LSAs; over a grid of 1,000 routers with 15,000 externals, without forwarding addresses and with one each; and over a grid
-/// of 16,384 routers.
+/// of 16,384 routers. Last, what a walk takes beside one router that has 678 equal transit links to the Link State ID of 14,000 network-LSAs.
 ///
 /// # Errors
 /// The clock or the output failed, memory ran out, or a router or an external destination has no route.
@@ -172,5 +197,6 @@ pub fn print<R: Clock + Print + AllocGlobal>(rt: &R) -> Result<()> {
     print_shape(rt, asked)?;
     asked.forwards = true;
     print_shape(rt, asked)?;
-    print_shape(rt, shape("grid", 16_384, [1, 128], 0))
+    print_shape(rt, shape("grid", 16_384, [1, 128], 0))?;
+    print_crowd(rt)
 }

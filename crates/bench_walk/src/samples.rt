@@ -177,3 +177,65 @@ pub fn root(alloc: Global) -> Result<Root, AllocError> {
         addresses: Sequence::from_vec(addresses),
     })
 }
+
+// ---- a crowd of networks
+
+/// How many equal transit links the router beside the root has.
+pub const TRANSITS: u16 = 678;
+
+/// How many network-LSAs have the Link State ID that they lead to.
+pub const CROWD: u32 = 14_000;
+
+// That Link State ID.
+const CROWDED: u32 = 0x1e00_0001;
+
+// The root, with a link to the router beside it.
+fn put_beside(out: &mut Vec<u8>) -> Result<(), AllocError> {
+    put_header(out, 1, id_of(0), id_of(0), 36)?;
+    put_u16(out, 0)?;
+    put_u16(out, 1)?;
+    put_link(out, 1, id_of(1), address_of(0, 0), 1)
+}
+
+// The router beside it, with a link back and all the transit links.
+fn put_crowded(out: &mut Vec<u8>) -> Result<(), AllocError> {
+    put_header(out, 1, id_of(1), id_of(1), 24 + 12 * (TRANSITS + 1))?;
+    put_u16(out, 0)?;
+    put_u16(out, TRANSITS + 1)?;
+    put_link(out, 1, id_of(0), address_of(1, 0), 1)?;
+    for _link in 0..TRANSITS {
+        put_link(out, 2, CROWDED, address_of(1, 1), 1)?;
+    }
+    Ok(())
+}
+
+// The network-LSA of this number, which lists that router.
+fn put_listing(out: &mut Vec<u8>, number: u32) -> Result<(), AllocError> {
+    put_header(out, 2, CROWDED, number.wrapping_add(0x0100_0000), 28)?;
+    put_u32(out, 0xffff_ff00)?;
+    put_u32(out, id_of(1))
+}
+
+fn listing(alloc: Global, number: u32) -> Result<Lsa> {
+    let mut bytes = Vec::new(alloc);
+    put_listing(&mut bytes, number)?;
+    sealed(alloc, bytes)
+}
+
+/// The root beside one router that has many equal transit links, all to the Link State ID of many network-LSAs that list it.
+pub fn crowd(alloc: Global) -> Result<Lsdb> {
+    let mut db = Lsdb::new(alloc, RouterId::new(id_of(0)));
+    let mut bytes = Vec::new(alloc);
+    put_beside(&mut bytes)?;
+    let lsa = sealed(alloc, bytes)?;
+    install(&mut db, lsa)?;
+    let mut bytes = Vec::new(alloc);
+    put_crowded(&mut bytes)?;
+    let lsa = sealed(alloc, bytes)?;
+    install(&mut db, lsa)?;
+    for number in 0..CROWD {
+        let lsa = listing(alloc, number)?;
+        install(&mut db, lsa)?;
+    }
+    Ok(db)
+}

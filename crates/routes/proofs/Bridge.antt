@@ -1,5 +1,5 @@
 -- The answers of a graph that stands for a relation are those of the relation.
-use Rattle.std.proofs.Common.{◌≡◌, ℕ, ◌+◌, List, [], ◌∷◌, Option, Some, None, arith, refl, sym, ◌∙◌, subst}
+use Rattle.std.proofs.Common.{◌≡◌, ℕ, ◌+◌, ◌≤◌, List, [], ◌∷◌, Option, Some, None, arith, refl, sym, ◌∙◌, subst}
 use Rattle.std.proofs.lemmas.List.Sums.{sum_by-cons}
 use Rattle.routes.specs.Graphs.{Graph, IsAnswer, IsGraphOf, IsWalk, cost}
 use Rattle.routes.specs.Paths.{Step, price_of}
@@ -14,11 +14,11 @@ use Rattle.routes.proofs.Determined.{bit_of_member, is_member}
 cost-cons : (l : Link) (ls : List Link) → cost (l ∷ ls) ≡ l.cost + cost ls
 cost-cons l ls = sum_by-cons (λ (link : Link). link.cost) l ls
 
--- a walk for a path
+-- a walk for a path, which costs no more
 record Walks (g : Graph) (at to price : ℕ) : Type 0 where
   walk : List Link
   is_walk : IsWalk g at walk to
-  same : cost walk ≡ price
+  cheap : cost walk ≤ price
 
 record Paths {V : Type 0} (leads : V → Step V → Type 0) (from to : V) (price : ℕ) : Type 0 where
   path : List (Step V)
@@ -28,11 +28,11 @@ record Paths {V : Type 0} (leads : V → Step V → Type 0) (from to : V) (price
 walk_of : {V : Type 0} (leads : V → Step V → Type 0) (number : V → ℕ → Type 0) (g : Graph) → IsGraphOf leads number g → (v : V) (at : ℕ) (ss : List (Step V)) (w : V) (to : ℕ) → number v at → number w to → paths.IsWalk leads v ss w → Walks g at to (price_of ss)
 walk_of {V} leads number g is v at [] w to nv nw p =
     let P : V → Type 0 = λ x. number x to in
-    record { walk = []; is_walk = is.one_place v at to nv (subst P (sym p) nw); same = refl }
+    record { walk = []; is_walk = is.one_place v at to nv (subst P (sym p) nw); cheap = omega arith }
 walk_of {V} leads number g is v at (s ∷ ss) w to nv nw p =
     let link = is.forth v at s nv p.0 in
     let rest = walk_of leads number g is s.target link.0.to ss w to link.2.target nw p.1 in
-    record { walk = link.0 ∷ rest.walk; is_walk = (link.1, rest.is_walk); same = omega (arith, cost-cons link.0 rest.walk, rest.same, link.2.price) }
+    record { walk = link.0 ∷ rest.walk; is_walk = (link.1, rest.is_walk); cheap = omega (arith, cost-cons link.0 rest.walk, rest.cheap, link.2.price) }
 
 path_of : {V : Type 0} (leads : V → Step V → Type 0) (number : V → ℕ → Type 0) (g : Graph) → IsGraphOf leads number g → (v : V) (at : ℕ) (ls : List Link) (w : V) (to : ℕ) → number v at → number w to → IsWalk g at ls to → Paths leads v w (cost ls)
 path_of {V} leads number g is v at [] w to nv nw p =
@@ -54,7 +54,7 @@ bridged leads number g is v w at to nv nw None h =
 bridged leads number g is v w at to nv nw (Some way) h =
     let own = path_of leads number g is v at h.0.0 w to nv nw h.0.1.is_walk in
     record {
-      distance = (own.path, record { is_walk = own.is_walk; least = λ other p. let k = walk_of leads number g is v at other w to nv nw p in omega (arith, own.same, k.same, h.0.1.least k.walk k.is_walk) }, own.same ∙ h.0.2);
+      distance = (own.path, record { is_walk = own.is_walk; least = λ other p. let k = walk_of leads number g is v at other w to nv nw p in omega (arith, own.same, k.cheap, h.0.1.least k.walk k.is_walk) }, own.same ∙ h.0.2);
       hops = λ i. (
         (λ t.
             let hop = (h.1 i).0 (bit_of_member way.hops i t) in
@@ -64,7 +64,7 @@ bridged leads number g is v w at to nv nw (Some way) h =
               rest.path,
               record {
                 is_walk = (step.1, rest.is_walk);
-                least = λ other p. let k = walk_of leads number g is v at other w to nv nw p in omega (arith, rest.same, k.same, step.2.price, cost-cons hop.0 hop.1, hop.2.least k.walk k.is_walk);
+                least = λ other p. let k = walk_of leads number g is v at other w to nv nw p in omega (arith, rest.same, k.cheap, step.2.price, cost-cons hop.0 hop.1, hop.2.least k.walk k.is_walk);
               },
               step.2.exit ∙ hop.3,
             )),
@@ -76,7 +76,7 @@ bridged leads number g is v w at to nv nw (Some way) h =
               rest.walk,
               record {
                 is_walk = (link.1, rest.is_walk);
-                least = λ other p. let k = path_of leads number g is v at other w to nv nw p in omega (arith, rest.same, k.same, link.2.price, cost-cons link.0 rest.walk, y.2.least k.path k.is_walk);
+                least = λ other p. let k = path_of leads number g is v at other w to nv nw p in omega (arith, rest.cheap, k.same, link.2.price, cost-cons link.0 rest.walk, y.2.least k.path k.is_walk);
               },
               sym link.2.exit ∙ y.3,
             ))),

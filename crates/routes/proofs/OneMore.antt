@@ -1,5 +1,5 @@
 -- One more offer, in order, for the routes of those before it.
-use Rattle.std.proofs.Common.{◌≡◌, ℕ, ◌+◌, ◌<◌, ◌≤◌, ◌⊎◌, inl, inr, Bool, true, false, cond, nat_lt, nat_eq, ltb-false, eqb-true, IsTrue, arith, refl, sym, ◌∙◌, ap, subst}
+use Rattle.std.proofs.Common.{◌≡◌, ℕ, ◌<◌, ◌≤◌, ◌⊎◌, inl, inr, true, false, cond, nat_lt, nat_eq, ltb-false, eqb-true, IsTrue, arith, refl, sym, ◌∙◌, ap, subst}
 use Rattle.std.specs.Prelude.{bit_or}
 use Rattle.std.specs.Cmp.{IsTotalOrder, nat_cmp_total}
 use Rattle.std.specs.Ordering.{is_lt, nat_cmp, ordering_then}

@@ -17,7 +17,7 @@ IsNodeAnswer said root to (Some way) =
     IsWay (Leads said root) (ARouter root.router) to
     (record { distance = way.distance; hops = way.hops })
 
--- where the graph's links are those of the database, its nodes at these places, its answers are
+-- where the graph stands for the links of the database, its nodes at these places, its answers are
 -- those of the database
 abbrev pub GraphsCarryAnswers : Type 0
 GraphsCarryAnswers =

@@ -22,7 +22,8 @@ pub fn candidates_are_determined()
     ensures { CandidatesAreDetermined }
 {}
 
-/// A graph whose links are those of a database gives, by `least_ways`, the distances and next hops of the database (RFC 2328, section 16.1).
+/// A graph that stands for the links of a database, of links that differ in cost alone perhaps by the cheapest, gives by `least_ways` the
+/// distances and next hops of the database (RFC 2328, section 16.1).
 pub fn graphs_carry_answers()
     ensures { GraphsCarryAnswers }
 {}

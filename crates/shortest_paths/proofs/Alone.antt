@@ -2,7 +2,7 @@
 use Rattle.std.proofs.Common.{◌≡◌, ◌<◌, get_or, ℕ, zero, suc, inl, inr, List, [], ◌∷◌, slice_get, Option, None, Some, arith, refl, sym, ap, subst}
 use Rattle.std.proofs.lemmas.Nat.Bits.{bit_at-zero}
 use Rattle.std.proofs.lemmas.Option.{same_Some}
-use Rattle.area_graph.proofs.Leads.{told}
+use Rattle.area_graph.proofs.Leads.{near_end}
 use Rattle.area_graph.specs.Nodes.{Ascend, HasLsa}
 use Rattle.offers.specs.Ways.{AreNear, AreWays}
 use Rattle.routes.proofs.Determined.{bit_of_member}
@@ -22,9 +22,7 @@ alone_ascends root = λ i j d before within. absurd (omega (arith, before, withi
 
 -- what leads on from a router is told of by its LSA
 by_lsa : (said : Said) (root : Root) (router : ℕ) (step : Step Node) → Leads said root (ARouter router) step → HasLsa said (ARouter router)
-by_lsa said root router step leads =
-    let tells = (told said root (ARouter router) step.target step.price step.exit leads).tells in
-    (tells.1.lsa, tells.1.its)
+by_lsa said root router step leads = near_end said root (ARouter router) step.target step.price step.exit leads
 
 module _ (said : Said) (root : Root) (none : HasLsa said (ARouter root.router) → ⊥) where
   stays : (walk : List (Step Node)) (to : Node) → IsWalk (Leads said root) (ARouter root.router) walk to → ARouter root.router ≡ to

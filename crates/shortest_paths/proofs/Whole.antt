@@ -1,6 +1,6 @@
 -- The answers of a graph of the database, at the places of its nodes, are the ways of the database.
 use Rattle.std.proofs.Common.{ℕ, inl, inr, List, [], ◌∷◌, get_or, Option, None, Some, sym, subst}
-use Rattle.area_graph.proofs.Leads.{far_end, told}
+use Rattle.area_graph.proofs.Leads.{far_end}
 use Rattle.area_graph.proofs.Whole.{contained, placed}
 use Rattle.area_graph.specs.Graphs.{StandsAt}
 use Rattle.area_graph.specs.Nodes.{AreNodes, HasLsa}
@@ -20,7 +20,7 @@ use Rattle.shortest_paths.specs.Reached.{way_beside}
 
 -- a link leads to a node that has an LSA, so a walk from such a node ends at one
 pub far : (said : Said) (root : Root) (from : Node) (step : Step Node) → Leads said root from step → HasLsa said step.target
-far said root from step leads = far_end said from step.target (told said root from step.target step.price step.exit leads).back
+far said root from step leads = far_end said root from step.target step.price step.exit leads
 
 pub ends : (said : Said) (root : Root) (from : Node) → HasLsa said from → (walk : List (Step Node)) (to : Node) → IsWalk (Leads said root) from walk to → HasLsa said to
 ends said root from has [] to is = let P : Node → Type 0 = λ n. HasLsa said n in subst P is has

@@ -1,4 +1,4 @@
-use Rattle.std.proofs.Common.{◌≡◌, ◌≤◌, true, false, List, arith, take, sym, ◌∙◌, subst}
+use Rattle.std.proofs.Common.{◌≡◌, true, false, List, arith, take, sym, ◌∙◌, subst}
 use Rattle.std.proofs.lemmas.List.{append-nil}
 use Rattle.words.specs.declared.route.Route.{Route}
 use Rattle.routes.proofs.Listed.{Among, Listed, all_taken, step_next, step_none, step_same}

@@ -1,0 +1,23 @@
+use Rattle.std.proofs.Common.{List, [], length, arith, refl, sym, subst}
+use Rattle.std.proofs.lemmas.Option.{slice_get_read}
+use Rattle.routes.specs.Said.{said_at}
+use Rattle.area_graph.specs.Graphs.{Adds, StandsAt}
+use Rattle.area_graph.specs.declared.entry.Entry.{Entry}
+use Rattle.area_graph.proofs.Told.{FromBelow, are_entries, below_more, below_none}
+use Rattle.area_graph.proofs.entries.entries_of.Goals as goal
+
+pub loop-at-init : goal.loop-at-init
+loop-at-init c =
+    let said = said_at c.args.moment c.args.db.now.present in
+    let P : List Entry → Type 0 = λ es. Adds (FromBelow said c.args.nodes.now 0) [] es in
+    subst P (sym c.new-entries.ensures.items) (below_none said c.args.nodes.now [])
+
+pub loop-at-preserved : goal.loop-at-preserved
+loop-at-preserved c =
+    let nodes = c.args.nodes.now in
+    let here : StandsAt nodes c.index-nodes-at.result c.loop-at.at = slice_get_read nodes (length nodes) c.loop-at.at c.index-nodes-at.result refl (omega arith) c.index-nodes-at.is in
+    below_more (said_at c.args.moment c.args.db.now.present) nodes c.loop-at.at c.index-nodes-at.result [] c.loop-at.entries.items c.add_node.new.entries.items here c.loop-at.invariant c.in_ok-add_node.ensures
+
+pub returns : goal.returns
+returns c =
+    are_entries (said_at c.args.moment c.args.db.now.present) c.args.nodes.now c.requires c.loop-at.at c.loop-at.entries.items c.sort.new.entries.items (omega (arith, c.loop-at-test.false)) c.loop-at.invariant c.sort.ensures.same c.sort.ensures.sorted

@@ -1,0 +1,11 @@
+use Rattle.std.specs.List.{All}
+use Rattle.area_graph.specs.Graphs.{Adds, CostFits}
+use Rattle.area_graph.specs.Links.{IsToListed}
+use Rattle.area_graph.proofs.Lists.{OfFront}
+use Rattle.area_graph.proofs.links.add_listed.Given as goal
+
+abbrev pub invariant-loop-router : goal.invariant-loop-router
+invariant-loop-router l = record {
+  adds : Adds (OfFront (IsToListed l.nodes l.entries l.id) l.router-items l.router-index) l.fn.links.items l.links.items;
+  fits : All CostFits l.fn.links.items → All CostFits l.links.items;
+}

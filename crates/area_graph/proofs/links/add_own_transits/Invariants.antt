@@ -1,0 +1,11 @@
+use Rattle.std.specs.List.{All}
+use Rattle.area_graph.specs.Graphs.{Adds, CostFits}
+use Rattle.area_graph.specs.Links.{IsOwnTransit}
+use Rattle.area_graph.proofs.Lists.{OfFront}
+use Rattle.area_graph.proofs.links.add_own_transits.Given as goal
+
+abbrev pub invariant-loop-told : goal.invariant-loop-told
+invariant-loop-told l = record {
+  adds : Adds (OfFront (IsOwnTransit l.root l.id l.to) l.told-items l.told-index) l.fn.links.items l.links.items;
+  fits : All CostFits l.fn.links.items → All CostFits l.links.items;
+}

@@ -1,0 +1,11 @@
+use Rattle.std.specs.List.{All}
+use Rattle.area_graph.specs.Graphs.{Adds, CostFits}
+use Rattle.area_graph.specs.Links.{IsToRouter}
+use Rattle.area_graph.proofs.Lists.{OfFront}
+use Rattle.area_graph.proofs.links.add_routers.Given as goal
+
+abbrev pub invariant-loop-told : goal.invariant-loop-told
+invariant-loop-told l = record {
+  adds : Adds (OfFront (IsToRouter l.root l.nodes l.entries l.router) l.told-items l.told-index) l.fn.links.items l.links.items;
+  fits : All CostFits l.fn.links.items → All CostFits l.links.items;
+}

@@ -1,0 +1,126 @@
+-- What LSAs tell of each router, as a list in an order in which it can be looked up.
+use Rattle.std.specs.Prelude.{◌≡◌, ℕ, ◌<◌, ◌≤◌, ◌↔◌, List, Option, None, Some}
+use Rattle.std.specs.List.{Contains}
+use Rattle.std.specs.List.Sorted.{IsSorted}
+use Rattle.std.specs.Ordering.{nat_cmp, ordering_then}
+use Rattle.std.specs.declared.cmp.Ordering.{Ordering}
+use Rattle.lsa.specs.declared.body.Link.{Link}
+use Rattle.lsa.specs.declared.body.LinkKind.{LinkKind}
+use Rattle.lsa.specs.declared.body.LinkKind.TheVariants as kinds
+use Rattle.routes.specs.Links.{HasLink, ListsRouter}
+use Rattle.routes.specs.Said.{Said}
+use Rattle.routes.specs.declared.node.Node.{Node}
+use Rattle.routes.specs.declared.node.Node.TheVariants.{ANetwork, ARouter}
+use Rattle.area_graph.specs.Graphs.{StandsAt}
+use Rattle.area_graph.specs.Nodes.{Ascend}
+use Rattle.area_graph.specs.declared.entry.Entry.{Entry}
+use Rattle.area_graph.specs.declared.entry.EntryKind.{EntryKind}
+use Rattle.area_graph.specs.declared.entry.EntryKind.TheVariants.{Attached, PointToPoint, Transit}
+
+-- ---- the order
+
+-- the kinds of links first
+abbrev pub rank : EntryKind → ℕ
+rank PointToPoint = 0
+rank Transit = 1
+rank Attached = 2
+
+-- by router, kind, ID, metric and place
+abbrev pub entry_cmp : Entry → Entry → Ordering
+entry_cmp a b =
+    ordering_then (nat_cmp a.router b.router)
+    (ordering_then (nat_cmp (rank a.kind) (rank b.kind))
+    (ordering_then (nat_cmp a.id b.id)
+    (ordering_then (nat_cmp a.metric b.metric) (nat_cmp a.place b.place))))
+
+-- ---- what an entry tells
+
+abbrev pub with_kind : (router : ℕ) → EntryKind → Link → Entry
+with_kind router kind link =
+    record {
+      router = router;
+      kind = kind;
+      id = link.link_id;
+      metric = link.metric;
+      place = 0;
+    }
+
+-- the entry of a link of the router's; links of the other kinds have none
+abbrev pub link_entry : LinkKind → (router : ℕ) → Link → Option Entry
+link_entry kinds.PointToPoint router link = Some (with_kind router PointToPoint link)
+link_entry kinds.Transit router link = Some (with_kind router Transit link)
+link_entry kinds.Stub router link = None
+link_entry kinds.Virtual router link = None
+
+abbrev pub entry_of : (router : ℕ) → Link → Option Entry
+entry_of router link = link_entry link.kind router link
+
+-- the entry of a router that the network at the place lists
+abbrev pub attached_entry : (id place router : ℕ) → Entry
+attached_entry id place router =
+    record { router = router; kind = Attached; id = id; metric = 0; place = place }
+
+-- the LSA of the node at the place tells of the entry's router
+abbrev pub TellsOf : Said → Node → (place : ℕ) → Entry → Type 0
+TellsOf said (ARouter router) place entry =
+    (link : Link) × HasLink said router link × (entry_of router link ≡ Some entry)
+TellsOf said (ANetwork id by) place entry =
+    ListsRouter said id by entry.router × (entry ≡ attached_entry id place entry.router)
+
+-- the router's LSA has a link of this kind to this ID with this metric
+abbrev pub HasLinkOf : Said → (router : ℕ) → LinkKind → (id metric : ℕ) → Type 0
+HasLinkOf said router kind id metric =
+    (link : Link) × HasLink said router link × (link.kind ≡ kind) × (link.link_id ≡ id)
+    × (link.metric ≡ metric)
+
+-- the network of this Link State ID that stands at the place lists the router
+abbrev pub IsListedAt : Said → List Node → (router id place : ℕ) → Type 0
+IsListedAt said nodes router id place =
+    (by : ℕ) × StandsAt nodes (ANetwork id by) place × ListsRouter said id by router
+
+abbrev pub IsToldAs : Said → List Node → EntryKind → Entry → Type 0
+IsToldAs said nodes PointToPoint entry =
+    HasLinkOf said entry.router kinds.PointToPoint entry.id entry.metric × (entry.place ≡ 0)
+IsToldAs said nodes Transit entry =
+    HasLinkOf said entry.router kinds.Transit entry.id entry.metric × (entry.place ≡ 0)
+IsToldAs said nodes Attached entry =
+    IsListedAt said nodes entry.router entry.id entry.place × (entry.metric ≡ 0)
+
+-- just what LSAs tell, in order
+pub record AreEntries (said : Said) (nodes : List Node) (entries : List Entry) : Type 0 where
+  pub each : (entry : Entry) → Contains entries entry ↔ IsToldAs said nodes entry.kind entry
+  pub sorted : IsSorted entry_cmp entries
+
+-- nodes and entries are in order, and each router that has an entry for a link is a node
+pub record AreOrdered (nodes : List Node) (entries : List Entry) : Type 0 where
+  pub ascend : Ascend nodes
+  pub sorted : IsSorted entry_cmp entries
+  pub routers : (entry : Entry) → Contains entries entry → rank entry.kind < 2
+      → Contains nodes (ARouter entry.router)
+
+-- ---- looking up
+
+-- both tell of one router, and by the same kind of link or list with the same ID
+pub record IsBeside (entry other : Entry) : Type 0 where
+  pub router : entry.router ≡ other.router
+  pub kind : entry.kind ≡ other.kind
+  pub id : entry.id ≡ other.id
+
+-- an entry of the router, of this kind and ID, with this metric
+abbrev pub HasMetric : List Entry → (router : ℕ) → EntryKind → (id metric : ℕ) → Type 0
+HasMetric entries router kind id metric =
+    (place : ℕ)
+    × Contains entries
+    (record { router = router; kind = kind; id = id; metric = metric; place = place })
+
+abbrev pub HasEntry : List Entry → (router : ℕ) → EntryKind → (id : ℕ) → Type 0
+HasEntry entries router kind id = (metric : ℕ) × HasMetric entries router kind id metric
+
+-- the least metric, not below the given one, of the entries of the router, kind and ID
+abbrev pub IsLeastMetric : List Entry → (router : ℕ) → EntryKind → (id : ℕ) → (from : ℕ)
+    → Option ℕ → Type 0
+IsLeastMetric entries router kind id from None =
+    (metric : ℕ) → from ≤ metric → HasMetric entries router kind id metric → ⊥
+IsLeastMetric entries router kind id from (Some least) =
+    (from ≤ least) × HasMetric entries router kind id least
+    × ((metric : ℕ) → from ≤ metric → HasMetric entries router kind id metric → least ≤ metric)

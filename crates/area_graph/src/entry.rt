@@ -1,0 +1,100 @@
+//! What one link or one list tells of a router, and the order in which such entries are looked up.
+ghost use Rattle.std.specs.Prelude.{◌≡◌, ◌↔◌, IsTrue, Some};
+ghost use Rattle.area_graph.specs.Entries.{IsBeside, attached_entry, entry_cmp, entry_of, rank, with_kind};
+
+use lsa::{Link, LinkKind};
+use std::cmp::Ordering;
+use words::{LinkStateId, RouterId};
+
+/// Which LSA tells of the router.
+#[derive(Clone, Copy, Debug, PartialEq, Eq)]
+pub enum EntryKind {
+    /// Its router-LSA has a link to another router.
+    PointToPoint,
+    /// Its router-LSA has a link to a transit network.
+    Transit,
+    /// A network-LSA lists it.
+    Attached,
+}
+
+/// What one link of its router-LSA, or the list of a network-LSA, tells of a router.
+#[derive(Clone, Copy, Debug)]
+pub struct Entry {
+    pub router: RouterId,
+    pub kind: EntryKind,
+    /// The Link ID, or the Link State ID of the network-LSA.
+    pub id: u32,
+    /// That of the link; 0 for `Attached`.
+    pub metric: u16,
+    /// That of the network among the nodes; 0 for links.
+    pub place: usize,
+}
+
+fn rank(kind: EntryKind) -> u8
+    ensures { result ≡ rank kind }
+{
+    match kind {
+        EntryKind::PointToPoint => 0,
+        EntryKind::Transit => 1,
+        EntryKind::Attached => 2,
+    }
+}
+
+/// Orders entries by router, kind, ID, metric and place.
+pub fn compare(a: &Entry, b: &Entry) -> Ordering
+    ensures { result ≡ entry_cmp a.now b.now }
+{
+    a.router
+        .number()
+        .cmp(&b.router.number())
+        .then(rank(a.kind).cmp(&rank(b.kind)))
+        .then(a.id.cmp(&b.id))
+        .then(a.metric.cmp(&b.metric))
+        .then(a.place.cmp(&b.place))
+}
+
+/// Tells whether both are of one router, kind and ID.
+pub fn is_beside(entry: &Entry, other: &Entry) -> bool
+    ensures { IsTrue result ↔ IsBeside entry.now other.now }
+{
+    entry.router.number() == other.router.number()
+        && entry.kind == other.kind
+        && entry.id == other.id
+}
+
+/// The entry of a link of the router's LSA; links to stub networks and virtual links have none.
+pub fn of_link(router: RouterId, link: &Link) -> Option<Entry>
+    ensures { result ≡ entry_of router link.now }
+{
+    match link.kind {
+        LinkKind::PointToPoint => Some(with_kind(router, EntryKind::PointToPoint, link)),
+        LinkKind::Transit => Some(with_kind(router, EntryKind::Transit, link)),
+        LinkKind::Stub => None,
+        LinkKind::Virtual => None,
+    }
+}
+
+fn with_kind(router: RouterId, kind: EntryKind, link: &Link) -> Entry
+    ensures { result ≡ with_kind router kind link.now }
+{
+    Entry {
+        router,
+        kind,
+        id: link.link_id,
+        metric: link.metric,
+        place: 0,
+    }
+}
+
+/// The entry of a router that the network-LSA of this Link State ID lists, whose node stands at the place.
+pub fn of_list(id: LinkStateId, place: usize, router: RouterId) -> Entry
+    ensures { result ≡ attached_entry id place router }
+{
+    Entry {
+        router,
+        kind: EntryKind::Attached,
+        id: id.number(),
+        metric: 0,
+        place,
+    }
+}
