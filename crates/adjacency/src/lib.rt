@@ -18,6 +18,5 @@ pub use listed::{ListEntry, instance_of};
 pub use neighbor::Neighbor;
 pub use place::Place;
 pub use saved::Saved;
-pub use standing::{ReceivedDescription, Standing};
 pub use state::State;
 pub use verdict::Verdict;

@@ -221,7 +221,7 @@ impl Neighbor {
     }
 
     /// Its names, state, numbers and times.
-    pub fn standing(&self) -> Standing
+    pub(crate) fn standing(&self) -> Standing
         ensures router { result.router ≡ self.now.present.router }
         ensures state { result.state ≡ self.now.present.state }
         ensures dd_sequence_start { result.dd_sequence_start ≡ self.now.present.dd_sequence_start }

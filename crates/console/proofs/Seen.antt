@@ -1,5 +1,5 @@
 -- The words of a slice that was taken apart.
-use Rattle.std.proofs.Common.{◌≡◌, ◌<◌, ℕ, zero, suc, List, [], ◌∷◌, length, get_or, Option, sym, ap, ◌∙◌, subst, arith, refl}
+use Rattle.std.proofs.Common.{◌≡◌, ◌<◌, ℕ, zero, suc, List, [], ◌∷◌, length, get_or, Option, None, Some, sym, ap, ◌∙◌, subst, arith, refl}
 use Rattle.std.specs.Prelude.{MatchOption}
 use denote.Ref.{Bor}
 use Rattle.console.specs.Words.{Word}
@@ -41,3 +41,8 @@ word_at ws d k words lt e = view_at ws d k lt ∙ ap (λ (ls : List Word). get_o
 
 pub both : {A : Type 0} {x y : A} {xs ys : List A} → x ≡ y → xs ≡ ys → x ∷ xs ≡ y ∷ ys
 both {A} {x} {y} {xs} {ys} e f = ap (λ (z : A). z ∷ xs) e ∙ ap (λ (zs : List A). y ∷ zs) f
+
+-- nothing is told where nothing may be
+pub told_nothing : {X : Type 0} (r : Option X) (N : Type 0) (S : X → Type 0) → r ≡ None → N → MatchOption r N S
+told_nothing None N S is n = n
+told_nothing (Some x) N S is n = absurd cc

@@ -152,30 +152,14 @@ fn interface_of(number: u64, words: &[&str]) -> Option<ConfiguredInterface>
     else {
         return None;
     };
-    let Some((address, length)) = read_where(number, name, at, place) else {
-        return None;
-    };
-    let Some(cost) = read_setting((cost, c), "cost", 1, 65_535) else {
-        return None;
-    };
-    let Some(hello_interval) = read_setting((hello, h), "hello", 1, 65_535) else {
-        return None;
-    };
-    let Some(dead_interval) = read_setting((dead, d), "dead", 1, 4_294_967_295) else {
-        return None;
-    };
-    let Some(retransmit_interval) = read_setting((rxmt, r), "rxmt", 1, 65_535) else {
-        return None;
-    };
-    let Some(delay) = read_setting((delay, t), "delay", 1, 3_600) else {
-        return None;
-    };
-    let Some(port) = read_setting((port, p), "port", 1, 65_535) else {
-        return None;
-    };
-    let Some(peer) = read_setting((peer, q), "peer", 1, 65_535) else {
-        return None;
-    };
+    let (address, length) = read_where(number, name, at, place)?;
+    let cost = read_setting((cost, c), "cost", 1, 65_535)?;
+    let hello_interval = read_setting((hello, h), "hello", 1, 65_535)?;
+    let dead_interval = read_setting((dead, d), "dead", 1, 4_294_967_295)?;
+    let retransmit_interval = read_setting((rxmt, r), "rxmt", 1, 65_535)?;
+    let delay = read_setting((delay, t), "delay", 1, 3_600)?;
+    let port = read_setting((port, p), "port", 1, 65_535)?;
+    let peer = read_setting((peer, q), "peer", 1, 65_535)?;
     Some(ConfiguredInterface {
         interface: Interface {
             address,
