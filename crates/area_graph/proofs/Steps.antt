@@ -119,14 +119,14 @@ module _ (root : Root) (nodes : List Node) (entries : List Entry) (router : ℕ)
 
 -- ---- to the network of one entry
 
-module _ (root : Root) (entries : List Entry) (router : ℕ) (tolds : List Told) (entry : Entry) where
-  pub network_at_root : (xs ys : List Link) → router ≡ root.router → Adds (OfEach (IsOwnTransit root entry.id entry.place) tolds) xs ys → Adds (IsToNetwork root entries router tolds entry) xs ys
+module _ (root : Root) (entries : List Entry) (router : ℕ) (told_links : List Told) (entry : Entry) where
+  pub network_at_root : (xs ys : List Link) → router ≡ root.router → Adds (OfEach (IsOwnTransit root entry.id entry.place) told_links) xs ys → Adds (IsToNetwork root entries router told_links entry) xs ys
   network_at_root xs ys own a =
-      adds_same (OfEach (IsOwnTransit root entry.id entry.place) tolds) (IsToNetwork root entries router tolds entry) xs ys (λ x o. record { own = λ _. o; other = λ off. absurd (off own) }) (λ x t. t.own own) a
+      adds_same (OfEach (IsOwnTransit root entry.id entry.place) told_links) (IsToNetwork root entries router told_links entry) xs ys (λ x o. record { own = λ _. o; other = λ off. absurd (off own) }) (λ x t. t.own own) a
 
-  pub network_elsewhere : (xs ys : List Link) → (router ≡ root.router → ⊥) → Adds (IsCheapest entries router entry) xs ys → Adds (IsToNetwork root entries router tolds entry) xs ys
+  pub network_elsewhere : (xs ys : List Link) → (router ≡ root.router → ⊥) → Adds (IsCheapest entries router entry) xs ys → Adds (IsToNetwork root entries router told_links entry) xs ys
   network_elsewhere xs ys off a =
-      adds_same (IsCheapest entries router entry) (IsToNetwork root entries router tolds entry) xs ys (λ x c. record { own = λ own. absurd (off own); other = λ _. c }) (λ x t. t.other off) a
+      adds_same (IsCheapest entries router entry) (IsToNetwork root entries router told_links entry) xs ys (λ x c. record { own = λ own. absurd (off own); other = λ _. c }) (λ x t. t.other off) a
 
 module _ (entries : List Entry) (router : ℕ) (entry : Entry) where
   pub none_cheapest : (xs : List Link) → IsLeastMetric entries router Transit entry.id 1 None → Adds (IsCheapest entries router entry) xs xs
@@ -144,12 +144,12 @@ module _ (entries : List Entry) (router : ℕ) (entry : Entry) where
 
 -- ---- to the networks of all entries that list the router
 
-module _ (root : Root) (entries : List Entry) (router : ℕ) (tolds : List Told) where
+module _ (root : Root) (entries : List Entry) (router : ℕ) (told_links : List Told) where
   abbrev To : Entry → Link → Type 0
-  To = IsToNetwork root entries router tolds
+  To = IsToNetwork root entries router told_links
 
   abbrev ToSome : Link → Type 0
-  ToSome = IsToSomeNetwork root entries router tolds
+  ToSome = IsToSomeNetwork root entries router told_links
 
   abbrev pub WalkedTo : ℕ → Link → Type 0
   WalkedTo at link = (k : ℕ) × (entry : Entry) × (slice_get entries k ≡ Some entry) × (entry.router ≡ router) × (entry.kind ≡ Attached) × (k < at) × To entry link

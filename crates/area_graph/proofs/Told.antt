@@ -1,5 +1,5 @@
 -- The entries of all nodes are just what their LSAs tell.
-use Rattle.std.proofs.Common.{◌≡◌, ℕ, ◌+◌, ◌<◌, ◌≤◌, inl, inr, List, [], length, ◌↔◌, None, Some, slice_get, refl, sym, ◌∙◌, ap, subst, arith}
+use Rattle.std.proofs.Common.{◌≡◌, ℕ, ◌+◌, ◌<◌, ◌≤◌, inl, inr, List, [], length, ◌↔◌, Some, slice_get, refl, sym, ◌∙◌, ap, subst, arith}
 use Rattle.std.proofs.lemmas.Bool.{cases_lt}
 use Rattle.std.proofs.lemmas.Option.{none-some, same_Some, slice_get_within}
 use Rattle.std.specs.List.{Contains}
@@ -37,9 +37,6 @@ module _ (said : Said) (place : ℕ) where
       let same : t.1.lsa ≡ lsa = same_Some t.1.lsa lsa (sym (ap router_in t.1.its) ∙ is) in
       (t.0, subst L same t.1.among, t.2)) a
 
-  pub no_router_tells : (router : ℕ) (xs : List Entry) → router_lsa said router ≡ None → Adds (TellsOf said (ARouter router) place) xs xs
-  no_router_tells router xs is = adds_none (TellsOf said (ARouter router) place) xs (λ x t. none-some t.1.lsa (sym is ∙ ap router_in t.1.its))
-
   pub network_tells : (id by : ℕ) (lsa : NetworkLsa) (xs ys : List Entry) → network_lsa said id by ≡ Some lsa → Adds (OfEach (λ (router : ℕ) (entry : Entry). entry ≡ attached_entry id place router) lsa.attached) xs ys
       → Adds (TellsOf said (ANetwork id by) place) xs ys
   network_tells id by lsa xs ys is a =
@@ -53,9 +50,6 @@ module _ (said : Said) (place : ℕ) where
       let L : NetworkLsa → Type 0 = λ l. Contains l.attached x.router in
       let same : t.0.lsa ≡ lsa = same_Some t.0.lsa lsa (sym (ap network_in t.0.its) ∙ is) in
       (x.router, subst L same t.0.among, t.1)) a
-
-  pub no_network_tells : (id by : ℕ) (xs : List Entry) → network_lsa said id by ≡ None → Adds (TellsOf said (ANetwork id by) place) xs xs
-  no_network_tells id by xs is = adds_none (TellsOf said (ANetwork id by) place) xs (λ x t. none-some t.0.lsa (sym is ∙ ap network_in t.0.its))
 
 -- ---- what the LSAs of the first nodes tell
 

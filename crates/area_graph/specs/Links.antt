@@ -65,19 +65,19 @@ pub record IsCheapest (entries : List Entry) (router : ℕ) (entry : Entry)
   pub exit : link.interface ≡ 0
 
 -- to the network whose list the entry tells of
-pub record IsToNetwork (root : Root) (entries : List Entry) (router : ℕ) (tolds : List Told)
+pub record IsToNetwork (root : Root) (entries : List Entry) (router : ℕ) (told_links : List Told)
     (entry : Entry) (link : Link) : Type 0 where
-  pub own : router ≡ root.router → OfEach (IsOwnTransit root entry.id entry.place) tolds link
+  pub own : router ≡ root.router → OfEach (IsOwnTransit root entry.id entry.place) told_links link
   pub other : ¬ (router ≡ root.router) → IsCheapest entries router entry link
 
 -- to a network that lists the router
-pub record IsToSomeNetwork (root : Root) (entries : List Entry) (router : ℕ) (tolds : List Told)
+pub record IsToSomeNetwork (root : Root) (entries : List Entry) (router : ℕ) (told_links : List Told)
     (link : Link) : Type 0 where
   pub entry : Entry
   pub among : Contains entries entry
   pub is_router : entry.router ≡ router
   pub is_kind : entry.kind ≡ Attached
-  pub leads : IsToNetwork root entries router tolds entry link
+  pub leads : IsToNetwork root entries router told_links entry link
 
 -- from a network of this Link State ID to a router that it lists and that has a link back, at
 -- cost 0

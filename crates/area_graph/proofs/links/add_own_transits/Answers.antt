@@ -40,5 +40,5 @@ loop-told-preserved c =
 pub returns-clause-adds : goal.returns-clause-adds
 returns-clause-adds c =
     let Q : Told → Link → Type 0 = IsOwnTransit c.args.root.now c.args.id c.args.to in
-    let P : List Told → Type 0 = λ tolds. Adds (OfEach Q tolds) c.args.links.now.items c.loop-told.links.items in
+    let P : List Told → Type 0 = λ told_links. Adds (OfEach Q told_links) c.args.links.now.items c.loop-told.links.items in
     subst P c.as_slice-told-items.ensures (each_all Q c.as_slice-told-items.result.now c.loop-told.told-index c.args.links.now.items c.loop-told.links.items c.loop-told-test.false c.loop-told.invariant.adds)
