@@ -1,2 +1,3 @@
 pub mod Roots
 pub mod Limits
+pub mod Candidates

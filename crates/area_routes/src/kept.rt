@@ -1,7 +1,7 @@
 //! The routes of a router, kept from one event to the next.
-ghost use Rattle.std.specs.Prelude.{◌≡◌, ◌+◌, ◌≤◌, ◌↔◌, None, false, length, min, IfOk, IsTrue, OnErr, OnOk, true};
+ghost use Rattle.std.specs.Prelude.{◌≡◌, ◌+◌, ◌≤◌, ◌↔◌, None, false, length, min, IfOk, IsSome, IsTrue, OnErr, OnOk, true};
 ghost use Rattle.std.specs.FinMap as finite;
-ghost use Rattle.area_routes.specs.Kept.{HasStayed, KnowsAnswered, WalksAgainOnlyThen};
+ghost use Rattle.area_routes.specs.Kept.{HasStayed, KnowsAnswered, KnowsCandidates, WalksAgainOnlyThen};
 ghost use Rattle.area_routes.specs.Offers.{AreOfferedBy, root_by};
 ghost use Rattle.kept_routes.specs.Kept.{IsWalkOf};
 ghost use Rattle.kept_routes.specs.Sameness.{AreLeft, SayTheSame};
@@ -26,12 +26,14 @@ pub struct Offered {
 }
 
 /// The routes of a router from one event to the next. The walk of its database stays for as long as the LSAs of types 1 and 2 say the same (RFC
-/// 2328, section 16.1); that all candidates stand among the answers is remembered for as long as all LSAs do.
+/// 2328, section 16.1); candidates that were looked at, and that all of them stand among the answers, for as long as all LSAs do.
 ///
 /// Links, database and answers aren't part of it. Each call is handed them, and a clause says of which moment they are.
 #[derive(Drop)]
 pub struct AreaRoutes {
     walk: Routes,
+    // the candidates, where they were looked at since an LSA last said something else
+    candidates: Option<Vec<Route>>,
     // each candidate stands among the answers
     answered: bool,
 }
@@ -41,7 +43,7 @@ impl Model for AreaRoutes {
 
     ghost Value = { KeptRoutes };
 
-    ghost view = { λ a. record { walk = a.walk; answered = a.answered } };
+    ghost view = { λ a. record { walk = a.walk; candidates = a.candidates; answered = a.answered } };
 }
 
 // Whether the LSAs of the types up to this one, or of all, say at the moment what they said before the event.
@@ -81,6 +83,7 @@ impl AreaRoutes {
         ensures root { IfOk result (λ made.
             made.walk.root ≡ root_by router area.now.present.links) }
         ensures walks { IfOk result (λ made. made.walk.walks ≡ 1) }
+        ensures candidates { IfOk result (λ made. made.candidates ≡ None) }
         ensures answered { IfOk result (λ made. made.answered ≡ false) }
     {
         let root = root_of(alloc, router, area)?;
@@ -88,6 +91,7 @@ impl AreaRoutes {
         let walk = Routes::new(alloc, db, &root, moment)?;
         Ok(AreaRoutes {
             walk,
+            candidates: None,
             answered: false,
         })
     }
@@ -110,18 +114,21 @@ impl AreaRoutes {
         requires size { finite.len area.now.present.database ≤ 16384 }
         requires order { before ≤ moment }
         requires walk { IsWalkOf (said_at before area.now.settled.database) self.old.walk }
+        requires candidates { KnowsCandidates (said_at before area.now.settled.database) self.old }
         ensures walk { OnOk result
             (IsWalkOf (said_at moment area.now.present.database) self.new.walk) }
         ensures root { OnOk result
             (self.new.walk.root ≡ root_by router area.now.present.links) }
-        // What was known of the answers before is known still, or not known any more.
+        // What was known of the candidates and of the answers before is known still, or not known any more.
+        ensures candidates { OnOk result
+            (KnowsCandidates (said_at moment area.now.present.database) self.new) }
         ensures answered { OnOk result ((answers : Answers)
             → KnowsAnswered (said_at before area.now.settled.database) answers self.old
             → KnowsAnswered (said_at moment area.now.present.database) answers self.new) }
         // It walks again only where the router's addresses are others, or an LSA of type 1 or 2 came, left, has come to MaxAge or says something else.
         ensures walks { OnOk result (WalksAgainOnlyThen before moment router
             area.now.settled area.now.present self.old.walk self.new.walk) }
-        // Where that holds of LSAs of all types, what is known of the answers stays too.
+        // Where that holds of LSAs of all types, what is known of the candidates and of the answers stays too.
         ensures all { OnOk result (HasStayed None before moment router
             area.now.settled area.now.present self.old.walk → self.new ≡ self.old) }
         ensures err { OnErr result (self.new ≡ self.old) }
@@ -133,6 +140,7 @@ impl AreaRoutes {
                 return Ok(());
             }
             if says_the_same(alloc, area, Some(2), before, moment)? {
+                self.candidates = None;
                 self.answered = false;
                 return Ok(());
             }
@@ -154,6 +162,7 @@ impl AreaRoutes {
             (IsWalkOf (said_at moment area.now.present.database) self.new.walk) }
         ensures root { OnOk result
             (self.new.walk.root ≡ root_by router area.now.present.links) }
+        ensures candidates { OnOk result (self.new.candidates ≡ None) }
         ensures answered { OnOk result (self.new.answered ≡ false) }
         ensures walks { OnOk result
             (self.new.walk.walks ≡ min (self.old.walk.walks + 1) 18446744073709551615) }
@@ -162,11 +171,13 @@ impl AreaRoutes {
         let root = root_of(alloc, router, area)?;
         let db = area.database();
         self.walk.walk(alloc, db, &root, moment)?;
+        self.candidates = None;
         self.answered = false;
         Ok(())
     }
 
-    /// Takes note of other answers: looks whether each candidate stands among them. Where memory for that is refused, it isn't known.
+    /// Takes note of other answers: looks whether each candidate stands among them. The candidates are kept. Where memory for that is refused, it
+    /// isn't known.
     pub fn take_answers(
         &mut self,
         alloc: Global,
@@ -174,8 +185,10 @@ impl AreaRoutes {
         moment: Second,
         answers: &[(Route, u64)],
     )
-        requires { IsWalkOf (said_at moment area.now.present.database) self.old.walk }
+        requires walk { IsWalkOf (said_at moment area.now.present.database) self.old.walk }
+        requires candidates { KnowsCandidates (said_at moment area.now.present.database) self.old }
         ensures walk { self.new.walk ≡ self.old.walk }
+        ensures candidates { KnowsCandidates (said_at moment area.now.present.database) self.new }
         ensures answered { KnowsAnswered (said_at moment area.now.present.database)
             answers.now self.new }
     {
@@ -186,7 +199,7 @@ impl AreaRoutes {
     }
 
     /// The candidates at a moment: for each prefix that anything in the database offers one route, in the order of the prefixes (RFC 2328, section
-    /// 16).
+    /// 16). Where they are kept, it is a copy of them.
     ///
     /// # Errors
     /// Where memory for the offers or the routes is refused.
@@ -196,10 +209,15 @@ impl AreaRoutes {
         area: &Area,
         moment: Second,
     ) -> Result<Vec<Route>, AllocError>
-        requires { IsWalkOf (said_at moment area.now.present.database) self.now.walk }
+        requires walk { IsWalkOf (said_at moment area.now.present.database) self.now.walk }
+        requires candidates { KnowsCandidates (said_at moment area.now.present.database) self.now }
         ensures { IfOk result (λ candidates. AreCandidates
             (said_at moment area.now.present.database) self.now.walk.root candidates.items) }
     {
+        if let Some(candidates) = &self.candidates {
+            let copy = Vec::from_slice(alloc, candidates)?;
+            return Ok(copy);
+        }
         let db = area.database();
         let candidates = self.walk.candidates(alloc, db, moment)?;
         Ok(candidates)
@@ -216,7 +234,8 @@ impl AreaRoutes {
         moment: Second,
         answers: &[(Route, u64)],
     ) -> Result<Vec<Route>, AllocError>
-        requires { IsWalkOf (said_at moment area.now.present.database) self.now.walk }
+        requires walk { IsWalkOf (said_at moment area.now.present.database) self.now.walk }
+        requires candidates { KnowsCandidates (said_at moment area.now.present.database) self.now }
         ensures { IfOk result (λ table. IsTable
             (said_at moment area.now.present.database) self.now.walk.root answers.now table.items) }
     {
@@ -236,7 +255,8 @@ impl AreaRoutes {
         moment: Second,
         answers: &[(Route, u64)],
     ) -> Result<Offered, AllocError>
-        requires { IsWalkOf (said_at moment area.now.present.database) self.now.walk }
+        requires walk { IsWalkOf (said_at moment area.now.present.database) self.now.walk }
+        requires candidates { KnowsCandidates (said_at moment area.now.present.database) self.now }
         ensures { IfOk result (λ offered. AreOfferedBy
             (said_at moment area.now.present.database) self.now.walk.root answers.now
             offered.candidates.items offered.rows.items) }
@@ -247,25 +267,37 @@ impl AreaRoutes {
         Ok(Offered { candidates, rows })
     }
 
-    // Whether some candidate stands in none of the answers, by a look at each.
+    // Whether some candidate stands in none of the answers, by a look at each. The candidates are kept.
     fn lacks_answers(
-        &self,
+        &mut self,
         alloc: Global,
         area: &Area,
         moment: Second,
         answers: &[(Route, u64)],
     ) -> Result<bool, AllocError>
-        requires { IsWalkOf (said_at moment area.now.present.database) self.now.walk }
-        ensures { IfOk result (λ lacks. IsTrue lacks ↔ IsStale
-            (said_at moment area.now.present.database) self.now.walk.root answers.now) }
+        requires walk { IsWalkOf (said_at moment area.now.present.database) self.old.walk }
+        requires candidates { KnowsCandidates (said_at moment area.now.present.database) self.old }
+        ensures lacks { IfOk result (λ lacks. IsTrue lacks ↔ IsStale
+            (said_at moment area.now.present.database) self.old.walk.root answers.now) }
+        ensures walk { self.new.walk ≡ self.old.walk }
+        ensures candidates { KnowsCandidates (said_at moment area.now.present.database) self.new }
+        ensures kept { OnOk result (IsSome self.new.candidates) }
+        ensures answered { self.new.answered ≡ self.old.answered }
+        ensures err { OnErr result (self.new ≡ self.old) }
     {
-        let candidates = self.candidates(alloc, area, moment)?;
+        if let Some(candidates) = &self.candidates {
+            let lacks = is_stale(alloc, candidates, answers)?;
+            return Ok(lacks);
+        }
+        let db = area.database();
+        let candidates = self.walk.candidates(alloc, db, moment)?;
         let lacks = is_stale(alloc, &candidates, answers)?;
+        self.candidates = Some(candidates);
         Ok(lacks)
     }
 
     /// Tells whether some candidate stands in none of the answers, so that they are to be asked for again. Where it is known that none does, no
-    /// candidate is looked at. That none does is remembered, until an LSA says something else.
+    /// candidate is looked at. That none does is remembered, and so are the candidates that it looked at, until an LSA says something else.
     ///
     /// # Errors
     /// Where memory for the candidates, or for answers in order, is refused; the routes stay as they were then.
@@ -277,6 +309,7 @@ impl AreaRoutes {
         answers: &[(Route, u64)],
     ) -> Result<bool, AllocError>
         requires walk { IsWalkOf (said_at moment area.now.present.database) self.old.walk }
+        requires candidates { KnowsCandidates (said_at moment area.now.present.database) self.old }
         requires answered { KnowsAnswered (said_at moment area.now.present.database)
             answers.now self.old }
         ensures stale { IfOk result (λ stale. IsTrue stale ↔ IsStale
@@ -285,6 +318,8 @@ impl AreaRoutes {
         ensures answered { KnowsAnswered (said_at moment area.now.present.database)
             answers.now self.new }
         ensures noted { IfOk result (λ stale. stale ≡ false → self.new.answered ≡ true) }
+        ensures candidates { KnowsCandidates (said_at moment area.now.present.database) self.new }
+        ensures kept { OnOk result (self.old.answered ≡ false → IsSome self.new.candidates) }
         ensures err { OnErr result (self.new ≡ self.old) }
     {
         if self.answered {

@@ -1,14 +1,18 @@
 -- What is kept for routes is the router's where it is that of its parts.
 use Rattle.std.proofs.Common.{◌≡◌, ℕ, true, false, Option, None, Some, refl, subst, sym, ◌∙◌}
-use Rattle.area_routes.specs.Kept.{AreKept, KeptRoutes, KnowsAnswered, WalksAgainOnlyThen}
+use Rattle.std.specs.Prelude.{IfSome}
+use Rattle.std.specs.Global.{Vec}
+use Rattle.area_routes.specs.Kept.{AreKept, KeptRoutes, KnowsAnswered, KnowsCandidates, WalksAgainOnlyThen}
 use Rattle.area_routes.specs.Offers.{root_by}
 use Rattle.events.specs.declared.model.CoreError.{CoreError}
 use Rattle.events.specs.Refusals.{MayRunOut}
 use Rattle.events.specs.Routers.{Router}
 use Rattle.kept_routes.specs.Kept.{IsWalkOf, KeptWalk}
 use Rattle.received.specs.Links.{Area}
+use Rattle.routes.specs.Candidates.{AreCandidates}
 use Rattle.routes.specs.Said.{Said, said_at}
 use Rattle.routes.specs.Tables.{Answers}
+use Rattle.words.specs.declared.route.Route.{Route}
 use Rattle.flood.specs.Offers.{AreKeptNow}
 
 pub are_kept : (r : Router) (id : ℕ) (area : Area) (moment : ℕ) (answers : Answers) (kept : KeptRoutes)
@@ -31,13 +35,20 @@ walks_then before r settled id moment old new walk next last a b c d e is =
 unanswered : (said : Said) (answers : Answers) (kept : KeptRoutes) → kept.answered ≡ false → KnowsAnswered said answers kept
 unanswered said answers kept is on = let no : true ≡ false = sym on ∙ is in absurd cc
 
+-- no candidates are kept
+no_candidates : (said : Said) (kept : KeptRoutes) → kept.candidates ≡ None → KnowsCandidates said kept
+no_candidates said kept is =
+    subst (λ (o : Option (Vec Route)). IfSome o (λ candidates. AreCandidates said kept.walk.root candidates.items)) (sym is) tt
+
 -- a first walk is kept
 pub begun : (r : Router) (id : ℕ) (area : Area) (moment : ℕ) (kept : KeptRoutes) → id ≡ r.id → area ≡ r.area → moment ≡ r.moment
-    → IsWalkOf (said_at moment area.database) kept.walk → kept.walk.root ≡ root_by id area.links → kept.answered ≡ false → AreKeptNow r kept
-begun r id area moment kept a b c walk root is =
+    → IsWalkOf (said_at moment area.database) kept.walk → kept.walk.root ≡ root_by id area.links → kept.candidates ≡ None → kept.answered ≡ false
+    → AreKeptNow r kept
+begun r id area moment kept a b c walk root none is =
     are_kept r id area moment r.answers kept a b c refl (record {
       walk = walk;
       root = root;
+      candidates = no_candidates (said_at moment area.database) kept none;
       answered = unanswered (said_at moment area.database) r.answers kept is;
     })
 

@@ -1,6 +1,6 @@
 //! What is kept for routes from one event to the next.
 ghost use Rattle.std.specs.Prelude.{◌≡◌, ◌≤◌, IfOk, OnErr, OnOk, false};
-ghost use Rattle.area_routes.specs.Kept.{KnowsAnswered, WalksAgainOnlyThen};
+ghost use Rattle.area_routes.specs.Kept.{KnowsAnswered, KnowsCandidates, WalksAgainOnlyThen};
 ghost use Rattle.event_rooms.specs.RoomLaws.{IsRoomy};
 ghost use Rattle.events.specs.Events.{Happens};
 ghost use Rattle.events.specs.Refusals.{Answers, exceeds};
@@ -43,6 +43,8 @@ fn keep(
     requires fine { exceeds router.now.present ≡ false }
     requires order { before ≤ router.now.present.moment }
     requires walk { IsWalkOf (said_at before router.now.settled.area.database) routes.old.walk }
+    requires candidates { KnowsCandidates (said_at before router.now.settled.area.database)
+        routes.old }
     requires answered { KnowsAnswered (said_at before router.now.settled.area.database)
         router.now.settled.answers routes.old }
     requires answers { brings_answers (occurrence_of event.now) ≡ false

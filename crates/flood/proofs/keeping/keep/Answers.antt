@@ -1,6 +1,6 @@
 use Rattle.std.proofs.Common.{◌≡◌, ◌≤◌, length, refl, ap, subst, sym, ◌∙◌}
 use Rattle.std.specs.FinMap as finite
-use Rattle.area_routes.specs.Kept.{KnowsAnswered}
+use Rattle.area_routes.specs.Kept.{KnowsAnswered, KnowsCandidates}
 use Rattle.area_routes.specs.Offers.{root_by}
 use Rattle.area_routes.proofs.Limits.{within}
 use Rattle.flooding.specs.Kept.{RouterArea}
@@ -21,8 +21,15 @@ pub follow-requires-clause-walk : goal.follow-requires-clause-walk
 follow-requires-clause-walk c =
     subst (λ (a : RouterArea). IsWalkOf (said_at c.args.before a.settled.database) c.args.routes.now.walk) (sym c.area-area.ensures.parts) c.requires.walk
 
-pub take_answers-requires : goal.take_answers-requires
-take_answers-requires c = c.in_ok-follow.ensures.walk
+pub follow-requires-clause-candidates : goal.follow-requires-clause-candidates
+follow-requires-clause-candidates c =
+    subst (λ (a : RouterArea). KnowsCandidates (said_at c.args.before a.settled.database) c.args.routes.now) (sym c.area-area.ensures.parts) c.requires.candidates
+
+pub take_answers-requires-clause-walk : goal.take_answers-requires-clause-walk
+take_answers-requires-clause-walk c = c.in_ok-follow.ensures.walk
+
+pub take_answers-requires-clause-candidates : goal.take_answers-requires-clause-candidates
+take_answers-requires-clause-candidates c = c.in_ok-follow.ensures.candidates
 
 pub returns-then-brings_answers-clause-kept : goal.returns-then-brings_answers-clause-kept
 returns-then-brings_answers-clause-kept c =
@@ -34,6 +41,7 @@ returns-then-brings_answers-clause-kept c =
       root =
           subst (λ (k : KeptWalk). k.root ≡ root_by c.id.result c.area-area.result.now.present.links) (sym c.take_answers.ensures.walk)
           c.in_ok-follow.ensures.root;
+      candidates = c.take_answers.ensures.candidates;
       answered = c.take_answers.ensures.answered;
     })
 
@@ -49,6 +57,7 @@ returns-else-brings_answers-clause-kept c =
     c.id.ensures (ap (λ (a : RouterArea). a.present) c.area-area.ensures.parts) c.moment-moment.ensures refl (record {
       walk = c.in_ok-follow.ensures.walk;
       root = c.in_ok-follow.ensures.root;
+      candidates = c.in_ok-follow.ensures.candidates;
       answered =
           subst (λ w. KnowsAnswered said w c.follow.new.self) (sym (c.requires.answers (sym c.brings_answers.ensures ∙ c.if-brings_answers.false))) knows;
     })

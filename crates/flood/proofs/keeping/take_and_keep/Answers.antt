@@ -1,5 +1,5 @@
 use Rattle.std.proofs.Common.{◌≡◌, ◌≤◌, ap, subst, sym, ◌∙◌, arith}
-use Rattle.area_routes.specs.Kept.{KnowsAnswered}
+use Rattle.area_routes.specs.Kept.{KnowsAnswered, KnowsCandidates}
 use Rattle.events.specs.Routers.{Router}
 use Rattle.kept_routes.specs.Kept.{IsWalkOf}
 use Rattle.routes.specs.Said.{said_at}
@@ -22,6 +22,12 @@ keep-requires-clause-walk c =
     let stays = c.take.ensures.settled ∙ c.requires.settled in
     subst (λ (s : Router). IsWalkOf (said_at c.moment-before.result s.area.database) c.args.routes.now.walk) (sym stays)
     (subst (λ m. IsWalkOf (said_at m c.args.router.now.present.area.database) c.args.routes.now.walk) (sym c.moment-before.ensures) c.requires.kept.walk)
+
+pub keep-requires-clause-candidates : goal.keep-requires-clause-candidates
+keep-requires-clause-candidates c =
+    let stays = c.take.ensures.settled ∙ c.requires.settled in
+    subst (λ (s : Router). KnowsCandidates (said_at c.moment-before.result s.area.database) c.args.routes.now) (sym stays)
+    (subst (λ m. KnowsCandidates (said_at m c.args.router.now.present.area.database) c.args.routes.now) (sym c.moment-before.ensures) c.requires.kept.candidates)
 
 pub keep-requires-clause-answered : goal.keep-requires-clause-answered
 keep-requires-clause-answered c =

@@ -1,6 +1,8 @@
 use Rattle.std.proofs.Common.{refl, ap, subst, sym, ◌∙◌}
 use Rattle.area_routes.specs.Kept.{KeptRoutes}
+use Rattle.area_routes.proofs.Candidates.{carried}
 use Rattle.kept_routes.specs.Kept.{IsWalkOf}
+use Rattle.routes.specs.Candidates.{AreCandidates}
 use Rattle.routes.specs.Said.{said_at}
 use Rattle.area_routes.proofs.kept.AreaRoutes.follow.Goals as goal
 
@@ -10,6 +12,15 @@ returns-then-branch-clause-walk c =
     let new = said_at c.args.moment c.args.area.now.present.database in
     let same = c.in_ok-says_the_same.ensures.same c.if-branch.true in
     c.walks_are_kept.ensures old new c.args.self.now.walk (λ key low. same key tt) c.requires.walk
+
+pub returns-then-branch-clause-candidates : goal.returns-then-branch-clause-candidates
+returns-then-branch-clause-candidates c =
+    let old = said_at c.args.before c.args.area.now.settled.database in
+    let new = said_at c.args.moment c.args.area.now.present.database in
+    let root = c.args.self.now.walk.root in
+    let same = c.in_ok-says_the_same.ensures.same c.if-branch.true in
+    carried (λ routes. AreCandidates old root routes) (λ routes. AreCandidates new root routes)
+    (λ routes. c.routes_are_kept.ensures.candidates old new root routes same) c.args.self.now.candidates c.requires.candidates
 
 pub returns-then-branch-clause-answered : goal.returns-then-branch-clause-answered
 returns-then-branch-clause-answered c = λ answers knows answered stale.

@@ -1,4 +1,5 @@
 use Rattle.std.proofs.Common.{refl, ap, subst}
+use Rattle.area_routes.specs.Kept.{KnowsCandidates}
 use Rattle.area_routes.specs.Offers.{root_by}
 use Rattle.events.specs.Routers.{Router}
 use Rattle.flooding.specs.Kept.{RouterArea}
@@ -10,11 +11,17 @@ use Rattle.routes.specs.declared.root.Root.{Root}
 use Rattle.flood.proofs.Offering.{of_router, said_in_parts}
 use Rattle.flood.proofs.router_core.Core.candidates.Goals as goal
 
-pub candidates-requires : goal.candidates-requires
-candidates-requires c =
+pub candidates-requires-clause-walk : goal.candidates-requires-clause-walk
+candidates-requires-clause-walk c =
     let r = c.self.inside.router.present in
     said_in_parts (λ said. IsWalkOf said c.self.inside.routes.walk) r c.area.result.now.present c.moment.result
     (ap (λ (a : RouterArea). a.present) c.area.ensures.parts) c.moment.ensures c.self.invariant.5.walk
+
+pub candidates-requires-clause-candidates : goal.candidates-requires-clause-candidates
+candidates-requires-clause-candidates c =
+    let r = c.self.inside.router.present in
+    said_in_parts (λ said. KnowsCandidates said c.self.inside.routes) r c.area.result.now.present c.moment.result
+    (ap (λ (a : RouterArea). a.present) c.area.ensures.parts) c.moment.ensures c.self.invariant.5.candidates
 
 pub returns : goal.returns
 returns c =

@@ -18,7 +18,7 @@ invariant_of-result c =
       subst AnnouncesItsOwn (sym present) c.self.invariant.3,
       subst HoldsInstances (sym present) c.self.invariant.4,
       begun c.in_ok-router.router.present c.id.result c.area.result.now.present c.moment.result c.in_ok-routes.routes
-          c.id.ensures (ap (λ (a : RouterArea). a.present) c.area.ensures.parts) c.moment.ensures c.in_ok-routes.ensures.walk c.in_ok-routes.ensures.root c.in_ok-routes.ensures.answered,
+          c.id.ensures (ap (λ (a : RouterArea). a.present) c.area.ensures.parts) c.moment.ensures c.in_ok-routes.ensures.walk c.in_ok-routes.ensures.root c.in_ok-routes.ensures.candidates c.in_ok-routes.ensures.answered,
     )
 
 pub new-requires-clause-few : goal.new-requires-clause-few

@@ -26,7 +26,7 @@ invariant_of-result c =
       subst AnnouncesItsOwn (sym is) (only_what_is_known.first c.args.config.now),
       subst HoldsInstances (sym is) (instances_stay_in_range.first c.args.config.now router),
       begun c.settle.new.self.present c.id.result c.area.result.now.present c.moment.result c.in_ok-routes.routes
-          c.id.ensures (ap (λ (a : RouterArea). a.present) c.area.ensures.parts) c.moment.ensures c.in_ok-routes.ensures.walk c.in_ok-routes.ensures.root c.in_ok-routes.ensures.answered,
+          c.id.ensures (ap (λ (a : RouterArea). a.present) c.area.ensures.parts) c.moment.ensures c.in_ok-routes.ensures.walk c.in_ok-routes.ensures.root c.in_ok-routes.ensures.candidates c.in_ok-routes.ensures.answered,
     )
 
 pub new-requires-clause-few : goal.new-requires-clause-few

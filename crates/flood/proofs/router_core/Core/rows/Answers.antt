@@ -1,4 +1,5 @@
 use Rattle.std.proofs.Common.{ap, subst}
+use Rattle.area_routes.specs.Kept.{KnowsCandidates}
 use Rattle.area_routes.specs.Offers.{root_by}
 use Rattle.events.specs.Routers.{Router}
 use Rattle.flooding.specs.Kept.{RouterArea}
@@ -9,11 +10,17 @@ use Rattle.routes.specs.declared.root.Root.{Root}
 use Rattle.flood.proofs.Offering.{of_router, said_in_parts}
 use Rattle.flood.proofs.router_core.Core.rows.Goals as goal
 
-pub table-requires : goal.table-requires
-table-requires c =
+pub table-requires-clause-walk : goal.table-requires-clause-walk
+table-requires-clause-walk c =
     let r = c.self.inside.router.present in
     said_in_parts (λ said. IsWalkOf said c.self.inside.routes.walk) r c.area.result.now.present c.moment.result
     (ap (λ (a : RouterArea). a.present) c.area.ensures.parts) c.moment.ensures c.self.invariant.5.walk
+
+pub table-requires-clause-candidates : goal.table-requires-clause-candidates
+table-requires-clause-candidates c =
+    let r = c.self.inside.router.present in
+    said_in_parts (λ said. KnowsCandidates said c.self.inside.routes) r c.area.result.now.present c.moment.result
+    (ap (λ (a : RouterArea). a.present) c.area.ensures.parts) c.moment.ensures c.self.invariant.5.candidates
 
 pub returns : goal.returns
 returns c =

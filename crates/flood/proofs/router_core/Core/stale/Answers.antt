@@ -1,6 +1,6 @@
 use Rattle.std.proofs.Common.{◌≡◌, ap, refl, subst, sym}
 use Rattle.std.specs.Prelude.{◌↔◌, IsTrue}
-use Rattle.area_routes.specs.Kept.{KnowsAnswered}
+use Rattle.area_routes.specs.Kept.{KnowsAnswered, KnowsCandidates}
 use Rattle.area_routes.specs.Offers.{root_by}
 use Rattle.events.specs.Routers.{Router}
 use Rattle.flooding.specs.Kept.{RouterArea}
@@ -17,6 +17,12 @@ is_stale-requires-clause-walk c =
     let r = c.self.inside.router.present in
     said_in_parts (λ said. IsWalkOf said c.self.inside.routes.walk) r c.area.result.now.present c.moment.result
     (ap (λ (a : RouterArea). a.present) c.area.ensures.parts) c.moment.ensures c.self.invariant.5.walk
+
+pub is_stale-requires-clause-candidates : goal.is_stale-requires-clause-candidates
+is_stale-requires-clause-candidates c =
+    let r = c.self.inside.router.present in
+    said_in_parts (λ said. KnowsCandidates said c.self.inside.routes) r c.area.result.now.present c.moment.result
+    (ap (λ (a : RouterArea). a.present) c.area.ensures.parts) c.moment.ensures c.self.invariant.5.candidates
 
 pub is_stale-requires-clause-answered : goal.is_stale-requires-clause-answered
 is_stale-requires-clause-answered c =
@@ -50,6 +56,7 @@ invariant_of-self-2 c =
         root =
             subst (λ (k : KeptWalk). k.root ≡ root_by r.id area.links) (sym c.is_stale.ensures.walk)
             (subst (λ l. c.self.inside.routes.walk.root ≡ root_by r.id l) (ap (λ a. a.links) (sym is)) c.self.invariant.5.root);
+        candidates = c.is_stale.ensures.candidates;
         answered = c.is_stale.ensures.answered;
       }),
     )
