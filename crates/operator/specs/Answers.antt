@@ -4,7 +4,7 @@ use Rattle.isa.specs.declared.code.Slot.{Slot}
 use Rattle.isa.specs.declared.hook.Hook.{Hook}
 use Rattle.machine.specs.Runs.{Safe}
 use Rattle.worker.specs.Numbers.{turn_error_number}
-use Rattle.worker.specs.declared.turned.TurnError.{TurnError}
+use Rattle.worker.specs.TurnError.{TurnError}
 use Rattle.console.specs.Commands.{LineAsks}
 use Rattle.console.specs.declared.command.Command.{Command}
 use Rattle.console.specs.declared.command.Command.TheVariants as commands

@@ -1,6 +1,4 @@
-mod FromSome
 mod FreshSeats
 mod SeatsOf
 mod Sending
-mod Vetoes
 mod Counted

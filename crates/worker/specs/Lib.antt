@@ -1,6 +1,7 @@
--- what a router offers, for those above
+-- what a router offers, and what a turn is, for those above
 pub use Rattle.book.specs.Offers
-pub mod Turns
+pub use Rattle.turns.specs.Turns
+pub use Rattle.turns.specs.Numbers
+pub use Rattle.turns.specs.declared.turned.TurnError
 pub mod Sending
 pub mod Opening
-pub mod Numbers

@@ -1,36 +1,17 @@
-//! Workers that take turns at one router: each brings a datagram, a Tick or a command, asks the
-//! published programs what the event needs, and gives the event to the router's book under one lock.
-//!
-//! What a turn says is said of the event that it gave: the book is behind the lock, and of it the
-//! type [`book::Book`] and a ledger tell, in which each worker's share counts its own events.
+//! Workers that take turns at one router ([`turn`]): what they start with, the loop of one over its link
+//! and its clock, and what they bring back.
 #![tactic(auto)]
 
-mod gate;
-mod hub;
 mod opening;
-mod port;
-mod questions;
 mod serving;
 mod settling;
 mod setup;
-mod site;
-mod taker;
-mod turned;
-mod turns;
-mod work;
 
-pub use book::{
-    Book, BookError, Config, ConfigError, Core, CoreError, Event, Interface, Offered, Out, State,
-};
-pub use gate::{Gate, Open};
-pub use hub::Hub;
 pub use opening::open_hub;
-pub use port::Port;
 pub use serving::{Ended, run, send_all, tried};
 pub use settling::{Closed, Settled, close_hub, settle};
 pub use setup::Setup;
-pub use site::{Place, Site};
-pub use taker::Taker;
-pub use turned::{TurnError, Turned};
-pub use turns::turn;
-pub use work::Work;
+pub use turns::{
+    Book, BookError, Config, ConfigError, Core, CoreError, Event, Gate, Hub, Interface, Offered,
+    Open, Out, Place, Port, Site, State, Taker, TurnError, Turned, Work, turn,
+};

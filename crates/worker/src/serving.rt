@@ -1,22 +1,15 @@
 //! The loop of a worker.
 ghost use Rattle.std.specs.Prelude.{◌≡◌, ℕ, ◌+◌, ◌<◌, ◌++◌, ◌↔◌, IfOk, MatchOption, OnOk, OnErr};
 ghost use Rattle.worker.specs.Sending.{IsGivenEach};
-ghost use Rattle.worker.specs.Turns.{TakesFor};
+ghost use Rattle.turns.specs.Turns.{TakesFor};
 ghost use Rattle.worker.specs.declared.serving.Ended.TheVariants.{Fault};
 
-use crate::gate::Gate;
-use crate::hub::Hub;
-use crate::port::Port;
-use crate::site::Site;
-use crate::taker::Taker;
-use crate::turned::{TurnError, Turned};
-use crate::turns::turn;
-use crate::work::Work;
 use book::{BookError, CoreError, Out};
 use links::{Link, LinkFault, Seconds};
 use std::alloc::Global;
 use std::sync::Wait;
 use std::sync::atomic::{AtomicBool, Ordering};
+use turns::{Gate, Hub, Port, Site, Taker, TurnError, Turned, Work, turn};
 use words::{Second, Sequence};
 
 /// How a worker ended.
@@ -103,7 +96,7 @@ fn hear<L: Site, B: Taker<L>, G: Gate, K: Link, S: Seconds, R: Wait>(
     let Ok(bytes) = Vec::from_slice(alloc, heard) else {
         return Ok(());
     };
-    let work = Work::Datagram(port.number, Sequence::from_vec(bytes));
+    let work = Work::Datagram(port.number(), Sequence::from_vec(bytes));
     let mut now = clock.second();
     serve(rt, hub, port, gate, link, clock, &mut now, &work)
 }

@@ -11,7 +11,7 @@ use std::process::Abort;
 use std::sync::Wait;
 use std::test::Fail;
 use words::{External, Second};
-use worker::{Book, BookError, CoreError, Hub, Open, Port, Site, TurnError, Work, turn};
+use worker::{Book, BookError, CoreError, Gate, Hub, Open, Port, Site, TurnError, Work, turn};
 
 /// What is done: a turn, or a change of the programs, which each port learns then.
 #[derive(Clone, Copy, Debug)]
@@ -20,6 +20,8 @@ pub enum Deed {
     /// interface's port. All other turns are of port 0.
     Hear(u16, usize),
     Tick,
+    /// A Tick's turn during which the programs are changed.
+    TickAtChange,
     /// The destination is announced, and withdrawn.
     Add,
     Withdraw,
@@ -68,6 +70,18 @@ pub struct Stage<L: Site, Q: Wait + Drop> {
     pub ghost loaded: { history_of loader ≡ L.history },
 }
 
+// Tells the hub, as a turn passes, that the programs were changed.
+#[derive(Drop)]
+struct Changing<'a, L: Site> {
+    hub: &'a Hub<L, Book<L>>,
+}
+
+impl<'a, L: Site> Gate for Changing<'a, L> {
+    fn pass(&self, _port: u16) {
+        self.hub.programs_changed();
+    }
+}
+
 // What is seen without memory.
 #[derive(Clone, Copy)]
 struct Shown {
@@ -100,6 +114,19 @@ impl<L: Site, Q: Wait + Drop> Stage<L, Q> {
             _ => turn(rt, hub, &mut self.console, &Open {}, now, work),
         };
         match turned {
+            Ok(turned) => Ok(turned.refreshed.is_some()),
+            Err(error) => Err(error),
+        }
+    }
+
+    // A Tick's turn of port 0 during which the programs are changed: whether a refresh followed.
+    fn changed<R: Wait>(
+        &mut self,
+        rt: &R,
+        hub: &Hub<L, Book<L>>,
+        now: Second,
+    ) -> Result<bool, TurnError> {
+        match turn(rt, hub, &mut self.console, &Changing { hub }, now, &Work::Tick) {
             Ok(turned) => Ok(turned.refreshed.is_some()),
             Err(error) => Err(error),
         }
@@ -193,6 +220,7 @@ impl<L: Site, Q: Wait + Drop> Stage<L, Q> {
             Deed::Withdraw => (0, Work::Withdraw(self.destination.prefix)),
             Deed::Down(number) => (0, Work::Down(number)),
             Deed::Refresh => (0, Work::Refresh),
+            Deed::TickAtChange => return Ok(self.changed(rt, hub, Second::new(moment))),
             Deed::Attach(object) => {
                 self.attach(alloc, object)?;
                 return Ok(Ok(false));

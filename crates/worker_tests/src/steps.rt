@@ -67,6 +67,18 @@ fn a_refresh_follows_until_nothing_is_stale(rt: HostRuntime) -> Result<(), Fail>
     play_steps(&rt, rt.alloc(), &steps, 6)
 }
 
+// A refresh that was asked before the programs were changed isn't taken after it; the next turn tries again.
+#[test]
+fn a_refresh_of_earlier_programs_is_not_taken(rt: HostRuntime) -> Result<(), Fail> {
+    let not_asked = Seen { rows: 0, ..STARTED };
+    let steps = [
+        step(1, Deed::TickAtChange, not_asked),
+        step(2, Deed::Tick, FIRST),
+        step(3, Deed::TickAtChange, STARTED),
+    ];
+    play_steps(&rt, rt.alloc(), &steps, 4)
+}
+
 #[test]
 fn the_book_takes_what_the_ports_bring(rt: HostRuntime) -> Result<(), Fail> {
     let one = Seen {

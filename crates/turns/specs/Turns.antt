@@ -17,8 +17,8 @@ use Rattle.book.specs.Event.{Event}
 use Rattle.book.specs.Event.TheVariants as event
 use Rattle.book.specs.Occurrences.{occurrence_of}
 use Rattle.book.specs.Offers.{IsOffered}
-use Rattle.worker.specs.declared.work.Work.{Work}
-use Rattle.worker.specs.declared.work.Work.TheVariants as work
+use Rattle.turns.specs.declared.work.Work.{Work}
+use Rattle.turns.specs.declared.work.Work.TheVariants as work
 
 -- ---- what the book is asked
 

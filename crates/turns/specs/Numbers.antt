@@ -1,8 +1,8 @@
 -- The numbers of a turn's refusals.
 use Rattle.std.specs.Prelude.{ℕ}
 use Rattle.book.specs.Numbers.{book_error_number}
-use Rattle.worker.specs.declared.turned.TurnError.{TurnError}
-use Rattle.worker.specs.declared.turned.TurnError.TheVariants as refusing
+use Rattle.turns.specs.declared.turned.TurnError.{TurnError}
+use Rattle.turns.specs.declared.turned.TurnError.TheVariants as refusing
 
 abbrev pub turn_error_number : TurnError → ℕ
 turn_error_number (refusing.Book e) = book_error_number e

@@ -1,5 +1,5 @@
-use Rattle.worker.proofs.Vetoes.{is_veto}
-use Rattle.worker.proofs.questions.veto.Goals as goal
+use Rattle.turns.proofs.Vetoes.{is_veto}
+use Rattle.turns.proofs.questions.veto.Goals as goal
 
 pub returns-in-Some-clause-answer : goal.returns-in-Some-clause-answer
 returns-in-Some-clause-answer c =

@@ -1,5 +1,5 @@
-use Rattle.worker.proofs.FromSome.{offered_by_some}
-use Rattle.worker.proofs.taker.BookTaker.offered.Goals as goal
+use Rattle.turns.proofs.FromSome.{offered_by_some}
+use Rattle.turns.proofs.taker.BookTaker.offered.Goals as goal
 
 pub returns : goal.returns
 returns g c =

@@ -1,6 +1,6 @@
 //! What comes of a turn.
 ghost use Rattle.std.specs.Prelude.{◌≡◌};
-ghost use Rattle.worker.specs.Numbers.{turn_error_number};
+ghost use Rattle.turns.specs.Numbers.{turn_error_number};
 
 use book::{BookError, CoreError, Out};
 use std::alloc::AllocError;
@@ -39,7 +39,7 @@ impl TurnError {
 }
 
 impl From<BookError> for TurnError {
-    ghost use Rattle.worker.specs.declared.turned.TurnError.TheVariants.{Book};
+    ghost use Rattle.turns.specs.declared.turned.TurnError.TheVariants.{Book};
 
     ghost from_gives = { λ r e. e ≡ Book r };
 
@@ -51,7 +51,7 @@ impl From<BookError> for TurnError {
 impl From<AllocError> for TurnError {
     ghost use Rattle.events.specs.declared.model.CoreError.TheVariants.{Memory};
     ghost use Rattle.book.specs.declared.error.BookError.TheVariants.{Core};
-    ghost use Rattle.worker.specs.declared.turned.TurnError.TheVariants.{Book};
+    ghost use Rattle.turns.specs.declared.turned.TurnError.TheVariants.{Book};
 
     ghost from_gives = { λ _ e. e ≡ Book (Core Memory) };
 

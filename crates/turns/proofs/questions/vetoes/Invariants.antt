@@ -1,8 +1,8 @@
 use Rattle.std.specs.Prelude.{◌≡◌, take}
 use Rattle.maps.specs.Words.{IsOf}
 use Rattle.hooks.specs.Known.{asks_of}
-use Rattle.worker.specs.Turns.{AreVetoes}
-use Rattle.worker.proofs.questions.vetoes.Given as goal
+use Rattle.turns.specs.Turns.{AreVetoes}
+use Rattle.turns.proofs.questions.vetoes.Given as goal
 
 abbrev pub invariant-loop-route : goal.invariant-loop-route
 invariant-loop-route l = record {

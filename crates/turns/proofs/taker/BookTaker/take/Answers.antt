@@ -1,5 +1,5 @@
-use Rattle.worker.proofs.FromSome.{sent_by_some}
-use Rattle.worker.proofs.taker.BookTaker.take.Goals as goal
+use Rattle.turns.proofs.FromSome.{sent_by_some}
+use Rattle.turns.proofs.taker.BookTaker.take.Goals as goal
 
 pub returns-clause-ok : goal.returns-clause-ok
 returns-clause-ok g c =

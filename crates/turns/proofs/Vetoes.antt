@@ -11,7 +11,7 @@ use Rattle.maps.specs.Words.{SeatView}
 use Rattle.hooks.specs.declared.operation.Operation.{Operation}
 use Rattle.hooks.specs.Answered.{IsAnswered}
 use Rattle.hooks.specs.Questions.{RouteAnswer, veto_input}
-use Rattle.worker.specs.Turns.{AreVetoes, IsVetoOn, IsWordOn}
+use Rattle.turns.specs.Turns.{AreVetoes, IsVetoOn, IsWordOn}
 
 is_word : {before now : List Operation} {old new : SeatView} {input : Given} {word : ℕ}
     → IsAnswered before now old new input word → IsWordOn input word

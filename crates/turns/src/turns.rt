@@ -1,6 +1,6 @@
 //! A turn of a worker.
 ghost use Rattle.std.specs.Prelude.{◌≡◌, ◌+◌, IfOk, OnOk, OnErr, MatchOption};
-ghost use Rattle.worker.specs.Turns.{TakesFor};
+ghost use Rattle.turns.specs.Turns.{TakesFor};
 
 use crate::gate::Gate;
 use crate::hub::Hub;
@@ -24,8 +24,9 @@ use words::Second;
 /// Refused: `Away` where `tag`, `price` or `veto` got no reading; else as the book refuses it
 /// ([`Book::apply_anew`](book::Book::apply_anew)): its journal first, then the router's order. `Memory`
 /// may come before any of them, while the programs are asked. A refused turn gave the book nothing;
-/// the steps that the programs made on the shared words stand, and so does a mark. A refusal of the
-/// refresh leaves the turn's outs as they are: the next turn tries again.
+/// the steps that the programs made on the shared words stand, and so does a mark. The refresh is
+/// refused too where the programs were changed since the turn began ([`Hub::programs_changed`]). A
+/// refusal of the refresh leaves the turn's outs as they are: the next turn tries again.
 pub fn turn<L: Site, B: Taker<L>, G: Gate, R: Wait>(
     rt: &R,
     hub: &Hub<L, B>,
@@ -41,11 +42,12 @@ pub fn turn<L: Site, B: Taker<L>, G: Gate, R: Wait>(
         × (port.new.share.amount ≡ port.old.share.amount + 2))) }
     ensures err { OnErr result (port.new.share.amount ≡ port.old.share.amount) }
 {
+    let changes = hub.changes();
     let event = asked(rt, hub, &mut port.asker, &mut port.seat, moment, work)?;
     gate.pass(port.number);
     let taken = hub.take(rt, &mut port.share, moment, &event)?;
     let refreshed = if taken.stale {
-        refresh(rt, hub, port, moment).ok()
+        refresh(rt, hub, port, moment, changes).ok()
     } else {
         None
     };
@@ -55,12 +57,13 @@ pub fn turn<L: Site, B: Taker<L>, G: Gate, R: Wait>(
     })
 }
 
-// A refresh that passes no gate.
+// A refresh that passes no gate, unless the programs were changed since they had been so often.
 fn refresh<L: Site, B: Taker<L>, R: Wait>(
     rt: &R,
     hub: &Hub<L, B>,
     port: &mut Port<L>,
     moment: Second,
+    changes: u64,
 ) -> Result<Vec<Out>, TurnError>
     ensures outs { IfOk result (λ outs.
         TakesFor B.offers B.took moment Work.Refresh outs.items) }
@@ -68,6 +71,7 @@ fn refresh<L: Site, B: Taker<L>, R: Wait>(
     ensures err { OnErr result (port.new.share.amount ≡ port.old.share.amount) }
 {
     let event = installation(rt, hub, &mut port.asker, &mut port.seat, moment)?;
-    let taken = hub.take(rt, &mut port.share, moment, &event)?;
+    let share = &mut port.share;
+    let taken = hub.take_unless_changed(rt, share, moment, &event, changes)?;
     Ok(taken.outs)
 }

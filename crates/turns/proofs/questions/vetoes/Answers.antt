@@ -1,6 +1,6 @@
 use Rattle.std.proofs.Common.{◌≡◌, ◌<◌, [], ◌∷◌, ◌++◌, length, ◌∙◌, arith}
-use Rattle.worker.proofs.Vetoes.{one_more}
-use Rattle.worker.proofs.questions.vetoes.Goals as goal
+use Rattle.turns.proofs.Vetoes.{one_more}
+use Rattle.turns.proofs.questions.vetoes.Goals as goal
 
 pub loop-route-preserved : goal.loop-route-preserved
 loop-route-preserved c =

@@ -2,7 +2,7 @@
 ghost use Rattle.std.specs.Prelude.{◌≡◌, IfOk, IfSome};
 ghost use Rattle.maps.specs.Words.{IsOf};
 ghost use Rattle.hooks.specs.Known.{asks_of};
-ghost use Rattle.worker.specs.Turns.{AreVetoes, IsFor, IsInstall, IsPriceOn, IsTagOn, IsVetoOn};
+ghost use Rattle.turns.specs.Turns.{AreVetoes, IsFor, IsInstall, IsPriceOn, IsTagOn, IsVetoOn};
 
 use crate::hub::Hub;
 use crate::site::Site;

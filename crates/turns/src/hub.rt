@@ -4,10 +4,12 @@ ghost use Rattle.std.specs.Prelude.{◌≡◌, ◌+◌, ◌<◌, IfOk, OnOk, OnE
 use crate::port::Port;
 use crate::site::Site;
 use crate::taker::Taker;
+use crate::turned::TurnError;
 use book::{Book, BookError, Event, Offered, Out, State};
 use maps::Shared;
 use std::alloc::AllocError;
 use std::marker::PhantomData;
+use std::sync::atomic::{AtomicU64, Ordering};
 use std::sync::ledger::Share;
 use std::sync::{Mutex, Wait};
 use words::{Prefix, RouterId, Second};
@@ -17,6 +19,8 @@ use words::{Prefix, RouterId, Second};
 pub struct Hub<L: Site, B: Taker<L>> {
     book: Mutex<B>,
     of: PhantomData<L>,
+    // how often the programs were changed
+    changes: AtomicU64,
     pub(crate) shared: Shared,
     pub ghost words: { shared ≡ L.words },
 }
@@ -28,6 +32,27 @@ pub(crate) struct Taken {
     pub(crate) stale: bool,
 }
 
+// Gives an event to the book that is locked.
+fn take<L: Site, B: Taker<L>>(
+    book: &mut B,
+    mine: &mut Share<L>,
+    moment: Second,
+    event: &Event,
+) -> Result<Taken, BookError>
+    requires { 0 < mine.old.parts }
+    ensures ok { IfOk result (λ r. B.took moment event.now r.outs.items) }
+    ensures share { OnOk result (mine.new.amount ≡ mine.old.amount + 1) }
+    ensures parts { mine.new.parts ≡ mine.old.parts }
+    ensures err { OnErr result (mine.new.amount ≡ mine.old.amount) }
+{
+    let outs = book.take(mine, moment, event)?;
+    let stale = match book.stale() {
+        Ok(stale) => stale,
+        Err(_) => false,
+    };
+    Ok(Taken { outs, stale })
+}
+
 impl<L: Site, B: Taker<L>> Hub<L, B> {
     /// A hub with this book and these words.
     pub fn new(book: B, shared: Shared) -> Hub<L, B>
@@ -36,6 +61,7 @@ impl<L: Site, B: Taker<L>> Hub<L, B> {
         Hub {
             book: Mutex::new(book),
             of: PhantomData,
+            changes: AtomicU64::new(0),
             shared,
         }
     }
@@ -47,6 +73,7 @@ impl<L: Site, B: Taker<L>> Hub<L, B> {
         let Hub {
             book,
             of: _,
+            changes: _,
             shared,
         } = self;
         (book.into_inner(), shared)
@@ -58,6 +85,18 @@ impl<L: Site, B: Taker<L>> Hub<L, B> {
         ensures { port.new.share ≡ port.old.share }
     {
         self.shared.read(&mut port.seat, index)
+    }
+
+    /// Tells the workers that the programs were changed: a refresh that follows a turn which began
+    /// before isn't taken any more, so that no answer of an earlier program comes after those of the
+    /// refresh that whoever changed them makes.
+    pub fn programs_changed(&self) {
+        let _before = self.changes.fetch_add(1, Ordering::SeqCst);
+    }
+
+    // How often the programs were changed.
+    pub(crate) fn changes(&self) -> u64 {
+        self.changes.load(Ordering::SeqCst)
     }
 
     /// Takes an event under the lock. Where it isn't told whether the router is stale, for want of
@@ -76,13 +115,30 @@ impl<L: Site, B: Taker<L>> Hub<L, B> {
         ensures err { OnErr result (mine.new.amount ≡ mine.old.amount) }
     {
         let mut guard = self.book.lock(rt);
-        let book = &mut *guard;
-        let outs = book.take(mine, moment, event)?;
-        let stale = match book.stale() {
-            Ok(stale) => stale,
-            Err(_) => false,
-        };
-        Ok(Taken { outs, stale })
+        take(&mut *guard, mine, moment, event)
+    }
+
+    /// The same, unless the programs were changed since they had been so often: `Away` then.
+    pub(crate) fn take_unless_changed<R: Wait>(
+        &self,
+        rt: &R,
+        mine: &mut Share<L>,
+        moment: Second,
+        event: &Event,
+        changes: u64,
+    ) -> Result<Taken, TurnError>
+        requires { 0 < mine.old.parts }
+        ensures ok { IfOk result (λ r. B.took moment event.now r.outs.items) }
+        ensures share { OnOk result (mine.new.amount ≡ mine.old.amount + 1) }
+        ensures parts { mine.new.parts ≡ mine.old.parts }
+        ensures err { OnErr result (mine.new.amount ≡ mine.old.amount) }
+    {
+        let mut guard = self.book.lock(rt);
+        if self.changes() != changes {
+            return Err(TurnError::Away);
+        }
+        let taken = take(&mut *guard, mine, moment, event)?;
+        Ok(taken)
     }
 
     /// The candidates now and the rows of the table now, of one moment under the lock.

@@ -10,7 +10,7 @@ use Rattle.events.specs.Routers.{Router}
 use Rattle.book.specs.Event.{Event}
 use Rattle.book.specs.Occurrences.{occurrence_of}
 use Rattle.book.specs.Offers.{IsOffered}
-use Rattle.worker.specs.Turns.{IsOfferedBySome, Sends}
+use Rattle.turns.specs.Turns.{IsOfferedBySome, Sends}
 
 pub sent_by_some : {V E : Type 0} (items : V → List Out) (moment : Moment) (e : Event) (old new : Router) (r : Result V E)
     → IfOk r (λ outs. Happens old moment (occurrence_of e) (items outs) new) → IfOk r (λ outs. Sends moment e (items outs))

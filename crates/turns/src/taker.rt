@@ -5,7 +5,7 @@ ghost use Rattle.words.specs.declared.route.Route.{Route};
 ghost use Rattle.words.specs.declared.route.TableRow.{TableRow};
 ghost use Rattle.events.specs.declared.model.Out.{Out};
 ghost use Rattle.book.specs.Event.{Event};
-ghost use Rattle.worker.specs.Turns.{IsOfferedBySome, Sends};
+ghost use Rattle.turns.specs.Turns.{IsOfferedBySome, Sends};
 
 use book::{Book, BookError, Event, Offered, Out};
 use std::alloc::AllocError;

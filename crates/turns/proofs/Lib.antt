@@ -1,0 +1,2 @@
+mod FromSome
+mod Vetoes

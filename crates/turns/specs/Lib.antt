@@ -1,0 +1,4 @@
+-- what a router offers, for those above
+pub use Rattle.book.specs.Offers
+pub mod Turns
+pub mod Numbers

@@ -1,0 +1,28 @@
+//! Turns at one router: each brings a datagram, a Tick or a command, asks the published programs what
+//! the event needs, and gives the event to the router's book under one lock.
+//!
+//! What a turn says is said of the event that it gave: the book is behind the lock, and of it the
+//! type [`book::Book`] and a ledger tell, in which each port's share counts its own events.
+#![tactic(auto)]
+
+mod gate;
+mod hub;
+mod port;
+mod questions;
+mod site;
+mod taker;
+mod turned;
+mod turns;
+mod work;
+
+pub use book::{
+    Book, BookError, Config, ConfigError, Core, CoreError, Event, Interface, Offered, Out, State,
+};
+pub use gate::{Gate, Open};
+pub use hub::Hub;
+pub use port::Port;
+pub use site::{Place, Site};
+pub use taker::Taker;
+pub use turned::{TurnError, Turned};
+pub use turns::turn;
+pub use work::Work;
