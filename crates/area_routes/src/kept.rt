@@ -289,8 +289,7 @@ impl AreaRoutes {
             let lacks = is_stale(alloc, candidates, answers)?;
             return Ok(lacks);
         }
-        let db = area.database();
-        let candidates = self.walk.candidates(alloc, db, moment)?;
+        let candidates = self.candidates(alloc, area, moment)?;
         let lacks = is_stale(alloc, &candidates, answers)?;
         self.candidates = Some(candidates);
         Ok(lacks)
