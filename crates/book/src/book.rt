@@ -268,4 +268,12 @@ impl<L: Ledger> Book<L> {
     {
         self.taken
     }
+
+    /// Lets the book go: how many events it took in all. A crate that lets one go by itself has the
+    /// letting-go of each of a router's parts to prove once more.
+    pub fn close(self) -> u64
+        ensures { result ≡ self.taken }
+    {
+        self.taken
+    }
 }

@@ -46,8 +46,16 @@ pub fn table_of<L: Site>(
     hub: Hub<L, Book<L>>,
     is_fine: bool,
 ) -> Result<String, AllocError> {
-    let parts = hub.into_parts();
-    told(alloc, &parts.0, is_fine)
+    let (book, _shared) = hub.into_parts();
+    let told = told(alloc, &book, is_fine);
+    let _taken = book.close();
+    told
+}
+
+/// Lets a router go whose days are over.
+pub fn let_go<L: Site>(hub: Hub<L, Book<L>>) {
+    let (book, _shared) = hub.into_parts();
+    let _taken = book.close();
 }
 
 /// A router, and the worker of the setup's one port.
@@ -61,7 +69,10 @@ pub fn opened<L: Site>(
     let (hub, mut ports, rest) = open_hub::<L>(alloc, setup, core)?;
     drop(rest);
     match ports.pop() {
-        None => Err(AllocError),
+        None => {
+            let_go(hub);
+            Err(AllocError)
+        }
         Some(port) => Ok((hub, Member::new(alloc, port))),
     }
 }

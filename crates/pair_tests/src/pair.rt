@@ -2,7 +2,7 @@
 ghost use Rattle.std.specs.Prelude.{◌≡◌};
 ghost use Rattle.worker.specs.Opening.{IsSetUpFor};
 
-use crate::member::{Member, opened, table_of};
+use crate::member::{Member, let_go, opened, table_of};
 use crate::samples::{destination, first, second};
 use hooks::Loader;
 use std::alloc::Global;
@@ -144,7 +144,10 @@ fn table<L: Site, M: Site, R: Wait, Q: Wait + Drop>(
     requires other { IsSetUpFor M.name M.parts M.words M.history other }
 {
     let (hub, mut other) = other_at::<M>(alloc, other)?;
-    table_beside::<L, M, R>(rt, alloc, one, &hub, &mut other, work)
+    let table = table_beside::<L, M, R>(rt, alloc, one, &hub, &mut other, work);
+    drop(other);
+    let_go(hub);
+    table
 }
 
 #[tactic(auto, using(crate::proofs::Fresh::all_ask))]

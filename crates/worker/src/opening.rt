@@ -33,10 +33,34 @@ pub fn open_hub<L: Site>(
         seats,
         askers,
     } = setup;
-    let places = places(alloc, seats, askers)?;
     let (book, mut rest) = Book::<L>::new(alloc, blank, core)?;
-    let ports = ports(alloc, &mut rest, places)?;
-    Ok((Hub::new(book, shared), ports, rest))
+    match ports_of(alloc, &mut rest, seats, askers) {
+        Ok(ports) => Ok((Hub::new(book, shared), ports, rest)),
+        Err(error) => {
+            let _none = book.close();
+            Err(error)
+        }
+    }
+}
+
+// A port for each seat with its asker, the last one first.
+fn ports_of<L: Site>(
+    alloc: Global,
+    all: &mut Share<L>,
+    seats: Vec<Seat>,
+    askers: Vec<Asker>,
+) -> Result<Vec<Port<L>>, AllocError>
+    requires enough { vec_len askers ≡ vec_len seats }
+    requires few { vec_len seats ≤ 64 }
+    requires seated { All (IsOf L.words) seats.items }
+    requires asks { All (λ a. asks_of a ≡ L.history) askers.items }
+    requires parts { (all.old.parts ≡ vec_len seats) × (all.old.amount ≡ 0) }
+    ensures ports { IfOk result (λ ports.
+        (vec_len ports ≡ vec_len seats) × (all.new.parts ≡ 0)) }
+    ensures numbers { IfOk result (λ ports. CountDownTo 0 (map (λ p. p.number) ports.items)) }
+{
+    let places = places(alloc, seats, askers)?;
+    ports(alloc, all, places)
 }
 
 // A place for each seat, the last one first.

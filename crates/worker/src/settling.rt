@@ -61,6 +61,7 @@ pub struct Closed<L: Site> {
 /// [`Shared::close`](maps::Shared::close) asks for them.
 ///
 /// `AllocError` comes where the ports didn't come back, or an allocation was refused.
+#[tactic(auto, using(crate::proofs::SeatsOf::of_the_same))]
 pub fn close_hub<L: Site>(
     alloc: Global,
     hub: Hub<L, Book<L>>,
@@ -75,32 +76,32 @@ pub fn close_hub<L: Site>(
     ensures seated { IfOk result (λ r. All (IsOf r.shared) r.seats.items) }
 {
     let (mut book, shared) = hub.into_parts();
-    close_book(alloc, &mut book, shared, rest, back)
-}
-
-// The same of a book and its words.
-#[tactic(auto, using(crate::proofs::SeatsOf::of_the_same))]
-fn close_book<L: Site>(
-    alloc: Global,
-    book: &mut Book<L>,
-    shared: Shared,
-    rest: Share<L>,
-    back: Result<Vec<Port<L>>, AllocError>,
-) -> Result<Closed<L>, AllocError>
-    requires parts { IfOk back (λ ports. rest.parts + vec_len ports ≡ L.parts) }
-    requires every { IfOk back (λ ports. vec_len ports ≡ L.words.seats) }
-    requires words { shared ≡ L.words }
-    ensures taken { IfOk result (λ r. r.taken ≡ r.share.amount) }
-    ensures parts { IfOk result (λ r. r.share.parts ≡ L.parts) }
-    ensures every { IfOk result (λ r. vec_len r.seats ≡ r.shared.seats) }
-    ensures seated { IfOk result (λ r. All (IsOf r.shared) r.seats.items) }
-{
-    let ports = back?;
-    let Settled { share, seats } = settle(alloc, book, rest, ports)?;
+    let settled = settle_back(alloc, &mut book, rest, back);
+    let taken = book.close();
+    let Settled { share, seats } = settled?;
     Ok(Closed {
-        taken: book.taken(),
+        taken,
         share,
         shared,
         seats,
     })
+}
+
+// Settles with the ports, if they came back.
+fn settle_back<L: Site>(
+    alloc: Global,
+    book: &mut Book<L>,
+    rest: Share<L>,
+    back: Result<Vec<Port<L>>, AllocError>,
+) -> Result<Settled<L>, AllocError>
+    requires parts { IfOk back (λ ports. rest.parts + vec_len ports ≡ L.parts) }
+    requires every { IfOk back (λ ports. vec_len ports ≡ L.words.seats) }
+    ensures taken { IfOk result (λ r. book.old.taken ≡ r.share.amount) }
+    ensures parts { IfOk result (λ r. r.share.parts ≡ L.parts) }
+    ensures seats { IfOk result (λ r.
+        (vec_len r.seats ≡ L.words.seats) × All (IsOf L.words) r.seats.items) }
+    ensures book { book.new ≡ book.old }
+{
+    let ports = back?;
+    settle(alloc, book, rest, ports)
 }

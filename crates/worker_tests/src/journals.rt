@@ -140,18 +140,25 @@ fn play<L: Ledger, R: Abort>(
     requires name { blank.name ≡ L.name }
     requires parts { (blank.parts ≡ L.parts) × (blank.parts ≡ 1) }
 {
-    let mut made = Book::<L>::new(alloc, blank, core)?;
-    Ok(play_rows(rt, &mut made.0, &mut made.1, event, rows))
+    let (mut book, mut share) = Book::<L>::new(alloc, blank, core)?;
+    let is_late = play_rows(rt, &mut book, &mut share, event, rows);
+    let _taken = book.close();
+    Ok(is_late)
+}
+
+// Plays the rows in the book of a new router.
+fn play_once<R: Abort>(rt: &R, alloc: Global, event: &Event, rows: &[Row]) -> Result<bool, Fail> {
+    let core = first(alloc)?;
+    Ok(play::<Brand, R>(rt, alloc, Blank::new(1), core, event, rows)?)
 }
 
 // Where there was no memory for a book, or for a mark, all is played once more.
 fn play_all<R: Abort>(rt: &R, alloc: Global, event: &Event, rows: &[Row]) -> Result<(), Fail> {
-    let (core, other) = (first(alloc)?, first(alloc)?);
-    let is_late = play::<Brand, R>(rt, alloc, Blank::new(1), core, event, rows);
-    if is_late != Ok(false) {
-        let is_late = play::<Brand, R>(rt, alloc, Blank::new(1), other, event, rows)?;
-        assert!(rt; !is_late);
-    }
+    let is_late = match play_once(rt, alloc, event, rows) {
+        Ok(false) => false,
+        _ => play_once(rt, alloc, event, rows)?,
+    };
+    assert!(rt; !is_late);
     Ok(())
 }
 

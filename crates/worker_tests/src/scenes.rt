@@ -93,6 +93,30 @@ fn play_at<L: Site + Send + Sync, R: Threads + Wait + Clock + Abort + Sync, Q: W
     let Ok((hub, ports, rest)) = open_hub::<L>(alloc, setup, core) else {
         return Ok(UNOPENED);
     };
+    let played = play_on(rt, alloc, &hub, ports, loader, destination, scene);
+    drop(rest);
+    let (journal, taken) = closed(hub);
+    let (status, sent) = played?;
+    Ok(End {
+        status,
+        sent,
+        journal,
+        taken,
+    })
+}
+
+// Plays the scene at these ports: the status, and how many datagrams were sent.
+fn play_on<L: Site + Send + Sync, R: Threads + Wait + Clock + Abort + Sync, Q: Wait + Drop>(
+    rt: &R,
+    alloc: Global,
+    hub: &Hub<L, Book<L>>,
+    ports: Vec<Port<L>>,
+    loader: Loader<Q>,
+    destination: External,
+    scene: Scene<'_>,
+) -> Result<(u8, usize), Fail>
+    requires { history_of loader ≡ L.history }
+{
     let (console, first, second) = three(ports).ok_or("three ports")?;
     let mut stage = Stage {
         console,
@@ -103,24 +127,14 @@ fn play_at<L: Site + Send + Sync, R: Threads + Wait + Clock + Abort + Sync, Q: W
         in_vain: 0,
         is_late: false,
     };
-    let (status, sent) = act(rt, alloc, &hub, &mut stage, scene)?;
-    drop((stage, rest));
-    Ok(ended(hub, status, sent))
+    act(rt, alloc, hub, &mut stage, scene)
 }
 
-fn kept<L: Site>(book: &Book<L>) -> (usize, u64) {
-    (book.journal().len(), book.taken())
-}
-
-fn ended<L: Site>(hub: Hub<L, Book<L>>, status: u8, sent: usize) -> End {
-    let parts = hub.into_parts();
-    let (journal, taken) = kept(&parts.0);
-    End {
-        status,
-        sent,
-        journal,
-        taken,
-    }
+// How many events stand in the journal, and how many the book took. It is let go.
+fn closed<L: Site>(hub: Hub<L, Book<L>>) -> (usize, u64) {
+    let (book, _shared) = hub.into_parts();
+    let journal = book.journal().len();
+    (journal, book.close())
 }
 
 // What workers start with. An allocation may be refused once.
@@ -140,8 +154,9 @@ pub fn play<R: Threads + Wait + Clock + Abort + Sync>(
     alloc: Global,
     scene: Scene<'_>,
 ) -> Result<End, Fail> {
-    let (core, destination) = (first(alloc)?, destination(ExternalType::Type2)?);
+    let destination = destination(ExternalType::Type2)?;
     let (loader, setup) = set_up(alloc, rt)?;
+    let core = first(alloc)?;
     play_at::<Brand, R, &R>(rt, alloc, setup, loader, core, destination, scene)
 }
 
