@@ -1,5 +1,4 @@
 //! What questions are answered.
-ghost use Rattle.std.specs.Prelude.{◌≡◌};
 ghost use Rattle.maps.specs.Words.{IsOf};
 
 use crate::samples::{SEVEN, accepted, external, moment, route, table};
@@ -8,12 +7,14 @@ use hooks::Asker;
 use machine::Hook;
 use maps::{Seat, Shared};
 use std::alloc::Global;
+use std::process::Abort;
 use std::sync::Wait;
 use std::test::Fail;
-use words::External;
+use verifier::Accepted;
+use words::{External, Route};
 
 // A Hello of 44 bytes.
-const HELLO: [u8; 44] = [
+const HELLO: &[u8] = &[
     2, 1, 0, 0x2c, 2, 2, 2, 2, 0, 0, 0, 0, 0xf8, 0x9a, 0, 0, 0, 0, 0, 0, 0, 0, 0, 0, 0xff, 0xff,
     0xff, 0, 0, 10, 2, 1, 0, 0, 0, 40, 0, 0, 0, 0, 0, 0, 0, 0,
 ];
@@ -70,116 +71,136 @@ fn play<R: Wait + Drop + Copy>(alloc: Global, rt: R, steps: &[Step<'_>]) -> Resu
     take(&mut trial, alloc, steps)
 }
 
-#[test]
-fn without_a_program_the_default_is_answered(rt: HostRuntime) -> Result<(), Fail> {
-    let steps = [
-        Step::Tag(Some((0x0506_0708, 0x0506_0708))),
-        Step::Count(&HELLO, Some(0)),
-        Step::Price(Some(20)),
-        Step::Veto(Some(0)),
-    ];
-    assert_eq!(rt; play(rt.alloc(), &rt, &steps)?, steps.len());
+// All the steps go as they say.
+fn all_go<R: AllocGlobal + Abort + Wait>(rt: &R, steps: &[Step<'_>]) -> Result<(), Fail> {
+    let went = play(rt.alloc(), rt, steps)?;
+    assert!(rt; went == steps.len(), "up to step {went}");
     Ok(())
 }
+
+const DEFAULTS: &[Step<'_>] = &[
+    Step::Tag(Some((0x0506_0708, 0x0506_0708))),
+    Step::Count(HELLO, Some(0)),
+    Step::Price(Some(20)),
+    Step::Veto(Some(0)),
+];
+
+#[test]
+fn without_a_program_the_default_is_answered(rt: HostRuntime) -> Result<(), Fail> {
+    all_go(&rt, DEFAULTS)
+}
+
+const DETACHED: &[Step<'_>] = &[
+    Step::Attach(SEVEN),
+    Step::Price(Some(7)),
+    Step::Detach(Hook::Price),
+    Step::Learn,
+    Step::Price(Some(20)),
+];
 
 #[test]
 fn a_program_answers_until_it_is_detached(rt: HostRuntime) -> Result<(), Fail> {
-    let steps = [
-        Step::Attach(SEVEN),
-        Step::Price(Some(7)),
-        Step::Detach(Hook::Price),
-        Step::Learn,
-        Step::Price(Some(20)),
-    ];
-    assert_eq!(rt; play(rt.alloc(), &rt, &steps)?, steps.len());
-    Ok(())
+    all_go(&rt, DETACHED)
 }
+
+const REPLACED: &[Step<'_>] = &[
+    Step::Attach(SEVEN),
+    Step::Attach("hook veto\nrank 0\nr0 = 3\nexit\n"),
+    Step::Attach("hook price\nrank 0\nr0 = 9\nexit\n"),
+    Step::Price(Some(9)),
+    Step::Veto(Some(3)),
+    Step::Count(HELLO, Some(0)),
+    Step::Detach(Hook::Count),
+    Step::Learn,
+    Step::Price(Some(9)),
+];
 
 #[test]
 fn a_program_takes_the_place_of_another_at_its_hook_alone(rt: HostRuntime) -> Result<(), Fail> {
-    let steps = [
-        Step::Attach(SEVEN),
-        Step::Attach("hook veto\nrank 0\nr0 = 3\nexit\n"),
-        Step::Attach("hook price\nrank 0\nr0 = 9\nexit\n"),
-        Step::Price(Some(9)),
-        Step::Veto(Some(3)),
-        Step::Count(&HELLO, Some(0)),
-        Step::Detach(Hook::Count),
-        Step::Learn,
-        Step::Price(Some(9)),
-    ];
-    assert_eq!(rt; play(rt.alloc(), &rt, &steps)?, steps.len());
-    Ok(())
+    all_go(&rt, REPLACED)
 }
+
+const COSTS: &[Step<'_>] = &[
+    Step::Attach("hook tag\nrank 0\nr1 = wide 3221225984\nr2 = 24\ncall 4\nexit\n"),
+    Step::Tag(Some((20, 20))),
+    Step::Attach("hook tag\nrank 0\nr1 = wide 3221225984\nr2 = 25\ncall 4\nexit\n"),
+    Step::Tag(Some((4_294_967_296, 0))),
+];
 
 #[test]
 fn a_program_finds_the_cost_of_a_row(rt: HostRuntime) -> Result<(), Fail> {
-    let steps = [
-        Step::Attach("hook tag\nrank 0\nr1 = wide 3221225984\nr2 = 24\ncall 4\nexit\n"),
-        Step::Tag(Some((20, 20))),
-        Step::Attach("hook tag\nrank 0\nr1 = wide 3221225984\nr2 = 25\ncall 4\nexit\n"),
-        Step::Tag(Some((4_294_967_296, 0))),
-    ];
-    assert_eq!(rt; play(rt.alloc(), &rt, &steps)?, steps.len());
-    Ok(())
+    all_go(&rt, COSTS)
 }
+
+const BYTES: &[Step<'_>] = &[
+    Step::Attach("hook count\nrank 0\nr1 = 1\ncall 3\nexit\n"),
+    Step::Count(HELLO, Some(1)),
+    // the first byte alone
+    Step::Count(&[2], Some(256)),
+    Step::Attach("hook count\nrank 0\nr1 = 44\ncall 3\nexit\n"),
+    Step::Count(HELLO, Some(256)),
+];
 
 #[test]
 fn a_program_reads_a_byte_of_the_packet(rt: HostRuntime) -> Result<(), Fail> {
-    let steps = [
-        Step::Attach("hook count\nrank 0\nr1 = 1\ncall 3\nexit\n"),
-        Step::Count(&HELLO, Some(1)),
-        Step::Count(&HELLO[..1], Some(256)),
-        Step::Attach("hook count\nrank 0\nr1 = 44\ncall 3\nexit\n"),
-        Step::Count(&HELLO, Some(256)),
-    ];
-    assert_eq!(rt; play(rt.alloc(), &rt, &steps)?, steps.len());
-    Ok(())
+    all_go(&rt, BYTES)
 }
+
+const COST_OF_THE_ROUTE: &[Step<'_>] = &[
+    Step::Attach("hook veto\nrank 0\nr0 = *u32 r1 12\nexit\n"),
+    Step::Veto(Some(20)),
+];
 
 #[test]
 fn a_program_of_veto_reads_the_cost_of_its_route(rt: HostRuntime) -> Result<(), Fail> {
-    let steps = [
-        Step::Attach("hook veto\nrank 0\nr0 = *u32 r1 12\nexit\n"),
-        Step::Veto(Some(20)),
-    ];
-    assert_eq!(rt; play(rt.alloc(), &rt, &steps)?, steps.len());
-    Ok(())
+    all_go(&rt, COST_OF_THE_ROUTE)
+}
+
+fn tag_holds<R: Wait + Drop>(trial: &mut Trial<R>, external: &External) -> bool {
+    match trial.tag(external, &[]) {
+        Some(tag) => tag.external() == *external && tag.moment() == moment(),
+        None => false,
+    }
+}
+
+fn price_holds<R: Wait + Drop>(trial: &mut Trial<R>, external: &External) -> bool {
+    match trial.price(external) {
+        Some(price) => price.external() == *external && price.moment() == moment(),
+        None => false,
+    }
+}
+
+fn veto_holds<R: Wait + Drop>(trial: &mut Trial<R>, route: &Route) -> bool {
+    match trial.veto(route) {
+        Some(veto) => veto.route() == *route && veto.moment() == moment(),
+        None => false,
+    }
+}
+
+// Whether the answers of `tag`, `price` and `veto` hold their questions.
+fn hold<R: Wait + Drop>(trial: &mut Trial<R>) -> Result<[bool; 3], Fail> {
+    let (external, route) = (external()?, route()?);
+    Ok([
+        tag_holds(trial, &external),
+        price_holds(trial, &external),
+        veto_holds(trial, &route),
+    ])
+}
+
+// Of a new trial.
+fn hold_from_nothing<R: Wait + Drop + Copy>(alloc: Global, rt: R) -> Result<[bool; 3], Fail> {
+    let mut trial = Trial::new(alloc, rt)?;
+    hold(&mut trial)
 }
 
 #[test]
 fn answers_hold_their_questions(rt: HostRuntime) -> Result<(), Fail> {
-    let (external, route) = (external()?, route()?);
-    let mut trial = Trial::new(rt.alloc(), &rt)?;
-    let tag = trial.tag(&external, &[]).ok_or("no reading")?;
-    assert!(rt; tag.external() == external && tag.moment() == moment());
-    let price = trial.price(&external).ok_or("no reading")?;
-    assert!(rt; price.external() == external && price.moment() == moment());
-    let veto = trial.veto(&route).ok_or("no reading")?;
-    assert!(rt; veto.route() == route && veto.moment() == moment());
+    assert!(rt; hold_from_nothing(rt.alloc(), &rt)? == [true; 3]);
     Ok(())
 }
 
 const COUNTING: &str =
     "hook price\nrank 0\nr6 = map 1 8\nr0 = *u64 r6 0\nr0 += 1\n*u64 r6 0 = r0\nexit\n";
-
-#[test]
-fn a_cell_is_kept_from_question_to_question_at_each_seat(rt: HostRuntime) -> Result<(), Fail> {
-    let external = external()?;
-    let (mut loader, mut asker) = loader_and_asker(rt.alloc(), &rt)?;
-    loader.attach(accepted(rt.alloc(), COUNTING).ok_or("refused")?)?;
-    let (shared, mut seats) = table(rt.alloc(), 2)?;
-    let mut second = seats.pop().ok_or("no second seat")?;
-    let mut first = seats.pop().ok_or("no first seat")?;
-    let words = [
-        price_of(&mut asker, &external, &shared, &mut first),
-        price_of(&mut asker, &external, &shared, &mut first),
-        price_of(&mut asker, &external, &shared, &mut first),
-        price_of(&mut asker, &external, &shared, &mut second),
-    ];
-    assert_eq!(rt; words, [Some(1), Some(2), Some(3), Some(1)]);
-    Ok(())
-}
 
 // The word of `price` on a seat of the table.
 fn price_of(asker: &mut Asker, external: &External, shared: &Shared, seat: &mut Seat) -> Option<u64>
@@ -188,4 +209,37 @@ fn price_of(asker: &mut Asker, external: &External, shared: &Shared, seat: &mut 
 {
     let answer = asker.price(external, moment(), &[], shared, seat)?;
     Some(answer.word())
+}
+
+// The words of three questions at the first seat of a new table, and of one at the second.
+fn words(alloc: Global, asker: &mut Asker) -> Result<[Option<u64>; 4], Fail> {
+    let external = external()?;
+    let (shared, mut seats) = table(alloc, 2)?;
+    let mut second = seats.pop().ok_or("no second seat")?;
+    let mut first = seats.pop().ok_or("no first seat")?;
+    Ok([
+        price_of(asker, &external, &shared, &mut first),
+        price_of(asker, &external, &shared, &mut first),
+        price_of(asker, &external, &shared, &mut first),
+        price_of(asker, &external, &shared, &mut second),
+    ])
+}
+
+// Of these, once the program that counts is attached.
+fn words_of_counting<R: Wait + Drop + Copy>(
+    alloc: Global,
+    rt: R,
+    program: Accepted,
+) -> Result<[Option<u64>; 4], Fail> {
+    let (mut loader, mut asker) = loader_and_asker(alloc, rt)?;
+    loader.attach(program)?;
+    words(alloc, &mut asker)
+}
+
+#[test]
+fn a_cell_is_kept_from_question_to_question_at_each_seat(rt: HostRuntime) -> Result<(), Fail> {
+    let program = accepted(rt.alloc(), COUNTING).ok_or("refused")?;
+    let words = words_of_counting(rt.alloc(), &rt, program)?;
+    assert!(rt; words == [Some(1), Some(2), Some(3), Some(1)], "{words:?}");
+    Ok(())
 }

@@ -2,49 +2,82 @@
 use crate::samples::{SEVEN, external, moment};
 use crate::trial::{Trial, loader_and_askers};
 use hooks::{HookError, programs};
+use std::alloc::Global;
+use std::process::Abort;
+use std::sync::Wait;
 use std::test::Fail;
+use words::External;
 
-#[test]
-fn a_loader_has_1_to_64_askers(rt: HostRuntime) -> Result<(), Fail> {
-    for count in [0, 65, 1000] {
-        let refused = programs(rt.alloc(), &rt, count).err();
-        assert_eq!(rt; refused, Some(HookError::Count), "at {count}");
-    }
-    for count in [1, 64] {
-        let (_loader, askers) = loader_and_askers(rt.alloc(), &rt, count)?;
-        assert_eq!(rt; askers.len(), count);
-    }
+fn are_refused<R: AllocGlobal + Abort + Wait>(rt: &R, count: usize) {
+    let refused = programs(rt.alloc(), rt, count).err();
+    assert!(rt; refused == Some(HookError::Count), "at {count}");
+}
+
+fn are_made<R: AllocGlobal + Abort + Wait>(rt: &R, count: usize) -> Result<(), Fail> {
+    let (_loader, askers) = loader_and_askers(rt.alloc(), rt, count)?;
+    assert!(rt; askers.len() == count);
     Ok(())
 }
 
 #[test]
-fn there_is_no_reading_without_a_loader(rt: HostRuntime) -> Result<(), Fail> {
+fn a_loader_has_1_to_64_askers(rt: HostRuntime) -> Result<(), Fail> {
+    for count in [0, 65, 1000] {
+        are_refused(&rt, count);
+    }
+    are_made(&rt, 1)?;
+    are_made(&rt, 64)
+}
+
+// Whether the asker gives no reading once its loader is gone.
+fn is_without_reading<R: Wait + Drop>(trial: Trial<R>, external: &External) -> bool {
     let Trial {
         loader,
         asker,
         shared,
         seat,
-    } = Trial::new(rt.alloc(), &rt)?;
+    } = trial;
     let (mut asker, mut seat) = (asker, seat);
     drop(loader);
-    let answer = asker.price(&external()?, moment(), &[], &shared, &mut seat);
-    assert!(rt; answer.is_none());
+    asker
+        .price(external, moment(), &[], &shared, &mut seat)
+        .is_none()
+}
+
+#[test]
+fn there_is_no_reading_without_a_loader(rt: HostRuntime) -> Result<(), Fail> {
+    let external = external()?;
+    let trial = Trial::new(rt.alloc(), &rt)?;
+    assert!(rt; is_without_reading(trial, &external));
     Ok(())
+}
+
+// The words of `price` before a program is attached, then, after the earlier notice, and after the later one and one more.
+fn words<R: Wait + Drop>(alloc: Global, trial: &mut Trial<R>) -> Result<[Option<u64>; 4], Fail> {
+    let early = trial.loader.notice();
+    let before = trial.price_word()?;
+    trial.attach(alloc, SEVEN)?;
+    let late = trial.loader.notice();
+    let after = trial.price_word()?;
+    trial.asker.learn(early);
+    let after_early = trial.price_word()?;
+    trial.asker.learn(late);
+    trial.learn();
+    Ok([before, after, after_early, trial.price_word()?])
+}
+
+// Of a new trial.
+fn words_from_nothing<R: Wait + Drop + Copy>(
+    alloc: Global,
+    rt: R,
+) -> Result<[Option<u64>; 4], Fail> {
+    let mut trial = Trial::new(alloc, rt)?;
+    words(alloc, &mut trial)
 }
 
 // A notice that is older than what was seen takes nothing back, and one that is learnt twice adds nothing.
 #[test]
 fn notices_are_learnt_late_and_twice(rt: HostRuntime) -> Result<(), Fail> {
-    let mut trial = Trial::new(rt.alloc(), &rt)?;
-    let early = trial.loader.notice();
-    assert_eq!(rt; trial.price_word()?, Some(20));
-    trial.attach(rt.alloc(), SEVEN)?;
-    let late = trial.loader.notice();
-    assert_eq!(rt; trial.price_word()?, Some(7));
-    trial.asker.learn(early);
-    assert_eq!(rt; trial.price_word()?, Some(7));
-    trial.asker.learn(late);
-    trial.learn();
-    assert_eq!(rt; trial.price_word()?, Some(7));
+    let words = words_from_nothing(rt.alloc(), &rt)?;
+    assert!(rt; words == [Some(20), Some(7), Some(7), Some(7)], "{words:?}");
     Ok(())
 }

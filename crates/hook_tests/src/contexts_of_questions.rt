@@ -11,7 +11,7 @@ fn begins(rt: &impl Abort, context: &Context, bytes: &[u8]) {
             Some(wanted) => *wanted,
             None => 0,
         };
-        assert_eq!(rt; *byte, wanted, "at {place}");
+        assert!(rt; *byte == wanted, "{byte} at {place}");
     }
 }
 
@@ -31,25 +31,30 @@ fn count_tells_of_the_packet(rt: HostRuntime) {
     begins(&rt, &context, &bytes);
 }
 
+// How many bytes the packet has, and what the context tells of them behind the moment.
+const SHORT: [(usize, [u8; 12]); 5] = [
+    (0, [0, 0, 0, 0, 0, 0, 0, 0, 0, 0, 0, 0]),
+    (1, [1, 0, 0, 0, 0, 0, 0, 0, 0, 0, 0, 0]),
+    (2, [2, 0, 0, 0, 8, 0, 0, 0, 0, 0, 0, 0]),
+    (7, [7, 0, 0, 0, 8, 0, 0, 0, 0, 0, 0, 0]),
+    (8, [8, 0, 0, 0, 8, 0, 0, 0, 2, 3, 4, 5]),
+];
+
+fn with_tail(tail: &[u8; 12]) -> [u8; 28] {
+    let mut bytes = [0; 28];
+    bytes[..16].copy_from_slice(&[1, 0, 0, 0, 0x3f, 1, 0, 0, 0, 0, 0, 0, 0, 0, 0, 0]);
+    bytes[16..].copy_from_slice(tail);
+    bytes
+}
+
 #[test]
 fn count_tells_0_of_what_a_short_packet_lacks(rt: HostRuntime) {
-    let moment = Second::new(0);
     let packet = [9, 8, 7, 6, 5, 4, 3, 2];
-    let head = [1, 0, 0, 0, 0x3f, 1, 0, 0, 0, 0, 0, 0, 0, 0, 0, 0];
-    let tails: [(usize, [u8; 12]); 5] = [
-        (0, [0, 0, 0, 0, 0, 0, 0, 0, 0, 0, 0, 0]),
-        (1, [1, 0, 0, 0, 0, 0, 0, 0, 0, 0, 0, 0]),
-        (2, [2, 0, 0, 0, 8, 0, 0, 0, 0, 0, 0, 0]),
-        (7, [7, 0, 0, 0, 8, 0, 0, 0, 0, 0, 0, 0]),
-        (8, [8, 0, 0, 0, 8, 0, 0, 0, 2, 3, 4, 5]),
-    ];
-    for (length, tail) in tails {
-        assert!(rt; length <= packet.len());
-        let context = count_context(319, moment, &packet[..length]);
-        let mut bytes = [0; 28];
-        bytes[..16].copy_from_slice(&head);
-        bytes[16..].copy_from_slice(&tail);
-        begins(&rt, &context, &bytes);
+    for row in &SHORT {
+        let (length, tail) = *row;
+        let front = packet.get(..length).expect(&rt, "a front");
+        let context = count_context(319, Second::new(0), front);
+        begins(&rt, &context, &with_tail(&tail));
     }
 }
 
@@ -64,18 +69,25 @@ fn external(kind: ExternalType) -> Result<External, Fail> {
     })
 }
 
+fn bytes_of_a_destination(hook: u8, number: u8) -> [u8; 32] {
+    [
+        hook, 0, 0, 0, 0, 0x71, 0, 0xcb, 24, 0, 0, 0, 20, 0, 0, 0, 8, 7, 6, 5, number, 0, 0, 0, 5,
+        0, 0, 0, 0, 0, 0, 0,
+    ]
+}
+
+fn tell_of_the_destination(rt: &impl Abort, kind: ExternalType, number: u8) -> Result<(), Fail> {
+    let tag = tag_context(external(kind)?, Second::new(5));
+    begins(rt, &tag, &bytes_of_a_destination(2, number));
+    let price = price_context(external(kind)?, Second::new(5));
+    begins(rt, &price, &bytes_of_a_destination(3, number));
+    Ok(())
+}
+
 #[test]
 fn tag_and_price_tell_of_the_destination(rt: HostRuntime) -> Result<(), Fail> {
-    for (kind, number) in [(ExternalType::Type1, 1), (ExternalType::Type2, 2)] {
-        let mut bytes = [
-            2, 0, 0, 0, 0, 0x71, 0, 0xcb, 24, 0, 0, 0, 20, 0, 0, 0, 8, 7, 6, 5, number, 0, 0, 0, 5,
-            0, 0, 0, 0, 0, 0, 0,
-        ];
-        begins(&rt, &tag_context(external(kind)?, Second::new(5)), &bytes);
-        bytes[0] = 3;
-        begins(&rt, &price_context(external(kind)?, Second::new(5)), &bytes);
-    }
-    Ok(())
+    tell_of_the_destination(&rt, ExternalType::Type1, 1)?;
+    tell_of_the_destination(&rt, ExternalType::Type2, 2)
 }
 
 // 192.0.2.0/24 of this kind, with these next hops.
@@ -91,43 +103,44 @@ fn route(kind: RouteKind, hops: Hops) -> Result<Route, Fail> {
     })
 }
 
+// A kind, its number, and the distance that is told: only a type 2 route has one.
+const KINDS: [(RouteKind, u8, u8); 4] = [
+    (RouteKind::Intra, 1, 0),
+    (RouteKind::Inter, 2, 0),
+    (RouteKind::External1, 3, 0),
+    (RouteKind::External2, 4, 17),
+];
+
+fn bytes_of_a_route(number: u8, distance: u8) -> [u8; 44] {
+    [
+        4, 0, 0, 0, 0, 2, 0, 0xc0, 24, 0, 0, 0, 20, 0, 0, 0, 9, 0, 0, 0, number, 0, 0, 0, 5, 0, 0,
+        0, 0, 0, 0, 0, distance, 0, 0, 0, 2, 0, 0, 0, 1, 0, 0, 0,
+    ]
+}
+
 #[test]
 fn veto_tells_of_the_route(rt: HostRuntime) -> Result<(), Fail> {
-    // Only a type 2 route has a distance that is told.
-    let kinds = [
-        (RouteKind::Intra, 1, 0),
-        (RouteKind::Inter, 2, 0),
-        (RouteKind::External1, 3, 0),
-        (RouteKind::External2, 4, 17),
-    ];
-    for (kind, number, distance) in kinds {
-        let hops = Hops::only(1).join(Hops::only(2));
-        let bytes = [
-            4, 0, 0, 0, 0, 2, 0, 0xc0, 24, 0, 0, 0, 20, 0, 0, 0, 9, 0, 0, 0, number, 0, 0, 0, 5, 0,
-            0, 0, 0, 0, 0, 0, distance, 0, 0, 0, 2, 0, 0, 0, 1, 0, 0, 0,
-        ];
-        begins(
-            &rt,
-            &veto_context(route(kind, hops)?, Second::new(5)),
-            &bytes,
-        );
+    let hops = Hops::only(1).join(Hops::only(2));
+    for row in &KINDS {
+        let (kind, number, distance) = *row;
+        let context = veto_context(route(kind, hops)?, Second::new(5));
+        begins(&rt, &context, &bytes_of_a_route(number, distance));
     }
+    Ok(())
+}
+
+// The context tells how many next hops there are, and the first of them.
+fn is_told_of(rt: &impl Abort, hops: Hops, number: u8, first: u8) -> Result<(), Fail> {
+    let context = veto_context(route(RouteKind::Intra, hops)?, Second::new(5));
+    assert!(rt; (context[36], context[40]) == (number, first));
     Ok(())
 }
 
 #[test]
 fn veto_tells_the_first_of_the_next_hops(rt: HostRuntime) -> Result<(), Fail> {
     let last = Hops::only(63);
-    let sets = [
-        (Hops::NONE, 0, 0),
-        (Hops::only(0), 1, 0),
-        (last, 1, 63),
-        (last.join(Hops::only(7)), 2, 7),
-    ];
-    for (hops, number, first) in sets {
-        let context = veto_context(route(RouteKind::Intra, hops)?, Second::new(5));
-        assert_eq!(rt; context[36], number);
-        assert_eq!(rt; context[40], first);
-    }
-    Ok(())
+    is_told_of(&rt, Hops::NONE, 0, 0)?;
+    is_told_of(&rt, Hops::only(0), 1, 0)?;
+    is_told_of(&rt, last, 1, 63)?;
+    is_told_of(&rt, last.join(Hops::only(7)), 2, 7)
 }

@@ -1,18 +1,50 @@
 //! Where memory is refused: once in a run of the tests, at any allocation.
 use crate::samples::{SEVEN, accepted};
 use crate::trial::loader_and_askers;
+use hooks::Loader;
 use machine::Hook;
+use std::alloc::Global;
+use std::sync::Wait;
 use std::test::Fail;
+use verifier::Accepted;
+
+// Whether a program is attached and detached by a new loader of three askers.
+fn is_attached_and_detached<R: Wait + Drop + Copy>(alloc: Global, rt: R) -> Result<bool, Fail> {
+    let (mut loader, askers) = loader_and_askers(alloc, rt, 3)?;
+    let program = accepted(alloc, SEVEN).ok_or("refused")?;
+    Ok(askers.len() == 3 && loader.attach(program).is_ok() && loader.detach(Hook::Price).is_ok())
+}
 
 // The call that was refused memory answers in full the next time.
 #[test]
 fn programs_are_made_after_a_refusal(rt: HostRuntime) -> Result<(), Fail> {
-    let (mut loader, askers) = loader_and_askers(rt.alloc(), &rt, 3)?;
-    assert_eq!(rt; askers.len(), 3);
-    let program = accepted(rt.alloc(), SEVEN).ok_or("refused")?;
-    assert!(rt; loader.attach(program).is_ok());
-    assert!(rt; loader.detach(Hook::Price).is_ok());
+    assert!(rt; is_attached_and_detached(rt.alloc(), &rt)?);
     Ok(())
+}
+
+// Whether both are attached, and then `price` is detached nine times.
+fn attach_both_and_detach<R: Wait + Drop>(
+    loader: Loader<R>,
+    first: Accepted,
+    second: Accepted,
+) -> bool {
+    let mut loader = loader;
+    let mut done = loader.attach(first).is_ok();
+    done = loader.attach(second).is_ok() && done;
+    for _turn in 0..9 {
+        done = loader.detach(Hook::Price).is_ok() && done;
+    }
+    done
+}
+
+fn are_attached_and_detached<R: Wait + Drop + Copy>(
+    alloc: Global,
+    rt: R,
+    first: Accepted,
+    second: Accepted,
+) -> Result<bool, Fail> {
+    let (loader, _askers) = loader_and_askers(alloc, rt, 1)?;
+    Ok(attach_both_and_detach(loader, first, second))
 }
 
 // All memory that attaching and detaching ever need is taken at the start.
@@ -20,11 +52,6 @@ fn programs_are_made_after_a_refusal(rt: HostRuntime) -> Result<(), Fail> {
 fn attaching_and_detaching_take_no_memory(rt: HostRuntime) -> Result<(), Fail> {
     let first = accepted(rt.alloc(), SEVEN).ok_or("refused")?;
     let second = accepted(rt.alloc(), "hook veto\nrank 0\nr0 = 3\nexit\n").ok_or("refused")?;
-    let (mut loader, _askers) = loader_and_askers(rt.alloc(), &rt, 1)?;
-    assert!(rt; loader.attach(first).is_ok());
-    assert!(rt; loader.attach(second).is_ok());
-    for _turn in 0..9 {
-        assert!(rt; loader.detach(Hook::Price).is_ok());
-    }
+    assert!(rt; are_attached_and_detached(rt.alloc(), &rt, first, second)?);
     Ok(())
 }

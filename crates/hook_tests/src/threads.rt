@@ -117,11 +117,9 @@ fn race<R: Threads + Wait + Sync>(
 
 #[test]
 fn each_word_beside_a_loader_is_the_programs_or_the_metric(rt: HostRuntime) -> Result<(), Fail> {
-    let trial = Trial::new(rt.alloc(), &rt)?;
     let external = external()?;
-    assert_eq!(rt;
-        race(&rt, rt.alloc(), trial, &external),
-        (true, 0, Some(20))
-    );
+    let trial = Trial::new(rt.alloc(), &rt)?;
+    let seen = race(&rt, rt.alloc(), trial, &external);
+    assert!(rt; seen == (true, 0, Some(20)), "{seen:?}");
     Ok(())
 }

@@ -123,7 +123,7 @@ fn remove(database: &mut Lsdb, keys: &[Key]) -> Result<(), AllocError> {
 fn an_own_external_leaves_once(rt: HostRuntime) -> Result<(), AllocError> {
     let mut database = filled(rt.alloc(), OWN, 9)?;
     remove(&mut database, &[key(OWN, 7), key(OWN, 7), key(OTHER, 7)])?;
-    assert_eq!(rt; database.own_externals(), 8);
+    assert!(rt; database.own_externals() == 8);
     Ok(())
 }
 

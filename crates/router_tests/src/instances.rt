@@ -19,24 +19,38 @@ fn numbered(sequence: SequenceNumber) -> Instance {
     }
 }
 
-#[test]
-fn the_newer_instance(rt: HostRuntime) {
-    assert_eq!(rt; compare(aged(1000), aged(100)), Ordering::Equal);
-    assert_eq!(rt; compare(aged(1000), aged(99)), Ordering::Less);
-    assert_eq!(rt; newer(aged(99), aged(1000)), true);
-    assert_eq!(rt; newer(aged(1000), aged(100)), false);
-    assert_eq!(rt; compare(aged(3600), aged(3599)), Ordering::Greater);
-    assert_eq!(rt;
+// At most 899 seconds of age are no difference; MaxAge is newer.
+fn orders() -> [Ordering; 3] {
+    [
+        compare(aged(1000), aged(100)),
+        compare(aged(1000), aged(99)),
+        compare(aged(3600), aged(3599)),
+    ]
+}
+
+fn are_newer() -> [bool; 3] {
+    [
+        newer(aged(99), aged(1000)),
+        newer(aged(1000), aged(100)),
         newer(
             numbered(SequenceNumber::MAX),
-            numbered(SequenceNumber::INITIAL)
+            numbered(SequenceNumber::INITIAL),
         ),
-        true
-    );
+    ]
+}
+
+#[test]
+fn the_newer_instance(rt: HostRuntime) {
+    let orders = orders();
+    let wanted = [Ordering::Equal, Ordering::Less, Ordering::Greater];
+    assert!(rt; orders == wanted, "{orders:?}");
+    let are_newer = are_newer();
+    assert!(rt; are_newer == [true, false, true], "{are_newer:?}");
 }
 
 #[test]
 fn ages_grow_up_to_the_greatest(rt: HostRuntime) {
-    assert_eq!(rt; age_at(0, Second::new(5), Second::new(7)), 2);
-    assert_eq!(rt; age_at(3599, Second::new(5), Second::new(7)), 3600);
+    let (from, to) = (Second::new(5), Second::new(7));
+    let ages = [age_at(0, from, to), age_at(3599, from, to)];
+    assert!(rt; ages == [2, 3600], "{ages:?}");
 }

@@ -31,13 +31,38 @@ struct Coming {
     end: u32,
 }
 
+const FROM_MASTER: Coming = Coming {
+    mtu: 1500,
+    options: 2,
+    init: false,
+    more: false,
+    master: true,
+    sequence: 0,
+    ls_type: 5,
+    first: 0,
+    end: 0,
+};
+
+const FROM_SLAVE: Coming = Coming {
+    master: false,
+    ..FROM_MASTER
+};
+
+const OPENING: Coming = Coming {
+    init: true,
+    more: true,
+    ..FROM_MASTER
+};
+
 // What comes from the neighbor, or is due.
 #[derive(Clone, Copy)]
 enum Happening {
     // A Hello, which names this router or doesn't.
     Hello(bool),
-    // A Database Description, to the router of this Router ID.
-    Description(RouterId, Coming),
+    // A Database Description to 1.1.1.1, which is the neighbor's slave.
+    ToSlave(Coming),
+    // One to 3.3.3.3, which is its master.
+    ToMaster(Coming),
     // A Link State Request for this router's external of this number.
     Request(u32),
     // The neighbor's externals from the first number on below the second are installed and flooded: they came from it, or from elsewhere.
@@ -58,9 +83,24 @@ enum Happening {
 // A Description that is sent: its sequence number, how many headers it has, and whether more follow.
 type Sent = (u32, usize, bool);
 
-// What is seen of an event: the neighbor's state unless it is Down, how many Descriptions are sent and the first two, how many keys the one Request has, and how many LSAs are sent.
+// What is to be seen of an event: the neighbor's state, and what is sent.
 #[derive(Clone, Copy)]
-struct Seen {
+enum Seen {
+    Down,
+    // Nothing is sent.
+    Rests(State),
+    // One Description is sent, as in `Sent`, or two.
+    Answers(State, u32, usize, bool),
+    AnswersTwice(State, Sent, Sent),
+    // In Loading, the one Request has so many keys; of 0, none is sent.
+    Asks(usize),
+    // So many LSAs are sent.
+    Sends(State, usize),
+}
+
+// The neighbor's state unless it is Down, how many Descriptions are sent and the first two, how many keys the one Request has, and how many LSAs are sent.
+#[derive(Clone, Copy)]
+struct Observed {
     state: Option<State>,
     descriptions: usize,
     first: Option<Sent>,
@@ -87,44 +127,45 @@ fn larger() -> RouterId {
 
 // ---- what is seen
 
-fn down() -> Seen {
-    Seen {
-        state: None,
-        descriptions: 0,
-        first: None,
-        second: None,
-        keys: 0,
-        lsas: 0,
-    }
-}
+const DOWN: Observed = Observed {
+    state: None,
+    descriptions: 0,
+    first: None,
+    second: None,
+    keys: 0,
+    lsas: 0,
+};
 
-// Nothing is sent.
-fn rests(state: State) -> Seen {
-    Seen {
+fn rests(state: State) -> Observed {
+    Observed {
         state: Some(state),
-        ..down()
+        ..DOWN
     }
 }
 
-fn answers(state: State, sequence: u32, count: usize, more: bool) -> Seen {
-    Seen {
-        descriptions: 1,
-        first: Some((sequence, count, more)),
-        ..rests(state)
-    }
-}
-
-fn asks(keys: usize) -> Seen {
-    Seen {
-        keys,
-        ..rests(State::Loading)
-    }
-}
-
-fn sends(lsas: usize) -> Seen {
-    Seen {
-        lsas,
-        ..rests(State::Full)
+fn expected(seen: &Seen) -> Observed {
+    match *seen {
+        Seen::Down => DOWN,
+        Seen::Rests(state) => rests(state),
+        Seen::Answers(state, sequence, count, more) => Observed {
+            descriptions: 1,
+            first: Some((sequence, count, more)),
+            ..rests(state)
+        },
+        Seen::AnswersTwice(state, first, second) => Observed {
+            descriptions: 2,
+            first: Some(first),
+            second: Some(second),
+            ..rests(state)
+        },
+        Seen::Asks(keys) => Observed {
+            keys,
+            ..rests(State::Loading)
+        },
+        Seen::Sends(state, lsas) => Observed {
+            lsas,
+            ..rests(state)
+        },
     }
 }
 
@@ -155,9 +196,9 @@ fn state_of(place: &Place) -> Option<State> {
     }
 }
 
-fn observed(place: &Place, sent: &Draft) -> Seen {
+fn observe(place: &Place, sent: &Draft) -> Observed {
     let (first, second) = first_two(sent.descriptions());
-    Seen {
+    Observed {
         state: state_of(place),
         descriptions: sent.descriptions().len(),
         first,
@@ -167,13 +208,13 @@ fn observed(place: &Place, sent: &Draft) -> Seen {
     }
 }
 
-fn describes_alike(seen: &Seen, expected: &Seen) -> bool {
+fn describes_alike(seen: &Observed, expected: &Observed) -> bool {
     seen.descriptions == expected.descriptions
         && seen.first == expected.first
         && seen.second == expected.second
 }
 
-fn is_alike(seen: &Seen, expected: &Seen) -> bool {
+fn is_alike(seen: &Observed, expected: &Observed) -> bool {
     seen.state == expected.state
         && describes_alike(seen, expected)
         && seen.keys == expected.keys
@@ -249,43 +290,6 @@ fn filled(alloc: Global, count: u32) -> Result<Lsdb, AllocError> {
     let mut database = Lsdb::new(alloc, own());
     fill(&mut database, alloc, count)?;
     Ok(database)
-}
-
-fn opening(sequence: u32) -> Coming {
-    Coming {
-        mtu: 1500,
-        options: 2,
-        init: true,
-        more: true,
-        master: true,
-        sequence,
-        ls_type: 5,
-        first: 0,
-        end: 0,
-    }
-}
-
-fn from_master(sequence: u32, more: bool) -> Coming {
-    Coming {
-        init: false,
-        more,
-        ..opening(sequence)
-    }
-}
-
-fn from_slave(sequence: u32, more: bool) -> Coming {
-    Coming {
-        master: false,
-        ..from_master(sequence, more)
-    }
-}
-
-fn with_headers(coming: Coming, first: u32, end: u32) -> Coming {
-    Coming {
-        first,
-        end,
-        ..coming
-    }
 }
 
 fn told(alloc: Global, coming: &Coming) -> Result<Description, AllocError> {
@@ -414,8 +418,11 @@ fn happens(
 ) -> Result<(), AllocError> {
     match *happening {
         Happening::Hello(names) => place.hello(alloc, moment, peer(), names, draft),
-        Happening::Description(router, coming) => {
-            is_described(place, database, alloc, moment, router, &coming, draft)
+        Happening::ToSlave(coming) => {
+            is_described(place, database, alloc, moment, own(), &coming, draft)
+        }
+        Happening::ToMaster(coming) => {
+            is_described(place, database, alloc, moment, larger(), &coming, draft)
         }
         Happening::Request(number) => is_asked(place, database, alloc, moment, number, draft),
         Happening::Externals(from, first, end) => {
@@ -466,10 +473,9 @@ fn played(
 }
 
 fn comes(place: &mut Place, database: &mut Lsdb, alloc: Global, row: &Row) -> Result<(), Fail> {
-    let (moment, happening, expected) = *row;
+    let (moment, happening, seen) = *row;
     let sent = played(place, database, alloc, Second::new(moment), &happening)?;
-    let seen = observed(place, &sent);
-    if is_alike(&seen, &expected) {
+    if is_alike(&observe(place, &sent), &expected(&seen)) {
         return Ok(());
     }
     Err(Fail::new("another answer"))
@@ -500,39 +506,54 @@ fn converse(alloc: Global, count: u32, rows: &[Row]) -> Result<(), Fail> {
 }
 
 // The attempt of the number 0.
-fn begins() -> Row {
-    (
-        0,
-        Happening::Hello(true),
-        answers(State::ExStart, 0, 0, true),
-    )
-}
+const BEGINS: Row = (
+    0,
+    Happening::Hello(true),
+    Seen::Answers(State::ExStart, 0, 0, true),
+);
 
-// To 1.1.1.1, the slave.
-fn as_slave(moment: u64, coming: Coming, seen: Seen) -> Row {
-    (moment, Happening::Description(own(), coming), seen)
-}
-
-// To 3.3.3.3, the master.
-fn as_master(moment: u64, coming: Coming, seen: Seen) -> Row {
-    (moment, Happening::Description(larger(), coming), seen)
-}
+const OPENS_100: Row = (
+    1,
+    Happening::ToSlave(Coming {
+        sequence: 100,
+        ..OPENING
+    }),
+    Seen::Answers(State::Exchange, 100, 0, false),
+);
 
 // The exchange of a slave without LSAs, which wants so many of the neighbor's externals: 408 in one Description, and what is left in another.
 fn exchange(wanted: u32) -> [Row; 4] {
     let first = wanted.min(408);
-    let next = with_headers(from_master(101, true), 0, first);
-    let last = with_headers(from_master(102, false), first, wanted);
+    let next = Coming {
+        more: true,
+        sequence: 101,
+        end: first,
+        ..FROM_MASTER
+    };
+    let last = Coming {
+        sequence: 102,
+        first,
+        end: wanted,
+        ..FROM_MASTER
+    };
     let state = if wanted == 0 {
         State::Full
     } else {
         State::Loading
     };
     [
-        begins(),
-        as_slave(1, opening(100), answers(State::Exchange, 100, 0, false)),
-        as_slave(1, next, answers(State::Exchange, 101, 0, false)),
-        as_slave(2, last, answers(state, 102, 0, false)),
+        BEGINS,
+        OPENS_100,
+        (
+            1,
+            Happening::ToSlave(next),
+            Seen::Answers(State::Exchange, 101, 0, false),
+        ),
+        (
+            2,
+            Happening::ToSlave(last),
+            Seen::Answers(state, 102, 0, false),
+        ),
     ]
 }
 

@@ -1,6 +1,7 @@
 //! Examples of the search for least walks, their answers counted by hand.
 use routes::{Kind, Link, Vertex, Way, is_graph, least_ways};
 use std::alloc::{AllocError, Global};
+use std::process::Abort;
 
 fn link(to: usize, cost: u16, interface: u8) -> Link {
     Link {
@@ -73,68 +74,81 @@ fn way_to(alloc: Global, graph: &[Vertex], to: usize) -> Result<Option<Way>, All
     }
 }
 
-// Whether the ways to the vertices, from the number 0 on, have these distances and next hops; none where there is no way.
-fn are_its_ways(
+// The distance and the next hops of a way to a vertex; none where there is no way.
+type Expected = Option<(u32, u64)>;
+
+fn is_its_way(
     alloc: Global,
     graph: &[Vertex],
-    ways: &[Option<(u32, u64)>],
+    to: usize,
+    expected: &Expected,
 ) -> Result<bool, AllocError> {
-    for (to, expected) in ways.iter().enumerate() {
-        let way = expected.map(|(distance, hops)| Way { distance, hops });
-        if way_to(alloc, graph, to)? != way {
-            return Ok(false);
-        }
-    }
-    Ok(true)
+    let expected = expected.map(|(distance, hops)| Way { distance, hops });
+    Ok(way_to(alloc, graph, to)? == expected)
 }
+
+// The ways to the vertices, from the number 0 on, are these.
+fn has_ways<R: AllocGlobal + Abort>(
+    rt: &R,
+    graph: &[Vertex],
+    ways: &[Expected],
+) -> Result<(), AllocError> {
+    for (to, expected) in ways.iter().enumerate() {
+        assert!(rt; is_its_way(rt.alloc(), graph, to, expected)?, "to {to}");
+    }
+    Ok(())
+}
+
+const SQUARE: &[Expected] = &[
+    Some((0, 0)),
+    Some((5, 2)),
+    Some((5, 4)),
+    Some((10, 6)),
+    None,
+];
 
 #[test]
 fn walks_of_one_cost_join_their_next_hops(rt: HostRuntime) -> Result<(), AllocError> {
     let graph = square(rt.alloc())?;
-    let ways = [
-        Some((0, 0)),
-        Some((5, 2)),
-        Some((5, 4)),
-        Some((10, 6)),
-        None,
-    ];
-    assert!(rt; are_its_ways(rt.alloc(), &graph, &ways)?);
-    Ok(())
+    has_ways(&rt, &graph, SQUARE)
 }
+
+const NETWORK: &[Expected] = &[Some((0, 0)), Some((10, 6)), Some((11, 6)), Some((10, 2))];
 
 #[test]
 fn networks_come_before_routers_at_the_same_distance(rt: HostRuntime) -> Result<(), AllocError> {
     let graph = network(rt.alloc())?;
-    let ways = [Some((0, 0)), Some((10, 6)), Some((11, 6)), Some((10, 2))];
-    assert!(rt; are_its_ways(rt.alloc(), &graph, &ways)?);
-    Ok(())
+    has_ways(&rt, &graph, NETWORK)
 }
+
+const DETOUR: &[Expected] = &[
+    Some((0, 0)),
+    Some((20, 4)),
+    Some((10, 4)),
+    Some((15, 4)),
+    Some((21, 4)),
+];
 
 #[test]
 fn a_router_comes_nearer_while_it_waits(rt: HostRuntime) -> Result<(), AllocError> {
     let graph = detour(rt.alloc())?;
-    let ways = [
-        Some((0, 0)),
-        Some((20, 4)),
-        Some((10, 4)),
-        Some((15, 4)),
-        Some((21, 4)),
-    ];
-    assert!(rt; are_its_ways(rt.alloc(), &graph, &ways)?);
-    Ok(())
+    has_ways(&rt, &graph, DETOUR)
+}
+
+fn is_lawful(alloc: Global, only: Link) -> Result<bool, AllocError> {
+    let graph = graph_of(alloc, &[(Kind::Router, &[only])])?;
+    Ok(is_graph(&graph))
 }
 
 // A link to a vertex that isn't there, or one of cost 0 between routers, among others.
 #[test]
 fn unlawful_links_are_told(rt: HostRuntime) -> Result<(), AllocError> {
-    for (only, lawful) in [
-        (link(0, 1, 63), true),
-        (link(0, 0, 1), false),
-        (link(0, 1, 64), false),
-        (link(1, 1, 1), false),
-    ] {
-        let graph = graph_of(rt.alloc(), &[(Kind::Router, &[only])])?;
-        assert_eq!(rt; is_graph(&graph), lawful);
-    }
+    let told = [
+        is_lawful(rt.alloc(), link(0, 1, 63))?,
+        is_lawful(rt.alloc(), link(0, 0, 1))?,
+        is_lawful(rt.alloc(), link(0, 1, 64))?,
+        is_lawful(rt.alloc(), link(1, 1, 1))?,
+    ];
+    assert!(rt; told == [true, false, false, false], "{told:?}");
     Ok(())
 }

@@ -7,4 +7,6 @@ mod answers;
 #[cfg(test)]
 mod programs;
 #[cfg(test)]
+mod seats;
+#[cfg(test)]
 mod tables;

@@ -1,8 +1,4 @@
 //! Runs of programs.
-ghost use Rattle.std.specs.Prelude.{◌≡◌, length, map, IfOk};
-ghost use Rattle.std.specs.List.{range_with_len};
-ghost use Rattle.maps.specs.Words.{IsOf, fresh};
-
 mod accesses;
 mod arithmetic;
 mod calls;
@@ -10,11 +6,14 @@ mod jumps;
 mod pointers;
 mod runs;
 
+use crate::seats::{one_seat, two_seats};
 use interp::{Run, Trap, run_checked};
 use isa::{Code, DecodeError, DecodeFault, decode};
 use machine::{Hook, Input, TableRow};
-use maps::{MapsError, Seat, Shared};
+use maps::{Seat, Shared};
 use std::alloc::{AllocError, Global};
+use std::fmt;
+use std::process::Abort;
 use std::test::Fail;
 use words::{Address, Prefix};
 
@@ -50,15 +49,6 @@ fn code(alloc: Global, slots: &[u64]) -> Result<Code, DecodeError> {
     match decode(alloc, &bytes[..count]) {
         Err(error) if error.kind == DecodeFault::Memory => decode(alloc, &bytes[..count]),
         decoded => decoded,
-    }
-}
-
-fn table(alloc: Global, count: usize) -> Result<(Shared, Vec<Seat>), MapsError>
-    ensures { IfOk result (λ r. r.1.items ≡ map (fresh r.0.table) (range_with_len 0 count)) }
-{
-    match Shared::new(alloc, count) {
-        Err(MapsError::Memory) => Shared::new(alloc, count),
-        made => made,
     }
 }
 
@@ -107,6 +97,18 @@ fn shown(outcome: Result<Run, Trap>) -> (u64, u64) {
     }
 }
 
+// A program as its slots are written.
+struct Slots<'a>(&'a [u64]);
+
+impl fmt::Debug for Slots<'_> {
+    fn fmt<W: fmt::Write>(&self, f: &mut fmt::Formatter<W>) -> fmt::Result {
+        for slot in self.0 {
+            write!(f, "{slot:#x} ")?;
+        }
+        Ok(())
+    }
+}
+
 // What a run of the code comes to, on a new table.
 fn outcome_of(
     alloc: Global,
@@ -115,27 +117,49 @@ fn outcome_of(
     code: &Code,
     input: &Input,
 ) -> Result<(u64, u64), Fail> {
-    let (words, mut seats) = table(alloc, 1)?;
-    let mut seat = seats.pop().ok_or("no seat")?;
+    let (words, mut seat) = one_seat(alloc)?;
     Ok(shown(run_checked(code, hook, limit, input, &words, &mut seat)))
 }
 
 // What a run of at most so many instructions comes to, at a hook.
-fn outcome_within(
-    alloc: Global,
-    hook: Hook,
-    limit: u64,
-    slots: &[u64],
-) -> Result<(u64, u64), Fail> {
+fn outcome(alloc: Global, hook: Hook, limit: u64, slots: &[u64]) -> Result<(u64, u64), Fail> {
     let code = code(alloc, slots)?;
     let rows = rows(alloc)?;
     outcome_of(alloc, hook, limit, &code, &input(&rows))
 }
 
-fn outcome_at(alloc: Global, hook: Hook, slots: &[u64]) -> Result<(u64, u64), Fail> {
-    outcome_within(alloc, hook, 1000, slots)
+fn comes_to_within<R: AllocGlobal + Abort>(
+    rt: &R,
+    hook: Hook,
+    limit: u64,
+    slots: &[u64],
+    want: (u64, u64),
+) -> Result<(), Fail> {
+    let found = outcome(rt.alloc(), hook, limit, slots)?;
+    assert!(rt; found == want, "{:?}: {found:?}", Slots(slots));
+    Ok(())
 }
 
-fn outcome(alloc: Global, slots: &[u64]) -> Result<(u64, u64), Fail> {
-    outcome_at(alloc, Hook::Count, slots)
+fn comes_to_at<R: AllocGlobal + Abort>(
+    rt: &R,
+    hook: Hook,
+    slots: &[u64],
+    want: (u64, u64),
+) -> Result<(), Fail> {
+    comes_to_within(rt, hook, 1000, slots, want)
+}
+
+fn comes_to<R: AllocGlobal + Abort>(rt: &R, slots: &[u64], want: (u64, u64)) -> Result<(), Fail> {
+    comes_to_at(rt, Hook::Count, slots, want)
+}
+
+// A program, and its answer and how many instructions it takes, or its trap's number and 0.
+type Row<'a> = (&'a [u64], (u64, u64));
+
+fn come_to<R: AllocGlobal + Abort>(rt: &R, programs: &[Row<'_>]) -> Result<(), Fail> {
+    for row in programs {
+        let (slots, want) = *row;
+        comes_to(rt, slots, want)?;
+    }
+    Ok(())
 }

@@ -1,23 +1,13 @@
 //! The shared maps.
-ghost use Rattle.std.specs.Prelude.{◌≡◌, length, map, IfOk};
-ghost use Rattle.std.specs.List.{range_with_len};
-ghost use Rattle.maps.specs.Words.{IsOf, fresh};
+ghost use Rattle.std.specs.Prelude.{◌≡◌, length};
+ghost use Rattle.maps.specs.Words.{IsOf};
 
+use crate::seats::{table, two_seats};
 use maps::{MapsError, Seat, Shared};
-use std::alloc::Global;
+use std::alloc::{AllocError, Global};
+use std::process::Abort;
 use std::test::Fail;
-use std::thread::join;
-
-// A new table. One allocation may be refused, as a run of the tests with a refusal makes it.
-fn table(alloc: Global, count: usize) -> Result<(Shared, Vec<Seat>), MapsError>
-    ensures seats { IfOk result (λ r. r.0.seats ≡ count) }
-    ensures fresh { IfOk result (λ r. r.1.items ≡ map (fresh r.0.table) (range_with_len 0 count)) }
-{
-    match Shared::new(alloc, count) {
-        Err(MapsError::Memory) => Shared::new(alloc, count),
-        other => other,
-    }
-}
+use std::thread::{Threads, join};
 
 // Adds 3 to counter 5 a thousand times, and reads it.
 fn thousand(words: &Shared, mut seat: Seat) -> (Seat, u64)
@@ -31,82 +21,171 @@ fn thousand(words: &Shared, mut seat: Seat) -> (Seat, u64)
     (seat, seen)
 }
 
+fn are_6000_at_5(rt: &impl Abort, sums: &[u64]) {
+    for (index, sum) in sums.iter().enumerate() {
+        let want = if index == 5 { 6000 } else { 0 };
+        assert!(rt; *sum == want, "{sum} at {index}");
+    }
+}
+
+// Each seat on a thread of its own, and what it reads at last.
+fn add_side_by_side<R: Threads>(
+    rt: &R,
+    words: &Shared,
+    first: Seat,
+    second: Seat,
+) -> ((Seat, u64), (Seat, u64))
+    requires first { IsOf words.now first }
+    requires second { IsOf words.now second }
+    ensures first { IsOf words.now result.0.0 }
+    ensures second { IsOf words.now result.1.0 }
+{
+    join(
+        rt,
+        || -> (Seat, u64)
+            requires { IsOf words.now first }
+            ensures { result.0.table ≡ words.entry.now.table }
+        { thousand(words, first) },
+        || -> (Seat, u64)
+            requires { IsOf words.now second }
+            ensures { result.0.table ≡ words.entry.now.table }
+        { thousand(words, second) },
+    )
+}
+
+// The sums of the counters once both seats are back.
+fn closed(
+    words: Shared,
+    seats: Vec<Seat>,
+    first: Seat,
+    second: Seat,
+) -> Result<[u64; 256], AllocError>
+    requires seats { words.seats ≡ 2 }
+    requires away { length seats.items ≡ 0 }
+    requires first { IsOf words first }
+    requires second { IsOf words second }
+{
+    let mut seats = seats;
+    seats.push(first)?;
+    seats.push(second)?;
+    Ok(words.close(seats).sums)
+}
+
+// What the seats read at last, and the sums.
+fn seen_and_summed<R: Threads>(
+    rt: &R,
+    words: Shared,
+    seats: Vec<Seat>,
+    first: Seat,
+    second: Seat,
+) -> Result<([u64; 2], [u64; 256]), AllocError>
+    requires seats { words.seats ≡ 2 }
+    requires away { length seats.items ≡ 0 }
+    requires first { IsOf words first }
+    requires second { IsOf words second }
+{
+    let ((first, one), (second, two)) = add_side_by_side(rt, &words, first, second);
+    let sums = closed(words, seats, first, second)?;
+    Ok(([one, two], sums))
+}
+
 #[test]
 fn two_threads_add_a_thousand_times(rt: HostRuntime) -> Result<(), Fail> {
     let (words, mut seats) = table(rt.alloc(), 2)?;
-    let shared = &words;
     let second = seats.pop().ok_or("no second seat")?;
     let first = seats.pop().ok_or("no first seat")?;
-    let ((first, one), (second, two)) = join(
-        &rt,
-        || -> (Seat, u64)
-            requires { IsOf shared.now first }
-            ensures { result.0.table ≡ shared.entry.now.table }
-        { thousand(shared, first) },
-        || -> (Seat, u64)
-            requires { IsOf shared.now second }
-            ensures { result.0.table ≡ shared.entry.now.table }
-        { thousand(shared, second) },
-    );
-    assert!(rt; one >= 3000 && two >= 3000);
-    seats.push(first)?;
-    seats.push(second)?;
-    for (index, sum) in words.close(seats).sums.iter().enumerate() {
-        assert_eq!(rt; *sum, if index == 5 { 6000 } else { 0 }, "at {index}");
-    }
+    let (seen, sums) = seen_and_summed(&rt, words, seats, first, second)?;
+    assert!(rt; seen[0] >= 3000 && seen[1] >= 3000);
+    are_6000_at_5(&rt, &sums);
     Ok(())
+}
+
+// What the seats' adds answer, and what the other seat then reads.
+fn seen_by_each_other(words: &Shared, first: &mut Seat, second: &mut Seat) -> [u64; 5]
+    requires first { IsOf words.now first.old }
+    requires second { IsOf words.now second.old }
+{
+    [
+        words.add(first, 5, 3),
+        words.read(second, 5),
+        words.add(second, 255, 16_777_215),
+        words.read(first, 255),
+        words.read(first, 0),
+    ]
 }
 
 #[test]
 fn a_read_shows_another_seats_add(rt: HostRuntime) -> Result<(), Fail> {
-    let (words, mut seats) = table(rt.alloc(), 2)?;
-    let mut second = seats.pop().ok_or("no second seat")?;
-    let mut first = seats.pop().ok_or("no first seat")?;
-    assert_eq!(rt; words.add(&mut first, 5, 3), 0);
-    assert_eq!(rt; words.read(&mut second, 5), 3);
-    assert_eq!(rt; words.add(&mut second, 255, 16_777_215), 0);
-    assert_eq!(rt; words.read(&mut first, 255), 16_777_215);
-    assert_eq!(rt; words.read(&mut first, 0), 0);
+    let (words, mut first, mut second) = two_seats(rt.alloc())?;
+    let found = seen_by_each_other(&words, &mut first, &mut second);
+    assert!(rt; found == [0, 3, 0, 16_777_215, 0], "{found:?}");
     Ok(())
+}
+
+// Cells 63 and 0 of both seats, once the first has set its 63 and the second its 0.
+fn cells(words: &Shared, first: &mut Seat, second: &mut Seat) -> [u64; 4]
+    requires first { IsOf words.now first.old }
+    requires second { IsOf words.now second.old }
+{
+    words.set_cell(first, 63, u64::MAX);
+    words.set_cell(second, 0, 8);
+    [
+        words.cell(first, 63),
+        words.cell(first, 0),
+        words.cell(second, 63),
+        words.cell(second, 0),
+    ]
 }
 
 #[test]
 fn a_cell_is_the_seats_own(rt: HostRuntime) -> Result<(), Fail> {
-    let (words, mut seats) = table(rt.alloc(), 2)?;
-    let mut second = seats.pop().ok_or("no second seat")?;
-    let mut first = seats.pop().ok_or("no first seat")?;
-    words.set_cell(&mut first, 63, u64::MAX);
-    words.set_cell(&mut second, 0, 8);
-    assert_eq!(rt; words.cell(&mut first, 63), u64::MAX);
-    assert_eq!(rt; words.cell(&mut first, 0), 0);
-    assert_eq!(rt; words.cell(&mut second, 63), 0);
-    assert_eq!(rt; words.cell(&mut second, 0), 8);
+    let (words, mut first, mut second) = two_seats(rt.alloc())?;
+    let found = cells(&words, &mut first, &mut second);
+    assert!(rt; found == [u64::MAX, 0, 0, 8], "{found:?}");
     Ok(())
+}
+
+fn is_refused(alloc: Global, count: usize) -> bool {
+    matches!(Shared::new(alloc, count), Err(MapsError::Seats))
+}
+
+// What cell 63 of the seat holds once it is set.
+fn last_cell(words: &Shared, seat: &mut Seat) -> u64
+    requires { IsOf words.now seat.old }
+{
+    words.set_cell(seat, 63, 9);
+    words.cell(seat, 63)
+}
+
+// How many seats a table of 64 gives, and what the last one's last cell holds once it is set.
+fn last_of_64(alloc: Global) -> Result<(usize, u64), Fail> {
+    let (words, mut seats) = table(alloc, 64)?;
+    let count = seats.len();
+    let mut last = seats.pop().ok_or("no last seat")?;
+    Ok((count, last_cell(&words, &mut last)))
 }
 
 #[test]
 fn a_table_has_one_to_sixty_four_seats(rt: HostRuntime) -> Result<(), Fail> {
     for count in [0, 65, 1000] {
-        let refused = matches!(Shared::new(rt.alloc(), count), Err(MapsError::Seats));
-        assert!(rt; refused, "at {count}");
+        assert!(rt; is_refused(rt.alloc(), count), "at {count}");
     }
-    let (words, mut seats) = table(rt.alloc(), 64)?;
-    assert_eq!(rt; seats.len(), 64);
-    let mut last = seats.pop().ok_or("no last seat")?;
-    words.set_cell(&mut last, 63, 9);
-    assert_eq!(rt; words.cell(&mut last, 63), 9);
+    assert!(rt; last_of_64(rt.alloc())? == (64, 9));
     Ok(())
 }
 
+const REFUSALS: [(MapsError, u8, &str); 2] = [
+    (MapsError::Seats, 1, "a table has 1 to 64 seats"),
+    (MapsError::Memory, 2, "out of memory"),
+];
+
 #[test]
 fn refusals_have_their_numbers_and_texts(rt: HostRuntime) {
-    for (refusal, number, text) in [
-        (MapsError::Seats, 1, "a table has 1 to 64 seats"),
-        (MapsError::Memory, 2, "out of memory"),
-    ] {
-        assert_eq!(rt; refusal.number(), number);
+    for row in &REFUSALS {
+        let (refusal, number, text) = *row;
+        assert!(rt; refusal.number() == number);
         if let Ok(shown) = format!(in rt.alloc(); "{refusal}") {
-            assert_eq!(rt; shown.as_str(), text);
+            assert!(rt; shown.as_str() == text, "{shown}");
         }
     }
 }

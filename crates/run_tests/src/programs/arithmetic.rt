@@ -130,44 +130,44 @@ const OPERATIONS: &[(u64, u64, u64, u64)] = &[
     (0x1122_3344_5566_7788, 0, 0x0000_0020_0000_01d7, 0x8877_6655),
 ];
 
+// The program that does the instruction on these two numbers and answers r1.
+fn doing(a: u64, b: u64, instruction: u64) -> [u64; 7] {
+    let first = wide(1, a);
+    let second = wide(2, b);
+    [
+        first[0],
+        first[1],
+        second[0],
+        second[1],
+        instruction,
+        ANSWER,
+        EXIT,
+    ]
+}
+
 #[test]
 fn each_operation_gives_its_result(rt: HostRuntime) -> Result<(), Fail> {
-    for (a, b, instruction, want) in OPERATIONS.iter().copied() {
-        let first = wide(1, a);
-        let second = wide(2, b);
-        let slots = [
-            first[0],
-            first[1],
-            second[0],
-            second[1],
-            instruction,
-            ANSWER,
-            EXIT,
-        ];
-        let found = outcome(rt.alloc(), &slots)?;
-        assert_eq!(rt;
-            found,
-            (want, 5),
-            "of {a:#x} and {b:#x} by {instruction:#x}"
-        );
+    for row in OPERATIONS {
+        let (a, b, instruction, want) = *row;
+        comes_to(&rt, &doing(a, b, instruction), (want, 5))?;
     }
     Ok(())
 }
 
+// The instruction on r1 = 0x1122334455667788, and r1 after.
+const SWAPS: &[(u64, u64)] = &[
+    (0x0000_0010_0000_01d7, 0x8877),
+    (0x0000_0040_0000_01d7, 0x8877_6655_4433_2211),
+    (0x0000_0040_0000_01d4, 0x1122_3344_5566_7788),
+];
+
 #[test]
 fn whole_swaps(rt: HostRuntime) -> Result<(), Fail> {
-    for (instruction, want) in [
-        (0x0000_0010_0000_01d7, 0x8877),
-        (0x0000_0040_0000_01d7, 0x8877_6655_4433_2211),
-        (0x0000_0040_0000_01d4, 0x1122_3344_5566_7788),
-    ] {
-        let first = wide(1, 0x1122_3344_5566_7788);
+    let first = wide(1, 0x1122_3344_5566_7788);
+    for row in SWAPS {
+        let (instruction, want) = *row;
         let slots = [first[0], first[1], instruction, ANSWER, EXIT];
-        assert_eq!(rt;
-            outcome(rt.alloc(), &slots)?,
-            (want, 4),
-            "by {instruction:#x}"
-        );
+        comes_to(&rt, &slots, (want, 4))?;
     }
     Ok(())
 }

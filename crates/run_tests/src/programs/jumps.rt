@@ -103,56 +103,55 @@ const TESTS: &[(u64, u64, u64, bool)] = &[
     (0, 0, 0xffff_ffff_0000_00d6, false),
 ];
 
+// The program that leaps over one slot where the test of the two numbers holds. The source is r2 where the test reads a register.
+fn testing(a: u64, b: u64, test: u64) -> [u64; 8] {
+    let first = wide(1, a);
+    let second = wide(2, b);
+    let registers = if test & 8 == 0 { 0x0100 } else { 0x2100 };
+    [
+        first[0],
+        first[1],
+        second[0],
+        second[1],
+        0x0000_0001_0000_00b7,
+        test | registers | 0x1_0000,
+        0xb7,
+        EXIT,
+    ]
+}
+
 #[test]
 fn each_test_holds_where_it_has_to(rt: HostRuntime) -> Result<(), Fail> {
-    for (a, b, test, holds) in TESTS.iter().copied() {
-        let first = wide(1, a);
-        let second = wide(2, b);
-        // the source is r2 where the test reads a register, and the jump leaps over one slot
-        let registers = if test & 8 == 0 { 0x0100 } else { 0x2100 };
-        let jump = test | registers | 0x1_0000;
-        let slots = [
-            first[0],
-            first[1],
-            second[0],
-            second[1],
-            0x0000_0001_0000_00b7,
-            jump,
-            0xb7,
-            EXIT,
-        ];
+    for row in TESTS {
+        let (a, b, test, holds) = *row;
         let want = if holds { (1, 5) } else { (0, 6) };
-        assert_eq!(rt;
-            outcome(rt.alloc(), &slots)?,
-            want,
-            "of {a:#x} and {b:#x} by {test:#x}"
-        );
+        comes_to(&rt, &testing(a, b, test), want)?;
     }
     Ok(())
 }
 
+const ONE: u64 = 0x0000_0001_0000_00b7;
+
+const TWO: u64 = 0x0000_0002_0000_00b7;
+
+const JUMPS: &[Row<'_>] = &[
+    // goto +1; gotol +1
+    (&[ONE, 0x1_0005, TWO, EXIT], (1, 3)),
+    (&[ONE, 0x0000_0001_0000_0006, TWO, EXIT], (1, 3)),
+    // goto +0, and back by both forms
+    (&[ONE, 0x05, EXIT], (1, 3)),
+    (&[0x1_0005, EXIT, ONE, 0xfffd_0005], (1, 4)),
+    (&[0x1_0005, EXIT, ONE, 0xffff_fffd_0000_0006], (1, 4)),
+    // before the code, past it, into a wide instruction, and off its end
+    (&[0xfffe_0005], (1, 0)),
+    (&[0x0001_0005, EXIT], (1, 0)),
+    (&[0x0001_0005, 0x18, 0, EXIT], (2, 0)),
+    (&[ONE], (1, 0)),
+    // for ever
+    (&[0xffff_0005], (11, 0)),
+];
+
 #[test]
 fn jumps_lead_where_they_have_to(rt: HostRuntime) -> Result<(), Fail> {
-    let one = 0x0000_0001_0000_00b7;
-    let two = 0x0000_0002_0000_00b7;
-    let programs: [(&[u64], (u64, u64)); 10] = [
-        // goto +1; gotol +1
-        (&[one, 0x1_0005, two, EXIT], (1, 3)),
-        (&[one, 0x0000_0001_0000_0006, two, EXIT], (1, 3)),
-        // goto +0, and back by both forms
-        (&[one, 0x05, EXIT], (1, 3)),
-        (&[0x1_0005, EXIT, one, 0xfffd_0005], (1, 4)),
-        (&[0x1_0005, EXIT, one, 0xffff_fffd_0000_0006], (1, 4)),
-        // before the code, past it, into a wide instruction, and off its end
-        (&[0xfffe_0005], (1, 0)),
-        (&[0x0001_0005, EXIT], (1, 0)),
-        (&[0x0001_0005, 0x18, 0, EXIT], (2, 0)),
-        (&[one], (1, 0)),
-        // for ever
-        (&[0xffff_0005], (11, 0)),
-    ];
-    for (slots, want) in programs.iter().copied() {
-        assert_eq!(rt; outcome(rt.alloc(), slots)?, want);
-    }
-    Ok(())
+    come_to(&rt, JUMPS)
 }

@@ -23,9 +23,7 @@ const COUNTING: [u64; 6] = [
 
 // The runs of two seats of a new table, and what these read: counter 5 and counter 4.
 fn both_add(alloc: Global, code: &Code, input: &Input) -> Result<[(u64, u64); 3], Fail> {
-    let (words, mut seats) = table(alloc, 2)?;
-    let mut second = seats.pop().ok_or("no second seat")?;
-    let mut first = seats.pop().ok_or("no first seat")?;
+    let (words, mut first, mut second) = two_seats(alloc)?;
     let one = run_checked(code, Hook::Count, 1000, input, &words, &mut first);
     let two = run_checked(code, Hook::Count, 1000, input, &words, &mut second);
     let read = (words.read(&mut first, 5), words.read(&mut second, 4));
@@ -36,7 +34,7 @@ fn both_add(alloc: Global, code: &Code, input: &Input) -> Result<[(u64, u64); 3]
 fn two_seats_add_to_one_counter(rt: HostRuntime) -> Result<(), Fail> {
     let code = code(rt.alloc(), &ADDING)?;
     let found = both_add(rt.alloc(), &code, &input(&[]))?;
-    assert_eq!(rt; found, [(0, 4), (0, 4), (6, 0)]);
+    assert!(rt; found == [(0, 4), (0, 4), (6, 0)], "{found:?}");
     Ok(())
 }
 
@@ -49,9 +47,7 @@ fn count(code: &Code, input: &Input, words: &Shared, seat: &mut Seat) -> (u64, u
 
 // Three runs of one seat of a new table, and one of another.
 fn both_count(alloc: Global, code: &Code, input: &Input) -> Result<[(u64, u64); 4], Fail> {
-    let (words, mut seats) = table(alloc, 2)?;
-    let mut second = seats.pop().ok_or("no second seat")?;
-    let mut first = seats.pop().ok_or("no first seat")?;
+    let (words, mut first, mut second) = two_seats(alloc)?;
     Ok([
         count(code, input, &words, &mut first),
         count(code, input, &words, &mut first),
@@ -64,18 +60,22 @@ fn both_count(alloc: Global, code: &Code, input: &Input) -> Result<[(u64, u64); 
 fn a_cell_is_the_seats_own(rt: HostRuntime) -> Result<(), Fail> {
     let code = code(rt.alloc(), &COUNTING)?;
     let found = both_count(rt.alloc(), &code, &input(&[]))?;
-    assert_eq!(rt; found, [(1, 5), (2, 5), (3, 5), (1, 5)]);
+    assert!(rt; found == [(1, 5), (2, 5), (3, 5), (1, 5)], "{found:?}");
     Ok(())
 }
 
+// OFFSET, MASK and SHIFT, and what this comes to: r1 = *u64 r1 OFFSET; r1 &= MASK; r1 <<= SHIFT; r2 = map 0 0; r2 += r1;
+// r0 = *u64 r2 0; exit.
+const NAMED: &[(u64, u64, u64, (u64, u64))] = &[
+    (8, 0xff, 3, (0, 7)),
+    (8, 0x3ff, 3, (5, 0)),
+    (9, 0xff, 2, (6, 0)),
+];
+
 #[test]
 fn a_counter_named_by_the_context(rt: HostRuntime) -> Result<(), Fail> {
-    // r1 = *u64 r1 OFFSET; r1 &= MASK; r1 <<= SHIFT; r2 = map 0 0; r2 += r1; r0 = *u64 r2 0; exit
-    for (offset, mask, shift, want) in [
-        (8, 0xff, 3, (0, 7)),
-        (8, 0x3ff, 3, (5, 0)),
-        (9, 0xff, 2, (6, 0)),
-    ] {
+    for row in NAMED {
+        let (offset, mask, shift, want) = *row;
         let slots = [
             0x1179 | offset << 16,
             0x157 | mask << 32,
@@ -86,39 +86,39 @@ fn a_counter_named_by_the_context(rt: HostRuntime) -> Result<(), Fail> {
             0x2079,
             EXIT,
         ];
-        assert_eq!(rt;
-            outcome(rt.alloc(), &slots)?,
-            want,
-            "at {offset} by {mask} and {shift}"
-        );
+        comes_to(&rt, &slots, want)?;
     }
     Ok(())
 }
 
+// r1 = 10; r0 = 0; r0 += r1; r1 += -1; if r1 != 0 goto -3; exit
+const SUMMING: &[u64] = &[
+    0x0000_000a_0000_01b7,
+    0xb7,
+    0x100f,
+    0xffff_ffff_0000_0107,
+    0xfffd_0155,
+    EXIT,
+];
+
+// r0 = 7, and where this leads there is no instruction.
+const ENDLESS: &[u64] = &[0x0000_0007_0000_00b7];
+
+// A limit, a program, and what this comes to.
+const LIMITS: &[(u64, &[u64], (u64, u64))] = &[
+    (33, SUMMING, (55, 33)),
+    (u64::MAX, SUMMING, (55, 33)),
+    (32, SUMMING, (11, 0)),
+    (0, SUMMING, (11, 0)),
+    (1, ENDLESS, (11, 0)),
+    (2, ENDLESS, (1, 0)),
+];
+
 #[test]
 fn a_limit_that_is_just_enough(rt: HostRuntime) -> Result<(), Fail> {
-    // r1 = 10; r0 = 0; r0 += r1; r1 += -1; if r1 != 0 goto -3; exit
-    let slots = [
-        0x0000_000a_0000_01b7,
-        0xb7,
-        0x100f,
-        0xffff_ffff_0000_0107,
-        0xfffd_0155,
-        EXIT,
-    ];
-    for (limit, want) in [
-        (33, (55, 33)),
-        (u64::MAX, (55, 33)),
-        (32, (11, 0)),
-        (0, (11, 0)),
-    ] {
-        let found = outcome_within(rt.alloc(), Hook::Veto, limit, &slots)?;
-        assert_eq!(rt; found, want, "with limit {limit}");
-    }
-    // where the last step leads there is no instruction
-    for (limit, want) in [(1, 11), (2, 1)] {
-        let found = outcome_within(rt.alloc(), Hook::Veto, limit, &[0x0000_0007_0000_00b7])?;
-        assert_eq!(rt; found, (want, 0), "with limit {limit}");
+    for row in LIMITS {
+        let (limit, slots, want) = *row;
+        comes_to_within(&rt, Hook::Veto, limit, slots, want)?;
     }
     Ok(())
 }

@@ -1,0 +1,39 @@
+//! New tables of the shared maps, and their seats.
+ghost use Rattle.std.specs.Prelude.{◌≡◌, length, map, IfOk};
+ghost use Rattle.std.specs.List.{range_with_len};
+ghost use Rattle.maps.specs.Words.{IsOf, fresh};
+
+use maps::{MapsError, Seat, Shared};
+use std::alloc::Global;
+use std::test::Fail;
+
+/// A new table. One allocation may be refused, as a run of the tests with a refusal makes it.
+pub fn table(alloc: Global, count: usize) -> Result<(Shared, Vec<Seat>), MapsError>
+    ensures seats { IfOk result (λ r. r.0.seats ≡ count) }
+    ensures fresh { IfOk result (λ r. r.1.items ≡ map (fresh r.0.table) (range_with_len 0 count)) }
+{
+    match Shared::new(alloc, count) {
+        Err(MapsError::Memory) => Shared::new(alloc, count),
+        other => other,
+    }
+}
+
+/// A new table of one seat.
+pub fn one_seat(alloc: Global) -> Result<(Shared, Seat), Fail>
+    ensures { IfOk result (λ r. IsOf r.0 r.1) }
+{
+    let (shared, mut seats) = table(alloc, 1)?;
+    let seat = seats.pop().ok_or("no seat")?;
+    Ok((shared, seat))
+}
+
+/// A new table of two seats: the first of them, and the second.
+pub fn two_seats(alloc: Global) -> Result<(Shared, Seat, Seat), Fail>
+    ensures first { IfOk result (λ r. IsOf r.0 r.1) }
+    ensures second { IfOk result (λ r. IsOf r.0 r.2) }
+{
+    let (shared, mut seats) = table(alloc, 2)?;
+    let second = seats.pop().ok_or("no second seat")?;
+    let first = seats.pop().ok_or("no first seat")?;
+    Ok((shared, first, second))
+}
