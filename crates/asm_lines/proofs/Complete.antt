@@ -328,6 +328,3 @@ complete words (lines.With r (contents.Map m range)) name s =
     let t : Eight words (Exactly (codes "with")) (the_register Bits64 r) (Exactly (codes "map")) (Number m) (Number range.low) (Number range.high) (Number range.mask) (Number range.value) = eight_words words _ _ _ _ _ _ _ _ s.fits in
     reads_plain words (t.a ∷ t.b ∷ t.c ∷ t.d ∷ t.e ∷ t.f ∷ t.g ∷ t.h ∷ []) (lines.With r (contents.Map m range)) name t.are
     (map_with_line t.a t.b t.c t.d t.e t.f t.g t.h r m range t.is_a (register_known Bits64 r t.b t.is_b s.ranges) t.is_c t.is_d (range_known t.e t.f t.g t.h range t.is_e t.is_f t.is_g t.is_h)) (s.unnamed refl)
-
-pub six_none : (a b c d e f : Word) (w : Width) (r : ℕ) (t : Test) (o : Operand) → a ≡ codes "if" → e ≡ codes "goto" → register_of b ≡ Some (w, r) → test_of c ≡ Some t → operand_at w d ≡ Some o → target_at f ≡ None → None ≡ six a b c d e f
-six_none a b c d e f w r t o p q g h i j = rw (p, q, g, h, i, j) refl

@@ -346,16 +346,11 @@ fn five<'a>(a: &str, b: &str, c: &str, d: &str, e: &'a str) -> Option<Item<'a>>
     Some(Item::plain(line))
 }
 
-fn six<'a>(a: &str, b: &str, c: &str, d: &str, e: &str, f: &'a str) -> Option<Item<'a>>
-    ensures value { option_map item_view result ≡ six a.now b.now c.now d.now e.now f.now }
-    ensures found { IfSome result (SpellsItem (a.now ∷ b.now ∷ c.now ∷ d.now ∷ e.now ∷ f.now ∷ [])) }
+/// A conditional jump, by the words beside `if` and `goto`.
+fn branch_of<'a>(b: &str, c: &str, d: &str, f: &'a str) -> Option<Item<'a>>
+    ensures value { option_map item_view result ≡ six (codes "if") b.now c.now d.now (codes "goto") f.now }
+    ensures found { IfSome result (SpellsItem (codes "if" ∷ b.now ∷ c.now ∷ d.now ∷ codes "goto" ∷ f.now ∷ [])) }
 {
-    if a != "if" {
-        return None;
-    }
-    if e != "goto" {
-        return None;
-    }
     let (width, left) = register_of(b)?;
     let test = test_of(c)?;
     let right = operand_at(width, d)?;
@@ -370,6 +365,19 @@ fn six<'a>(a: &str, b: &str, c: &str, d: &str, e: &str, f: &'a str) -> Option<It
         },
         name,
     })
+}
+
+fn six<'a>(a: &str, b: &str, c: &str, d: &str, e: &str, f: &'a str) -> Option<Item<'a>>
+    ensures value { option_map item_view result ≡ six a.now b.now c.now d.now e.now f.now }
+    ensures found { IfSome result (SpellsItem (a.now ∷ b.now ∷ c.now ∷ d.now ∷ e.now ∷ f.now ∷ [])) }
+{
+    if a != "if" {
+        return None;
+    }
+    if e != "goto" {
+        return None;
+    }
+    branch_of(b, c, d, f)
 }
 
 fn range_of(a: &str, b: &str, c: &str, d: &str) -> Option<Range>

@@ -10,14 +10,65 @@ use std::test::Fail;
 
 /// The listing of what the first text spells is the second, which spells the same.
 fn lists(rt: &impl Abort, alloc: Global, text: &str, listed: &str) -> Result<(), Fail> {
-    let first = assemble(alloc, text)?;
-    let written = listing(alloc, &first)?;
+    let object = assemble(alloc, text)?;
+    is_listed(rt, alloc, &object, listed)
+}
+
+/// The object's listing is this text, which spells the same object.
+fn is_listed(rt: &impl Abort, alloc: Global, object: &Object, listed: &str) -> Result<(), Fail> {
+    let written = listing(alloc, object)?;
     assert!(rt; written.as_str() == listed, "{written}");
-    let second = assemble(alloc, &written)?;
-    assert!(rt; second.hook() == first.hook());
-    assert!(rt; second.entry_rank() == first.entry_rank());
-    assert!(rt; second.code() == first.code());
-    assert!(rt; second.statements() == first.statements());
+    spells_again(rt, alloc, &written, object)
+}
+
+fn spells_again(rt: &impl Abort, alloc: Global, text: &str, object: &Object) -> Result<(), Fail> {
+    let again = assemble(alloc, text)?;
+    assert!(rt; are_the_same(&again, object), "{text}");
+    Ok(())
+}
+
+fn are_the_same(object: &Object, other: &Object) -> bool {
+    object.hook() == other.hook()
+        && object.entry_rank() == other.entry_rank()
+        && object.code() == other.code()
+        && object.statements() == other.statements()
+}
+
+/// The listing of what each row's first text spells is its second, which spells the same: with this word in the place of each @.
+fn lists_rows(
+    rt: &impl Abort,
+    alloc: Global,
+    word: &str,
+    rows: &[(&str, &str)],
+) -> Result<(), Fail> {
+    for (text, listed) in rows {
+        lists_with(rt, alloc, word, text, listed)?;
+    }
+    Ok(())
+}
+
+fn lists_with(
+    rt: &impl Abort,
+    alloc: Global,
+    word: &str,
+    text: &str,
+    listed: &str,
+) -> Result<(), Fail> {
+    let text = text.replace(alloc, '@', word)?;
+    let listed = listed.replace(alloc, '@', word)?;
+    lists(rt, alloc, &text, &listed)
+}
+
+/// The same for each of these words.
+fn lists_words(
+    rt: &impl Abort,
+    alloc: Global,
+    words: &[&str],
+    rows: &[(&str, &str)],
+) -> Result<(), Fail> {
+    for word in words {
+        lists_rows(rt, alloc, word, rows)?;
+    }
     Ok(())
 }
 
@@ -47,40 +98,56 @@ fn refuses(
     }
 }
 
-/// The only line behind `hook price` and `rank 0` spells these bytes of code.
-fn spells(rt: &impl Abort, alloc: Global, line: &str, code: &[u8]) -> Result<(), Fail> {
-    let text = format!(in alloc; "hook price\nrank 0\n{line}\n")?;
-    let object = assemble(alloc, &text)?;
-    assert!(rt; object.code() == code, "{line}");
+/// The text spells these bytes of code.
+fn spells(rt: &impl Abort, alloc: Global, text: &str, code: &[u8]) -> Result<(), Fail> {
+    let object = assemble(alloc, text)?;
+    assert!(rt; object.code() == code, "{text}");
     Ok(())
 }
 
-// Lines, and the bytes that they spell.
+/// Each row's text spells its bytes.
+fn spells_each(rt: &impl Abort, alloc: Global, rows: &[(&str, &[u8])]) -> Result<(), Fail> {
+    for (text, code) in rows {
+        spells(rt, alloc, text, code)?;
+    }
+    Ok(())
+}
+
+// Texts, and the bytes that their only lines spell behind `hook price` and `rank 0`.
 const SPELLED: [(&str, &[u8]); 7] = [
-    ("w1 s%= w2", &[0x9c, 0x21, 1, 0, 0, 0, 0, 0]),
     (
-        "if w1 s< -1 goto -2",
+        "hook price\nrank 0\nw1 s%= w2\n",
+        &[0x9c, 0x21, 1, 0, 0, 0, 0, 0],
+    ),
+    (
+        "hook price\nrank 0\nif w1 s< -1 goto -2\n",
         &[0xc6, 0x01, 0xfe, 0xff, 0xff, 0xff, 0xff, 0xff],
     ),
-    ("*u16 r10 -2 = 513", &[0x6a, 0x0a, 0xfe, 0xff, 1, 2, 0, 0]),
-    ("r3 = *s32 r1 4", &[0x81, 0x13, 4, 0, 0, 0, 0, 0]),
-    ("r0 = swap32", &[0xd7, 0, 0, 0, 0x20, 0, 0, 0]),
     (
-        "r0 = wide 4294967298",
+        "hook price\nrank 0\n*u16 r10 -2 = 513\n",
+        &[0x6a, 0x0a, 0xfe, 0xff, 1, 2, 0, 0],
+    ),
+    (
+        "hook price\nrank 0\nr3 = *s32 r1 4\n",
+        &[0x81, 0x13, 4, 0, 0, 0, 0, 0],
+    ),
+    (
+        "hook price\nrank 0\nr0 = swap32\n",
+        &[0xd7, 0, 0, 0, 0x20, 0, 0, 0],
+    ),
+    (
+        "hook price\nrank 0\nr0 = wide 4294967298\n",
         &[0x18, 0, 0, 0, 2, 0, 0, 0, 0, 0, 0, 0, 1, 0, 0, 0],
     ),
     (
-        "r0 = 7\nexit",
+        "hook price\nrank 0\nr0 = 7\nexit\n",
         &[0xb7, 0, 0, 0, 7, 0, 0, 0, 0x95, 0, 0, 0, 0, 0, 0, 0],
     ),
 ];
 
 #[test]
 fn spells_bytes(rt: HostRuntime) -> Result<(), Fail> {
-    for (line, code) in SPELLED {
-        spells(&rt, rt.alloc(), line, code)?;
-    }
-    Ok(())
+    spells_each(&rt, rt.alloc(), &SPELLED)
 }
 
 // The sum of the numbers from 10 down to 1, with a label and without.
@@ -90,11 +157,18 @@ const SUM: &str =
 const SUM_LISTED: &str =
     "hook price\nrank 10\nr1 = 10\nr0 = 0\nr0 += r1\nr1 += -1\nif r1 != 0 goto -3\nexit\nstate 2 rank 0 r1 * 1\nwith r0 number 0 18446744073709551615 0 0\nwith r1 number 1 10 0 0\n";
 
+/// The object of the sum has its hook, rank, slots and statement.
+fn is_the_sum(object: &Object) -> bool {
+    object.hook() == Hook::Price
+        && object.entry_rank() == 10
+        && object.slots() == 6
+        && object.statements().len() == 1
+}
+
 #[test]
 fn sums_a_loop(rt: HostRuntime) -> Result<(), Fail> {
     let object = assemble(rt.alloc(), SUM)?;
-    let read = (object.hook(), object.entry_rank(), object.slots());
-    assert!(rt; read == (Hook::Price, 10, 6) && object.statements().len() == 1);
+    assert!(rt; is_the_sum(&object));
     Ok(())
 }
 
@@ -113,12 +187,17 @@ const LISTINGS: [&str; 8] = [
     "hook count\nrank 0\nexit\nexit\nexit\nexit\nstate 0 rank 4294967295\nstate 1 rank 0 r9 * 4294967295\nwith r0 context 64\nwith r1 stack 512\nwith r2 map 1 0 8 7 0\nwith r9 number 5 5 255 5\nbytes 0 8\nbytes 16 512\nstate 2 rank 1 r0 * 0 r1 * 2\nwith r1 number 0 1 0 0\nstate 3 rank 1 r1 * 3 r1 * 2\nwith r1 number 0 1 0 0\n",
 ];
 
-#[test]
-fn each_instruction_register_form_and_statement_is_listed(rt: HostRuntime) -> Result<(), Fail> {
-    for text in LISTINGS {
-        lists(&rt, rt.alloc(), text, text)?;
+/// Each of these texts is its own listing.
+fn list_themselves(rt: &impl Abort, alloc: Global, texts: &[&str]) -> Result<(), Fail> {
+    for text in texts {
+        lists(rt, alloc, text, text)?;
     }
     Ok(())
+}
+
+#[test]
+fn each_instruction_register_form_and_statement_is_listed(rt: HostRuntime) -> Result<(), Fail> {
+    list_themselves(&rt, rt.alloc(), &LISTINGS)
 }
 
 // Texts with labels, spaces and pieces in another order, and their listings.
@@ -140,75 +219,41 @@ const LISTED: [(&str, &str); 4] = [
 
 #[test]
 fn a_listing_has_no_labels_and_the_pieces_in_order(rt: HostRuntime) -> Result<(), Fail> {
-    for (text, listed) in LISTED {
-        lists(&rt, rt.alloc(), text, listed)?;
-    }
-    Ok(())
+    lists_rows(&rt, rt.alloc(), "", &LISTED)
 }
 
 const OPERATIONS: [&str; 14] = [
     "=", "+=", "-=", "*=", "/=", "s/=", "|=", "&=", "<<=", ">>=", "%=", "s%=", "^=", "s>>=",
 ];
 
+const OPERATED: &str = "hook tag\nrank 0\nr0 @ r10\nr9 @ -5\nw0 @ w1\nw10 @ 2147483647\n";
+
 #[test]
 fn each_operation_is_listed(rt: HostRuntime) -> Result<(), Fail> {
-    let alloc = rt.alloc();
-    for word in OPERATIONS {
-        let text = format!(in alloc;
-            "hook tag\nrank 0\nr0 {word} r10\nr9 {word} -5\nw0 {word} w1\nw10 {word} 2147483647\n"
-        )?;
-        lists(&rt, alloc, &text, &text)?;
-    }
-    Ok(())
+    lists_words(&rt, rt.alloc(), &OPERATIONS, &[(OPERATED, OPERATED)])
 }
 
 const TESTS: [&str; 11] = [
     "==", ">", ">=", "&", "!=", "s>", "s>=", "<", "<=", "s<", "s<=",
 ];
 
-/// Jumps by this test.
-fn jumps_by(alloc: Global, word: &str) -> Result<String, Fail> {
-    Ok(format!(in alloc;
-        "hook tag\nrank 0\nif r0 {word} r10 goto +1\nif r9 {word} -5 goto -32768\nif w0 {word} w1 goto +32767\nif w1 {word} -1 goto -2\n"
-    )?)
-}
+// Jumps by a test.
+const JUMPS: &str =
+    "hook tag\nrank 0\nif r0 @ r10 goto +1\nif r9 @ -5 goto -32768\nif w0 @ w1 goto +32767\nif w1 @ -1 goto -2\n";
 
-/// Jumps by this test to two places, which are named so.
-fn jumps_to(alloc: Global, word: &str, first: &str, second: &str) -> Result<String, Fail> {
-    Ok(format!(in alloc; "if r0 {word} r1 goto {first}\nif w0 {word} 7 goto {second}\nexit\n")?)
-}
+// Jumps by a test to two labels, and their listing.
+const LABELLED: &str = "hook tag\nrank 0\nL:\nif r0 @ r1 goto L\nif w0 @ 7 goto M\nexit\nM:\n";
 
-/// The same as a text with labels.
-fn labelled_jumps(alloc: Global, word: &str) -> Result<String, Fail> {
-    let jumps = jumps_to(alloc, word, "L", "M")?;
-    Ok(format!(in alloc; "hook tag\nrank 0\nL:\n{jumps}M:\n")?)
-}
-
-/// And as its listing.
-fn listed_jumps(alloc: Global, word: &str) -> Result<String, Fail> {
-    let jumps = jumps_to(alloc, word, "-1", "+1")?;
-    Ok(format!(in alloc; "hook tag\nrank 0\n{jumps}")?)
-}
+const LABELLED_LISTED: &str = "hook tag\nrank 0\nif r0 @ r1 goto -1\nif w0 @ 7 goto +1\nexit\n";
 
 #[test]
 fn each_test_is_listed(rt: HostRuntime) -> Result<(), Fail> {
-    let alloc = rt.alloc();
-    for word in TESTS {
-        let text = jumps_by(alloc, word)?;
-        lists(&rt, alloc, &text, &text)?;
-    }
-    Ok(())
+    lists_words(&rt, rt.alloc(), &TESTS, &[(JUMPS, JUMPS)])
 }
 
 #[test]
 fn each_test_is_listed_by_its_distance(rt: HostRuntime) -> Result<(), Fail> {
-    let alloc = rt.alloc();
-    for word in TESTS {
-        let text = labelled_jumps(alloc, word)?;
-        let listed = listed_jumps(alloc, word)?;
-        lists(&rt, alloc, &text, &listed)?;
-    }
-    Ok(())
+    lists_words(&rt, rt.alloc(), &TESTS, &[(LABELLED, LABELLED_LISTED)])
 }
 
 /// What is wrong with an object whose code is no instruction.
@@ -235,8 +280,8 @@ fn refuses_each(
     rows: &[(&str, usize)],
     kind: AsmFault,
 ) -> Result<(), Fail> {
-    for (text, line) in rows.iter().copied() {
-        refuses(rt, alloc, text, line, kind)?;
+    for (text, line) in rows {
+        refuses(rt, alloc, text, *line, kind)?;
     }
     Ok(())
 }
@@ -306,11 +351,21 @@ fn refuses_lines(
     line: usize,
     lines: &[&str],
 ) -> Result<(), Fail> {
-    for last in lines.iter().copied() {
-        let text = format!(in alloc; "{front}{last}\n")?;
-        refuses(rt, alloc, &text, line, AsmFault::Range)?;
+    for last in lines {
+        refuses_behind(rt, alloc, front, line, last)?;
     }
     Ok(())
+}
+
+fn refuses_behind(
+    rt: &impl Abort,
+    alloc: Global,
+    front: &str,
+    line: usize,
+    last: &str,
+) -> Result<(), Fail> {
+    let text = format!(in alloc; "{front}{last}\n")?;
+    refuses(rt, alloc, &text, line, AsmFault::Range)
 }
 
 const HEADS: [(&str, usize); 3] = [
@@ -456,12 +511,19 @@ fn slots_of(alloc: Global, text: &str) -> Result<usize, Fail> {
     Ok(object.slots())
 }
 
+/// The slots of so many lines `exit`.
+fn slots_of_exits(alloc: Global, count: usize) -> Result<usize, Fail> {
+    let text = exits(alloc, count, "")?;
+    slots_of(alloc, &text)
+}
+
 #[test]
 fn takes_4096_slots(rt: HostRuntime) -> Result<(), Fail> {
-    for count in [4095, 4096] {
-        let text = exits(rt.alloc(), count, "")?;
-        assert_eq!(rt; slots_of(rt.alloc(), &text)?, count);
-    }
+    let slots = [
+        slots_of_exits(rt.alloc(), 4095)?,
+        slots_of_exits(rt.alloc(), 4096)?,
+    ];
+    assert_eq!(rt; slots, [4095, 4096]);
     Ok(())
 }
 

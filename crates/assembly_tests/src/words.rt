@@ -17,7 +17,7 @@ fn each_holds(rt: &impl Abort, rows: &[bool]) {
 }
 
 fn words_are(rt: &impl Abort, rows: &[(&str, &str)]) {
-    for (word, wanted) in rows.iter().copied() {
+    for (word, wanted) in rows {
         assert!(rt; word == wanted, "{word}");
     }
 }

@@ -15,10 +15,15 @@ pub fn moment() -> Second {
 /// The database of these LSAs.
 pub fn database(alloc: Global, lsas: &[Lsa]) -> Result<Lsdb, AllocError> {
     let mut db = Lsdb::new(alloc, RouterId::new(0x0101_0101));
-    for lsa in lsas {
-        install(&mut db, lsa)?;
-    }
+    install_each(&mut db, lsas)?;
     Ok(db)
+}
+
+fn install_each(db: &mut Lsdb, lsas: &[Lsa]) -> Result<(), AllocError> {
+    for lsa in lsas {
+        install(db, lsa)?;
+    }
+    Ok(())
 }
 
 fn install(db: &mut Lsdb, lsa: &Lsa) -> Result<(), AllocError> {

@@ -1,4 +1,7 @@
 //! Walks that are kept, and what makes LSAs say something else.
+ghost use Rattle.std.specs.Prelude.{◌≤◌, length};
+ghost use Rattle.std.specs.FinMap as finite;
+
 use crate::area::{Row, database, moment, root, rows, rows_of_lsas};
 use crate::lines::{announced, lsas_of};
 use crate::texts::{LinkText, Name, router};
@@ -151,10 +154,15 @@ const STEPS: [Step; 24] = [
     Step::Same(1, false, false),
 ];
 
+// The first of these steps after which something else was expected of the database of two routers.
+fn first_wrong_of_two(alloc: Global, steps: &[Step]) -> Result<Option<usize>, Fail> {
+    let mut db = two(alloc)?;
+    first_wrong(alloc, &mut db, steps)
+}
+
 #[test]
 fn what_makes_lsas_say_something_else(rt: HostRuntime) -> Result<(), Fail> {
-    let mut db = two(rt.alloc())?;
-    assert_eq!(rt; first_wrong(rt.alloc(), &mut db, &STEPS)?, None);
+    assert_eq!(rt; first_wrong_of_two(rt.alloc(), &STEPS)?, None);
     Ok(())
 }
 
@@ -163,18 +171,36 @@ fn walked_twice(alloc: Global, db: &Lsdb, root: &Root) -> Result<(Vec<Row>, u64)
     if db.len() > 16384 || root.addresses.as_slice().len() > 63 {
         return Err(Fail::from("a database or a router that is too large"));
     }
+    let mut kept = Routes::new(alloc, db, root, moment())?;
+    walked_again(alloc, db, root, &mut kept)
+}
+
+// The same where the first walk has been made.
+fn walked_again(
+    alloc: Global,
+    db: &Lsdb,
+    root: &Root,
+    kept: &mut Routes,
+) -> Result<(Vec<Row>, u64), Fail>
+    requires interfaces { length root.now.addresses ≤ 63 }
+    requires size { finite.len db.now.present ≤ 16384 }
+{
     let now = moment();
-    let mut kept = Routes::new(alloc, db, root, now)?;
     kept.walk(alloc, db, root, now)?;
     let found = kept.candidates(alloc, db, now)?;
     Ok((rows(alloc, &found)?, kept.walks()))
 }
 
+// The same of the database of these LSAs.
+fn walked_twice_of(alloc: Global, lsas: &[Lsa], root: &Root) -> Result<(Vec<Row>, u64), Fail> {
+    let db = database(alloc, lsas)?;
+    walked_twice(alloc, &db, root)
+}
+
 // Whether a second walk gives the candidates of these LSAs, and counts.
 fn second_walk_serves(alloc: Global, lsas: &[Lsa]) -> Result<bool, Fail> {
     let root = root(alloc, 0x0101_0101, &TWO_ADDRESSES)?;
-    let db = database(alloc, lsas)?;
-    let (found, walks) = walked_twice(alloc, &db, &root)?;
+    let (found, walks) = walked_twice_of(alloc, lsas, &root)?;
     let anew = rows_of_lsas(alloc, lsas, &root)?;
     Ok(walks == 2 && found.as_slice() == anew.as_slice())
 }

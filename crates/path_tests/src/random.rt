@@ -8,7 +8,7 @@ use lsa::Lsa;
 use routes::Root;
 use std::alloc::{AllocError, Global};
 use std::test::Fail;
-use words::RouteKind;
+use words::{Key, RouteKind};
 
 // How many areas are tried.
 const AREAS: u64 = 200;
@@ -192,15 +192,20 @@ fn an_external(alloc: Global, random: &mut Random) -> Result<Lsa, Fail> {
     external(alloc, name, says)
 }
 
-// Adds the LSA unless one of its key is there.
-fn add(lsas: &mut Vec<Lsa>, lsa: Lsa) -> Result<(), Fail> {
-    let key = lsa.header().key();
-    for other in lsas.as_slice() {
-        if other.header().key() == key {
-            return Ok(());
+fn has_key(lsas: &[Lsa], key: Key) -> bool {
+    for lsa in lsas {
+        if lsa.header().key() == key {
+            return true;
         }
     }
-    lsas.push(lsa)?;
+    false
+}
+
+// Adds the LSA unless one of its key is there.
+fn add(lsas: &mut Vec<Lsa>, lsa: Lsa) -> Result<(), Fail> {
+    if !has_key(lsas, lsa.header().key()) {
+        lsas.push(lsa)?;
+    }
     Ok(())
 }
 
@@ -267,13 +272,20 @@ fn first_wrong(alloc: Global, root: &Root, counts: &mut [u32; 5]) -> Result<Opti
     Ok(None)
 }
 
+fn are_above(counts: &[u32], least: u32) -> bool {
+    for count in counts {
+        if *count <= least {
+            return false;
+        }
+    }
+    true
+}
+
 #[test]
 fn candidates_are_those_of_the_definitions(rt: HostRuntime) -> Result<(), Fail> {
     let root = root(rt.alloc(), 1, &ADDRESSES)?;
     let mut counts = [0; 5];
     assert_eq!(rt; first_wrong(rt.alloc(), &root, &mut counts)?, None);
-    for count in counts {
-        assert!(rt; count > 9, "{counts:?}");
-    }
+    assert!(rt; are_above(&counts, 9), "{counts:?}");
     Ok(())
 }
