@@ -126,7 +126,14 @@ impl<L: Site, Q: Wait + Drop> Stage<L, Q> {
         hub: &Hub<L, Book<L>>,
         now: Second,
     ) -> Result<bool, TurnError> {
-        match turn(rt, hub, &mut self.console, &Changing { hub }, now, &Work::Tick) {
+        match turn(
+            rt,
+            hub,
+            &mut self.console,
+            &Changing { hub },
+            now,
+            &Work::Tick,
+        ) {
             Ok(turned) => Ok(turned.refreshed.is_some()),
             Err(error) => Err(error),
         }
