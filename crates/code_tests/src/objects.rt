@@ -4,7 +4,8 @@ use object::{
     ContextOffset, Kind, Object, Rank, RankTerm, ReadError, StackBytes, StackOffset, StatedNumber,
     Statement, read, write,
 };
-use std::alloc::Global;
+use std::alloc::{AllocError, Global};
+use std::fmt::Debug;
 use std::process::Abort;
 use std::test::Fail;
 
@@ -38,6 +39,18 @@ fn refusal(alloc: Global, bytes: &[u8]) -> Result<u8, ReadError> {
     }
 }
 
+/// The bytes come to this number, of their refusal, or 0 where they are read. What is changed in them is told if they don't.
+fn come_to<R: AllocGlobal + Abort, D: Debug>(
+    rt: &R,
+    bytes: &[u8],
+    want: u8,
+    changed: &D,
+) -> Result<(), Fail> {
+    let found = refusal(rt.alloc(), bytes)?;
+    assert!(rt; found == want, "{changed:?}: {found}");
+    Ok(())
+}
+
 fn number(rt: &impl Abort, low: u64, high: u64) -> StatedNumber {
     StatedNumber::new(low, high, 0, 0).expect(rt, "a range")
 }
@@ -53,14 +66,16 @@ const WITHOUT_STATEMENTS: [u8; 32] = [
     0, 0, 0, 0, 0, 0,
 ];
 
+fn are_written_again<R: AllocGlobal + Abort>(rt: &R, bytes: &[u8]) -> Result<(), Fail> {
+    let written = written_again(rt.alloc(), bytes)?;
+    assert!(rt; written.as_slice() == bytes);
+    Ok(())
+}
+
 #[test]
 fn objects_are_written_as_they_were_read(rt: HostRuntime) -> Result<(), Fail> {
-    let counting = counting();
-    for bytes in [counting.as_slice(), WITHOUT_STATEMENTS.as_slice()] {
-        let written = written_again(rt.alloc(), bytes)?;
-        assert!(rt; written.as_slice() == bytes);
-    }
-    Ok(())
+    are_written_again(&rt, &counting())?;
+    are_written_again(&rt, &WITHOUT_STATEMENTS)
 }
 
 fn is_counting(rt: &impl Abort, statement: &Statement) -> bool {
@@ -80,25 +95,36 @@ fn is_counting(rt: &impl Abort, statement: &Statement) -> bool {
         && !stack.contains(511)
 }
 
+fn has_counting_code(object: &Object, bytes: &[u8; 548]) -> bool {
+    (object.hook(), object.entry_rank()) == (Hook::Price, 10)
+        && object.slots() == 6
+        && object.code() == &bytes[16..64]
+}
+
+fn has_counting_statement(rt: &impl Abort, object: &Object) -> bool {
+    match object.statements() {
+        [statement] => is_counting(rt, statement),
+        _ => false,
+    }
+}
+
 #[test]
 fn reads_a_counting_program(rt: HostRuntime) -> Result<(), Fail> {
     let bytes = counting();
     let object = read(rt.alloc(), &bytes)?;
-    assert!(rt; object.hook() == Hook::Price && object.entry_rank() == 10);
-    assert!(rt; object.slots() == 6 && object.code() == &bytes[16..64]);
-    let is_read = match object.statements() {
-        [statement] => is_counting(&rt, statement),
-        _ => false,
-    };
-    assert!(rt; is_read);
+    assert!(rt; has_counting_code(&object, &bytes));
+    assert!(rt; has_counting_statement(&rt, &object));
     Ok(())
+}
+
+fn is_without_statements(object: &Object) -> bool {
+    object.entry_rank() == 0 && object.slots() == 2 && object.statements().is_empty()
 }
 
 #[test]
 fn reads_an_object_without_statements(rt: HostRuntime) -> Result<(), Fail> {
     let object = read(rt.alloc(), &WITHOUT_STATEMENTS)?;
-    assert!(rt; object.entry_rank() == 0 && object.slots() == 2);
-    assert!(rt; object.statements().is_empty());
+    assert!(rt; is_without_statements(&object));
     Ok(())
 }
 
@@ -113,13 +139,10 @@ fn longer() -> [u8; 549] {
 fn refuses_files_of_other_lengths(rt: HostRuntime) -> Result<(), Fail> {
     let bytes = counting();
     for count in 0..548usize {
-        let front = bytes.get(..count).expect(&rt, "a front");
-        let found = refusal(rt.alloc(), front)?;
-        assert!(rt; found == 1, "{count} bytes: {found}");
+        come_to(&rt, &bytes[..count], 1, &count)?;
     }
-    assert!(rt; refusal(rt.alloc(), &bytes)? == 0);
-    assert!(rt; refusal(rt.alloc(), &longer())? == 7);
-    Ok(())
+    come_to(&rt, &bytes, 0, &548)?;
+    come_to(&rt, &longer(), 7, &549)
 }
 
 /// Each byte's place and value, and the refusal of the counting program's object with just that byte changed, or 0.
@@ -169,15 +192,19 @@ const ONE_BYTE: [(usize, u8, u8); 43] = [
     (547, 1, 6),
 ];
 
+fn with_byte(at: usize, value: u8) -> [u8; 548] {
+    let mut bytes = counting();
+    if let Some(byte) = bytes.get_mut(at) {
+        *byte = value;
+    }
+    bytes
+}
+
 #[test]
 fn refuses_each_fault_of_one_byte(rt: HostRuntime) -> Result<(), Fail> {
-    for (at, value, want) in ONE_BYTE {
-        let mut bytes = counting();
-        if let Some(byte) = bytes.get_mut(at) {
-            *byte = value;
-        }
-        let found = refusal(rt.alloc(), &bytes)?;
-        assert!(rt; found == want, "byte {at} as {value}: {found}");
+    for row in &ONE_BYTE {
+        let (at, value, want) = *row;
+        come_to(&rt, &with_byte(at, value), want, &(at, value))?;
     }
     Ok(())
 }
@@ -192,17 +219,19 @@ const COUNTS: [(u32, u16, u8); 6] = [
     (6, u16::MAX, 1),
 ];
 
+fn with_counts(slots: u32, statements: u16) -> [u8; 548] {
+    let mut bytes = counting();
+    bytes[6..8].copy_from_slice(&statements.to_le_bytes());
+    bytes[12..16].copy_from_slice(&slots.to_le_bytes());
+    bytes
+}
+
 #[test]
 fn refuses_counts_that_lie(rt: HostRuntime) -> Result<(), Fail> {
-    for (slots, statements, want) in COUNTS {
-        let mut bytes = counting();
-        bytes[6..8].copy_from_slice(&statements.to_le_bytes());
-        bytes[12..16].copy_from_slice(&slots.to_le_bytes());
-        let found = refusal(rt.alloc(), &bytes)?;
-        assert!(rt;
-            found == want,
-            "{slots} slots, {statements} statements: {found}"
-        );
+    for row in &COUNTS {
+        let (slots, statements, want) = *row;
+        let bytes = with_counts(slots, statements);
+        come_to(&rt, &bytes, want, &(slots, statements))?;
     }
     Ok(())
 }
@@ -211,14 +240,19 @@ fn refuses_counts_that_lie(rt: HostRuntime) -> Result<(), Fail> {
 /// or 0.
 const SECOND_TERMS: [(u8, u8, u8); 5] = [(0, 0, 0), (1, 1, 0), (1, 0, 6), (2, 1, 6), (10, 1, 6)];
 
+fn with_second_term(register: u8, coefficient: u8) -> [u8; 548] {
+    let mut bytes = counting();
+    bytes[73] = register;
+    bytes[80] = coefficient;
+    bytes
+}
+
 #[test]
 fn refuses_a_second_term_of_no_number(rt: HostRuntime) -> Result<(), Fail> {
-    for (register, coefficient, want) in SECOND_TERMS {
-        let mut bytes = counting();
-        bytes[73] = register;
-        bytes[80] = coefficient;
-        let found = refusal(rt.alloc(), &bytes)?;
-        assert!(rt; found == want, "r{register} * {coefficient}: {found}");
+    for row in &SECOND_TERMS {
+        let (register, coefficient, want) = *row;
+        let bytes = with_second_term(register, coefficient);
+        come_to(&rt, &bytes, want, &(register, coefficient))?;
     }
     Ok(())
 }
@@ -233,18 +267,23 @@ const SLOTS: [(u8, u8, usize, u8); 6] = [
     (1, 0x10, 0, 6),
 ];
 
+fn of_zero_code(alloc: Global, low: u8, high: u8, count: usize) -> Result<Vec<u8>, AllocError> {
+    let header = [
+        0x42, 0x50, 0x46, 0x48, 1, 3, 0, 0, 0, 0, 0, 0, low, high, 0, 0,
+    ];
+    let mut bytes = Vec::from_slice(alloc, &header)?;
+    for _ in 0..count {
+        bytes.push(0)?;
+    }
+    Ok(bytes)
+}
+
 #[test]
 fn looks_at_the_number_of_slots_before_the_length(rt: HostRuntime) -> Result<(), Fail> {
-    for (low, high, count, want) in SLOTS {
-        let header = [
-            0x42, 0x50, 0x46, 0x48, 1, 3, 0, 0, 0, 0, 0, 0, low, high, 0, 0,
-        ];
-        let mut bytes = Vec::from_slice(rt.alloc(), &header)?;
-        for _ in 0..count {
-            bytes.push(0)?;
-        }
-        let found = refusal(rt.alloc(), &bytes)?;
-        assert!(rt; found == want, "{high} {low} with {count} bytes: {found}");
+    for row in &SLOTS {
+        let (low, high, count, want) = *row;
+        let bytes = of_zero_code(rt.alloc(), low, high, count)?;
+        come_to(&rt, &bytes, want, &(low, high, count))?;
     }
     Ok(())
 }
@@ -270,19 +309,24 @@ const REGISTERS: [([u8; 7], u8); 16] = [
     ([4, 1, 8, 0, 9, 7, 0], 6),
 ];
 
+fn with_register(of_r2: [u8; 7]) -> [u8; 548] {
+    let [kind, map, low, high, most, mask, value] = of_r2;
+    let mut bytes = counting();
+    bytes[228] = kind;
+    bytes[229] = map;
+    bytes[232] = low;
+    bytes[233] = high;
+    bytes[244] = most;
+    bytes[252] = mask;
+    bytes[260] = value;
+    bytes
+}
+
 #[test]
 fn refuses_each_fault_of_a_register(rt: HostRuntime) -> Result<(), Fail> {
-    for ([kind, map, low, high, most, mask, value], want) in REGISTERS {
-        let mut bytes = counting();
-        bytes[228] = kind;
-        bytes[229] = map;
-        bytes[232] = low;
-        bytes[233] = high;
-        bytes[244] = most;
-        bytes[252] = mask;
-        bytes[260] = value;
-        let found = refusal(rt.alloc(), &bytes)?;
-        assert!(rt; found == want, "kind {kind}, map {map}: {found}");
+    for row in &REGISTERS {
+        let (of_r2, want) = *row;
+        come_to(&rt, &with_register(of_r2), want, &of_r2)?;
     }
     Ok(())
 }
@@ -314,10 +358,10 @@ fn pair(first: u8, second: u8, first_unused: u8, second_unused: u8) -> [u8; 1032
 
 #[test]
 fn refuses_the_first_fault_of_two_statements(rt: HostRuntime) -> Result<(), Fail> {
-    for (first, second, first_unused, second_unused, want) in PAIRS {
+    for row in &PAIRS {
+        let (first, second, first_unused, second_unused, want) = *row;
         let bytes = pair(first, second, first_unused, second_unused);
-        let found = refusal(rt.alloc(), &bytes)?;
-        assert!(rt; found == want, "slots {first} and {second}: {found}");
+        come_to(&rt, &bytes, want, &(first, second))?;
     }
     Ok(())
 }
@@ -350,57 +394,88 @@ fn packed<R: AllocGlobal + Abort>(rt: &R) -> Result<Object, Fail> {
     Ok(Object::new(Hook::Veto, 9, code, statements).ok_or("no object")?)
 }
 
+/// Places of the packed object, and the bytes from there on.
+const PACKED: [(usize, &[u8]); 7] = [
+    (
+        0,
+        &[
+            0x42, 0x50, 0x46, 0x48, 1, 4, 1, 0, 9, 0, 0, 0, 1, 0, 0, 0, 0x95, 0, 0, 0, 0, 0, 0, 0,
+            0, 0, 0, 0, 7, 0, 0, 0,
+        ],
+    ),
+    (44, &[0xf8, 3, 0]),
+    (106, &[0, 0x80]),
+    (148, &[2, 0, 0, 0, 0, 0, 0, 0]),
+    (188, &[3, 0, 0, 0, 0, 2, 0, 0]),
+    (468, &[4, 1, 0, 0, 0, 0, 0, 0, 0, 0]),
+    (484, &[0xf8, 1]),
+];
+
+fn stand_at(bytes: &[u8], at: usize, part: &[u8]) -> bool {
+    bytes.get(at..at.saturating_add(part.len())) == Some(part)
+}
+
+fn are_packed(rt: &impl Abort, bytes: &[u8]) {
+    assert!(rt; bytes.len() == 508);
+    for row in &PACKED {
+        let (at, part) = *row;
+        assert!(rt; stand_at(bytes, at, part), "at {at}");
+    }
+}
+
 #[test]
 fn packs_stack_bytes_from_the_lowest_bit_on(rt: HostRuntime) -> Result<(), Fail> {
     let object = packed(&rt)?;
     let bytes = write(rt.alloc(), &object)?;
-    assert!(rt; bytes.len() == 508);
-    let parts: [(usize, &[u8]); 7] = [
-        (
-            0,
-            &[
-                0x42, 0x50, 0x46, 0x48, 1, 4, 1, 0, 9, 0, 0, 0, 1, 0, 0, 0, 0x95, 0, 0, 0, 0, 0, 0,
-                0, 0, 0, 0, 0, 7, 0, 0, 0,
-            ],
-        ),
-        (44, &[0xf8, 3, 0]),
-        (106, &[0, 0x80]),
-        (148, &[2, 0, 0, 0, 0, 0, 0, 0]),
-        (188, &[3, 0, 0, 0, 0, 2, 0, 0]),
-        (468, &[4, 1, 0, 0, 0, 0, 0, 0, 0, 0]),
-        (484, &[0xf8, 1]),
-    ];
-    for (at, part) in parts {
-        let end = at.saturating_add(part.len());
-        assert!(rt; bytes.get(at..end) == Some(part), "at {at}");
-    }
+    are_packed(&rt, &bytes);
     Ok(())
+}
+
+// What is read of the bytes that are written of the object.
+fn read_again(alloc: Global, object: &Object) -> Result<Object, Fail> {
+    let bytes = write(alloc, object)?;
+    Ok(read(alloc, &bytes)?)
 }
 
 #[test]
 fn what_is_packed_is_read_again(rt: HostRuntime) -> Result<(), Fail> {
     let object = packed(&rt)?;
-    let bytes = write(rt.alloc(), &object)?;
-    let again = read(rt.alloc(), &bytes)?;
+    let again = read_again(rt.alloc(), &object)?;
     assert!(rt; again.statements() == object.statements());
     Ok(())
 }
 
-#[test]
-fn holds_no_ill_formed_part(rt: HostRuntime) -> Result<(), Fail> {
-    assert!(rt; StatedNumber::new(2, 1, 0, 0) == None);
-    assert!(rt; StatedNumber::new(0, 9, 4, 5) == None);
-    assert!(rt; ContextOffset::new(65) == None);
-    assert!(rt; StackOffset::new(513) == None);
-    assert!(rt; RankTerm::new(10, 1) == None);
-    assert!(rt; RankTerm::new(0, 0) == None);
+// A statement whose rank is of a register that is no number.
+fn is_refused_without_a_rank() -> bool {
     let rank = Rank {
         constant: 0,
         first: RankTerm::new(3, 1),
         second: None,
     };
-    assert!(rt; Statement::new(0, rank, [Kind::Empty; 10], StackBytes::new()) == None);
-    let code = Vec::from_slice(rt.alloc(), &[0; 12])?;
-    assert!(rt; Object::new(Hook::Tag, 0, code, Vec::new(rt.alloc())).is_none());
+    Statement::new(0, rank, [Kind::Empty; 10], StackBytes::new()).is_none()
+}
+
+// An object whose code is a slot and a half.
+fn is_refused_with_half_a_slot(alloc: Global) -> Result<bool, AllocError> {
+    let code = Vec::from_slice(alloc, &[0; 12])?;
+    Ok(Object::new(Hook::Tag, 0, code, Vec::new(alloc)).is_none())
+}
+
+fn are_refused() -> [bool; 7] {
+    [
+        StatedNumber::new(2, 1, 0, 0).is_none(),
+        StatedNumber::new(0, 9, 4, 5).is_none(),
+        ContextOffset::new(65).is_none(),
+        StackOffset::new(513).is_none(),
+        RankTerm::new(10, 1).is_none(),
+        RankTerm::new(0, 0).is_none(),
+        is_refused_without_a_rank(),
+    ]
+}
+
+#[test]
+fn holds_no_ill_formed_part(rt: HostRuntime) -> Result<(), Fail> {
+    assert!(rt; are_refused() == [true; 7]);
+    assert!(rt; is_refused_with_half_a_slot(rt.alloc())?);
     Ok(())
 }

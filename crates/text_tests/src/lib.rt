@@ -4,6 +4,8 @@
 #[cfg(test)]
 mod advertisements;
 #[cfg(test)]
+mod lsas;
+#[cfg(test)]
 mod names;
 #[cfg(test)]
 mod orders;

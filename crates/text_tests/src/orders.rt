@@ -1,5 +1,6 @@
 //! The orders of keys, prefixes and kinds of routes, and the constants.
 use std::cmp::Ordering;
+use std::process::Abort;
 use words::laws::{no_interface, sequence_numbers, unspecified};
 use words::{Address, Key, LinkStateId, Prefix, RouteKind, RouterId};
 
@@ -11,11 +12,18 @@ fn key(ls_type: u32, link_state_id: u32, router: u32) -> Key {
     }
 }
 
+fn are_orders(rt: &impl Abort, rows: &[(Ordering, Ordering)]) {
+    for row in rows {
+        let (order, wanted) = *row;
+        assert!(rt; order == wanted, "{row:?}");
+    }
+}
+
 #[test]
 fn keys_and_kinds_are_ordered(rt: HostRuntime) {
     let inter = RouteKind::Inter;
     let external_2 = RouteKind::External2;
-    for (order, wanted) in [
+    let rows = [
         (key(1, 9, 9).compare(&key(2, 0, 0)), Ordering::Less),
         (key(1, 1, 9).compare(&key(1, 2, 0)), Ordering::Less),
         (key(1, 1, 1).compare(&key(1, 1, 2)), Ordering::Less),
@@ -23,9 +31,8 @@ fn keys_and_kinds_are_ordered(rt: HostRuntime) {
         (key(3, 1, 2).compare(&key(3, 1, 2)), Ordering::Equal),
         (inter.compare(RouteKind::External1), Ordering::Less),
         (external_2.compare(RouteKind::Intra), Ordering::Greater),
-    ] {
-        assert_eq!(rt; order, wanted);
-    }
+    ];
+    are_orders(&rt, &rows);
     assert!(rt; key(1, 9, 9) < key(2, 0, 0));
 }
 
@@ -36,8 +43,11 @@ fn prefixes_are_ordered_by_address_first(rt: HostRuntime) {
     let wide = Prefix::under(Address::new(0x0b00_0000), 8);
     match (near, far, wide) {
         (Some(near), Some(far), Some(wide)) => {
-            assert!(rt; near.compare(&far) == Ordering::Greater);
-            assert!(rt; near.compare(&wide) == Ordering::Less);
+            let rows = [
+                (near.compare(&far), Ordering::Greater),
+                (near.compare(&wide), Ordering::Less),
+            ];
+            are_orders(&rt, &rows);
         }
         _ => assert!(rt; false),
     }
@@ -47,13 +57,8 @@ fn prefixes_are_ordered_by_address_first(rt: HostRuntime) {
 fn constants_have_the_numbers_of_the_standard(rt: HostRuntime) {
     let (initial, max) = sequence_numbers();
     let (backbone, router, address) = unspecified();
-    for (number, wanted) in [
-        (initial.bits(), 0x8000_0001),
-        (max.bits(), 0x7fff_ffff),
-        (backbone.number(), 0),
-    ] {
-        assert_eq!(rt; number, wanted);
-    }
+    let numbers = [initial.bits(), max.bits(), backbone.number()];
+    assert!(rt; numbers == [0x8000_0001, 0x7fff_ffff, 0], "{numbers:?}");
     assert!(rt; router.is_unspecified() && address.is_unspecified());
     assert!(rt; no_interface().is_empty());
 }

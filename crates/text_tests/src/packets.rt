@@ -1,6 +1,7 @@
 //! Worked packets, whose bytes and checksums another program computed.
 use packet::{Body, Description, Header, Hello, read, write};
 use std::alloc::{AllocError, Global};
+use std::process::Abort;
 use std::test::Fail;
 use words::{Key, RouterId, Sequence};
 
@@ -248,40 +249,45 @@ fn written_again(alloc: Global, bytes: &[u8]) -> Result<Vec<u8>, Fail> {
     Ok(write(alloc, &packet)?)
 }
 
+fn are_written_as<R: AllocGlobal + Abort>(
+    rt: &R,
+    bytes: &[u8],
+    canonical: &[u8],
+) -> Result<(), Fail> {
+    let written = written_again(rt.alloc(), bytes)?;
+    assert!(rt; written.as_slice() == canonical, "{bytes:?}: {written:?}");
+    Ok(())
+}
+
+const PACKETS: &[&[u8]] = &[
+    HELLO_RECEIVED,
+    HELLO_NAMING,
+    HELLO_ALONE,
+    FIRST_DESCRIPTION,
+    DESCRIPTION,
+    REQUEST,
+    UPDATE,
+    UPDATE_EMPTY,
+    UPDATE_SHORTEST,
+    UPDATE_ODD,
+    ACKNOWLEDGMENT,
+    REQUEST_EMPTY,
+    ACKNOWLEDGMENT_EMPTY,
+    SUM_OF_ONES,
+];
+
 #[test]
 fn packets_are_written_as_they_were_read(rt: HostRuntime) -> Result<(), Fail> {
-    for bytes in [
-        HELLO_RECEIVED,
-        HELLO_NAMING,
-        HELLO_ALONE,
-        FIRST_DESCRIPTION,
-        DESCRIPTION,
-        REQUEST,
-        UPDATE,
-        UPDATE_EMPTY,
-        UPDATE_SHORTEST,
-        UPDATE_ODD,
-        ACKNOWLEDGMENT,
-        REQUEST_EMPTY,
-        ACKNOWLEDGMENT_EMPTY,
-        SUM_OF_ONES,
-    ] {
-        let written = written_again(rt.alloc(), bytes)?;
-        assert_eq!(rt; written.as_slice(), bytes);
+    for bytes in PACKETS {
+        are_written_as(&rt, bytes, bytes)?;
     }
     Ok(())
 }
 
 #[test]
 fn open_bytes_are_not_read(rt: HostRuntime) -> Result<(), Fail> {
-    for (bytes, canonical) in [
-        (HELLO_OPEN, HELLO_NAMING),
-        (ACKNOWLEDGMENT_OPEN, ACKNOWLEDGMENT),
-    ] {
-        let written = written_again(rt.alloc(), bytes)?;
-        assert_eq!(rt; written.as_slice(), canonical);
-    }
-    Ok(())
+    are_written_as(&rt, HELLO_OPEN, HELLO_NAMING)?;
+    are_written_as(&rt, ACKNOWLEDGMENT_OPEN, ACKNOWLEDGMENT)
 }
 
 fn is_the_hello(hello: &Hello) -> bool {
@@ -346,92 +352,129 @@ fn is_as_above(body: &Body) -> bool {
     }
 }
 
+// The bytes are read as a packet of this router, with the body of its type above.
+fn are_read<R: AllocGlobal + Abort>(rt: &R, bytes: &[u8], router: u32) -> Result<(), Fail> {
+    let packet = read(rt.alloc(), bytes)?;
+    assert!(rt;
+        packet.router.number() == router && is_as_above(&packet.body),
+        "{bytes:?}"
+    );
+    Ok(())
+}
+
+const BODIES: &[(&[u8], u32)] = &[
+    (HELLO_NAMING, 0x0101_0101),
+    (DESCRIPTION, 0x0202_0202),
+    (REQUEST, 0x0101_0101),
+    (UPDATE, 0x0101_0101),
+    (ACKNOWLEDGMENT, 0x0101_0101),
+];
+
 #[test]
 fn each_body_is_read_by_its_fields(rt: HostRuntime) -> Result<(), Fail> {
-    for (bytes, router) in [
-        (HELLO_NAMING, 0x0101_0101),
-        (DESCRIPTION, 0x0202_0202),
-        (REQUEST, 0x0101_0101),
-        (UPDATE, 0x0101_0101),
-        (ACKNOWLEDGMENT, 0x0101_0101),
-    ] {
-        let packet = read(rt.alloc(), bytes)?;
-        assert!(rt; packet.router.number() == router && is_as_above(&packet.body));
+    for row in BODIES {
+        let (bytes, router) = *row;
+        are_read(&rt, bytes, router)?;
     }
     Ok(())
 }
 
-#[test]
-fn each_fault_has_its_number(rt: HostRuntime) {
-    let faults = [
-        (BYTES_23, 1),
-        (HELLO_40, 1),
-        (DESCRIPTION_28, 1),
-        (UPDATE_24, 1),
-        (VERSION_3, 2),
-        (TYPE_0, 3),
-        (TYPE_6, 3),
-        (LENGTH_LESS, 4),
-        (LENGTH_MORE, 4),
-        (CHECKSUM_MORE, 5),
-        (SUM_OF_ZEROS, 5),
-        (AREA_1, 6),
-        (AUTH_1, 7),
-    ];
-    for (bytes, number) in faults {
-        assert_eq!(rt; refusal(rt.alloc(), bytes), number);
+fn is_refused<R: AllocGlobal + Abort>(rt: &R, bytes: &[u8], number: u8) {
+    let found = refusal(rt.alloc(), bytes);
+    assert!(rt; found == number, "{bytes:?}: {found}");
+}
+
+// Each packet is refused with this number.
+fn are_refused<R: AllocGlobal + Abort>(rt: &R, faults: &[(&[u8], u8)]) {
+    for row in faults {
+        let (bytes, number) = *row;
+        is_refused(rt, bytes, number);
     }
 }
+
+const FAULTS: &[(&[u8], u8)] = &[
+    (BYTES_23, 1),
+    (HELLO_40, 1),
+    (DESCRIPTION_28, 1),
+    (UPDATE_24, 1),
+    (VERSION_3, 2),
+    (TYPE_0, 3),
+    (TYPE_6, 3),
+    (LENGTH_LESS, 4),
+    (LENGTH_MORE, 4),
+    (CHECKSUM_MORE, 5),
+    (SUM_OF_ZEROS, 5),
+    (AREA_1, 6),
+    (AUTH_1, 7),
+];
+
+#[test]
+fn each_fault_has_its_number(rt: HostRuntime) {
+    are_refused(&rt, FAULTS);
+}
+
+const NOT_FILLED: &[(&[u8], u8)] = &[
+    (HELLO_46, 8),
+    (FLAGS_8, 8),
+    (DESCRIPTION_51, 8),
+    (REQUEST_11, 8),
+    (ACKNOWLEDGMENT_43, 8),
+    (COUNT_1_OF_0, 8),
+    (COUNT_3_OF_2, 8),
+    (COUNT_1_OF_2, 8),
+    (COUNT_ALL, 8),
+    (LSA_OF_19, 8),
+    (LSA_OF_0, 8),
+    (LSA_PAST, 8),
+    (LSA_CUT, 8),
+];
 
 #[test]
 fn bodies_are_filled_exactly(rt: HostRuntime) {
-    let bodies = [
-        HELLO_46,
-        FLAGS_8,
-        DESCRIPTION_51,
-        REQUEST_11,
-        ACKNOWLEDGMENT_43,
-        COUNT_1_OF_0,
-        COUNT_3_OF_2,
-        COUNT_1_OF_2,
-        COUNT_ALL,
-        LSA_OF_19,
-        LSA_OF_0,
-        LSA_PAST,
-        LSA_CUT,
-    ];
-    for bytes in bodies {
-        assert_eq!(rt; refusal(rt.alloc(), bytes), 8);
-    }
+    are_refused(&rt, NOT_FILLED);
 }
+
+const TWO_FAULTS: &[(&[u8], u8)] = &[
+    (SHORT_AND_VERSION, 1),
+    (VERSION_AND_TYPE, 2),
+    (TYPE_AND_LENGTH, 3),
+    (LENGTH_AND_CHECKSUM, 4),
+    (CHECKSUM_AND_AREA, 5),
+    (AREA_AND_AUTH, 6),
+    (AUTH_AND_BODY, 7),
+];
 
 #[test]
 fn the_earlier_of_two_faults_answers(rt: HostRuntime) {
-    let faults = [
-        (SHORT_AND_VERSION, 1),
-        (&HELLO_RECEIVED[..43], 1),
-        (VERSION_AND_TYPE, 2),
-        (TYPE_AND_LENGTH, 3),
-        (LENGTH_AND_CHECKSUM, 4),
-        (CHECKSUM_AND_AREA, 5),
-        (AREA_AND_AUTH, 6),
-        (AUTH_AND_BODY, 7),
-    ];
-    for (bytes, number) in faults {
-        assert_eq!(rt; refusal(rt.alloc(), bytes), number);
-    }
+    are_refused(&rt, TWO_FAULTS);
+    // too short for a Hello, and not of the length that it names
+    is_refused(&rt, &HELLO_RECEIVED[..43], 1);
+}
+
+fn is_written_with_8192_bytes<R: AllocGlobal + Abort>(
+    rt: &R,
+    front: &[u8],
+    byte: u8,
+) -> Result<(), Fail> {
+    let bytes = continued(rt.alloc(), front, byte, 8192)?;
+    are_written_as(rt, &bytes, &bytes)
+}
+
+fn is_refused_with_bytes<R: AllocGlobal + Abort>(
+    rt: &R,
+    front: &[u8],
+    byte: u8,
+    size: usize,
+) -> Result<(), Fail> {
+    let bytes = continued(rt.alloc(), front, byte, size)?;
+    is_refused(rt, &bytes, 4);
+    Ok(())
 }
 
 #[test]
 fn a_packet_has_at_most_8192_bytes(rt: HostRuntime) -> Result<(), Fail> {
-    for (front, byte) in [(UPDATE_8192, 0), (HELLO_8192, 3)] {
-        let bytes = continued(rt.alloc(), front, byte, 8192)?;
-        let written = written_again(rt.alloc(), &bytes)?;
-        assert_eq!(rt; written.as_slice(), bytes.as_slice());
-    }
-    for (front, byte, size) in [(UPDATE_8193, 0, 8193), (HELLO_8196, 3, 8196)] {
-        let bytes = continued(rt.alloc(), front, byte, size)?;
-        assert_eq!(rt; refusal(rt.alloc(), &bytes), 4);
-    }
-    Ok(())
+    is_written_with_8192_bytes(&rt, UPDATE_8192, 0)?;
+    is_written_with_8192_bytes(&rt, HELLO_8192, 3)?;
+    is_refused_with_bytes(&rt, UPDATE_8193, 0, 8193)?;
+    is_refused_with_bytes(&rt, HELLO_8196, 3, 8196)
 }

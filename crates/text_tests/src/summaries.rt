@@ -2,7 +2,8 @@
 ghost use Rattle.std.specs.Prelude.{◌≡◌, ◌≢◌};
 ghost use Rattle.lsa.specs.Text.{reserved_sequence};
 
-use lsa::{Body, Header, Lsa, SummaryLsa, SummaryTos, checksum_holds, read, write};
+use crate::lsas::{are_refused, are_written_again, is_refused};
+use lsa::{Body, Header, Lsa, SummaryLsa, SummaryTos, read, write};
 use std::alloc::{AllocError, Global};
 use std::process::Abort;
 use std::test::Fail;
@@ -43,28 +44,9 @@ const TOS_CUT: &[u8] =
 const HEADER_ALONE: &[u8] =
     b"\x00\x00\x02\x04\x09\x09\x09\x09\x02\x02\x02\x02\x80\x00\x00\x01\x71\xc6\x00\x14";
 
-// The number of the refusal, or 0.
-fn refusal(alloc: Global, bytes: &[u8]) -> u8 {
-    match read(alloc, bytes) {
-        Ok(_) => 0,
-        Err(error) => error.number(),
-    }
-}
-
-// What is written of the LSA that the bytes are read as.
-fn written_again(alloc: Global, bytes: &[u8]) -> Result<Vec<u8>, Fail> {
-    let lsa = read(alloc, bytes)?;
-    Ok(write(alloc, &lsa)?)
-}
-
 #[test]
 fn summaries_are_written_as_they_were_read(rt: HostRuntime) -> Result<(), Fail> {
-    for text in [NETWORK, ROUTER, UNREACHABLE, TOS] {
-        assert!(rt; checksum_holds(text));
-        let written = written_again(rt.alloc(), text)?;
-        assert_eq!(rt; written.as_slice(), text);
-    }
-    Ok(())
+    are_written_again(&rt, &[NETWORK, ROUTER, UNREACHABLE, TOS])
 }
 
 fn is_to_the_network(summary: &SummaryLsa) -> bool {
@@ -80,40 +62,45 @@ fn is_to_the_network(summary: &SummaryLsa) -> bool {
         && summary.tos.as_slice() == tos.as_slice()
 }
 
+fn is_one_to_the_network(lsa: &Lsa) -> bool {
+    match lsa.body() {
+        Body::NetworkSummary(summary) => is_to_the_network(summary),
+        _ => false,
+    }
+}
+
 #[test]
 fn a_type_3_is_read_as_one_to_a_network(rt: HostRuntime) -> Result<(), Fail> {
     let lsa = read(rt.alloc(), TOS)?;
-    let is_read = match lsa.body() {
-        Body::NetworkSummary(summary) => is_to_the_network(summary),
-        _ => false,
-    };
-    assert!(rt; is_read);
+    assert!(rt; is_one_to_the_network(&lsa));
     Ok(())
+}
+
+fn is_one_to_the_router(lsa: &Lsa) -> bool {
+    match lsa.body() {
+        Body::RouterSummary(summary) => summary.metric == 7,
+        _ => false,
+    }
 }
 
 #[test]
 fn a_type_4_is_read_as_one_to_a_router(rt: HostRuntime) -> Result<(), Fail> {
     let lsa = read(rt.alloc(), ROUTER)?;
-    let is_read = match lsa.body() {
-        Body::RouterSummary(summary) => summary.metric == 7,
-        _ => false,
-    };
-    assert!(rt; is_read);
+    assert!(rt; is_one_to_the_router(&lsa));
     Ok(())
 }
 
+const FAULTS: &[(&[u8], u8)] = &[
+    (ZERO_BYTE, 5),
+    (ROUTER_ZERO_BYTE, 5),
+    (METRIC_CUT, 5),
+    (TOS_CUT, 5),
+    (HEADER_ALONE, 5),
+];
+
 #[test]
 fn faults_of_summaries_are_told_by_their_numbers(rt: HostRuntime) {
-    for bytes in [
-        ZERO_BYTE,
-        ROUTER_ZERO_BYTE,
-        METRIC_CUT,
-        TOS_CUT,
-        HEADER_ALONE,
-    ] {
-        assert!(rt; checksum_holds(bytes));
-        assert_eq!(rt; refusal(rt.alloc(), bytes), 5);
-    }
+    are_refused(&rt, FAULTS);
 }
 
 // The bytes with another second check byte.
@@ -128,7 +115,7 @@ fn with_check_byte(alloc: Global, bytes: &[u8], byte: u8) -> Result<Vec<u8>, All
 #[test]
 fn a_wrong_checksum_of_a_summary_is_refused(rt: HostRuntime) -> Result<(), Fail> {
     let bytes = with_check_byte(rt.alloc(), NETWORK, 0x5e)?;
-    assert_eq!(rt; refusal(rt.alloc(), &bytes), 3);
+    is_refused(&rt, &bytes, 3);
     Ok(())
 }
 
@@ -172,7 +159,7 @@ fn to_the_router(alloc: Global) -> Result<Lsa, AllocError> {
 // The LSA is written so.
 fn is_written(rt: &impl Abort, alloc: Global, lsa: &Lsa, text: &[u8]) -> Result<(), Fail> {
     let written = write(alloc, lsa)?;
-    assert_eq!(rt; written.as_slice(), text);
+    assert!(rt; written.as_slice() == text, "{written:?}");
     Ok(())
 }
 

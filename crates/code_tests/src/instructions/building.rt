@@ -28,14 +28,23 @@ fn a_builder_has_the_slots_of_what_was_put_in(rt: HostRuntime) -> Result<(), Fai
     Ok(())
 }
 
+// Of 4,095 slots.
+fn has_room_for_one(rt: &impl Abort, builder: &mut CodeBuilder) {
+    assert!(rt; builder.len() == 4095);
+    // what is put in, the answer, and the slots afterwards
+    for (instruction, answer, slots) in [
+        (wide(rt), Err(BuildError::TooLong), 4095),
+        (Instruction::Exit, Ok(()), 4096),
+        (Instruction::Exit, Err(BuildError::TooLong), 4096),
+    ] {
+        assert!(rt; (builder.push(instruction), builder.len()) == (answer, slots));
+    }
+}
+
 #[test]
 fn a_builder_ends_at_4096_slots(rt: HostRuntime) -> Result<(), Fail> {
     let mut builder = nearly_full(&rt)?;
-    assert!(rt; builder.len() == 4095);
-    assert!(rt; builder.push(wide(&rt)) == Err(BuildError::TooLong));
-    assert!(rt; builder.len() == 4095);
-    assert!(rt; builder.push(Instruction::Exit).is_ok());
-    assert!(rt; builder.push(Instruction::Exit) == Err(BuildError::TooLong));
+    has_room_for_one(&rt, &mut builder);
     Ok(())
 }
 
@@ -46,17 +55,24 @@ fn full<R: AllocGlobal + Abort>(rt: &R) -> Result<Code, Fail> {
     Ok(builder.finish().ok_or("no code")?)
 }
 
+fn is_full(code: &Code) -> bool {
+    code.len() == 4096
+        && code.at(1) == Some(Slot::SecondHalf)
+        && code.at(4095) == Some(Slot::Start(Instruction::Exit))
+        && code.at(4096) == None
+}
+
+fn is_spelt_and_read<R: AllocGlobal + Abort>(rt: &R, code: &Code) -> Result<(), Fail> {
+    let bytes = encode(rt.alloc(), code)?;
+    assert!(rt; bytes.len() == 32_768);
+    check_decoded(rt, code, &bytes)
+}
+
 #[test]
 fn code_of_4096_slots_is_spelt_and_read(rt: HostRuntime) -> Result<(), Fail> {
     let code = full(&rt)?;
-    assert!(rt; code.len() == 4096 && code.at(1) == Some(Slot::SecondHalf));
-    assert!(rt; code.at(4095) == Some(Slot::Start(Instruction::Exit)));
-    assert!(rt; code.at(4096) == None);
-    let bytes = encode(rt.alloc(), &code)?;
-    assert!(rt; bytes.len() == 32_768);
-    let again = decode(rt.alloc(), bytes.as_slice())?;
-    assert!(rt; again.slots() == code.slots());
-    Ok(())
+    assert!(rt; is_full(&code));
+    is_spelt_and_read(&rt, &code)
 }
 
 #[test]
@@ -64,23 +80,50 @@ fn no_instruction_is_no_code(rt: HostRuntime) {
     assert!(rt; CodeBuilder::new(rt.alloc()).finish().is_none());
 }
 
+// The registers are numbered from 0 to 10.
+fn is_numbered(number: u8) -> bool {
+    match Register::new(number) {
+        Some(named) => number < 11 && named.number() == number,
+        None => number == 11,
+    }
+}
+
+const HOOKS: [(u8, Option<Hook>); 6] = [
+    (0, None),
+    (1, Some(Hook::Count)),
+    (2, Some(Hook::Tag)),
+    (3, Some(Hook::Price)),
+    (4, Some(Hook::Veto)),
+    (5, None),
+];
+
+fn hooks_are_numbered() -> bool {
+    for row in &HOOKS {
+        let (number, hook) = *row;
+        if Hook::from_number(number) != hook {
+            return false;
+        }
+    }
+    true
+}
+
+const MAPS: [(u8, Option<Map>); 3] = [(0, Some(Map::Counters)), (1, Some(Map::Cells)), (2, None)];
+
+fn maps_are_numbered() -> bool {
+    for row in &MAPS {
+        let (number, map) = *row;
+        if Map::from_number(number) != map {
+            return false;
+        }
+    }
+    true
+}
+
 #[test]
 fn names_have_their_numbers(rt: HostRuntime) {
-    for number in 0..=10u8 {
-        assert!(rt; Register::new(number).map(|named| named.number()) == Some(number));
+    for number in 0..12u8 {
+        assert!(rt; is_numbered(number));
     }
-    assert!(rt; Register::new(11) == None);
-    for (number, hook) in [
-        (0, None),
-        (1, Some(Hook::Count)),
-        (2, Some(Hook::Tag)),
-        (3, Some(Hook::Price)),
-        (4, Some(Hook::Veto)),
-        (5, None),
-    ] {
-        assert!(rt; Hook::from_number(number) == hook);
-    }
-    for (number, map) in [(0, Some(Map::Counters)), (1, Some(Map::Cells)), (2, None)] {
-        assert!(rt; Map::from_number(number) == map);
-    }
+    assert!(rt; hooks_are_numbered());
+    assert!(rt; maps_are_numbered());
 }

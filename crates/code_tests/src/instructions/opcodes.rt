@@ -25,22 +25,20 @@ impl Listing {
 
     // The instructions are encoded to the bytes, and the bytes are decoded to the instructions.
     fn check<R: AllocGlobal + Abort>(self, rt: &R) -> Result<(), Fail> {
-        let code = self.builder.finish().ok_or("no instruction")?;
-        let bytes = self.bytes;
-        check_encoded(rt, &code, &bytes)?;
-        check_decoded(rt, &code, &bytes)
+        let Listing { builder, bytes } = self;
+        let code = builder.finish().ok_or("no instruction")?;
+        check_both_ways(rt, &code, &bytes)
     }
+}
+
+fn check_both_ways<R: AllocGlobal + Abort>(rt: &R, code: &Code, bytes: &[u8]) -> Result<(), Fail> {
+    check_encoded(rt, code, bytes)?;
+    check_decoded(rt, code, bytes)
 }
 
 fn check_encoded<R: AllocGlobal + Abort>(rt: &R, code: &Code, bytes: &[u8]) -> Result<(), Fail> {
     let encoded = encode(rt.alloc(), code)?;
     assert!(rt; encoded.as_slice() == bytes, "{encoded:?}");
-    Ok(())
-}
-
-fn check_decoded<R: AllocGlobal + Abort>(rt: &R, code: &Code, bytes: &[u8]) -> Result<(), Fail> {
-    let decoded = decode(rt.alloc(), bytes)?;
-    assert!(rt; decoded.slots() == code.slots());
     Ok(())
 }
 
@@ -77,64 +75,94 @@ const TESTS: &[(Test, [u8; 4])] = &[
     (Test::SignedLessOrEqual, [0xd6, 0xde, 0xd5, 0xdd]),
 ];
 
-// Four ways to say the second operand, -2 and r7, with the bytes of the registers and of the immediate: r3 is the first.
-fn operands(rt: &impl Abort) -> [(Width, Source, u8, u8); 4] {
+fn r7(rt: &impl Abort) -> Source {
+    Source::Register(register(rt, 7))
+}
+
+// Four ways to say the second operand, -2 and r7, with the opcode and the bytes of the registers and of the immediate: r3 is the first.
+fn operands(rt: &impl Abort, opcodes: [u8; 4]) -> [(Width, Source, u8, u8, u8); 4] {
+    let [number32, register32, number64, register64] = opcodes;
     [
-        (Width::Bits32, Source::Immediate(-2), 0x03, 0xff),
-        (Width::Bits32, Source::Register(register(rt, 7)), 0x73, 0),
-        (Width::Bits64, Source::Immediate(-2), 0x03, 0xff),
-        (Width::Bits64, Source::Register(register(rt, 7)), 0x73, 0),
+        (Width::Bits32, Source::Immediate(-2), number32, 0x03, 0xff),
+        (Width::Bits32, r7(rt), register32, 0x73, 0),
+        (Width::Bits64, Source::Immediate(-2), number64, 0x03, 0xff),
+        (Width::Bits64, r7(rt), register64, 0x73, 0),
     ]
+}
+
+fn add_operation(
+    rt: &impl Abort,
+    listing: &mut Listing,
+    operation: Operation,
+    offset: u8,
+    opcodes: [u8; 4],
+) -> Result<(), Fail> {
+    for (width, source, opcode, registers, fill) in operands(rt, opcodes) {
+        let instruction = Instruction::Arithmetic {
+            width,
+            operation,
+            target: register(rt, 3),
+            source,
+        };
+        let lowest = fill & 0xfe;
+        listing.add(
+            instruction,
+            &[opcode, registers, offset, 0, lowest, fill, fill, fill],
+        )?;
+    }
+    Ok(())
+}
+
+fn add_operations(rt: &impl Abort, listing: &mut Listing) -> Result<(), Fail> {
+    for row in OPERATIONS {
+        let (operation, offset, opcodes) = *row;
+        add_operation(rt, listing, operation, offset, opcodes)?;
+    }
+    Ok(())
 }
 
 #[test]
 fn operations(rt: HostRuntime) -> Result<(), Fail> {
     let mut listing = Listing::new(&rt);
-    for (operation, offset, opcodes) in OPERATIONS.iter().copied() {
-        for ((width, source, registers, fill), opcode) in operands(&rt)
-            .iter()
-            .copied()
-            .zip(opcodes)
-        {
-            let instruction = Instruction::Arithmetic {
-                width,
-                operation,
-                target: register(&rt, 3),
-                source,
-            };
-            let lowest = fill & 0xfe;
-            listing.add(
-                instruction,
-                &[opcode, registers, offset, 0, lowest, fill, fill, fill],
-            )?;
-        }
-    }
+    add_operations(&rt, &mut listing)?;
     listing.check(&rt)
+}
+
+fn add_jump(
+    rt: &impl Abort,
+    listing: &mut Listing,
+    test: Test,
+    opcodes: [u8; 4],
+) -> Result<(), Fail> {
+    for (width, right, opcode, registers, fill) in operands(rt, opcodes) {
+        let instruction = Instruction::Branch {
+            width,
+            test,
+            left: register(rt, 3),
+            right,
+            distance: -3,
+        };
+        let lowest = fill & 0xfe;
+        listing.add(
+            instruction,
+            &[opcode, registers, 0xfd, 0xff, lowest, fill, fill, fill],
+        )?;
+    }
+    Ok(())
+}
+
+fn add_jumps(rt: &impl Abort, listing: &mut Listing) -> Result<(), Fail> {
+    for row in TESTS {
+        let (test, opcodes) = *row;
+        add_jump(rt, listing, test, opcodes)?;
+    }
+    Ok(())
 }
 
 #[test]
 fn conditional_jumps(rt: HostRuntime) -> Result<(), Fail> {
     let mut listing = Listing::new(&rt);
-    for (test, opcodes) in TESTS.iter().copied() {
-        for ((width, right, registers, fill), opcode) in operands(&rt)
-            .iter()
-            .copied()
-            .zip(opcodes)
-        {
-            let instruction = Instruction::Branch {
-                width,
-                test,
-                left: register(&rt, 3),
-                right,
-                distance: -3,
-            };
-            let lowest = fill & 0xfe;
-            listing.add(
-                instruction,
-                &[opcode, registers, 0xfd, 0xff, lowest, fill, fill, fill],
-            )?;
-        }
-    }
+    add_jumps(&rt, &mut listing)?;
     listing.check(&rt)
 }
 
@@ -202,11 +230,17 @@ fn changes_of_one_number(rt: HostRuntime) -> Result<(), Fail> {
 // An instruction, and the bytes that spell it.
 type Line<'a> = (Instruction, &'a [u8]);
 
-fn check_lines<R: AllocGlobal + Abort>(rt: &R, lines: &[Line<'_>]) -> Result<(), Fail> {
-    let mut listing = Listing::new(rt);
-    for (instruction, bytes) in lines.iter().copied() {
+fn add_lines(listing: &mut Listing, lines: &[Line<'_>]) -> Result<(), Fail> {
+    for line in lines {
+        let (instruction, bytes) = *line;
         listing.add(instruction, bytes)?;
     }
+    Ok(())
+}
+
+fn check_lines<R: AllocGlobal + Abort>(rt: &R, lines: &[Line<'_>]) -> Result<(), Fail> {
+    let mut listing = Listing::new(rt);
+    add_lines(&mut listing, lines)?;
     listing.check(rt)
 }
 

@@ -77,96 +77,122 @@ const SLOTS: &[([u8; 8], DecodeFault)] = &[
     ([0x18, 0x60, 0, 0, 0, 0, 0, 0], DecodeFault::HalfWide),
 ];
 
-#[test]
-fn slots_that_are_no_instruction(rt: HostRuntime) {
-    for (slot, kind) in SLOTS.iter().copied() {
-        assert_eq!(rt;
-            fault_of(&rt, slot.as_slice()),
-            Some((0, kind)),
-            "at {slot:?}"
-        );
+// The bytes come to this refusal and its slot, or are code where there is none. What is particular about them is told if they don't.
+fn come_to<R: AllocGlobal + Abort, D: Debug>(
+    rt: &R,
+    bytes: &[u8],
+    want: Option<(usize, DecodeFault)>,
+    told: &D,
+) {
+    let found = fault_of(rt, bytes);
+    assert!(rt; found == want, "at {told:?}: {found:?}");
+}
+
+fn are_no_instruction<R: AllocGlobal + Abort>(rt: &R, slots: &[([u8; 8], DecodeFault)]) {
+    for row in slots {
+        let (slot, kind) = *row;
+        come_to(rt, slot.as_slice(), Some((0, kind)), row);
     }
 }
 
 #[test]
-fn faults_name_their_slot(rt: HostRuntime) {
-    // behind `exit` and a wide instruction; in the second slot of a wide one, which names its first
-    let front = [
+fn slots_that_are_no_instruction(rt: HostRuntime) {
+    are_no_instruction(&rt, SLOTS);
+}
+
+// A slot behind `exit` and a wide instruction, and what this comes to.
+const BEHIND_TWO: &[([u8; 8], Option<(usize, DecodeFault)>)] = &[
+    ([0x95, 0, 0, 0, 0, 0, 0, 0], None),
+    ([0xdf, 0, 0, 0, 16, 0, 0, 0], Some((3, DecodeFault::Opcode))),
+    (
+        [0xb7, 0x0b, 0, 0, 0, 0, 0, 0],
+        Some((3, DecodeFault::Register)),
+    ),
+    (
+        [0xb7, 0, 0, 1, 0, 0, 0, 0],
+        Some((3, DecodeFault::Reserved)),
+    ),
+    (
+        [0x18, 0, 0, 0, 0, 0, 0, 0],
+        Some((3, DecodeFault::HalfWide)),
+    ),
+];
+
+fn behind_two(slot: &[u8; 8]) -> [u8; 32] {
+    let mut bytes = [0u8; 32];
+    bytes[..24].copy_from_slice(&[
         0x95, 0, 0, 0, 0, 0, 0, 0, 0x18, 1, 0, 0, 1, 0, 0, 0, 0, 0, 0, 0, 2, 0, 0, 0,
-    ];
-    for (slot, want) in [
-        ([0x95, 0, 0, 0, 0, 0, 0, 0], None),
-        ([0xdf, 0, 0, 0, 16, 0, 0, 0], Some((3, DecodeFault::Opcode))),
-        (
-            [0xb7, 0x0b, 0, 0, 0, 0, 0, 0],
-            Some((3, DecodeFault::Register)),
-        ),
-        (
-            [0xb7, 0, 0, 1, 0, 0, 0, 0],
-            Some((3, DecodeFault::Reserved)),
-        ),
-        (
-            [0x18, 0, 0, 0, 0, 0, 0, 0],
-            Some((3, DecodeFault::HalfWide)),
-        ),
-    ] {
-        let mut bytes = [0u8; 32];
-        bytes[..24].copy_from_slice(&front);
-        bytes[24..].copy_from_slice(&slot);
-        assert_eq!(rt; fault_of(&rt, bytes.as_slice()), want, "at {slot:?}");
+    ]);
+    bytes[24..].copy_from_slice(slot);
+    bytes
+}
+
+// A wide instruction with a one at a byte of its second slot.
+fn wide_with_a_one(place: usize) -> [u8; 16] {
+    let mut bytes = [0x18, 1, 0, 0, 1, 0, 0, 0, 0, 0, 0, 0, 2, 0, 0, 0];
+    bytes[place % 16] = 1;
+    bytes
+}
+
+#[test]
+fn faults_name_their_slot(rt: HostRuntime) {
+    for row in BEHIND_TWO {
+        let (slot, want) = *row;
+        come_to(&rt, &behind_two(&slot), want, row);
     }
-    for place in [8usize, 9, 10, 11] {
-        let mut bytes = [0x18, 1, 0, 0, 1, 0, 0, 0, 0, 0, 0, 0, 2, 0, 0, 0];
-        bytes[place] = 1;
-        assert_eq!(rt;
-            fault_of(&rt, bytes.as_slice()),
-            Some((0, DecodeFault::Reserved)),
-            "at byte {place}"
-        );
+    // in the second slot of a wide instruction, which names its first
+    let want = Some((0, DecodeFault::Reserved));
+    for place in 8..12usize {
+        come_to(&rt, &wide_with_a_one(place), want, &place);
+    }
+}
+
+// How many zeros, and the refusal.
+const ZEROS: &[(usize, DecodeFault)] = &[
+    (0, DecodeFault::Length),
+    (1, DecodeFault::Length),
+    (7, DecodeFault::Length),
+    (9, DecodeFault::Length),
+];
+
+// How many bytes 0xff: too many slots come before what is wrong with the first one.
+const ONES: &[(usize, DecodeFault)] = &[
+    (8 * 4097, DecodeFault::TooLong),
+    (8 * 4096, DecodeFault::Opcode),
+    (8 * 4096 - 1, DecodeFault::Length),
+];
+
+fn fronts_come_to<R: AllocGlobal + Abort>(rt: &R, bytes: &[u8], rows: &[(usize, DecodeFault)]) {
+    for row in rows {
+        let (count, kind) = *row;
+        let front = bytes.get(..count).expect(rt, "a front");
+        come_to(rt, front, Some((0, kind)), row);
     }
 }
 
 #[test]
 fn lengths(rt: HostRuntime) -> Result<(), Fail> {
-    let zeros = [0u8; 9];
-    for length in [0usize, 1, 7, 9] {
-        assert_eq!(rt;
-            fault_of(&rt, &zeros[..length]),
-            Some((0, DecodeFault::Length)),
-            "of {length} bytes"
-        );
-    }
-    // too many slots come before what is wrong with the first one
-    let mut bytes = Vec::new(rt.alloc());
-    bytes.resize(8 * 4097, 0xff)?;
-    assert_eq!(rt;
-        fault_of(&rt, bytes.as_slice()),
-        Some((0, DecodeFault::TooLong))
-    );
-    bytes.truncate(8 * 4096);
-    assert_eq!(rt;
-        fault_of(&rt, bytes.as_slice()),
-        Some((0, DecodeFault::Opcode))
-    );
-    bytes.truncate(8 * 4096 - 1);
-    assert_eq!(rt;
-        fault_of(&rt, bytes.as_slice()),
-        Some((0, DecodeFault::Length))
-    );
+    fronts_come_to(&rt, &[0; 9], ZEROS);
+    let mut ones = Vec::new(rt.alloc());
+    ones.resize(8 * 4097, 0xff)?;
+    fronts_come_to(&rt, &ones, ONES);
     Ok(())
 }
 
+const NUMBERS: &[(DecodeFault, u8)] = &[
+    (DecodeFault::Length, 1),
+    (DecodeFault::Opcode, 2),
+    (DecodeFault::Register, 3),
+    (DecodeFault::Reserved, 4),
+    (DecodeFault::HalfWide, 5),
+    (DecodeFault::TooLong, 6),
+    (DecodeFault::Memory, 7),
+];
+
 #[test]
 fn refusals_have_their_numbers(rt: HostRuntime) {
-    for (kind, number) in [
-        (DecodeFault::Length, 1),
-        (DecodeFault::Opcode, 2),
-        (DecodeFault::Register, 3),
-        (DecodeFault::Reserved, 4),
-        (DecodeFault::HalfWide, 5),
-        (DecodeFault::TooLong, 6),
-        (DecodeFault::Memory, 7),
-    ] {
-        assert_eq!(rt; kind.number(), number);
+    for row in NUMBERS {
+        let (kind, number) = *row;
+        assert!(rt; kind.number() == number, "{row:?}");
     }
 }
