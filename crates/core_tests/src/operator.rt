@@ -10,7 +10,7 @@ use maps::{MapsError, Seat, Shared};
 use std::alloc::Global;
 use std::sync::Wait;
 use std::test::Fail;
-use words::{External, Route, Second, Sequence};
+use words::{External, Route, Second};
 
 /// The seat is the table's.
 #[derive(Drop)]
@@ -43,33 +43,13 @@ fn table(alloc: Global) -> Result<(Shared, Vec<Seat>), MapsError>
     }
 }
 
-fn loader_and_asker<R: Wait + Drop + Copy>(
-    alloc: Global,
-    rt: R,
-) -> Result<(Loader<R>, Asker), Fail> {
-    let (loader, mut askers) = loader_and_askers(alloc, rt)?;
-    match askers.pop() {
-        Some(asker) => Ok((loader, asker)),
-        None => Err(Fail::new("no asker")),
-    }
-}
-
-// A table and its seat.
-fn table_and_seat(alloc: Global) -> Result<(Shared, Seat), Fail>
-    ensures { IfOk result (λ r. IsOf r.0 r.1) }
-{
-    let (shared, mut seats) = table(alloc)?;
-    match seats.pop() {
-        Some(seat) => Ok((shared, seat)),
-        None => Err(Fail::new("no seat")),
-    }
-}
-
 impl<R: Wait + Drop + Copy> Operator<R> {
     /// Nothing is attached.
     pub fn new(alloc: Global, rt: R) -> Result<Operator<R>, Fail> {
-        let (loader, asker) = loader_and_asker(alloc, rt)?;
-        let (shared, seat) = table_and_seat(alloc)?;
+        let (loader, mut askers) = loader_and_askers(alloc, rt)?;
+        let asker = askers.pop().ok_or("no asker")?;
+        let (shared, mut seats) = table(alloc)?;
+        let seat = seats.pop().ok_or("no seat")?;
         Ok(Operator {
             loader,
             asker,
@@ -88,23 +68,9 @@ impl<R: Wait + Drop> Operator<R> {
         Some(Event::Redistribute(tag, price))
     }
 
-    // The route is let in.
-    fn lets_in(&mut self, moment: Second, route: &Route) -> Option<VetoAnswer> {
+    /// The route is let in.
+    pub fn lets_in(&mut self, moment: Second, route: &Route) -> Option<VetoAnswer> {
         self.asker
             .veto(route, moment, &[], &self.shared, &mut self.seat)
-    }
-
-    /// An Install in which each of the routes is let in.
-    pub fn lets_all_in(
-        &mut self,
-        alloc: Global,
-        moment: Second,
-        routes: &[Route],
-    ) -> Option<Event> {
-        let mut answers = Vec::new(alloc);
-        for route in routes {
-            answers.push(self.lets_in(moment, route)?).ok()?;
-        }
-        Some(Event::Install(Sequence::from_vec(answers)))
     }
 }

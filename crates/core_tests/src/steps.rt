@@ -101,17 +101,6 @@ fn are_greetings(outs: &[Out], last: u16, bytes: &[u8]) -> bool {
     next == last.wrapping_add(1)
 }
 
-// Whether the answer is that of a step in which something happens.
-fn is_answer(answer: &Result<Vec<Out>, CoreError>, step: Step) -> bool {
-    match (answer, step) {
-        (Ok(outs), Step::Sends(_, _, sent)) => are_sent(outs, sent),
-        (Ok(outs), Step::Counts(_, _, count)) => outs.len() == count,
-        (Ok(outs), Step::Greets(_, last, bytes)) => are_greetings(outs, last, bytes),
-        (Err(error), Step::Refuses(_, _, refusal)) => *error == refusal,
-        _ => false,
-    }
-}
-
 fn sees(core: &Core, interface: u16, expected: Option<(u32, State)>) -> bool {
     match (core.neighbor(interface), expected) {
         (Some((router, state)), Some((number, wanted))) => {
@@ -242,36 +231,30 @@ impl<R: Wait + Drop> Trial<R> {
         }
     }
 
-    // What happens at the moment is answered as the step says.
-    fn answers(&mut self, moment: u64, what: What, step: Step) -> bool {
-        let answer = self.answer(moment, what);
-        is_answer(&answer, step)
-    }
-
     /// Whether the step comes out so.
     pub fn meets(&mut self, step: Step) -> bool {
         match step {
-            Step::Sends(moment, what, _)
-            | Step::Counts(moment, what, _)
-            | Step::Refuses(moment, what, _) => self.answers(moment, what, step),
-            Step::Greets(moment, _, _) => self.answers(moment, What::Tick, step),
+            Step::Sends(moment, what, sent) => match self.answer(moment, what) {
+                Ok(outs) => are_sent(&outs, sent),
+                Err(_) => false,
+            },
+            Step::Counts(moment, what, count) => match self.answer(moment, what) {
+                Ok(outs) => outs.len() == count,
+                Err(_) => false,
+            },
+            Step::Refuses(moment, what, refusal) => match self.answer(moment, what) {
+                Ok(_) => false,
+                Err(error) => error == refusal,
+            },
+            Step::Greets(moment, last, bytes) => match self.answer(moment, What::Tick) {
+                Ok(outs) => are_greetings(&outs, last, bytes),
+                Err(_) => false,
+            },
             Step::Short(moment, bytes) => self.refuses_fronts(moment, bytes),
             Step::Announces(moment, address, count) => self.announces(moment, address, count),
             Step::Hears(moment, first, end) => self.hears(moment, first, end),
             _ => self.shows(step),
         }
-    }
-
-    // Plays lists of steps one after the other.
-    fn plays(&mut self, lists: &[&[Step]]) -> Result<(), Fail> {
-        for (list, steps) in lists.iter().enumerate() {
-            for (place, step) in steps.iter().enumerate() {
-                if !self.meets(*step) {
-                    return Err(Fail::new(format_args!("list {list}, step {place}")));
-                }
-            }
-        }
-        Ok(())
     }
 }
 
@@ -283,5 +266,12 @@ pub fn play<R: Wait + Drop + Copy>(
     lists: &[&[Step]],
 ) -> Result<(), Fail> {
     let mut trial = Trial::new(alloc, rt, interfaces)?;
-    trial.plays(lists)
+    for (list, steps) in lists.iter().enumerate() {
+        for (place, step) in steps.iter().enumerate() {
+            if !trial.meets(*step) {
+                return Err(Fail::new(format_args!("list {list}, step {place}")));
+            }
+        }
+    }
+    Ok(())
 }

@@ -93,34 +93,6 @@ fn packet(alloc: Global, interface: u16, bytes: &[u8]) -> Option<Event> {
     }
 }
 
-// So many of these bytes, the first ones, come in at the first interface.
-fn front(alloc: Global, count: usize, bytes: &[u8]) -> Option<Event> {
-    match bytes.get(..count) {
-        Some(first) => packet(alloc, 1, first),
-        None => None,
-    }
-}
-
-fn announcement<R: Wait + Drop>(
-    operator: &mut Operator<R>,
-    moment: Second,
-    place: (u32, u8),
-    metric: u32,
-) -> Option<Event> {
-    let (address, length) = place;
-    let external = destination(address, length, metric)?;
-    operator.announces(moment, &external)
-}
-
-fn withdrawal(address: u32, length: u8) -> Option<Event> {
-    let prefix = Prefix::new(Address::new(address), length)?;
-    Some(Event::Withdraw(prefix))
-}
-
-fn no_answers(alloc: Global) -> Event {
-    Event::Install(Sequence::from_vec(Vec::new(alloc)))
-}
-
 fn packet_of_lsas(alloc: Global, age: u16, first: u32, count: u32) -> Option<Event> {
     match update(alloc, age, first, count) {
         Ok(bytes) => Some(Event::Packet(1, Sequence::from_vec(bytes))),
@@ -151,7 +123,11 @@ impl<R: Wait + Drop> Trial<R> {
         let Ok(routes) = self.core.candidates() else {
             return None;
         };
-        self.operator.lets_all_in(self.alloc, moment, &routes)
+        let mut answers = Vec::new(self.alloc);
+        for route in routes.iter() {
+            answers.push(self.operator.lets_in(moment, route)?).ok()?;
+        }
+        Some(Event::Install(Sequence::from_vec(answers)))
     }
 
     // None where memory for it is refused.
@@ -159,53 +135,46 @@ impl<R: Wait + Drop> Trial<R> {
         match what {
             What::Packet(interface, bytes) => packet(self.alloc, interface, bytes),
             What::Lsas(age, first, count) => packet_of_lsas(self.alloc, age, first, count),
-            What::Front(count, bytes) => front(self.alloc, count, bytes),
+            What::Front(count, bytes) => packet(self.alloc, 1, bytes.get(..count)?),
             What::Tick => Some(Event::Tick),
             What::Announce(address, length, metric) => {
-                announcement(&mut self.operator, moment, (address, length), metric)
+                let external = destination(address, length, metric)?;
+                self.operator.announces(moment, &external)
             }
-            What::Withdraw(address, length) => withdrawal(address, length),
+            What::Withdraw(address, length) => {
+                let prefix = Prefix::new(Address::new(address), length)?;
+                Some(Event::Withdraw(prefix))
+            }
             What::LinkDown(interface) => Some(Event::LinkDown(interface)),
             What::LetAllIn => self.lets_all_in(moment),
-            What::AnswerNothing => Some(no_answers(self.alloc)),
-        }
-    }
-
-    // One allocation may be refused.
-    fn made_event(&mut self, moment: Second, what: What) -> Option<Event> {
-        match self.event(moment, what) {
-            None => self.event(moment, what),
-            made => made,
+            What::AnswerNothing => {
+                let none = Vec::new(self.alloc);
+                Some(Event::Install(Sequence::from_vec(none)))
+            }
         }
     }
 
     /// What is sent, or the refusal. One allocation may be refused.
     pub fn answer(&mut self, moment: u64, what: What) -> Result<Vec<Out>, CoreError> {
         let moment = Second::new(moment);
-        let Some(event) = self.made_event(moment, what) else {
-            return Err(CoreError::Memory);
+        let event = match self.event(moment, what) {
+            Some(event) => event,
+            None => {
+                let Some(event) = self.event(moment, what) else {
+                    return Err(CoreError::Memory);
+                };
+                event
+            }
         };
         stepped(&mut self.core, moment, &event)
-    }
-
-    // Whether this isn't refused.
-    fn takes(&mut self, moment: u64, what: What) -> bool {
-        self.answer(moment, what).is_ok()
-    }
-
-    // Whether this is a packet that is too short.
-    fn is_too_short(&mut self, moment: u64, what: What) -> bool {
-        match self.answer(moment, what) {
-            Err(CoreError::BadPacket(Fault::Short)) => true,
-            _ => false,
-        }
     }
 
     /// Whether the first bytes of these, however many, are too short.
     pub fn refuses_fronts(&mut self, moment: u64, bytes: &'static [u8]) -> bool {
         for count in 0..bytes.len() {
-            if !self.is_too_short(moment, What::Front(count, bytes)) {
-                return false;
+            match self.answer(moment, What::Front(count, bytes)) {
+                Err(CoreError::BadPacket(Fault::Short)) => {}
+                _ => return false,
             }
         }
         true
@@ -215,7 +184,7 @@ impl<R: Wait + Drop> Trial<R> {
     pub fn announces(&mut self, moment: u64, address: u32, count: u32) -> bool {
         for number in 0..count {
             let next = address.wrapping_add(number.wrapping_mul(256));
-            if !self.takes(moment, What::Announce(next, 24, 20)) {
+            if self.answer(moment, What::Announce(next, 24, 20)).is_err() {
                 return false;
             }
         }
@@ -227,7 +196,7 @@ impl<R: Wait + Drop> Trial<R> {
         let mut next = first;
         for _update in 0..100 {
             let count = end.saturating_sub(next).min(226);
-            if !self.takes(moment, What::Lsas(1, next, count)) {
+            if self.answer(moment, What::Lsas(1, next, count)).is_err() {
                 return false;
             }
             next = next.wrapping_add(count);
