@@ -119,12 +119,17 @@ fn remove(database: &mut Lsdb, keys: &[Key]) -> Result<(), AllocError> {
     Ok(())
 }
 
+// Of nine own externals.
+fn loses_one(rt: &impl Abort, database: &mut Lsdb) -> Result<(), AllocError> {
+    remove(database, &[key(OWN, 7), key(OWN, 7), key(OTHER, 7)])?;
+    assert!(rt; database.own_externals() == 8);
+    Ok(())
+}
+
 #[test]
 fn an_own_external_leaves_once(rt: HostRuntime) -> Result<(), AllocError> {
     let mut database = filled(rt.alloc(), OWN, 9)?;
-    remove(&mut database, &[key(OWN, 7), key(OWN, 7), key(OTHER, 7)])?;
-    assert!(rt; database.own_externals() == 8);
-    Ok(())
+    loses_one(&rt, &mut database)
 }
 
 // Of 16,383 of another router.
@@ -164,13 +169,17 @@ fn has_keys(database: &Lsdb, alloc: Global, wanted: &[Key]) -> Result<bool, Allo
     Ok(keys.as_slice() == wanted)
 }
 
+fn is_mixed(rt: &impl Abort, alloc: Global, database: &mut Lsdb) -> Result<(), AllocError> {
+    mix(database, alloc)?;
+    let wanted = [key(OWN, 3), key(OTHER, 3), key(OTHER, 9)];
+    assert!(rt; has_keys(database, alloc, &wanted)?);
+    Ok(())
+}
+
 #[test]
 fn keys_come_in_order(rt: HostRuntime) -> Result<(), AllocError> {
     let mut database = Lsdb::new(rt.alloc(), RouterId::new(OWN));
-    mix(&mut database, rt.alloc())?;
-    let wanted = [key(OWN, 3), key(OTHER, 3), key(OTHER, 9)];
-    assert!(rt; has_keys(&database, rt.alloc(), &wanted)?);
-    Ok(())
+    is_mixed(&rt, rt.alloc(), &mut database)
 }
 
 // Two externals, a third and the mark of the first, which can both be taken back.
@@ -189,12 +198,16 @@ fn is_whole(rt: &impl Abort, copy: &mut Lsdb) {
     assert!(rt; sent == Some(Some(Second::new(4))));
 }
 
+fn are_apart(rt: &impl Abort, database: &mut Lsdb, copy: &mut Lsdb) {
+    is_whole(rt, copy);
+    database.roll_back();
+    assert!(rt; database.len() == 2 && copy.len() == 3);
+}
+
 fn is_copied(rt: &impl Abort, alloc: Global, database: &mut Lsdb) -> Result<(), AllocError> {
     leave_unsettled(database, alloc)?;
     let mut copy = database.copy(alloc)?;
-    is_whole(rt, &mut copy);
-    database.roll_back();
-    assert!(rt; database.len() == 2 && copy.len() == 3);
+    are_apart(rt, database, &mut copy);
     Ok(())
 }
 

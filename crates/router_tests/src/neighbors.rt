@@ -292,11 +292,16 @@ fn filled(alloc: Global, count: u32) -> Result<Lsdb, AllocError> {
     Ok(database)
 }
 
-fn told(alloc: Global, coming: &Coming) -> Result<Description, AllocError> {
+fn told_headers(alloc: Global, coming: &Coming) -> Result<Vec<Header>, AllocError> {
     let mut headers = Vec::new(alloc);
     for number in coming.first..coming.end {
         headers.push(header(coming.ls_type, peer(), number))?;
     }
+    Ok(headers)
+}
+
+fn told(alloc: Global, coming: &Coming) -> Result<Description, AllocError> {
+    let headers = told_headers(alloc, coming)?;
     Ok(Description {
         mtu: coming.mtu,
         options: coming.options,
@@ -343,6 +348,30 @@ fn floods_externals(
         floods(place, database, alloc, moment, from, lsa, draft)?;
     }
     Ok(())
+}
+
+fn floods_router_lsa(
+    place: &mut Place,
+    database: &mut Lsdb,
+    alloc: Global,
+    moment: Second,
+    number: u32,
+    draft: &mut Draft,
+) -> Result<(), AllocError> {
+    let lsa = router_lsa(alloc, number)?;
+    floods(place, database, alloc, moment, false, lsa, draft)
+}
+
+fn floods_summary(
+    place: &mut Place,
+    database: &mut Lsdb,
+    alloc: Global,
+    moment: Second,
+    number: u32,
+    draft: &mut Draft,
+) -> Result<(), AllocError> {
+    let lsa = summary(alloc, number)?;
+    floods(place, database, alloc, moment, false, lsa, draft)
 }
 
 fn is_asked(
@@ -429,12 +458,10 @@ fn happens(
             floods_externals(place, database, alloc, moment, from, (first, end), draft)
         }
         Happening::RouterLsa(number) => {
-            let lsa = router_lsa(alloc, number)?;
-            floods(place, database, alloc, moment, false, lsa, draft)
+            floods_router_lsa(place, database, alloc, moment, number, draft)
         }
         Happening::Summary(number) => {
-            let lsa = summary(alloc, number)?;
-            floods(place, database, alloc, moment, false, lsa, draft)
+            floods_summary(place, database, alloc, moment, number, draft)
         }
         Happening::Acknowledgment(number) => is_acknowledged(place, alloc, moment, number),
         Happening::ImpliedAcknowledgment(number) => is_taken_off(place, alloc, moment, number),
@@ -447,7 +474,36 @@ fn happens(
     }
 }
 
-// What is sent in an event. An allocation may be refused once, as a run of the tests with a refusal makes it: then the place and the database are as they were.
+fn played_once(
+    place: &mut Place,
+    database: &mut Lsdb,
+    alloc: Global,
+    moment: Second,
+    happening: &Happening,
+) -> Result<Draft, AllocError> {
+    let mut draft = Draft::new(alloc);
+    happens(place, database, alloc, moment, happening, &mut draft)?;
+    Ok(draft)
+}
+
+// The same after a refusal is taken back, which leaves the place and the database as they were.
+fn played_again(
+    place: &mut Place,
+    database: &mut Lsdb,
+    alloc: Global,
+    moment: Second,
+    happening: &Happening,
+    before: (Option<(RouterId, State)>, usize),
+) -> Result<Draft, Fail> {
+    place.roll_back();
+    database.roll_back();
+    if (place.neighbor(), database.len()) != before {
+        return Err(Fail::new("a refusal changed what was there"));
+    }
+    Ok(played_once(place, database, alloc, moment, happening)?)
+}
+
+// What is sent in an event. An allocation may be refused once, as a run of the tests with a refusal makes it.
 fn played(
     place: &mut Place,
     database: &mut Lsdb,
@@ -456,17 +512,10 @@ fn played(
     happening: &Happening,
 ) -> Result<Draft, Fail> {
     let before = (place.neighbor(), database.len());
-    let mut draft = Draft::new(alloc);
-    let answer = happens(place, database, alloc, moment, happening, &mut draft);
-    if answer.is_err() {
-        place.roll_back();
-        database.roll_back();
-        if (place.neighbor(), database.len()) != before {
-            return Err(Fail::new("a refusal changed what was there"));
-        }
-        draft = Draft::new(alloc);
-        happens(place, database, alloc, moment, happening, &mut draft)?;
-    }
+    let draft = match played_once(place, database, alloc, moment, happening) {
+        Ok(draft) => draft,
+        Err(_) => played_again(place, database, alloc, moment, happening, before)?,
+    };
     place.settle();
     database.settle();
     Ok(draft)
@@ -495,14 +544,31 @@ fn all_come(
 
 // ---- conversations
 
+fn parts_come(
+    place: &mut Place,
+    database: &mut Lsdb,
+    alloc: Global,
+    parts: &[&[Row]],
+) -> Result<(), Fail> {
+    for rows in parts {
+        all_come(place, database, alloc, rows)?;
+    }
+    Ok(())
+}
+
+// A conversation in parts, from Down on.
+fn from_down(database: &mut Lsdb, alloc: Global, parts: &[&[Row]]) -> Result<(), Fail> {
+    let mut place = Place::down();
+    parts_come(&mut place, database, alloc, parts)
+}
+
 // A conversation from Down on, of a router with so many externals. What is refused while they are made is made again.
 fn converse(alloc: Global, count: u32, rows: &[Row]) -> Result<(), Fail> {
     let mut database = match filled(alloc, count) {
         Ok(database) => database,
         Err(_) => filled(alloc, count)?,
     };
-    let mut place = Place::down();
-    all_come(&mut place, &mut database, alloc, rows)
+    from_down(&mut database, alloc, &[rows])
 }
 
 // The attempt of the number 0.
@@ -557,23 +623,10 @@ fn exchange(wanted: u32) -> [Row; 4] {
     ]
 }
 
-fn parts_come(
-    place: &mut Place,
-    database: &mut Lsdb,
-    alloc: Global,
-    parts: &[&[Row]],
-) -> Result<(), Fail> {
-    for rows in parts {
-        all_come(place, database, alloc, rows)?;
-    }
-    Ok(())
-}
-
 // A conversation in parts, from Down on, of a router without LSAs.
 fn converse_in_parts(alloc: Global, parts: &[&[Row]]) -> Result<(), Fail> {
     let mut database = Lsdb::new(alloc, own());
-    let mut place = Place::down();
-    parts_come(&mut place, &mut database, alloc, parts)
+    from_down(&mut database, alloc, parts)
 }
 
 // What comes after the exchange, which is done at 2.

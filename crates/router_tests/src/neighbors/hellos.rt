@@ -12,11 +12,15 @@ fn is_first(sent: &Draft) -> bool {
     }
 }
 
-fn first_attempt(alloc: Global) -> Result<Draft, Fail> {
-    let mut database = Lsdb::new(alloc, own());
+fn attempt(database: &mut Lsdb, alloc: Global) -> Result<Draft, Fail> {
     let mut place = Place::down();
     let hello = Happening::Hello(true);
-    played(&mut place, &mut database, alloc, Second::new(7), &hello)
+    played(&mut place, database, alloc, Second::new(7), &hello)
+}
+
+fn first_attempt(alloc: Global) -> Result<Draft, Fail> {
+    let mut database = Lsdb::new(alloc, own());
+    attempt(&mut database, alloc)
 }
 
 #[test]
