@@ -146,19 +146,15 @@ fn play<L: Ledger, R: Abort>(
     Ok(is_late)
 }
 
-// Plays the rows in the book of a new router.
-fn play_once<R: Abort>(rt: &R, alloc: Global, event: &Event, rows: &[Row]) -> Result<bool, Fail> {
-    let core = first(alloc)?;
-    Ok(play::<Brand, R>(rt, alloc, Blank::new(1), core, event, rows)?)
-}
-
 // Where there was no memory for a book, or for a mark, all is played once more.
 fn play_all<R: Abort>(rt: &R, alloc: Global, event: &Event, rows: &[Row]) -> Result<(), Fail> {
-    let is_late = match play_once(rt, alloc, event, rows) {
-        Ok(false) => false,
-        _ => play_once(rt, alloc, event, rows)?,
-    };
-    assert!(rt; !is_late);
+    let core = first(alloc)?;
+    let is_late = play::<Brand, R>(rt, alloc, Blank::new(1), core, event, rows);
+    if is_late != Ok(false) {
+        let core = first(alloc)?;
+        let is_late = play::<Brand, R>(rt, alloc, Blank::new(1), core, event, rows)?;
+        assert!(rt; !is_late);
+    }
     Ok(())
 }
 
