@@ -11,7 +11,9 @@ use std::process::Abort;
 use std::sync::Wait;
 use std::test::Fail;
 use words::{External, Second};
-use worker::{Book, BookError, CoreError, Gate, Hub, Open, Port, Site, TurnError, Work, turn};
+use worker::{
+    Book, BookError, CoreError, Gate, Hub, Open, Port, Site, Taker, TurnError, Work, turn,
+};
 
 /// What is done: a turn, or a change of the programs, which each port learns then.
 #[derive(Clone, Copy, Debug)]
@@ -72,11 +74,11 @@ pub struct Stage<L: Site, Q: Wait + Drop> {
 
 // Tells the hub, as a turn passes, that the programs were changed.
 #[derive(Drop)]
-struct Changing<'a, L: Site> {
-    hub: &'a Hub<L, Book<L>>,
+struct Changing<'a, L: Site, B: Taker<L>> {
+    hub: &'a Hub<L, B>,
 }
 
-impl<'a, L: Site> Gate for Changing<'a, L> {
+impl<'a, L: Site, B: Taker<L>> Gate for Changing<'a, L, B> {
     fn pass(&self, _port: u16) {
         self.hub.programs_changed();
     }
