@@ -1,6 +1,6 @@
 //! How the figures are taken and printed.
 use crate::load::{Kind, Load, SIZE};
-use crate::turns::measure_once;
+use crate::measuring::measure_once;
 use anyhow::Result;
 use bench_routers::hub;
 use std::rt::Clock;

@@ -4,6 +4,6 @@
 mod figures;
 mod jobs;
 mod load;
-mod turns;
+mod measuring;
 
 pub use figures::print;

@@ -1,5 +1,5 @@
 use Rattle.hooks.specs.Known.{history_of}
-use Rattle.bench_turn.proofs.turns.measure_once.Given as goal
+use Rattle.bench_turn.proofs.measuring.measure_once.Given as goal
 
 -- the ledger is that of the setup
 abbrev pub ghosts-measure_beside-L-Ledger : goal.ghosts-measure_beside-L-Ledger
