@@ -15,11 +15,10 @@ ghost use Rattle.events.specs.Commands.{
   same_network,
 };
 ghost use Rattle.events.specs.Originations.{external_key};
-ghost use Rattle.router.specs.Making.{Makes};
+ghost use Rattle.self_originated.specs.Making.{Makes};
 
 use adjacency::Draft;
-use router::Router;
-use self_originated::originate_anyway;
+use self_originated::{Router, originate_anyway};
 use std::alloc::{AllocError, Global};
 use words::{External, ExternalType, Key, LinkStateId, Prefix, RouterId, Second};
 

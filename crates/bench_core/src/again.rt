@@ -51,7 +51,9 @@ fn measure_after<R: Clock>(rt: &R, alloc: Global, core: &mut Core, others: u32) 
 // The same at a router with so many other LSAs.
 fn measure_at<R: Clock>(rt: &R, alloc: Global, others: u32) -> Result<u64> {
     let mut core = hub(alloc, 3, others)?;
-    measure_after(rt, alloc, &mut core, others)
+    let nanoseconds = measure_after(rt, alloc, &mut core, others);
+    core.close();
+    nanoseconds
 }
 
 /// Prints what a Tick takes that sends 100 LSAs again to neighbor 2, where there are so many in

@@ -31,7 +31,9 @@ fn measure<R: Clock>(rt: &R, pair: &mut Pair, size: usize) -> Result<Meeting> {
 // At two routers of its own, of which the one has all LSAs but one before.
 fn measure_once<R: Clock>(rt: &R, alloc: Global, size: u32) -> Result<Meeting> {
     let mut pair = pair_of(alloc, size.saturating_sub(1))?;
-    measure(rt, &mut pair, size as usize)
+    let meeting = measure(rt, &mut pair, size as usize);
+    pair.close();
+    meeting
 }
 
 /// Prints what the events of both routers take from the Hellos until each sees the other one Full,

@@ -77,7 +77,9 @@ fn print_events<R: Clock + Print>(rt: &R, alloc: Global, core: &mut Core, size: 
 fn print_size<R: Clock + Print + AllocGlobal>(rt: &R, size: u32) -> Result<()> {
     println!(rt; "{size} LSAs")?;
     let mut core = hub(rt.alloc(), 3, size.saturating_sub(1))?;
-    print_events(rt, rt.alloc(), &mut core, size)
+    let printed = print_events(rt, rt.alloc(), &mut core, size);
+    core.close();
+    printed
 }
 
 /// Prints what events of a router take whose neighbors 1 to 3 are Full and whose fourth is in Init,

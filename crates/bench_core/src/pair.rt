@@ -101,16 +101,33 @@ impl Pair {
         }
         Err(anyhow!("they aren't Full"))
     }
+
+    /// Lets both go.
+    pub fn close(self) {
+        let Pair {
+            alloc: _,
+            one,
+            other,
+            packets: _,
+        } = self;
+        one.close();
+        other.close();
+    }
 }
 
 fn pair_with(alloc: Global, one: Core) -> Result<Pair> {
-    let other = fourth(alloc)?;
-    Ok(Pair {
-        alloc,
-        one,
-        other,
-        packets: 0,
-    })
+    match fourth(alloc) {
+        Ok(other) => Ok(Pair {
+            alloc,
+            one,
+            other,
+            packets: 0,
+        }),
+        Err(error) => {
+            one.close();
+            Err(error)
+        }
+    }
 }
 
 /// A router with so many LSAs whose neighbors 1 to 3 are Full, and its fourth neighbor, which has

@@ -42,6 +42,17 @@ fn started(alloc: Global, id: u32, interfaces: &[Interface]) -> Result<Core> {
     Ok(core)
 }
 
+// The router, if what it went through came out well.
+fn made(core: Core, outcome: Result<()>) -> Result<Core> {
+    match outcome {
+        Ok(()) => Ok(core),
+        Err(error) => {
+            core.close();
+            Err(error)
+        }
+    }
+}
+
 // 1.1.1.1 at the start.
 fn alone(alloc: Global) -> Result<Core> {
     let interfaces = [1, 2, 3, 4].map(|network| interface(network, 1));
@@ -62,8 +73,8 @@ fn greet_fourth(alloc: Global, core: &mut Core) -> Result<()> {
 /// Memory ran out.
 pub fn fourth(alloc: Global) -> Result<Core> {
     let mut core = started(alloc, neighbor(4), &[interface(4, 2)])?;
-    greet_fourth(alloc, &mut core)?;
-    Ok(core)
+    let greeted = greet_fourth(alloc, &mut core);
+    made(core, greeted)
 }
 
 // The neighbor at the interface comes to Full at 1, and has no LSA.
@@ -165,6 +176,6 @@ pub fn externals_of(full: u16, size: u32) -> u32 {
 /// Memory ran out, or the neighbors or the database aren't as they should be.
 pub fn hub(alloc: Global, full: u16, size: u32) -> Result<Core> {
     let mut core = alone(alloc)?;
-    bring_up(alloc, &mut core, full, size)?;
-    Ok(core)
+    let is_up = bring_up(alloc, &mut core, full, size);
+    made(core, is_up)
 }

@@ -47,13 +47,24 @@ fn print_workers<R: Threads + Wait + Clock + Print + AllocGlobal + Sync>(
     Ok(())
 }
 
+// One worker, and four at once.
+fn print_each<R: Threads + Wait + Clock + Print + AllocGlobal + Sync>(
+    rt: &R,
+    core: &Core,
+    kind: Kind,
+) -> Result<()> {
+    print_workers(rt, core, kind, 1)?;
+    print_workers(rt, core, kind, 4)
+}
+
 fn print_kind<R: Threads + Wait + Clock + Print + AllocGlobal + Sync>(
     rt: &R,
     kind: Kind,
 ) -> Result<()> {
     let core = hub(rt.alloc(), 4, kind.size())?;
-    print_workers(rt, &core, kind, 1)?;
-    print_workers(rt, &core, kind, 4)
+    let printed = print_each(rt, &core, kind);
+    core.close();
+    printed
 }
 
 /// Prints how many turns one worker and four workers take a second at a router with four Full

@@ -77,7 +77,10 @@ fn measure_at<L: Site + Send + Sync, R: Threads + Wait + Clock + Sync>(
     requires setup { IsSetUpFor L.name L.parts L.words L.history setup }
 {
     let (hub, mut ports, _rest) = open_hub::<L>(alloc, setup, core)?;
-    measure(rt, alloc, &hub, &mut ports, load)
+    let nanoseconds = measure(rt, alloc, &hub, &mut ports, load);
+    let (book, _shared) = hub.into_parts();
+    let _taken = book.close();
+    nanoseconds
 }
 
 // At a copy of the router, beside the program if there is to be one.

@@ -11,6 +11,7 @@ use crate::error::BookError;
 use flood::{Core, Event, Out};
 use std::alloc::{AllocError, Global};
 use std::marker::Model;
+use std::mem::replace;
 use std::sync::ledger;
 use std::sync::ledger::{Blank, Ledger, Share};
 use words::Second;
@@ -86,18 +87,25 @@ impl<L: Ledger> Book<L> {
         ensures book { IfOk result (λ r. r.0 ≡ started core) }
         ensures share { IfOk result (λ r. (r.1.parts ≡ L.parts) × (r.1.amount ≡ 0)) }
     {
-        let start = core.copy()?;
-        let (total, share) = blank.open::<L>();
-        let book = Book {
-            alloc,
-            start,
-            current: core,
-            journal: Vec::new(alloc),
-            noted: 0,
-            taken: 0,
-            total,
-        };
-        Ok((book, share))
+        match core.copy() {
+            Ok(start) => {
+                let (total, share) = blank.open::<L>();
+                let book = Book {
+                    alloc,
+                    start,
+                    current: core,
+                    journal: Vec::new(alloc),
+                    noted: 0,
+                    taken: 0,
+                    total,
+                };
+                Ok((book, share))
+            }
+            Err(error) => {
+                core.close();
+                Err(error)
+            }
+        }
     }
 
     /// Takes an event at a moment: what it makes of the router, and what is to be sent. The event
@@ -159,7 +167,8 @@ impl<L: Ledger> Book<L> {
         ensures ok { OnOk result (self.new ≡ marked self.old) }
         ensures err { OnErr result (self.new ≡ self.old) }
     {
-        self.start = self.current.copy()?;
+        let now = self.current.copy()?;
+        replace(&mut self.start, now).close();
         self.journal.clear();
         self.noted = 0;
         Ok(())
@@ -274,6 +283,17 @@ impl<L: Ledger> Book<L> {
     pub fn close(self) -> u64
         ensures { result ≡ self.taken }
     {
-        self.taken
+        let Book {
+            alloc: _,
+            start,
+            current,
+            journal: _,
+            noted: _,
+            taken,
+            total: _,
+        } = self;
+        start.close();
+        current.close();
+        taken
     }
 }

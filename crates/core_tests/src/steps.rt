@@ -258,14 +258,7 @@ impl<R: Wait + Drop> Trial<R> {
     }
 }
 
-/// Plays lists of steps one after the other on 1.1.1.1 with so many interfaces, started at 0.
-pub fn play<R: Wait + Drop + Copy>(
-    alloc: Global,
-    rt: R,
-    interfaces: u32,
-    lists: &[&[Step]],
-) -> Result<(), Fail> {
-    let mut trial = Trial::new(alloc, rt, interfaces)?;
+fn play_on<R: Wait + Drop>(trial: &mut Trial<R>, lists: &[&[Step]]) -> Result<(), Fail> {
     for (list, steps) in lists.iter().enumerate() {
         for (place, step) in steps.iter().enumerate() {
             if !trial.meets(*step) {
@@ -274,4 +267,17 @@ pub fn play<R: Wait + Drop + Copy>(
         }
     }
     Ok(())
+}
+
+/// Plays lists of steps one after the other on 1.1.1.1 with so many interfaces, started at 0.
+pub fn play<R: Wait + Drop + Copy>(
+    alloc: Global,
+    rt: R,
+    interfaces: u32,
+    lists: &[&[Step]],
+) -> Result<(), Fail> {
+    let mut trial = Trial::new(alloc, rt, interfaces)?;
+    let played = play_on(&mut trial, lists);
+    trial.close();
+    played
 }

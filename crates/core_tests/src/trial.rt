@@ -203,4 +203,15 @@ impl<R: Wait + Drop> Trial<R> {
         }
         next == end
     }
+
+    /// Lets the router and its operator go.
+    pub fn close(self) {
+        let Trial {
+            alloc: _,
+            core,
+            walks: _,
+            operator: _,
+        } = self;
+        core.close();
+    }
 }

@@ -4,9 +4,9 @@ ghost use Rattle.received.specs.Links.{Link};
 ghost use Rattle.events.specs.Endings.{is_at, is_current, links_differ};
 ghost use Rattle.events.specs.Originations.{router_key};
 ghost use Rattle.endings.specs.Full.{full_routers};
-ghost use Rattle.router.specs.Making.{interfaces_of};
+ghost use Rattle.self_originated.specs.Making.{interfaces_of};
 
-use router::Router;
+use self_originated::Router;
 use std::alloc::{AllocError, Global};
 use words::{Key, LinkStateId, RouterId, Second};
 

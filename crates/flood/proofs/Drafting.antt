@@ -12,8 +12,8 @@ use Rattle.flood_laws.specs.Keeping.{AreTextsAt}
 use Rattle.flooding.specs.Drafted.{drafted, drafted_from}
 use Rattle.flooding.specs.Links.{present}
 use Rattle.outs.specs.Drafts.{IsDraftAt, nothing_drafted}
-use Rattle.router.specs.Making.{interfaces_of}
-use Rattle.router.proofs.Drafts.{drafted_same}
+use Rattle.self_originated.specs.Making.{interfaces_of}
+use Rattle.self_originated.proofs.Drafts.{drafted_same}
 use Rattle.flood.specs.Drafts.{AreDrafts, AreDraftsFrom, nothing_at}
 
 module _ (sends : List Send) (room : AllByRecursion (λ (s : Send). HasRoom s.content) sends) where

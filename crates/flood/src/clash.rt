@@ -5,7 +5,7 @@ ghost use Rattle.events.specs.Commands.{is_for, same_external, same_kind, same_n
 ghost use Rattle.events.specs.Originations.{external_key};
 ghost use Rattle.events.specs.Refusals.{clashes, is_taken};
 
-use router::Router;
+use self_originated::Router;
 use words::{External, ExternalType, Key, LinkStateId, Prefix, RouterId};
 
 fn same_network(a: Prefix, b: Prefix) -> bool

@@ -15,7 +15,7 @@ use crate::event::Event;
 use crate::taking::take;
 use area_routes::AreaRoutes;
 use events::{CoreError, Out};
-use router::Router;
+use self_originated::Router;
 use std::alloc::{AllocError, Global};
 use words::Second;
 

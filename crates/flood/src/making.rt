@@ -2,7 +2,7 @@
 ghost use Rattle.std.specs.Prelude.{◌≡◌, List, OnOk, length};
 ghost use Rattle.adjacency.specs.Drafts.{Drafted};
 ghost use Rattle.events.specs.Commands.{after_install, after_link_down};
-ghost use Rattle.router.specs.Making.{Makes};
+ghost use Rattle.self_originated.specs.Making.{Makes};
 ghost use Rattle.flood.specs.Parts.{HasInterface, after_event, after_part};
 
 use crate::part::Part;
@@ -10,7 +10,7 @@ use adjacency::Draft;
 use announcements::{redistribute, withdraw};
 use endings::{end_event, full_routers};
 use received_packets::receive_packet;
-use router::Router;
+use self_originated::Router;
 use std::alloc::{AllocError, Global};
 use ticks::tick;
 use words::{Route, Second, Sequence};

@@ -21,7 +21,7 @@ use adjacency::State;
 use area_routes::{AreaRoutes, Offered};
 use events::{Config, ConfigError, CoreError, Out};
 use lsdb::Lsdb;
-use router::Router;
+use self_originated::Router;
 use std::alloc::{AllocError, Global};
 use std::marker::Model;
 use words::{Prefix, Route, RouterId, Second};
@@ -93,12 +93,17 @@ impl Core {
         }
         let mut router = begin(alloc, config)?;
         router.settle();
-        let routes = AreaRoutes::new(alloc, router.id(), router.area(), router.moment())?;
-        Ok(Core {
-            alloc,
-            router,
-            routes,
-        })
+        match AreaRoutes::new(alloc, router.id(), router.area(), router.moment()) {
+            Ok(routes) => Ok(Core {
+                alloc,
+                router,
+                routes,
+            }),
+            Err(error) => {
+                router.close();
+                Err(ConfigError::from(error))
+            }
+        }
     }
 
     /// One event at a moment: what it makes of the router, and what is to be sent, in the order in
@@ -155,12 +160,17 @@ impl Core {
         ensures { IfOk result (λ copy. copy ≡ self.now) }
     {
         let router = self.router.copy(self.alloc)?;
-        let routes = AreaRoutes::new(self.alloc, router.id(), router.area(), router.moment())?;
-        Ok(Core {
-            alloc: self.alloc,
-            router,
-            routes,
-        })
+        match AreaRoutes::new(self.alloc, router.id(), router.area(), router.moment()) {
+            Ok(routes) => Ok(Core {
+                alloc: self.alloc,
+                router,
+                routes,
+            }),
+            Err(error) => {
+                router.close();
+                Err(error)
+            }
+        }
     }
 
     /// The own Router ID.
@@ -283,5 +293,16 @@ impl Core {
             (finite.get self.now.announced (external_key self.now.id prefix)) }
     {
         is_announced(&self.router, prefix)
+    }
+
+    /// Lets the router go. A function above that lets one go by itself has the letting-go of each of
+    /// its parts to prove once more.
+    pub fn close(self) {
+        let Core {
+            alloc: _,
+            router,
+            routes: _,
+        } = self;
+        router.close();
     }
 }

@@ -11,7 +11,7 @@ use adjacency::Draft;
 use events::Out;
 use flooding::Link;
 use outs::put_outs;
-use router::Router;
+use self_originated::Router;
 use std::alloc::{AllocError, Global};
 use words::RouterId;
 

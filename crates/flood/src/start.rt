@@ -1,16 +1,15 @@
 //! A router at its start.
-ghost use Rattle.std.specs.Prelude.{◌≡◌, IfOk, length, map, true};
+ghost use Rattle.std.specs.Prelude.{◌≡◌, IfOk, OnOk, length, map, true};
 ghost use Rattle.events.specs.Events.{initial};
 ghost use Rattle.events.specs.Originations.{router_key};
-ghost use Rattle.events.specs.Routers.{in_profile};
+ghost use Rattle.events.specs.Routers.{in_profile, unannounced};
 ghost use Rattle.flood.specs.Starts.{fresh_kept};
 
 use crate::sending::drafts_for;
 use adjacency::Interface;
 use events::Config;
 use flooding::Link;
-use router::Router;
-use self_originated::originate_or_wait;
+use self_originated::{Router, originate_or_wait};
 use std::alloc::{AllocError, Global};
 use words::{Key, LinkStateId, RouterId};
 
@@ -35,6 +34,22 @@ fn router_key(own: RouterId) -> Key
     }
 }
 
+// The router-LSA of a router that has heard of nobody goes into its database.
+fn describe_links(router: &mut Router, alloc: Global, config: &Config) -> Result<(), AllocError>
+    requires { router.old.present ≡ unannounced config.now }
+    ensures { OnOk result (router.new.present ≡ initial config.now) }
+{
+    let mut drafts = drafts_for(router, alloc)?;
+    originate_or_wait(
+        router,
+        alloc,
+        config.start,
+        &router_key(config.router),
+        &mut drafts,
+    )?;
+    Ok(())
+}
+
 /// A router that has heard of nobody and has originated its router-LSA (RFC 2328, section 12.4.1).
 ///
 /// The only error is that an allocation was refused.
@@ -44,13 +59,11 @@ pub fn begin(alloc: Global, config: &Config) -> Result<Router, AllocError>
 {
     let links = links_of(alloc, config.interfaces.as_slice())?;
     let mut router = Router::new(alloc, config.router, links, config.start);
-    let mut drafts = drafts_for(&router, alloc)?;
-    originate_or_wait(
-        &mut router,
-        alloc,
-        config.start,
-        &router_key(config.router),
-        &mut drafts,
-    )?;
-    Ok(router)
+    match describe_links(&mut router, alloc, config) {
+        Ok(()) => Ok(router),
+        Err(error) => {
+            router.close();
+            Err(error)
+        }
+    }
 }

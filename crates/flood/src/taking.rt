@@ -15,7 +15,7 @@ use crate::making::make_event;
 use crate::part::{Part, read_part};
 use crate::sending::{drafts_for, outs};
 use events::{CoreError, Out};
-use router::Router;
+use self_originated::Router;
 use std::alloc::Global;
 use words::Second;
 

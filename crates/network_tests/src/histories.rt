@@ -91,11 +91,10 @@ fn comes_out(network: &mut Network, events: &[Event], random: &mut Random) -> bo
 // How many instances were acknowledged in the history of this number, if it comes out so.
 fn played(alloc: Global, events: &[Event], number: u64) -> Option<usize> {
     let mut network = Network::new(alloc, 3)?;
-    if comes_out(&mut network, events, &mut Random { state: number }) {
-        Some(network.acknowledged())
-    } else {
-        None
-    }
+    let is_right = comes_out(&mut network, events, &mut Random { state: number });
+    let acknowledged = network.acknowledged();
+    network.close();
+    is_right.then_some(acknowledged)
 }
 
 // Plays so many histories, from this number on, in which many instances are acknowledged.

@@ -4,6 +4,7 @@ use crate::destinations::prefix;
 use crate::member::{Member, begun, router_at};
 use flood::{Core, Event, Out, State};
 use std::alloc::Global;
+use std::mem::replace;
 use words::Second;
 
 /// What becomes of the next packet that is under way; nothing, where there is none.
@@ -109,28 +110,43 @@ fn taken(members: &mut [Member], place: usize, moment: u64, event: &Event) -> Op
     members.get_mut(place)?.takes(moment, event)
 }
 
-fn members(alloc: Global, count: usize) -> Option<Vec<Member>> {
-    let mut members = Vec::new(alloc);
+// The router of the place is one of them from now on.
+fn joins(members: &mut Vec<Member>, alloc: Global, place: usize) -> bool {
+    match Member::new(alloc, place) {
+        None => false,
+        Some(member) => members.push(member).is_ok(),
+    }
+}
+
+fn all_join(members: &mut Vec<Member>, alloc: Global, count: usize) -> bool {
     for place in 0..count {
-        if members.push(Member::new(alloc, place)?).is_err() {
-            return None;
+        if !joins(members, alloc, place) {
+            return false;
         }
     }
-    Some(members)
+    true
 }
 
 impl Network {
     /// So many routers, at most three, that begin at 0.
     pub fn new(alloc: Global, count: usize) -> Option<Network> {
-        let members = members(alloc, count)?;
-        Some(Network {
+        let mut network = Network {
             alloc,
             moment: 0,
-            members,
+            members: Vec::new(alloc),
             packets: Vec::new(alloc),
             at: 0,
-        })
+        };
+        if all_join(&mut network.members, alloc, count) {
+            Some(network)
+        } else {
+            network.close();
+            None
+        }
     }
+
+    /// Lets the routers go.
+    pub fn close(self) {}
 
     // The packet is under way, if its interface leads somewhere.
     fn sends(&mut self, place: usize, out: Out) -> bool {
@@ -264,9 +280,12 @@ impl Network {
             return false;
         };
         match self.members.get_mut(place) {
-            None => false,
+            None => {
+                core.close();
+                false
+            }
             Some(member) => {
-                member.core = core;
+                replace(&mut member.core, core).close();
                 true
             }
         }

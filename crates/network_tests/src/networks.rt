@@ -25,7 +25,9 @@ fn play<R: Wait + Drop + Copy>(
 ) -> Result<(), Fail> {
     let events = announcements(alloc, rt)?;
     let mut network = Network::new(alloc, routers).ok_or("no network")?;
-    play_at(&mut network, &events, acts)
+    let played = play_at(&mut network, &events, acts);
+    network.close();
+    played
 }
 
 const C: Fate = Fate::Comes;

@@ -13,8 +13,8 @@ use Rattle.received.specs.Links.{neighbor_at}
 use Rattle.events.specs.EventState.{EventState, on_area}
 use Rattle.events.specs.Packets.{acknowledged_by, after_packet, describe_to, from_neighbor, is_from, is_heard, is_in_exchange}
 use Rattle.events.specs.Routers.{Router}
-use Rattle.router.specs.Making.{Makes}
-use Rattle.router.proofs.Making.{makes_if_false, makes_if_true, makes_nothing, makes_same}
+use Rattle.self_originated.specs.Making.{Makes}
+use Rattle.self_originated.proofs.Making.{makes_if_false, makes_if_true, makes_nothing, makes_same}
 use Rattle.received_packets.specs.Received.{is_from_named, is_in_exchange_named}
 
 pub exchange_named : (o : Option Neighbor) → is_in_exchange_named (named o) ≡ is_in_exchange o

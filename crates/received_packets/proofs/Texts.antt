@@ -15,8 +15,8 @@ use Rattle.events.specs.Originations.{receive_self_originated}
 use Rattle.events.specs.Packets.{after_lsa, after_lsas, after_self_originated, after_unread, case_in}
 use Rattle.events.specs.Routers.{Router}
 use Rattle.flooding.proofs.Updates.{drop_end}
-use Rattle.router.specs.Making.{Makes}
-use Rattle.router.proofs.Making.{makes_nothing, makes_same, makes_then}
+use Rattle.self_originated.specs.Making.{Makes}
+use Rattle.self_originated.proofs.Making.{makes_nothing, makes_same, makes_then}
 use Rattle.received_packets.specs.Received.{goes_on_at, is_newer}
 
 -- ---- what bytes are read as

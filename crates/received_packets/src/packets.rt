@@ -5,14 +5,14 @@ ghost use Rattle.adjacency.specs.Steps.{named};
 ghost use Rattle.received.specs.Links.{neighbor_at};
 ghost use Rattle.events.specs.Packets.{after_packet, from_neighbor, is_from, is_heard, is_hello};
 ghost use Rattle.events.specs.Packets.{is_in_exchange};
-ghost use Rattle.router.specs.Making.{Makes};
+ghost use Rattle.self_originated.specs.Making.{Makes};
 ghost use Rattle.received_packets.specs.Received.{is_from_named, is_in_exchange_named};
 
 use crate::updates::receive_lsas;
 use adjacency::{Draft, State};
 use neighbor_packets::is_foreign;
 use packet::{Body, Packet};
-use router::Router;
+use self_originated::Router;
 use std::alloc::{AllocError, Global};
 use words::{RouterId, Second};
 

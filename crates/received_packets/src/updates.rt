@@ -4,14 +4,13 @@ ghost use Rattle.lsa.specs.Reading.{lsa_in};
 ghost use Rattle.received.specs.Updates.{case_at, goes_on};
 ghost use Rattle.events.specs.Packets.{after_lsa, after_lsas, after_unread};
 ghost use Rattle.flooding.specs.Cases.{case_of};
-ghost use Rattle.router.specs.Making.{Makes};
+ghost use Rattle.self_originated.specs.Making.{Makes};
 ghost use Rattle.received_packets.specs.Received.{goes_on_at, is_newer};
 
 use adjacency::Draft;
 use flooding::Case;
 use lsa::{Lsa, ReadError, read};
-use router::Router;
-use self_originated::receive_self_originated;
+use self_originated::{Router, receive_self_originated};
 use std::alloc::{AllocError, Global};
 use words::{Second, Sequence};
 

@@ -220,4 +220,8 @@ impl Router {
         self.answers.roll_back();
         self.moment.roll_back();
     }
+
+    /// Lets the router go. A function above that lets one go by itself has the letting-go of each of
+    /// its parts to prove once more.
+    pub fn close(self) {}
 }

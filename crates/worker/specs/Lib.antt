@@ -1,5 +1,5 @@
 -- what a router offers, and what a turn is, for those above
-pub use Rattle.book.specs.Offers
+pub use Rattle.turns.specs.Offers
 pub use Rattle.turns.specs.Turns
 pub use Rattle.turns.specs.Numbers
 pub use Rattle.turns.specs.declared.turned.TurnError

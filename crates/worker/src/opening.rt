@@ -5,12 +5,11 @@ ghost use Rattle.hooks.specs.Known.{asks_of};
 ghost use Rattle.worker.specs.Opening.{CountDownTo, IsSetUpFor};
 
 use crate::setup::Setup;
-use book::{Book, Core};
 use hooks::Asker;
 use maps::Seat;
 use std::alloc::{AllocError, Global};
 use std::sync::ledger::Share;
-use turns::{Hub, Place, Port, Site};
+use turns::{Book, Core, Hub, Place, Port, Site};
 
 /// Opens a hub with a book that begins with this router, and a port for each seat of the setup. The
 /// last port has number 0, the one before it number 1, and so on. Beside them comes what is left of

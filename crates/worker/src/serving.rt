@@ -4,12 +4,13 @@ ghost use Rattle.worker.specs.Sending.{IsGivenEach};
 ghost use Rattle.turns.specs.Turns.{TakesFor};
 ghost use Rattle.worker.specs.declared.serving.Ended.TheVariants.{Fault};
 
-use book::{BookError, CoreError, Out};
 use links::{Link, LinkFault, Seconds};
 use std::alloc::Global;
 use std::sync::Wait;
 use std::sync::atomic::{AtomicBool, Ordering};
-use turns::{Gate, Hub, Port, Site, Taker, TurnError, Turned, Work, turn};
+use turns::{
+    BookError, CoreError, Gate, Hub, Out, Port, Site, Taker, TurnError, Turned, Work, turn,
+};
 use words::{Second, Sequence};
 
 /// How a worker ended.

@@ -2,11 +2,10 @@
 ghost use Rattle.std.specs.Prelude.{◌≡◌, ◌+◌, All, vec_len, IfOk};
 ghost use Rattle.maps.specs.Words.{IsOf};
 
-use book::Book;
 use maps::{Seat, Shared};
 use std::alloc::{AllocError, Global};
 use std::sync::ledger::Share;
-use turns::{Hub, Port, Site};
+use turns::{Book, Hub, Port, Site};
 
 /// The share that counts every event of the book, and the ports' seats, all of the hub's table: what
 /// [`Shared::close`](maps::Shared::close) asks for.

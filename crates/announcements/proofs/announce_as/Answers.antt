@@ -5,7 +5,7 @@ use Rattle.events.specs.Commands.{announce, is_announced_as}
 use Rattle.events.specs.EventState.{EventState, on_router}
 use Rattle.events.specs.Originations.{originate_anyway}
 use Rattle.events.specs.Routers.{Router}
-use Rattle.router.proofs.Making.{makes_if_false, makes_on_router, makes_then}
+use Rattle.self_originated.proofs.Making.{makes_if_false, makes_on_router, makes_then}
 use Rattle.announcements.proofs.announce_as.Goals as goal
 
 pub returns-clause-makes : goal.returns-clause-makes

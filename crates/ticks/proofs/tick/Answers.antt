@@ -1,5 +1,5 @@
 use Rattle.keyed_map.proofs.Helds.{on_ok}
-use Rattle.router.proofs.Making.{makes_then}
+use Rattle.self_originated.proofs.Making.{makes_then}
 use Rattle.ticks.specs.Parts.{originate_what_is_due, run_out_all, send_what_is_due}
 use Rattle.ticks.proofs.tick.Goals as goal
 

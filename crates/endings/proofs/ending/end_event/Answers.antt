@@ -1,6 +1,6 @@
 use Rattle.std.proofs.Common.{ap, refl, sym}
 use Rattle.events.specs.EventState.{on_router}
-use Rattle.router.proofs.Making.{makes_on_router, makes_then}
+use Rattle.self_originated.proofs.Making.{makes_on_router, makes_then}
 use Rattle.endings.specs.Parts.{at_moment, fill, refill, request_and_remove}
 use Rattle.endings.proofs.ending.end_event.Goals as goal
 

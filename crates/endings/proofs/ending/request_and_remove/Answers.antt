@@ -1,7 +1,7 @@
 use Rattle.keyed_map.proofs.Helds.{on_ok}
 use Rattle.events.specs.Endings.{remove_aged, request_all}
 use Rattle.events.specs.EventState.{on_area}
-use Rattle.router.proofs.Making.{makes_then}
+use Rattle.self_originated.proofs.Making.{makes_then}
 use Rattle.endings.proofs.ending.request_and_remove.Goals as goal
 
 pub returns-clause-makes : goal.returns-clause-makes

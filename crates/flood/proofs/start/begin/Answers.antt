@@ -1,9 +1,8 @@
-use Rattle.std.proofs.Common.{[], map, ap, ◌∙◌}
-use Rattle.events.specs.Originations.{originate_or_wait}
+use Rattle.std.proofs.Common.{map, ap, ◌∙◌}
 use Rattle.events.specs.Routers.{with_links}
 use Rattle.flooding.specs.Links.{present}
 use Rattle.flood.specs.Starts.{fresh_kept}
-use Rattle.flood.proofs.Starting.{few_links, fresh_links, started}
+use Rattle.flood.proofs.Starting.{few_links, fresh_links}
 use Rattle.flood.proofs.start.begin.Goals as goal
 
 pub new-router-requires : goal.new-router-requires
@@ -13,11 +12,8 @@ new-router-requires c = record {
       (ap (λ ls. map present ls) c.in_ok-links.ensures ∙ ap (λ is. map present (map fresh_kept is)) c.as_slice.ensures ∙ fresh_links c.args.config.now.interfaces);
 }
 
-pub returns : goal.returns
-returns c =
+pub describe_links-requires : goal.describe_links-requires
+describe_links-requires c =
     let config = c.args.config.now in
     let links = ap (λ ls. map present ls) c.in_ok-links.ensures ∙ ap (λ is. map present (map fresh_kept is)) c.as_slice.ensures ∙ fresh_links config.interfaces in
-    let old = c.new-router.ensures.present ∙ ap (λ ls. with_links config.router ls config.start) links in
-    started (originate_or_wait config.start c.router_key.result) c.new-router.result.present c.originate_or_wait.new.router.present c.deref_mut.result.now c.originate_or_wait.new.drafts
-    c.in_ok-originate_or_wait.ensures.makes
-    ∙ (λ i. (originate_or_wait config.start (c.router_key.ensures i) (record { router = old i; sends = [] })).router)
+    c.new-router.ensures.present ∙ ap (λ ls. with_links config.router ls config.start) links

@@ -4,7 +4,7 @@ use Rattle.lsdb.specs.Headers.{Lsa}
 use Rattle.received.specs.Updates.{goes_on}
 use Rattle.events.specs.Packets.{after_unread}
 use Rattle.flooding.specs.Cases.{case_of}
-use Rattle.router.specs.Making.{Makes}
+use Rattle.self_originated.specs.Making.{Makes}
 use Rattle.received_packets.specs.Received.{goes_on_at}
 use Rattle.received_packets.proofs.Texts.{text_read, text_skipped}
 use Rattle.received_packets.proofs.updates.receive_text.Goals as goal

@@ -25,8 +25,8 @@ invariant_of-result c =
       ap exceeds is ∙ others_stay_within_limits.start c.args.config.now,
       subst AnnouncesItsOwn (sym is) (only_what_is_known.first c.args.config.now),
       subst HoldsInstances (sym is) (instances_stay_in_range.first c.args.config.now router),
-      begun c.settle.new.self.present c.id.result c.area.result.now.present c.moment.result c.in_ok-routes.routes
-          c.id.ensures (ap (λ (a : RouterArea). a.present) c.area.ensures.parts) c.moment.ensures c.in_ok-routes.ensures.walk c.in_ok-routes.ensures.root c.in_ok-routes.ensures.candidates c.in_ok-routes.ensures.answered,
+      begun c.settle.new.self.present c.id.result c.area.result.now.present c.moment.result c.in-Ok.routes
+          c.id.ensures (ap (λ (a : RouterArea). a.present) c.area.ensures.parts) c.moment.ensures c.in-Ok.ensures.walk c.in-Ok.ensures.root c.in-Ok.ensures.candidates c.in-Ok.ensures.answered,
     )
 
 pub new-requires-clause-few : goal.new-requires-clause-few
