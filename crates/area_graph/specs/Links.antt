@@ -71,8 +71,8 @@ pub record IsToNetwork (root : Root) (entries : List Entry) (router : ℕ) (told
   pub other : ¬ (router ≡ root.router) → IsCheapest entries router entry link
 
 -- to a network that lists the router
-pub record IsToSomeNetwork (root : Root) (entries : List Entry) (router : ℕ) (told_links : List Told)
-    (link : Link) : Type 0 where
+pub record IsToSomeNetwork (root : Root) (entries : List Entry) (router : ℕ)
+    (told_links : List Told) (link : Link) : Type 0 where
   pub entry : Entry
   pub among : Contains entries entry
   pub is_router : entry.router ≡ router

@@ -1,7 +1,7 @@
 -- Copies whose LSAs have the bodies and whose ages count as before.
-use Rattle.std.proofs.Common.{◌≡◌, ℕ, ◌⊎◌, inl, inr, Bool, true, false, MatchBool, Some, None, refl, sym, subst}
+use Rattle.std.proofs.Common.{◌≡◌, ℕ, inl, Bool, true, false, MatchBool, Some, None, refl, sym, subst}
 use Rattle.std.specs.Prelude.{Option, is_some, IsTrue, ◌↔◌}
-use Rattle.lsdb.specs.Changes.{TellOneAge, TellNoMaxAge, CountsAlike, IsSameBody, SaysTheSame}
+use Rattle.lsdb.specs.Changes.{CountsAlike, IsSameBody, SaysTheSame}
 use Rattle.lsdb.specs.Headers.{Lsa}
 use Rattle.lsdb.specs.Joined.{both, joined}
 use Rattle.lsdb.specs.Keys.{ByKey}
