@@ -10,7 +10,6 @@ const BEGINS: u64 = 901;
 const MOST_ROUNDS: u32 = 100_000;
 
 /// Interface 4 of the one router leads to interface 1 of the other.
-#[derive(Drop)]
 pub struct Pair {
     alloc: Global,
     pub one: Core,

@@ -10,7 +10,6 @@ use std::test::Fail;
 use words::{Address, External, ExternalType, Prefix, RouterId, Second, Sequence};
 
 /// What happens to a router, and how many walks it had made when that was last looked at.
-#[derive(Drop)]
 pub struct Trial<R: Wait + Drop> {
     pub alloc: Global,
     pub core: Core,
