@@ -9,10 +9,5 @@ pub mod Neighbors
 pub mod Floods
 pub mod Sets
 pub mod Sends
-pub mod Answered
-pub mod Exchanges
-pub mod Judged
 pub mod Lists
-pub mod Judging
 pub mod Timers
-pub mod Intersections

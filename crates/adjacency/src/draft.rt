@@ -58,7 +58,13 @@ impl Model for Draft {
 impl Draft {
     /// Nothing to be sent. It wants no memory.
     pub fn new(alloc: Global) -> Self
-        ensures { result ≡ record { hellos = []; descriptions = []; requests = []; updates = []; acknowledgments = [] } }
+        ensures { result ≡ record {
+          hellos = [];
+          descriptions = [];
+          requests = [];
+          updates = [];
+          acknowledgments = [];
+        } }
     {
         Draft {
             hellos: Vec::new(alloc),
@@ -71,7 +77,8 @@ impl Draft {
 
     /// A Hello is to be sent.
     pub fn greet(&mut self, hello: Hello) -> Result<(), AllocError>
-        ensures { OnOk result ((delay : ℕ) → self.new ≡ drafting delay (SendsHello hello ∷ []) self.old) }
+        ensures { OnOk result ((delay : ℕ) → self.new
+            ≡ drafting delay (SendsHello hello ∷ []) self.old) }
     {
         self.hellos.push(hello)?;
         Ok(())
@@ -79,7 +86,8 @@ impl Draft {
 
     /// A Database Description is to be sent.
     pub fn describe(&mut self, description: Description) -> Result<(), AllocError>
-        ensures { OnOk result ((delay : ℕ) → self.new ≡ drafting delay (Describes description ∷ []) self.old) }
+        ensures { OnOk result ((delay : ℕ) → self.new
+            ≡ drafting delay (Describes description ∷ []) self.old) }
     {
         self.descriptions.push(description)?;
         Ok(())
@@ -87,7 +95,8 @@ impl Draft {
 
     /// A Link State Request for these keys is to be sent.
     pub fn request(&mut self, keys: Sequence<Key>) -> Result<(), AllocError>
-        ensures { OnOk result ((delay : ℕ) → self.new ≡ drafting delay (Requests keys ∷ []) self.old) }
+        ensures { OnOk result ((delay : ℕ) → self.new
+            ≡ drafting delay (Requests keys ∷ []) self.old) }
     {
         self.requests.push(keys)?;
         Ok(())
@@ -101,7 +110,8 @@ impl Draft {
         moment: Second,
         copy: &DatabaseCopy<'_>,
     ) -> Result<(), AllocError>
-        ensures { OnOk result (self.new ≡ drafting delay (Updates (lsa_now moment copy.now) ∷ []) self.old) }
+        ensures { OnOk result (self.new ≡ drafting delay (Updates (lsa_now moment copy.now) ∷ [])
+            self.old) }
     {
         let header = copy.header(moment);
         let age = (u32::from(header.age) + u32::from(delay)).min(3600) as u16;
@@ -113,7 +123,8 @@ impl Draft {
 
     /// An Acknowledgment names the instance.
     pub fn acknowledge(&mut self, header: Header) -> Result<(), AllocError>
-        ensures { OnOk result ((delay : ℕ) → self.new ≡ drafting delay (Acknowledges header ∷ []) self.old) }
+        ensures { OnOk result ((delay : ℕ) → self.new
+            ≡ drafting delay (Acknowledges header ∷ []) self.old) }
     {
         self.acknowledgments.push(header)?;
         Ok(())

@@ -1,12 +1,12 @@
-//! The conversation with a neighbor: its states, its lists and what is sent to it (RFC 2328, section 10).
+//! The conversation with a neighbor: its states, its lists and what is sent to it (RFC 2328,
+//! section 10).
 #![tactic(auto)]
 
+pub mod descriptions;
 mod draft;
 mod interface;
 pub mod laws;
 mod listed;
-mod neighbor;
-mod place;
 mod saved;
 mod standing;
 mod state;
@@ -15,8 +15,7 @@ mod verdict;
 pub use draft::{Draft, DraftLists, Update};
 pub use interface::Interface;
 pub use listed::{ListEntry, instance_of};
-pub use neighbor::Neighbor;
-pub use place::Place;
 pub use saved::Saved;
+pub use standing::{ReceivedDescription, Standing};
 pub use state::State;
 pub use verdict::Verdict;

@@ -7,7 +7,8 @@ use lsdb::{Instance, age_at};
 use std::marker::Model;
 use words::Second;
 
-/// An instance by its header, and the moment at which it had the header's age. Clauses see the definitions' record.
+/// An instance by its header, and the moment at which it had the header's age. Clauses see the
+/// definitions' record.
 #[derive(Clone, Copy, Debug)]
 pub struct ListEntry {
     pub header: Header,

@@ -3,8 +3,8 @@ ghost use Rattle.std.specs.Prelude.{◌≡◌};
 
 use std::marker::Model;
 
-/// A value, and the one that stood there when it was last settled: the first replacement moves it away, so that neither settling nor
-/// rolling back wants memory.
+/// A value, and the one that stood there when it was last settled: the first replacement moves it
+/// away, so that neither settling nor rolling back wants memory.
 #[derive(Drop)]
 pub struct Saved<X> {
     value: X,

@@ -6,7 +6,8 @@ use crate::state::State;
 use std::marker::Model;
 use words::{RouterId, Second};
 
-/// By what a Database Description is known again: its flags, its Options and its sequence number (RFC 2328, section 10.6).
+/// By what a Database Description is known again: its flags, its Options and its sequence number
+/// (RFC 2328, section 10.6).
 #[derive(Clone, Copy, Debug)]
 pub struct ReceivedDescription {
     pub options: u8,
@@ -21,9 +22,21 @@ impl Model for ReceivedDescription {
 
     ghost Value = { Known };
 
-    ghost view = { λ a. record { options = a.options; init = a.init; more = a.more; master = a.master; sequence = a.sequence } };
+    ghost view = { λ a. record {
+      options = a.options;
+      init = a.init;
+      more = a.more;
+      master = a.master;
+      sequence = a.sequence;
+    } };
 
-    ghost inverse = { λ m. record { options = m.options; init = m.init; more = m.more; master = m.master; sequence = m.sequence } };
+    ghost inverse = { λ m. record {
+      options = m.options;
+      init = m.init;
+      more = m.more;
+      master = m.master;
+      sequence = m.sequence;
+    } };
 }
 
 /// A neighbor's names, state, numbers and times.
@@ -41,7 +54,8 @@ pub struct Standing {
     pub received: Option<ReceivedDescription>,
     /// The moment at which the exchange was done.
     pub exchanged: Option<Second>,
-    /// Since when the inactivity time runs, and since when those of the Description, the Request and the retransmissions.
+    /// Since when the inactivity time runs, and since when those of the Description, the Request
+    /// and the retransmissions.
     pub last_heard: Second,
     pub described_at: Second,
     pub requested_at: Second,
@@ -49,7 +63,8 @@ pub struct Standing {
 }
 
 impl Standing {
-    /// The same once more: a `Copy` struct with a field that has a model counts as moved where it is used.
+    /// The same once more: a `Copy` struct with a field that has a model counts as moved where it
+    /// is used.
     pub fn same(&self) -> Standing
         ensures { result ≡ self.now }
     {

@@ -19,16 +19,17 @@ mod hellos;
 mod packets;
 mod timers;
 
-use adjacency::{Draft, Interface, Place, Saved, State};
+use adjacency::{Draft, Interface, Saved, State};
 use keyed_map::KeyedMap;
 use lsa::Header;
 use lsdb::DatabaseCopy;
+use neighbor_places::Place;
 use std::alloc::{AllocError, Global};
 use std::marker::Model;
 use words::{Key, RouterId, Second};
 
-/// An interface with its neighbor, the acknowledgments that wait for a Tick, and when the last Hello
-/// was sent; and what they were when they were last settled.
+/// An interface with its neighbor, the acknowledgments that wait for a Tick, and when the last
+/// Hello was sent; and what they were when they were last settled.
 #[derive(Drop)]
 pub struct Link {
     interface: Interface,
@@ -104,13 +105,15 @@ impl Link {
         draft: &mut Draft,
     ) -> Result<bool, AllocError>
         ensures ok { IfOk result (λ _. self.new.present
-            ≡ with_neighbor (step_on (flooded moment from (lsa_now moment copy.now)) self.old.present.neighbor)
+            ≡ with_neighbor (step_on (flooded moment from (lsa_now moment copy.now))
+            self.old.present.neighbor)
             self.old.present) }
         ensures draft { IfOk result (λ _. draft.new
             ≡ drafting self.old.present.interface.delay
             (sent_on (flooded moment from (lsa_now moment copy.now)) self.old.present.neighbor) draft.old) }
         ensures sent { IfOk result (λ sent. sent
-            ≡ is_any (sent_on (flooded moment from (lsa_now moment copy.now)) self.old.present.neighbor)) }
+            ≡ is_any (sent_on (flooded moment from (lsa_now moment copy.now))
+            self.old.present.neighbor)) }
         ensures settled { self.new.settled ≡ self.old.settled }
     {
         let delay = self.interface.delay;
@@ -138,8 +141,8 @@ impl Link {
         self.place.has_instance(moment, header)
     }
 
-    /// BadLSReq (RFC 2328, section 10.3): from Exchange on the neighbor goes back to ExStart, and the
-    /// first Description of a new attempt is sent.
+    /// BadLSReq (RFC 2328, section 10.3): from Exchange on the neighbor goes back to ExStart, and
+    /// the first Description of a new attempt is sent.
     ///
     /// `AllocError` comes where memory was refused; the link is to be rolled back then.
     pub fn bad_request(
@@ -149,7 +152,8 @@ impl Link {
         draft: &mut Draft,
     ) -> Result<(), AllocError>
         ensures ok { OnOk result (self.new.present
-            ≡ with_neighbor (step_on (mismatched moment) self.old.present.neighbor) self.old.present) }
+            ≡ with_neighbor (step_on (mismatched moment) self.old.present.neighbor)
+            self.old.present) }
         ensures draft { OnOk result ((delay : ℕ) → draft.new
             ≡ drafting delay (sent_on (mismatched moment) self.old.present.neighbor) draft.old) }
         ensures settled { self.new.settled ≡ self.old.settled }
@@ -181,7 +185,8 @@ impl Link {
         draft: &mut Draft,
     ) -> Result<(), AllocError>
         ensures ok { OnOk result (self.new.present
-            ≡ with_neighbor (step_on (request_next moment) self.old.present.neighbor) self.old.present) }
+            ≡ with_neighbor (step_on (request_next moment) self.old.present.neighbor)
+            self.old.present) }
         ensures draft { OnOk result ((delay : ℕ) → draft.new
             ≡ drafting delay (sent_on (request_next moment) self.old.present.neighbor) draft.old) }
         ensures settled { self.new.settled ≡ self.old.settled }
@@ -189,8 +194,8 @@ impl Link {
         self.place.request(alloc, moment, draft)
     }
 
-    /// The instance is acknowledged at the next Tick, in the place of an earlier one of its key (RFC
-    /// 2328, section 13.5).
+    /// The instance is acknowledged at the next Tick, in the place of an earlier one of its key
+    /// (RFC 2328, section 13.5).
     ///
     /// `AllocError` comes where memory was refused; the link is to be rolled back then.
     pub fn acknowledge_later(&mut self, header: Header) -> Result<(), AllocError>

@@ -1,4 +1,5 @@
-//! Tests of `lsdb`, `adjacency` and `routes` by their public calls. They stand above, since a crate is proved once more for its tests.
+//! Tests of `lsdb`, `neighbor_places` and `routes` by their public calls. They stand above, since a
+//! crate is proved once more for its tests.
 #![tactic(auto)]
 
 #[cfg(test)]
@@ -6,6 +7,6 @@ mod databases;
 #[cfg(test)]
 mod instances;
 #[cfg(test)]
-mod neighbors;
+mod played;
 #[cfg(test)]
 mod walks;

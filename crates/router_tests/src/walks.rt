@@ -36,7 +36,8 @@ fn square(alloc: Global) -> Result<Vec<Vertex>, AllocError> {
     graph_of(alloc, &rows)
 }
 
-// A router that is reached at the same cost over a network and by a link of its own, and one behind it.
+// A router that is reached at the same cost over a network and by a link of its own, and one behind
+// it.
 fn network(alloc: Global) -> Result<Vec<Vertex>, AllocError> {
     let rows: [Row<'_>; 4] = [
         (Kind::Router, &[link(1, 10, 2), link(3, 10, 1)]),

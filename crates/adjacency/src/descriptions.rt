@@ -1,0 +1,233 @@
+//! What is asked of a received Database Description, and the verdict on it (RFC 2328, section 10.6).
+ghost use Rattle.std.specs.Prelude.{◌≡◌, not, ◌&&◌, [], ◌∷◌};
+ghost use Rattle.std.specs.List.{list_all};
+ghost use Rattle.lsa.specs.Reading.{is_known_type};
+ghost use Rattle.lsa.specs.declared.header.Header.{Header as AnyHeader};
+ghost use Rattle.adjacency.specs.Descriptions.{Verdict as Judgment};
+ghost use Rattle.adjacency.specs.Descriptions.{as_received, changes_options, first_verdict};
+ghost use Rattle.adjacency.specs.Descriptions.{is_duplicate, is_empty, is_initial_description};
+ghost use Rattle.adjacency.specs.Descriptions.{knows_types, same_flag, same_received};
+ghost use Rattle.adjacency.specs.Exchanges.{expected_of, follows, leads, starts_over, verdict_of};
+
+use crate::standing::{ReceivedDescription, Standing};
+use crate::verdict::Verdict;
+use lsa::Header;
+use packet::Description;
+use words::RouterId;
+
+/// By what the Description is known again.
+pub fn as_received(description: &Description) -> ReceivedDescription
+    ensures { result ≡ as_received description.now }
+{
+    ReceivedDescription {
+        options: description.options,
+        init: description.init,
+        more: description.more,
+        master: description.master,
+        sequence: description.sequence,
+    }
+}
+
+/// Tells whether both flags are set, or neither is.
+pub fn same_flag(a: bool, b: bool) -> bool
+    ensures { result ≡ same_flag a b }
+{
+    if a { b } else { !b }
+}
+
+fn all_five(a: bool, b: bool, c: bool, d: bool, e: bool) -> bool
+    ensures { result ≡ (a && b && c && d && e) }
+{
+    a && b && c && d && e
+}
+
+fn all_four(a: bool, b: bool, c: bool, d: bool) -> bool
+    ensures { result ≡ (a && b && c && d) }
+{
+    a && b && c && d
+}
+
+fn both(a: bool, b: bool) -> bool
+    ensures { result ≡ (a && b) }
+{
+    a && b
+}
+
+fn same_received(last: &ReceivedDescription, description: &Description) -> bool
+    ensures { result ≡ same_received last.now (as_received description.now) }
+{
+    let options = last.options == description.options;
+    let init = same_flag(last.init, description.init);
+    let more = same_flag(last.more, description.more);
+    let master = same_flag(last.master, description.master);
+    let sequence = last.sequence == description.sequence;
+    all_five(options, init, more, master, sequence)
+}
+
+/// Tells whether it is the last one received once more: its flags, Options and number are the same.
+pub fn is_duplicate(received: &Option<ReceivedDescription>, description: &Description) -> bool
+    ensures { result ≡ is_duplicate received.now description.now }
+{
+    match received {
+        None => false,
+        Some(last) => same_received(last, description),
+    }
+}
+
+/// Tells whether its Options are others than those of the last one received.
+pub fn changes_options(received: &Option<ReceivedDescription>, description: &Description) -> bool
+    ensures { result ≡ changes_options received.now description.now }
+{
+    match received {
+        None => false,
+        Some(last) => !(last.options == description.options),
+    }
+}
+
+fn is_empty(headers: &[Header]) -> bool
+    ensures { result ≡ is_empty headers.now }
+{
+    match headers {
+        [] => true,
+        [_first, ..] => false,
+    }
+}
+
+// Tells whether it opens an exchange.
+fn is_initial_description(description: &Description) -> bool
+    ensures { result ≡ is_initial_description description.now }
+{
+    let empty = is_empty(description.headers.as_slice());
+    all_four(
+        description.init,
+        description.more,
+        description.master,
+        empty,
+    )
+}
+
+/// The number that the next one from the other side has.
+pub fn expected(standing: &Standing) -> u32
+    ensures { result ≡ expected_of standing.now }
+{
+    if standing.is_master {
+        standing.sequence
+    } else {
+        standing.sequence.wrapping_add(1)
+    }
+}
+
+fn is_known_type(header: &Header) -> bool
+    ensures { result ≡ is_known_type header.now.ls_type }
+{
+    header.ls_type >= 1 && header.ls_type <= 5
+}
+
+// Tells whether all these headers are of types that are known.
+fn know_types(headers: &[Header]) -> bool
+    ensures { result ≡ list_all (λ (h : AnyHeader). is_known_type h.ls_type) headers.now }
+{
+    for header in headers {
+        let known = is_known_type(header);
+        if !known {
+            return false;
+        }
+    }
+    true
+}
+
+fn knows_types(description: &Description) -> bool
+    ensures { result ≡ knows_types description.now }
+{
+    know_types(description.headers.as_slice())
+}
+
+/// Tells whether the adjacency begins anew: at a mismatch, or where one that is to be accepted has a
+/// header of an unknown type.
+pub fn starts_over(verdict: Verdict, description: &Description) -> bool
+    ensures { result ≡ starts_over (verdict_of verdict) description.now }
+{
+    match verdict {
+        Verdict::Discarded => false,
+        Verdict::NegotiatedAsSlave => !knows_types(description),
+        Verdict::NegotiatedAsMaster => !knows_types(description),
+        Verdict::Repeated => false,
+        Verdict::Accepted => !knows_types(description),
+        Verdict::Mismatch => true,
+    }
+}
+
+/// Tells whether this router follows: the other side opens the exchange and has the larger Router ID.
+pub fn follows(own: RouterId, other: RouterId, description: &Description) -> bool
+    ensures { result ≡ follows own other description.now }
+{
+    let opens = is_initial_description(description);
+    let smaller = own.number() < other.number();
+    both(opens, smaller)
+}
+
+/// Tells whether this router leads: the other side, which has the smaller Router ID, took its number
+/// over.
+pub fn leads(own: RouterId, other: RouterId, sequence: u32, description: &Description) -> bool
+    ensures { result ≡ leads own other sequence description.now }
+{
+    let same = description.sequence == sequence;
+    let larger = other.number() < own.number();
+    all_four(!description.init, !description.master, same, larger)
+}
+
+/// The verdict in ExStart: this router is the slave where it follows, the master where it leads.
+pub fn negotiation(follows: bool, leads: bool) -> Verdict
+    ensures { verdict_of result ≡ first_verdict
+        ((follows, Judgment.NegotiatedAsSlave) ∷ (leads, Judgment.NegotiatedAsMaster) ∷ [])
+        Judgment.Discarded }
+{
+    if follows {
+        Verdict::NegotiatedAsSlave
+    } else if leads {
+        Verdict::NegotiatedAsMaster
+    } else {
+        Verdict::Discarded
+    }
+}
+
+/// The verdict in Exchange on one that is no duplicate: it is accepted where the MS bits of both sides
+/// differ, the I bit is clear, the Options are those of before, and the number is the expected one.
+pub fn acceptance(same_roles: bool, init: bool, other_options: bool, expected: bool) -> Verdict
+    ensures { verdict_of result ≡ first_verdict
+        ((same_roles, Judgment.Mismatch) ∷ (init, Judgment.Mismatch) ∷
+        (other_options, Judgment.Mismatch) ∷ (not expected, Judgment.Mismatch) ∷ [])
+        Judgment.Accepted }
+{
+    if same_roles {
+        Verdict::Mismatch
+    } else if init {
+        Verdict::Mismatch
+    } else if other_options {
+        Verdict::Mismatch
+    } else if expected {
+        Verdict::Accepted
+    } else {
+        Verdict::Mismatch
+    }
+}
+
+/// The verdict on a duplicate, which the master discards, and the slave answers where its last
+/// Description is kept; else the other verdict.
+pub fn repetition(duplicate: bool, is_master: bool, answers: bool, otherwise: Verdict) -> Verdict
+    ensures { verdict_of result ≡ first_verdict
+        ((duplicate && is_master, Judgment.Discarded) ∷ (duplicate && answers, Judgment.Repeated) ∷
+        []) (verdict_of otherwise) }
+{
+    if duplicate {
+        if is_master {
+            Verdict::Discarded
+        } else if answers {
+            Verdict::Repeated
+        } else {
+            otherwise
+        }
+    } else {
+        otherwise
+    }
+}

@@ -1,0 +1,322 @@
+//! The place of a neighbor on a link.
+ghost use Rattle.std.specs.Prelude.{◌≡◌, ℕ, IfOk, OnOk, None, Some};
+ghost use Rattle.lsdb.specs.Copies.{lsa_now};
+ghost use Rattle.adjacency.specs.Adjacencies.{after_hello, enter_exstart};
+ghost use Rattle.adjacency.specs.Contents.{no_sends, sent_on, step_on};
+ghost use Rattle.adjacency.specs.Drafts.{drafting};
+ghost use Rattle.adjacency.specs.Floods.{flooded, is_any};
+ghost use Rattle.adjacency.specs.Requests.{request_next};
+ghost use Rattle.adjacency.specs.Retransmissions.{after_acknowledgment};
+ghost use Rattle.adjacency.specs.Steps.{any_exchange_or_later, heard, named};
+ghost use Rattle.adjacency.specs.Views.{begins, begun, present_of};
+
+mod descriptions;
+mod requests;
+mod timers;
+mod updates;
+
+use adjacency::{Draft, State};
+use lsa::Header;
+use lsdb::DatabaseCopy;
+use neighbors::{Neighbor, initial_description, next_dd_sequence_start};
+use std::alloc::{AllocError, Global};
+use std::marker::Model;
+use words::{RouterId, Second};
+
+/// The neighbor unless it is Down, and the one that was moved away in this event, if one was.
+#[derive(Drop)]
+pub struct Place {
+    neighbor: Option<Neighbor>,
+    before: Option<Option<Neighbor>>,
+}
+
+impl Model for Place {
+    ghost use Rattle.std.specs.Prelude.{Option};
+    ghost use Rattle.adjacency.specs.Neighbors.{Neighbor as Conversation};
+    ghost use Rattle.std.specs.Coded.{codes};
+    ghost use Rattle.adjacency.specs.Kept.{Kept};
+    ghost use Rattle.adjacency.specs.Codes.{coded_kept, coded_keys, coded_lists};
+
+    ghost Value = { Kept (Option Conversation) };
+
+    ghost coded = { coded_kept (Prim.hlevel (codes, coded_lists, coded_keys)) };
+
+    ghost use Rattle.adjacency.specs.Views.{present_of, settled_among};
+
+    ghost view = { λ a. record {
+      present = present_of a.neighbor;
+      settled = settled_among a.before a.neighbor;
+    } };
+}
+
+// Whether a Hello that names this router or doesn't begins anew: all is forgotten but the number of
+// the last attempt.
+fn begins(state: State, names: bool) -> bool
+    ensures { result ≡ begins state names }
+{
+    match state {
+        State::Init => true,
+        State::ExStart => !names,
+        State::Exchange => !names,
+        State::Loading => !names,
+        State::Full => !names,
+    }
+}
+
+impl Place {
+    pub fn down() -> Self
+        ensures { result ≡ record { present = None; settled = None } }
+    {
+        Place {
+            neighbor: None,
+            before: None,
+        }
+    }
+
+    /// Floods the copy to the neighbor, if there is one; tells whether an Update takes it along.
+    pub fn flood(
+        &mut self,
+        alloc: Global,
+        moment: Second,
+        from: bool,
+        copy: &DatabaseCopy<'_>,
+        delay: u16,
+        draft: &mut Draft,
+    ) -> Result<bool, AllocError>
+        ensures ok { IfOk result (λ _. self.new.present
+            ≡ step_on (flooded moment from (lsa_now moment copy.now)) self.old.present) }
+        ensures draft { IfOk result (λ _. draft.new
+            ≡ drafting delay (sent_on (flooded moment from (lsa_now moment copy.now))
+            self.old.present) draft.old) }
+        ensures sent { IfOk result (λ sent. sent
+            ≡ is_any (sent_on (flooded moment from (lsa_now moment copy.now)) self.old.present)) }
+        ensures settled { self.new.settled ≡ self.old.settled }
+    {
+        match &mut self.neighbor {
+            None => Ok(false),
+            Some(neighbor) => neighbor.flood(alloc, moment, from, copy, delay, draft),
+        }
+    }
+
+    /// The same place, with nothing to be taken back. The only error is that an allocation was
+    /// refused.
+    pub fn copy(&self, alloc: Global) -> Result<Self, AllocError>
+        ensures present { IfOk result (λ made. made.present ≡ self.now.present) }
+        ensures settled { IfOk result (λ made. made.settled ≡ self.now.present) }
+    {
+        match &self.neighbor {
+            None => Ok(Place::down()),
+            Some(neighbor) => {
+                let neighbor = neighbor.copy(alloc)?;
+                Ok(Place {
+                    neighbor: Some(neighbor),
+                    before: None,
+                })
+            }
+        }
+    }
+
+    /// The neighbor's Router ID and its state, unless it is Down.
+    pub fn neighbor(&self) -> Option<(RouterId, State)>
+        ensures { result ≡ named self.now.present }
+    {
+        let Some(neighbor) = &self.neighbor else {
+            return None;
+        };
+        let standing = neighbor.standing();
+        Some((standing.router, standing.state))
+    }
+
+    /// An Acknowledgment of these instances, as `Neighbor::ack` says. Refused, the place is to be
+    /// rolled back.
+    pub fn ack(&mut self, moment: Second, headers: &[Header]) -> Result<(), AllocError>
+        ensures ok { OnOk result (self.new.present
+            ≡ step_on (λ n. no_sends (after_acknowledgment moment headers.now n))
+            self.old.present) }
+        ensures settled { self.new.settled ≡ self.old.settled }
+    {
+        match &mut self.neighbor {
+            None => Ok(()),
+            Some(neighbor) => neighbor.ack(moment, headers),
+        }
+    }
+
+    /// The next Request, as `Neighbor::request` says. Refused, the place is to be rolled back.
+    pub fn request(
+        &mut self,
+        alloc: Global,
+        moment: Second,
+        draft: &mut Draft,
+    ) -> Result<(), AllocError>
+        ensures ok { OnOk result (self.new.present
+            ≡ step_on (request_next moment) self.old.present) }
+        ensures draft { OnOk result ((delay : ℕ) → draft.new
+            ≡ drafting delay (sent_on (request_next moment) self.old.present) draft.old) }
+        ensures settled { self.new.settled ≡ self.old.settled }
+    {
+        match &mut self.neighbor {
+            None => Ok(()),
+            Some(neighbor) => neighbor.request(alloc, moment, draft),
+        }
+    }
+
+    // Another neighbor, or none, takes the place. The one that was there is kept until the event is
+    // settled.
+    fn replace(&mut self, neighbor: Option<Neighbor>)
+        ensures { self.new ≡ record self.old { present = present_of neighbor } }
+    {
+        let before = self.neighbor.take();
+        if self.before.is_none() {
+            self.before = Some(before);
+        }
+        self.neighbor = neighbor;
+    }
+
+    /// The neighbor is Down. It wants no memory.
+    pub fn go_down(&mut self)
+        ensures { self.new ≡ record self.old { present = None } }
+    {
+        self.replace(None);
+    }
+
+    // A neighbor in Init hears a Hello, which names this router or doesn't.
+    fn begin(
+        &mut self,
+        alloc: Global,
+        moment: Second,
+        router: RouterId,
+        dd_sequence_start: Option<u32>,
+        names: bool,
+        draft: &mut Draft,
+    ) -> Result<(), AllocError>
+        ensures ok { OnOk result (self.new.present
+            ≡ Some (begun moment router dd_sequence_start names).neighbor) }
+        ensures draft { OnOk result ((delay : ℕ) → draft.new
+            ≡ drafting delay (begun moment router dd_sequence_start names).sends draft.old) }
+        ensures settled { self.new.settled ≡ self.old.settled }
+    {
+        if names {
+            let number = next_dd_sequence_start(moment, dd_sequence_start);
+            let opened = initial_description(alloc, number);
+            draft.describe(opened)?;
+            let neighbor = Neighbor::started(alloc, moment, router, dd_sequence_start, moment);
+            self.replace(Some(neighbor));
+            return Ok(());
+        }
+        let neighbor = Neighbor::fresh(alloc, router, dd_sequence_start, moment);
+        self.replace(Some(neighbor));
+        Ok(())
+    }
+
+    // A new attempt at an exchange, into ExStart.
+    fn attempt(
+        &mut self,
+        alloc: Global,
+        moment: Second,
+        draft: &mut Draft,
+    ) -> Result<(), AllocError>
+        ensures ok { OnOk result (self.new.present
+            ≡ step_on (enter_exstart moment) self.old.present) }
+        ensures draft { OnOk result ((delay : ℕ) → draft.new
+            ≡ drafting delay (sent_on (enter_exstart moment) self.old.present) draft.old) }
+        ensures settled { self.new.settled ≡ self.old.settled }
+    {
+        let Some(neighbor) = &self.neighbor else {
+            return Ok(());
+        };
+        let standing = neighbor.standing();
+        let number = next_dd_sequence_start(moment, standing.dd_sequence_start);
+        let opened = initial_description(alloc, number);
+        draft.describe(opened)?;
+        let started = Neighbor::started(
+            alloc,
+            moment,
+            standing.router,
+            standing.dd_sequence_start,
+            standing.last_heard,
+        );
+        self.replace(Some(started));
+        Ok(())
+    }
+
+    /// Tells whether there is a neighbor in Exchange or later: Requests, Updates and
+    /// Acknowledgments of it count.
+    pub fn is_exchange_or_later(&self) -> bool
+        ensures { result ≡ any_exchange_or_later self.now.present }
+    {
+        match &self.neighbor {
+            None => false,
+            Some(neighbor) => neighbor.floods(),
+        }
+    }
+
+    // The inactivity timer starts again.
+    fn hear(&mut self, moment: Second)
+        ensures { self.new ≡ record self.old { present = heard moment self.old.present } }
+    {
+        if let Some(neighbor) = &mut self.neighbor {
+            neighbor.hear(moment);
+        }
+    }
+
+    /// A Hello came from this router, which names this router or doesn't (RFC 2328, section 10.5):
+    /// it was accepted, so the neighbor is Down or of this Router ID. Down becomes Init and the
+    /// inactivity timer starts again. Where the Hello names this router, Init goes on to ExStart
+    /// (2-WayReceived) and the first Description of an attempt is sent; where it doesn't, each
+    /// later state goes back to Init (1-WayReceived), and the lists are cleared without a walk over
+    /// them.
+    ///
+    /// `AllocError` comes where memory was refused; the place is to be rolled back then.
+    pub fn hello(
+        &mut self,
+        alloc: Global,
+        moment: Second,
+        from: RouterId,
+        names: bool,
+        draft: &mut Draft,
+    ) -> Result<(), AllocError>
+        ensures ok { OnOk result (self.new.present
+            ≡ Some (after_hello moment from names self.old.present).neighbor) }
+        ensures draft { OnOk result ((delay : ℕ) → draft.new
+            ≡ drafting delay (after_hello moment from names self.old.present).sends draft.old) }
+        ensures settled { self.new.settled ≡ self.old.settled }
+    {
+        let Some(neighbor) = &self.neighbor else {
+            return self.begin(alloc, moment, from, None, names, draft);
+        };
+        let standing = neighbor.standing();
+        let begins = begins(standing.state, names);
+        if begins {
+            return self.begin(
+                alloc,
+                moment,
+                standing.router,
+                standing.dd_sequence_start,
+                names,
+                draft,
+            );
+        }
+        self.hear(moment);
+        Ok(())
+    }
+
+    pub fn settle(&mut self)
+        ensures { self.new ≡ record { present = self.old.present; settled = self.old.present } }
+    {
+        self.before = None;
+        if let Some(neighbor) = &mut self.neighbor {
+            neighbor.settle();
+        }
+    }
+
+    pub fn roll_back(&mut self)
+        ensures { self.new ≡ record { present = self.old.settled; settled = self.old.settled } }
+    {
+        if let Some(before) = self.before.take() {
+            self.neighbor = before;
+        }
+        if let Some(neighbor) = &mut self.neighbor {
+            neighbor.roll_back();
+        }
+    }
+}

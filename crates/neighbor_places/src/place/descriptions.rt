@@ -1,0 +1,167 @@
+//! Received Database Descriptions (RFC 2328, section 10.6).
+ghost use Rattle.std.specs.Prelude.{◌≡◌, ℕ, nat_lt, OnOk};
+ghost use Rattle.adjacency.specs.Adjacencies.{two_way_received};
+ghost use Rattle.adjacency.specs.Contents.{sent_on, step_on};
+ghost use Rattle.adjacency.specs.Descriptions.{after_description};
+ghost use Rattle.adjacency.specs.Drafts.{drafting};
+ghost use Rattle.adjacency.specs.Exchanges.{any_init, is_init, judged_on, judging, proceeding};
+ghost use Rattle.adjacency.specs.Exchanges.{verdict_of};
+
+use super::Place;
+use adjacency::descriptions::starts_over;
+use adjacency::{Draft, State, Verdict};
+use lsdb::Lsdb;
+use packet::Description;
+use std::alloc::{AllocError, Global};
+use words::{RouterId, Second};
+
+// Tells whether the sender's interface sends larger datagrams than this router's.
+fn is_too_large(description: &Description) -> bool
+    ensures { result ≡ nat_lt 8192 description.now.mtu }
+{
+    description.mtu > 8192
+}
+
+fn is_init(state: State) -> bool
+    ensures { result ≡ is_init state }
+{
+    match state {
+        State::Init => true,
+        State::ExStart => false,
+        State::Exchange => false,
+        State::Loading => false,
+        State::Full => false,
+    }
+}
+
+impl Place {
+    // Tells whether there is a neighbor in Init.
+    fn is_init(&self) -> bool
+        ensures { result ≡ any_init self.now.present }
+    {
+        match &self.neighbor {
+            None => false,
+            Some(neighbor) => {
+                let standing = neighbor.standing();
+                is_init(standing.state)
+            }
+        }
+    }
+
+    // 2-WayReceived (RFC 2328, section 10.3): Init goes on to ExStart.
+    fn two_way(
+        &mut self,
+        alloc: Global,
+        moment: Second,
+        draft: &mut Draft,
+    ) -> Result<(), AllocError>
+        ensures ok { OnOk result (self.new.present
+            ≡ step_on (two_way_received moment) self.old.present) }
+        ensures draft { OnOk result ((delay : ℕ) → draft.new
+            ≡ drafting delay (sent_on (two_way_received moment) self.old.present) draft.old) }
+        ensures settled { self.new.settled ≡ self.old.settled }
+    {
+        let init = self.is_init();
+        if init {
+            return self.attempt(alloc, moment, draft);
+        }
+        Ok(())
+    }
+
+    // The verdict on a Description; without a neighbor nothing is done.
+    fn verdict(&self, own: RouterId, description: &Description) -> Verdict
+        ensures { verdict_of result ≡ judged_on own self.now.present description.now }
+    {
+        match &self.neighbor {
+            None => Verdict::Discarded,
+            Some(neighbor) => neighbor.verdict(own, description),
+        }
+    }
+
+    // What the verdict makes of the neighbor, unless it starts over.
+    fn proceed(
+        &mut self,
+        alloc: Global,
+        verdict: Verdict,
+        moment: Second,
+        database: &Lsdb,
+        description: &Description,
+        draft: &mut Draft,
+    ) -> Result<(), AllocError>
+        ensures ok { OnOk result (self.new.present
+            ≡ step_on (proceeding (verdict_of verdict) moment database.now.present description.now)
+            self.old.present) }
+        ensures draft { OnOk result ((delay : ℕ) → draft.new
+            ≡ drafting delay (sent_on (proceeding (verdict_of verdict) moment database.now.present
+            description.now) self.old.present) draft.old) }
+        ensures settled { self.new.settled ≡ self.old.settled }
+    {
+        match &mut self.neighbor {
+            None => Ok(()),
+            Some(neighbor) => {
+                neighbor.proceed(alloc, verdict, moment, database, description, draft)
+            }
+        }
+    }
+
+    // The Description is judged as the neighbor's state is.
+    fn judge(
+        &mut self,
+        alloc: Global,
+        own: RouterId,
+        moment: Second,
+        database: &Lsdb,
+        description: &Description,
+        draft: &mut Draft,
+    ) -> Result<(), AllocError>
+        ensures ok { OnOk result (self.new.present
+            ≡ step_on (judging own moment database.now.present description.now) self.old.present) }
+        ensures draft { OnOk result ((delay : ℕ) → draft.new
+            ≡ drafting delay (sent_on (judging own moment database.now.present description.now)
+            self.old.present) draft.old) }
+        ensures settled { self.new.settled ≡ self.old.settled }
+    {
+        let verdict = self.verdict(own, description);
+        let over = starts_over(verdict, description);
+        if over {
+            return self.attempt(alloc, moment, draft);
+        }
+        self.proceed(alloc, verdict, moment, database, description, draft)
+    }
+
+    /// A Database Description came from the neighbor, to the router of the Router ID `own` (RFC
+    /// 2328, sections 10.6 and 10.8). One whose MTU is larger than 8,192 bytes is discarded. In
+    /// Init it acts as a Hello that names this router first. The one that negotiates is then
+    /// accepted as the next in sequence. What is newer than the database has it goes on the request
+    /// list; the next Description is sent, or the last one again where this one is a duplicate; and
+    /// after the last of either side the neighbor is Loading, or Full where nothing is to be
+    /// requested. One out of sequence, or with a header of an unknown type, takes the neighbor back
+    /// to ExStart (SeqNumberMismatch). It walks over the database only where the negotiation is
+    /// done.
+    ///
+    /// `AllocError` comes where memory was refused; the place is to be rolled back then.
+    pub fn description(
+        &mut self,
+        alloc: Global,
+        own: RouterId,
+        moment: Second,
+        database: &Lsdb,
+        description: &Description,
+        draft: &mut Draft,
+    ) -> Result<(), AllocError>
+        ensures ok { OnOk result (self.new.present
+            ≡ step_on (after_description own moment database.now.present description.now)
+            self.old.present) }
+        ensures draft { OnOk result ((delay : ℕ) → draft.new
+            ≡ drafting delay (sent_on (after_description own moment database.now.present
+            description.now) self.old.present) draft.old) }
+        ensures settled { self.new.settled ≡ self.old.settled }
+    {
+        let too_large = is_too_large(description);
+        if too_large {
+            return Ok(());
+        }
+        self.two_way(alloc, moment, draft)?;
+        self.judge(alloc, own, moment, database, description, draft)
+    }
+}

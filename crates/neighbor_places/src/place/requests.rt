@@ -1,0 +1,104 @@
+//! Received Link State Requests (RFC 2328, section 10.7).
+ghost use Rattle.std.specs.Prelude.{◌≡◌, [], ◌∷◌, map, OnOk};
+ghost use Rattle.std.specs.List.{list_all};
+ghost use Rattle.adjacency.specs.Contents.{Updates, sent_on, step_on};
+ghost use Rattle.adjacency.specs.Drafts.{drafting};
+ghost use Rattle.adjacency.specs.Steps.{after_request, is_there, lsas_of};
+
+use super::Place;
+use adjacency::Draft;
+use lsdb::Lsdb;
+use std::alloc::{AllocError, Global};
+use words::{Key, Second};
+
+fn is_there(database: &Lsdb, key: &Key) -> bool
+    ensures { result ≡ is_there database.now.present key.now }
+{
+    match database.get(key) {
+        None => false,
+        Some(_copy) => true,
+    }
+}
+
+// Tells whether the database has them all.
+fn are_there(database: &Lsdb, keys: &[Key]) -> bool
+    ensures { result ≡ list_all (is_there database.now.present) keys.now }
+{
+    for key in keys {
+        let there = is_there(database, key);
+        if !there {
+            return false;
+        }
+    }
+    true
+}
+
+// The copy of this key is sent, if there is one.
+fn send_copy(
+    alloc: Global,
+    moment: Second,
+    delay: u16,
+    database: &Lsdb,
+    key: &Key,
+    draft: &mut Draft,
+) -> Result<(), AllocError>
+    ensures { OnOk result (draft.new ≡ drafting delay
+        (map Updates (lsas_of moment database.now.present (key.now ∷ []))) draft.old) }
+{
+    match database.get(key) {
+        None => Ok(()),
+        Some(copy) => draft.update(alloc, delay, moment, &copy),
+    }
+}
+
+fn send_copies(
+    alloc: Global,
+    moment: Second,
+    delay: u16,
+    database: &Lsdb,
+    keys: &[Key],
+    draft: &mut Draft,
+) -> Result<(), AllocError>
+    ensures { OnOk result (draft.new ≡ drafting delay
+        (map Updates (lsas_of moment database.now.present keys.now)) draft.old) }
+{
+    for key in keys {
+        send_copy(alloc, moment, delay, database, key, draft)?;
+    }
+    Ok(())
+}
+
+impl Place {
+    /// A Link State Request for these keys came from the neighbor (RFC 2328, section 10.7). It
+    /// counts from Exchange on: the copies are sent in Updates, InfTransDelay (`delay`) seconds
+    /// older than they are, and go on no list. Where the database lacks one, none is sent, and the
+    /// neighbor goes back to ExStart (BadLSReq).
+    ///
+    /// `AllocError` comes where memory was refused; the place is to be rolled back then.
+    pub fn answer(
+        &mut self,
+        alloc: Global,
+        moment: Second,
+        delay: u16,
+        database: &Lsdb,
+        keys: &[Key],
+        draft: &mut Draft,
+    ) -> Result<(), AllocError>
+        ensures ok { OnOk result (self.new.present
+            ≡ step_on (after_request moment database.now.present keys.now) self.old.present) }
+        ensures draft { OnOk result (draft.new
+            ≡ drafting delay (sent_on (after_request moment database.now.present keys.now)
+            self.old.present) draft.old) }
+        ensures settled { self.new.settled ≡ self.old.settled }
+    {
+        let exchanging = self.is_exchange_or_later();
+        if exchanging {
+            let there = are_there(database, keys);
+            if there {
+                return send_copies(alloc, moment, delay, database, keys, draft);
+            }
+            return self.attempt(alloc, moment, draft);
+        }
+        Ok(())
+    }
+}

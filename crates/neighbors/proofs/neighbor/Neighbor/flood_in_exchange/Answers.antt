@@ -1,0 +1,72 @@
+use Rattle.std.proofs.Common.{cond, not, ◌&&◌, [], ◌∷◌, ap, sym, ◌∙◌}
+use Rattle.lsdb.specs.Copies.{lsa_now}
+use Rattle.lsdb.specs.Headers.{key_of, lsa_key}
+use Rattle.adjacency.specs.Contents.{Step, Updates, no_sends}
+use Rattle.adjacency.specs.Retransmissions.{add_retransmission, remove_retransmission}
+use Rattle.adjacency.specs.Floods.{without_met_request}
+use Rattle.adjacency.specs.Drafts.{drafting}
+use Rattle.adjacency.specs.Floods.{is_any}
+use Rattle.adjacency.proofs.Floods.{drafting-none}
+use Rattle.neighbors.proofs.neighbor.Neighbor.flood_in_exchange.Goals as goal
+
+pub returns-then-gets-clause-ok : goal.returns-then-gets-clause-ok
+returns-then-gets-clause-ok c =
+    let n = c.args.self.now.present in
+    let lsa = lsa_now c.args.moment c.args.copy.now in
+    let m = without_met_request c.args.moment lsa n in
+    let A : Step = record { neighbor = add_retransmission c.args.moment lsa.header m; sends = Updates lsa ∷ [] } in
+    let B : Step = no_sends (remove_retransmission (lsa_key lsa) m) in
+    let is = c.gets-gets.ensures ∙ ap (λ b. not c.args.from && b) c.in_ok-passes.ensures.passes in
+    c.in_ok-owe.ensures.ok ∙ ap (λ h. add_retransmission c.args.moment h c.meet.new.self.present) c.header-header.ensures ∙ ap (add_retransmission c.args.moment lsa.header) c.in_ok-passes.ensures.ok
+    ∙ ap (λ b. (cond b A B).neighbor) (sym c.if-gets.true ∙ is)
+
+pub returns-then-gets-clause-draft : goal.returns-then-gets-clause-draft
+returns-then-gets-clause-draft c =
+    let n = c.args.self.now.present in
+    let lsa = lsa_now c.args.moment c.args.copy.now in
+    let m = without_met_request c.args.moment lsa n in
+    let A : Step = record { neighbor = add_retransmission c.args.moment lsa.header m; sends = Updates lsa ∷ [] } in
+    let B : Step = no_sends (remove_retransmission (lsa_key lsa) m) in
+    let is = c.gets-gets.ensures ∙ ap (λ b. not c.args.from && b) c.in_ok-passes.ensures.passes in
+    c.in_ok-update.ensures ∙ ap (λ b. drafting c.args.delay (cond b A B).sends c.args.draft.now) (sym c.if-gets.true ∙ is)
+
+pub returns-then-gets-clause-sent : goal.returns-then-gets-clause-sent
+returns-then-gets-clause-sent c =
+    let n = c.args.self.now.present in
+    let lsa = lsa_now c.args.moment c.args.copy.now in
+    let m = without_met_request c.args.moment lsa n in
+    let A : Step = record { neighbor = add_retransmission c.args.moment lsa.header m; sends = Updates lsa ∷ [] } in
+    let B : Step = no_sends (remove_retransmission (lsa_key lsa) m) in
+    let is = c.gets-gets.ensures ∙ ap (λ b. not c.args.from && b) c.in_ok-passes.ensures.passes in
+    ap (λ b. is_any (cond b A B).sends) (sym c.if-gets.true ∙ is)
+
+pub returns-clause-ok : goal.returns-clause-ok
+returns-clause-ok c =
+    let n = c.args.self.now.present in
+    let lsa = lsa_now c.args.moment c.args.copy.now in
+    let m = without_met_request c.args.moment lsa n in
+    let A : Step = record { neighbor = add_retransmission c.args.moment lsa.header m; sends = Updates lsa ∷ [] } in
+    let B : Step = no_sends (remove_retransmission (lsa_key lsa) m) in
+    let is = c.gets-gets.ensures ∙ ap (λ b. not c.args.from && b) c.in_ok-passes.ensures.passes in
+    c.in_ok-release.ensures.ok ∙ ap (λ h. remove_retransmission (key_of h) c.meet.new.self.present) c.header-header.ensures ∙ ap (remove_retransmission (lsa_key lsa)) c.in_ok-passes.ensures.ok
+    ∙ ap (λ b. (cond b A B).neighbor) (sym c.if-gets.false ∙ is)
+
+pub returns-clause-draft : goal.returns-clause-draft
+returns-clause-draft c =
+    let n = c.args.self.now.present in
+    let lsa = lsa_now c.args.moment c.args.copy.now in
+    let m = without_met_request c.args.moment lsa n in
+    let A : Step = record { neighbor = add_retransmission c.args.moment lsa.header m; sends = Updates lsa ∷ [] } in
+    let B : Step = no_sends (remove_retransmission (lsa_key lsa) m) in
+    let is = c.gets-gets.ensures ∙ ap (λ b. not c.args.from && b) c.in_ok-passes.ensures.passes in
+    drafting-none c.args.delay c.args.draft.now ∙ ap (λ b. drafting c.args.delay (cond b A B).sends c.args.draft.now) (sym c.if-gets.false ∙ is)
+
+pub returns-clause-sent : goal.returns-clause-sent
+returns-clause-sent c =
+    let n = c.args.self.now.present in
+    let lsa = lsa_now c.args.moment c.args.copy.now in
+    let m = without_met_request c.args.moment lsa n in
+    let A : Step = record { neighbor = add_retransmission c.args.moment lsa.header m; sends = Updates lsa ∷ [] } in
+    let B : Step = no_sends (remove_retransmission (lsa_key lsa) m) in
+    let is = c.gets-gets.ensures ∙ ap (λ b. not c.args.from && b) c.in_ok-passes.ensures.passes in
+    ap (λ b. is_any (cond b A B).sends) (sym c.if-gets.false ∙ is)

@@ -1,0 +1,10 @@
+use Rattle.std.proofs.Common.{◌≡◌, take}
+use Rattle.std.specs.List.{fold}
+use Rattle.adjacency.specs.Descriptions.{with_request}
+use Rattle.neighbors.proofs.neighbor.descriptions.want_all.Given as goal
+
+abbrev pub invariant-loop-header : goal.invariant-loop-header
+invariant-loop-header l = record {
+  present : l.requests.present ≡ fold (with_request l.moment l.database.present) l.fn.requests.present (take l.header-index l.headers);
+  settled : l.requests.settled ≡ l.fn.requests.settled;
+}

@@ -1,0 +1,15 @@
+use Rattle.std.proofs.Common.{◌≡◌}
+use Rattle.std.specs.FinMap as finite
+use Rattle.std.specs.List.{fold}
+use Rattle.lsdb.specs.Copies.{is_aged_out}
+use Rattle.adjacency.specs.Exchanges.{is_young, with_key}
+use Rattle.neighbors.proofs.neighbor.negotiation.list_copies.Given as goal
+
+-- what going on to the end gives
+abbrev pub invariant-loop-key : goal.invariant-loop-key
+invariant-loop-key l = record {
+  young : fold (with_key (is_young l.moment) l.moment l.database.present) l.young.present l.key-iterator ≡ fold (with_key (is_young l.moment) l.moment l.database.present) finite.empty (finite.keys l.database.present);
+  aged : fold (with_key (is_aged_out l.moment) l.moment l.database.present) l.aged.present l.key-iterator ≡ fold (with_key (is_aged_out l.moment) l.moment l.database.present) finite.empty (finite.keys l.database.present);
+  young_settled : l.young.settled ≡ l.fn.young.settled;
+  aged_settled : l.aged.settled ≡ l.fn.aged.settled;
+}

@@ -1,0 +1,440 @@
+//! A neighbor that isn't Down.
+ghost use Rattle.std.specs.Prelude.{◌≡◌, ℕ, not, ◌&&◌, if◌then◌else◌, [], ◌∷◌, IfOk, OnOk};
+ghost use Rattle.std.specs.FinMap as finite;
+ghost use Rattle.lsa.specs.Headers.{key_of};
+ghost use Rattle.lsdb.specs.Copies.{lsa_now};
+ghost use Rattle.adjacency.specs.Adjacencies.{next_dd_sequence_start, initial_description};
+ghost use Rattle.adjacency.specs.Adjacencies.{enter_exstart};
+ghost use Rattle.adjacency.specs.Contents.{Step};
+ghost use Rattle.adjacency.specs.Drafts.{drafting};
+ghost use Rattle.adjacency.specs.Exchanges.{standing_of};
+ghost use Rattle.adjacency.specs.Floods.{flooded, flooded_in_exchange, is_any, meets, passes};
+ghost use Rattle.adjacency.specs.Floods.{request_of, without_met_request};
+ghost use Rattle.adjacency.specs.Neighbors.{fresh, is_exchange_or_loading, is_exchange_or_later};
+ghost use Rattle.adjacency.specs.Requests.{without_request};
+ghost use Rattle.adjacency.specs.Retransmissions.{acknowledged, after_acknowledgment, is_entry};
+ghost use Rattle.adjacency.specs.Retransmissions.{add_retransmission, remove_retransmission};
+
+mod copying;
+mod descriptions;
+mod negotiation;
+mod requests;
+mod timers;
+mod updates;
+mod verdicts;
+
+use adjacency::{Draft, ListEntry, Saved, Standing, State, instance_of};
+use keyed_map::KeyedMap;
+use lsa::Header;
+use lsdb::{DatabaseCopy, compare, newer};
+use packet::Description;
+use std::alloc::{AllocError, Global};
+use std::cmp::Ordering;
+use std::marker::Model;
+use words::{RouterId, Second, Sequence};
+
+/// A neighbor (RFC 2328, section 10), and what it was when it was last settled.
+#[derive(Drop)]
+pub struct Neighbor {
+    standing: Standing,
+    before: Standing,
+    // the last Description sent, while it may have to be sent again
+    described: Saved<Option<Description>>,
+    // what is still to be described, requested and acknowledged
+    summary: KeyedMap<ListEntry>,
+    requests: KeyedMap<ListEntry>,
+    // what the last Request asked for and is still on the request list
+    outstanding: KeyedMap<()>,
+    retransmissions: KeyedMap<ListEntry>,
+}
+
+impl Model for Neighbor {
+    ghost use Rattle.std.specs.Coded.{codes};
+    ghost use Rattle.adjacency.specs.Kept.{Kept};
+    ghost use Rattle.adjacency.specs.Codes.{coded_kept, coded_keys, coded_lists};
+    ghost use Rattle.adjacency.specs.Neighbors.{Neighbor as Conversation};
+
+    ghost Value = { Kept Conversation };
+
+    ghost coded = { coded_kept (Prim.hlevel (codes, coded_lists, coded_keys)) };
+
+    ghost use Rattle.adjacency.specs.Views.{neighbor_of};
+
+    ghost view = { λ a. record {
+      present = neighbor_of a.standing a.described.present a.summary.present a.requests.present
+          a.outstanding.present a.retransmissions.present;
+      settled = neighbor_of a.before a.described.settled a.summary.settled a.requests.settled
+          a.outstanding.settled a.retransmissions.settled;
+    } };
+}
+
+fn is_exchange_or_later(state: State) -> bool
+    ensures { result ≡ is_exchange_or_later state }
+{
+    match state {
+        State::Init => false,
+        State::ExStart => false,
+        State::Exchange => true,
+        State::Loading => true,
+        State::Full => true,
+    }
+}
+
+fn is_exchange_or_loading(state: State) -> bool
+    ensures { result ≡ is_exchange_or_loading state }
+{
+    match state {
+        State::Init => false,
+        State::ExStart => false,
+        State::Exchange => true,
+        State::Loading => true,
+        State::Full => false,
+    }
+}
+
+fn passes(moment: Second, copy: &DatabaseCopy<'_>, request: Option<ListEntry>) -> bool
+    ensures { result ≡ passes moment (lsa_now moment copy.now) request }
+{
+    match request {
+        None => true,
+        Some(listed) => {
+            let header = copy.header(moment);
+            newer(instance_of(&header), listed.instance(moment))
+        }
+    }
+}
+
+fn meets(moment: Second, copy: &DatabaseCopy<'_>, request: Option<ListEntry>) -> bool
+    ensures { result ≡ meets moment (lsa_now moment copy.now) request }
+{
+    match request {
+        None => false,
+        Some(listed) => {
+            let header = copy.header(moment);
+            !newer(listed.instance(moment), instance_of(&header))
+        }
+    }
+}
+
+// Tells whether the instance is the one on the list.
+fn is_entry(moment: Second, header: &Header, entry: Option<ListEntry>) -> bool
+    ensures { result ≡ is_entry moment header.now entry }
+{
+    match entry {
+        None => false,
+        Some(listed) => compare(instance_of(header), listed.instance(moment)) == Ordering::Equal,
+    }
+}
+
+fn gets(from: bool, passes: bool) -> bool
+    ensures { result ≡ (not from && passes) }
+{
+    !from && passes
+}
+
+fn later(first: bool, moment: Second, before: Second) -> Second
+    ensures { result ≡ (if first then moment else before) }
+{
+    if first { moment } else { before }
+}
+
+// The number of the next attempt at an exchange (RFC 2328, section 10.8).
+pub fn next_dd_sequence_start(moment: Second, dd_sequence_start: Option<u32>) -> u32
+    ensures { result ≡ next_dd_sequence_start moment dd_sequence_start }
+{
+    match dd_sequence_start {
+        None => (moment.count() % 0x1_0000_0000) as u32,
+        Some(before) => before.wrapping_add(1),
+    }
+}
+
+// The empty Description with all three flags, by which a router begins. It wants no memory.
+pub fn initial_description(alloc: Global, sequence: u32) -> Description
+    ensures { result ≡ initial_description sequence }
+{
+    Description {
+        mtu: 8192,
+        options: 2,
+        init: true,
+        more: true,
+        master: true,
+        sequence,
+        headers: Sequence::from_vec(Vec::new(alloc)),
+    }
+}
+
+impl Neighbor {
+    /// A neighbor in Init: nothing is left of any exchange but the number of the last attempt. It
+    /// wants no memory.
+    pub fn fresh(
+        alloc: Global,
+        router: RouterId,
+        dd_sequence_start: Option<u32>,
+        last_heard: Second,
+    ) -> Self
+        ensures { result.present ≡ fresh router dd_sequence_start last_heard }
+    {
+        let standing = Standing::fresh(router, dd_sequence_start, last_heard);
+        let before = Standing::fresh(router, dd_sequence_start, last_heard);
+        let described = Saved::new(None);
+        let summary = KeyedMap::new(alloc);
+        let requests = KeyedMap::new(alloc);
+        let outstanding = KeyedMap::new(alloc);
+        let retransmissions = KeyedMap::new(alloc);
+        Neighbor {
+            standing,
+            before,
+            described,
+            summary,
+            requests,
+            outstanding,
+            retransmissions,
+        }
+    }
+
+    /// A neighbor in ExStart, with a new attempt (RFC 2328, section 10.3). It wants no memory.
+    pub fn started(
+        alloc: Global,
+        moment: Second,
+        router: RouterId,
+        dd_sequence_start: Option<u32>,
+        last_heard: Second,
+    ) -> Self
+        ensures { result.present
+            ≡ (enter_exstart moment (fresh router dd_sequence_start last_heard)).neighbor }
+    {
+        let number = next_dd_sequence_start(moment, dd_sequence_start);
+        let standing = Standing::started(moment, router, number, last_heard);
+        let before = Standing::started(moment, router, number, last_heard);
+        let opened = initial_description(alloc, number);
+        let described = Saved::new(Some(opened));
+        let summary = KeyedMap::new(alloc);
+        let requests = KeyedMap::new(alloc);
+        let outstanding = KeyedMap::new(alloc);
+        let retransmissions = KeyedMap::new(alloc);
+        Neighbor {
+            standing,
+            before,
+            described,
+            summary,
+            requests,
+            outstanding,
+            retransmissions,
+        }
+    }
+
+    /// All but its lists and the last Description sent.
+    pub fn standing(&self) -> Standing
+        ensures { result ≡ standing_of self.now.present }
+    {
+        self.standing.same()
+    }
+
+    /// The inactivity timer starts again.
+    pub fn hear(&mut self, moment: Second)
+        ensures { self.new ≡ record self.old {
+          present =
+              record self.old.present { last_heard = moment };
+        } }
+    {
+        self.standing.last_heard = moment;
+    }
+
+    /// Tells whether it takes part in flooding: it is in Exchange or later.
+    pub fn floods(&self) -> bool
+        ensures { result ≡ is_exchange_or_later self.now.present.state }
+    {
+        is_exchange_or_later(self.standing.state)
+    }
+
+    // What is requested under the copy's key.
+    fn requested(&self, moment: Second, copy: &DatabaseCopy<'_>) -> Option<ListEntry>
+        ensures { result ≡ request_of self.now.present (lsa_now moment copy.now) }
+    {
+        let synchronizing = is_exchange_or_loading(self.standing.state);
+        if synchronizing {
+            let header = copy.header(moment);
+            return match self.requests.get(&header.key()) {
+                None => None,
+                Some(listed) => Some(*listed),
+            };
+        }
+        None
+    }
+
+    // The request of this key goes.
+    fn withdraw(&mut self, header: &Header) -> Result<(), AllocError>
+        ensures ok { OnOk result (self.new.present
+            ≡ without_request (key_of header.now) self.old.present) }
+        ensures settled { self.new.settled ≡ self.old.settled }
+    {
+        self.requests.remove(&header.key())?;
+        self.outstanding.remove(&header.key())
+    }
+
+    // The entry of this key leaves the retransmission list.
+    fn release(&mut self, header: &Header) -> Result<(), AllocError>
+        ensures ok { OnOk result (self.new.present
+            ≡ remove_retransmission (key_of header.now) self.old.present) }
+        ensures settled { self.new.settled ≡ self.old.settled }
+    {
+        self.retransmissions.remove(&header.key())
+    }
+
+    // The instance enters the retransmission list.
+    fn owe(&mut self, moment: Second, header: &Header) -> Result<(), AllocError>
+        ensures ok { OnOk result (self.new.present
+            ≡ add_retransmission moment header.now self.old.present) }
+        ensures settled { self.new.settled ≡ self.old.settled }
+    {
+        self.retransmissions.remove(&header.key())?;
+        let first = self.retransmissions.is_empty();
+        self.standing.retransmitted_at = later(first, moment, self.standing.retransmitted_at);
+        let entry = ListEntry {
+            header: *header,
+            at: moment,
+        };
+        self.retransmissions.insert(header.key(), entry)
+    }
+
+    // What the copy meets is requested no more; tells whether it passes what was requested.
+    fn meet(&mut self, moment: Second, copy: &DatabaseCopy<'_>) -> Result<bool, AllocError>
+        ensures ok { IfOk result (λ _. self.new.present
+            ≡ without_met_request moment (lsa_now moment copy.now) self.old.present) }
+        ensures passes { IfOk result (λ p. p ≡ passes moment (lsa_now moment copy.now)
+            (request_of self.old.present (lsa_now moment copy.now))) }
+        ensures settled { self.new.settled ≡ self.old.settled }
+    {
+        let first = self.requested(moment, copy);
+        let passes = passes(moment, copy, first);
+        let second = self.requested(moment, copy);
+        if meets(moment, copy, second) {
+            let header = copy.header(moment);
+            self.withdraw(&header)?;
+        }
+        Ok(passes)
+    }
+
+    // Floods the copy to a neighbor in Exchange or later.
+    fn flood_in_exchange(
+        &mut self,
+        alloc: Global,
+        moment: Second,
+        from: bool,
+        copy: &DatabaseCopy<'_>,
+        delay: u16,
+        draft: &mut Draft,
+    ) -> Result<bool, AllocError>
+        ensures ok { IfOk result (λ _. self.new.present
+            ≡ (flooded_in_exchange moment from (lsa_now moment copy.now)
+            self.old.present).neighbor) }
+        ensures draft { IfOk result (λ _. draft.new
+            ≡ drafting delay (flooded_in_exchange moment from (lsa_now moment copy.now)
+            self.old.present).sends draft.old) }
+        ensures sent { IfOk result (λ sent. sent
+            ≡ is_any (flooded_in_exchange moment from (lsa_now moment copy.now)
+            self.old.present).sends) }
+        ensures settled { self.new.settled ≡ self.old.settled }
+    {
+        let header = copy.header(moment);
+        let passes = self.meet(moment, copy)?;
+        let gets = gets(from, passes);
+        if gets {
+            self.owe(moment, &header)?;
+            draft.update(alloc, delay, moment, copy)?;
+            return Ok(true);
+        }
+        self.release(&header)?;
+        Ok(false)
+    }
+
+    /// Floods the copy to the neighbor, which is the one that it came from or isn't (RFC 2328,
+    /// section 13.3); tells whether an Update takes it along, InfTransDelay seconds older than it
+    /// is. Refused, the neighbor is to be rolled back.
+    pub fn flood(
+        &mut self,
+        alloc: Global,
+        moment: Second,
+        from: bool,
+        copy: &DatabaseCopy<'_>,
+        delay: u16,
+        draft: &mut Draft,
+    ) -> Result<bool, AllocError>
+        ensures ok { IfOk result (λ _. self.new.present
+            ≡ (flooded moment from (lsa_now moment copy.now) self.old.present).neighbor) }
+        ensures draft { IfOk result (λ _. draft.new
+            ≡ drafting delay (flooded moment from (lsa_now moment copy.now) self.old.present).sends
+            draft.old) }
+        ensures sent { IfOk result (λ sent. sent
+            ≡ is_any (flooded moment from (lsa_now moment copy.now) self.old.present).sends) }
+        ensures settled { self.new.settled ≡ self.old.settled }
+    {
+        let floods = self.floods();
+        if floods {
+            return self.flood_in_exchange(alloc, moment, from, copy, delay, draft);
+        }
+        Ok(false)
+    }
+
+    // The entry of the retransmission list under the header's key.
+    fn entry(&self, header: &Header) -> Option<ListEntry>
+        ensures { result ≡ finite.get self.now.present.retransmissions (key_of header.now) }
+    {
+        match self.retransmissions.get(&header.key()) {
+            None => None,
+            Some(listed) => Some(*listed),
+        }
+    }
+
+    // The same instance alone is taken off the retransmission list.
+    fn acknowledge(&mut self, moment: Second, header: &Header) -> Result<(), AllocError>
+        ensures ok { OnOk result (self.new.present
+            ≡ acknowledged moment self.old.present header.now) }
+        ensures settled { self.new.settled ≡ self.old.settled }
+    {
+        let entry = self.entry(header);
+        let same = is_entry(moment, header, entry);
+        if same {
+            return self.release(header);
+        }
+        Ok(())
+    }
+
+    /// An Acknowledgment of these instances (RFC 2328, section 13.7): each is taken off the
+    /// retransmission list where it is the same instance. Refused, the neighbor is to be rolled
+    /// back.
+    pub fn ack(&mut self, moment: Second, headers: &[Header]) -> Result<(), AllocError>
+        ensures ok { OnOk result (self.new.present
+            ≡ after_acknowledgment moment headers.now self.old.present) }
+        ensures settled { self.new.settled ≡ self.old.settled }
+    {
+        for header in headers {
+            self.acknowledge(moment, header)?;
+        }
+        Ok(())
+    }
+
+    /// Makes the changes so far final.
+    pub fn settle(&mut self)
+        ensures { self.new ≡ record { present = self.old.present; settled = self.old.present } }
+    {
+        self.before = self.standing.same();
+        self.described.settle();
+        self.summary.settle();
+        self.requests.settle();
+        self.outstanding.settle();
+        self.retransmissions.settle();
+    }
+
+    /// Takes all changes back that were made since it was last settled.
+    pub fn roll_back(&mut self)
+        ensures { self.new ≡ record { present = self.old.settled; settled = self.old.settled } }
+    {
+        self.standing = self.before.same();
+        self.described.roll_back();
+        self.summary.roll_back();
+        self.requests.roll_back();
+        self.outstanding.roll_back();
+        self.retransmissions.roll_back();
+    }
+}

@@ -1,0 +1,44 @@
+//! A neighbor once more.
+ghost use Rattle.std.specs.Prelude.{◌≡◌, IfOk};
+
+use super::Neighbor;
+use super::descriptions::copy as copy_description;
+use adjacency::Saved;
+use packet::Description;
+use std::alloc::{AllocError, Global};
+
+fn copy_described(kept: &Option<Description>) -> Result<Option<Description>, AllocError>
+    ensures { IfOk result (λ made. made ≡ kept.now) }
+{
+    match kept {
+        None => Ok(None),
+        Some(description) => {
+            let again = copy_description(description)?;
+            Ok(Some(again))
+        }
+    }
+}
+
+impl Neighbor {
+    /// The same neighbor, with nothing to be taken back. The only error is that an allocation was
+    /// refused.
+    pub fn copy(&self, alloc: Global) -> Result<Self, AllocError>
+        ensures present { IfOk result (λ made. made.present ≡ self.now.present) }
+        ensures settled { IfOk result (λ made. made.settled ≡ self.now.present) }
+    {
+        let described = copy_described(self.described.get())?;
+        let summary = self.summary.copied(alloc)?;
+        let requests = self.requests.copied(alloc)?;
+        let outstanding = self.outstanding.copied(alloc)?;
+        let retransmissions = self.retransmissions.copied(alloc)?;
+        Ok(Neighbor {
+            standing: self.standing.same(),
+            before: self.standing.same(),
+            described: Saved::new(described),
+            summary,
+            requests,
+            outstanding,
+            retransmissions,
+        })
+    }
+}

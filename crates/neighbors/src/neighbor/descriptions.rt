@@ -1,0 +1,478 @@
+//! The exchange of Database Descriptions (RFC 2328, sections 10.6, 10.8 and 10.3).
+ghost use Rattle.std.specs.Prelude.{◌≡◌, ℕ, ◌+◌, ◌%◌, ◌^◌, ◌||◌, false, true, if◌then◌else◌, []};
+ghost use Rattle.std.specs.Prelude.{◌∷◌, ◌++◌, take, Some, IfOk, OnOk};
+ghost use Rattle.std.specs.FinMap as finite;
+ghost use Rattle.std.specs.List.{filter_map, fold};
+ghost use Rattle.lsdb.specs.Instances.{aged_header};
+ghost use Rattle.adjacency.specs.Descriptions.{
+  announced_more,
+  as_received,
+  describe,
+  exchange_done,
+  is_wanted,
+  left_to_describe,
+  master_goes_on,
+  negotiated,
+  next_description,
+  repeat,
+  slave_replies,
+  with_request,
+  with_requests,
+};
+ghost use Rattle.adjacency.specs.Drafts.{drafting};
+ghost use Rattle.adjacency.specs.Exchanges.{accepted, entry_header, proceeding, verdict_of};
+
+use super::Neighbor;
+use super::negotiation::remove_keys;
+use adjacency::descriptions::as_received;
+use adjacency::{Draft, ListEntry, State, Verdict, instance_of};
+use keyed_map::KeyedMap;
+use lsa::Header;
+use lsdb::{Lsdb, age_at, newer};
+use packet::Description;
+use std::alloc::{AllocError, Global};
+use words::{Key, Second, Sequence};
+
+/// One Description has room for so many headers.
+const MOST_HEADERS_DESCRIBED: usize = 408;
+
+// The same Description once more.
+pub fn copy(description: &Description) -> Result<Description, AllocError>
+    ensures { IfOk result (λ made. made ≡ description.now) }
+{
+    let headers = description.headers.copy()?;
+    Ok(Description {
+        mtu: description.mtu,
+        options: description.options,
+        init: description.init,
+        more: description.more,
+        master: description.master,
+        sequence: description.sequence,
+        headers,
+    })
+}
+
+fn either(a: bool, b: bool) -> bool
+    ensures { result ≡ (a || b) }
+{
+    a || b
+}
+
+// Tells whether this instance is newer than the copy of its key, or there is no copy.
+fn is_wanted(moment: Second, database: &Lsdb, header: &Header) -> bool
+    ensures { result ≡ is_wanted moment database.now.present header.now }
+{
+    match database.get(&header.key()) {
+        None => true,
+        Some(copy) => newer(instance_of(header), copy.instance(moment)),
+    }
+}
+
+// The instance goes on the request list if it is wanted.
+fn want(
+    moment: Second,
+    database: &Lsdb,
+    requests: &mut KeyedMap<ListEntry>,
+    header: &Header,
+) -> Result<(), AllocError>
+    ensures ok { OnOk result (requests.new.present
+        ≡ with_request moment database.now.present requests.old.present header.now) }
+    ensures settled { requests.new.settled ≡ requests.old.settled }
+{
+    let wanted = is_wanted(moment, database, header);
+    if wanted {
+        let entry = ListEntry {
+            header: *header,
+            at: moment,
+        };
+        return requests.insert(header.key(), entry);
+    }
+    Ok(())
+}
+
+// What is wanted of these instances goes on the request list.
+fn want_all(
+    moment: Second,
+    database: &Lsdb,
+    requests: &mut KeyedMap<ListEntry>,
+    headers: &[Header],
+) -> Result<(), AllocError>
+    ensures ok { OnOk result (requests.new.present
+        ≡ fold (with_request moment database.now.present) requests.old.present headers.now) }
+    ensures settled { requests.new.settled ≡ requests.old.settled }
+{
+    for header in headers {
+        want(moment, database, requests, header)?;
+    }
+    Ok(())
+}
+
+// The entry's header with its age at the moment.
+fn aged_header(moment: Second, entry: &ListEntry) -> Header
+    ensures { result ≡ aged_header moment entry.now }
+{
+    Header {
+        age: age_at(entry.header.age, entry.at, moment),
+        ..entry.header
+    }
+}
+
+// The header under this key, if there is one, is the next.
+fn push_header(
+    moment: Second,
+    list: &KeyedMap<ListEntry>,
+    key: &Key,
+    headers: &mut Vec<Header>,
+) -> Result<(), AllocError>
+    ensures { OnOk result (headers.new.items ≡ headers.old.items
+        ++ filter_map (λ key. entry_header moment (finite.get list.now.present key))
+        (key.now ∷ [])) }
+{
+    let Some(entry) = list.get(key) else {
+        return Ok(());
+    };
+    let header = aged_header(moment, entry);
+    headers.push(header)?;
+    Ok(())
+}
+
+// The headers under these keys, with their ages at the moment.
+fn headers_of(
+    alloc: Global,
+    moment: Second,
+    list: &KeyedMap<ListEntry>,
+    keys: &[Key],
+) -> Result<Vec<Header>, AllocError>
+    ensures { IfOk result (λ headers. headers.items
+        ≡ filter_map (λ key. entry_header moment (finite.get list.now.present key)) keys.now) }
+{
+    let mut headers = Vec::new(alloc);
+    for key in keys {
+        push_header(moment, list, key, &mut headers)?;
+    }
+    Ok(headers)
+}
+
+// Where nothing is to be requested, the databases are synchronized.
+fn done_state(nothing: bool) -> State
+    ensures { result ≡ (if nothing then State.Full else State.Loading) }
+{
+    if nothing { State::Full } else { State::Loading }
+}
+
+impl Neighbor {
+    /// The Description that was sent last is sent again, if it is kept (RFC 2328, section 10.8).
+    /// Refused, the neighbor is to be rolled back.
+    pub fn repeat(&mut self, moment: Second, draft: &mut Draft) -> Result<(), AllocError>
+        ensures ok { OnOk result (self.new.present ≡ (repeat moment self.old.present).neighbor) }
+        ensures draft { OnOk result ((delay : ℕ) → draft.new
+            ≡ drafting delay (repeat moment self.old.present).sends draft.old) }
+        ensures settled { self.new.settled ≡ self.old.settled }
+    {
+        let Some(kept) = self.described.get() else {
+            return Ok(());
+        };
+        let again = copy(kept)?;
+        self.standing.described_at = moment;
+        draft.describe(again)
+    }
+
+    // This Description is known again from now on.
+    fn receive(&mut self, description: &Description)
+        ensures { self.new ≡ record self.old {
+          present =
+              record self.old.present { received = Some (as_received description.now) };
+        } }
+    {
+        let received = as_received(description);
+        self.standing.received = Some(received);
+    }
+
+    // The exchange goes on with this sequence number.
+    fn count_on(&mut self, sequence: u32)
+        ensures { self.new ≡ record self.old {
+          present =
+              record self.old.present { sequence = sequence };
+        } }
+    {
+        self.standing.sequence = sequence;
+    }
+
+    // The number of the exchange.
+    fn sequence(&self) -> u32
+        ensures { result ≡ self.now.present.sequence }
+    {
+        self.standing.sequence
+    }
+
+    // Tells whether this router is the master.
+    fn is_master(&self) -> bool
+        ensures { result ≡ self.now.present.is_master }
+    {
+        self.standing.is_master
+    }
+
+    // ExchangeDone (RFC 2328, section 10.3).
+    fn finish(&mut self, moment: Second)
+        ensures { self.new ≡ record self.old { present = exchange_done moment self.old.present } }
+    {
+        let nothing = self.requests.is_empty();
+        let state = done_state(nothing);
+        self.standing.state = state;
+        self.standing.exchanged = Some(moment);
+    }
+
+    // What is wanted of these instances goes on the request list.
+    fn request_wanted(
+        &mut self,
+        moment: Second,
+        database: &Lsdb,
+        headers: &[Header],
+    ) -> Result<(), AllocError>
+        ensures ok { OnOk result (self.new.present
+            ≡ with_requests moment database.now.present headers.now self.old.present) }
+        ensures settled { self.new.settled ≡ self.old.settled }
+    {
+        want_all(moment, database, &mut self.requests, headers)
+    }
+
+    // The keys of the headers that the next Description has room for.
+    fn first_described(&self, alloc: Global) -> Result<Vec<Key>, AllocError>
+        ensures { IfOk result (λ keys. keys.items
+            ≡ take 408 (finite.keys self.now.present.summary)) }
+    {
+        self.summary.first(alloc, MOST_HEADERS_DESCRIBED)
+    }
+
+    // The next Description, whose headers are those of these keys.
+    fn next_description(
+        &self,
+        alloc: Global,
+        moment: Second,
+        keys: &[Key],
+    ) -> Result<Description, AllocError>
+        requires { keys.now ≡ take 408 (finite.keys self.now.present.summary) }
+        ensures { IfOk result (λ next. next ≡ next_description moment self.now.present) }
+    {
+        let headers = headers_of(alloc, moment, &self.summary, keys)?;
+        let count = self.summary.len();
+        let more = count > MOST_HEADERS_DESCRIBED;
+        let headers = Sequence::from_vec(headers);
+        Ok(Description {
+            mtu: 8192,
+            options: 2,
+            init: false,
+            more,
+            master: self.standing.is_master,
+            sequence: self.standing.sequence,
+            headers,
+        })
+    }
+
+    // What was described needn't be again.
+    fn shorten(&mut self, keys: &[Key]) -> Result<(), AllocError>
+        requires { keys.now ≡ take 408 (finite.keys self.old.present.summary) }
+        ensures ok { OnOk result (self.new.present
+            ≡ record self.old.present { summary = left_to_describe self.old.present }) }
+        ensures settled { self.new.settled ≡ self.old.settled }
+    {
+        remove_keys(&mut self.summary, keys)
+    }
+
+    // The Description is kept, as it may have to be sent again.
+    fn keep(&mut self, moment: Second, description: &Description) -> Result<(), AllocError>
+        ensures ok { OnOk result (self.new.present ≡ record self.old.present {
+          described = Some description.now;
+          described_at = moment;
+        }) }
+        ensures settled { self.new.settled ≡ self.old.settled }
+    {
+        let kept = copy(description)?;
+        self.described.set(Some(kept));
+        self.standing.described_at = moment;
+        Ok(())
+    }
+
+    // The next Description is sent (RFC 2328, section 10.8).
+    fn describe(
+        &mut self,
+        alloc: Global,
+        moment: Second,
+        draft: &mut Draft,
+    ) -> Result<(), AllocError>
+        ensures ok { OnOk result (self.new.present ≡ (describe moment self.old.present).neighbor) }
+        ensures draft { OnOk result ((delay : ℕ) → draft.new
+            ≡ drafting delay (describe moment self.old.present).sends draft.old) }
+        ensures settled { self.new.settled ≡ self.old.settled }
+    {
+        let keys = self.first_described(alloc)?;
+        let next = self.next_description(alloc, moment, &keys)?;
+        self.shorten(&keys)?;
+        self.keep(moment, &next)?;
+        draft.describe(next)
+    }
+
+    // Tells whether the last one sent announced more.
+    fn announced_more(&self) -> bool
+        ensures { result ≡ announced_more self.now.present.described }
+    {
+        match self.described.get() {
+            None => false,
+            Some(kept) => kept.more,
+        }
+    }
+
+    // The master goes on, unless neither side has more.
+    fn master_goes_on(
+        &mut self,
+        alloc: Global,
+        moment: Second,
+        description: &Description,
+        draft: &mut Draft,
+    ) -> Result<(), AllocError>
+        ensures ok { OnOk result (self.new.present
+            ≡ (master_goes_on moment description.now self.old.present).neighbor) }
+        ensures draft { OnOk result ((delay : ℕ) → draft.new
+            ≡ drafting delay (master_goes_on moment description.now self.old.present).sends
+            draft.old) }
+        ensures settled { self.new.settled ≡ self.old.settled }
+    {
+        let announced = self.announced_more();
+        let more = either(announced, description.more);
+        if more {
+            let sequence = self.sequence();
+            let next = sequence.wrapping_add(1);
+            self.count_on(next);
+            return self.describe(alloc, moment, draft);
+        }
+        self.finish(moment);
+        Ok(())
+    }
+
+    // The slave takes the number over and replies; it is done if neither side has more.
+    fn slave_replies(
+        &mut self,
+        alloc: Global,
+        moment: Second,
+        description: &Description,
+        draft: &mut Draft,
+    ) -> Result<(), AllocError>
+        ensures ok { OnOk result (self.new.present
+            ≡ (slave_replies moment description.now self.old.present).neighbor) }
+        ensures draft { OnOk result ((delay : ℕ) → draft.new
+            ≡ drafting delay (slave_replies moment description.now self.old.present).sends
+            draft.old) }
+        ensures settled { self.new.settled ≡ self.old.settled }
+    {
+        self.count_on(description.sequence);
+        self.describe(alloc, moment, draft)?;
+        let announced = self.announced_more();
+        let more = either(announced, description.more);
+        if more {
+            return Ok(());
+        }
+        self.finish(moment);
+        Ok(())
+    }
+
+    // A Description whose headers are all of known types is accepted.
+    fn accept(
+        &mut self,
+        alloc: Global,
+        moment: Second,
+        database: &Lsdb,
+        description: &Description,
+        draft: &mut Draft,
+    ) -> Result<(), AllocError>
+        ensures ok { OnOk result (self.new.present
+            ≡ (accepted moment database.now.present description.now self.old.present).neighbor) }
+        ensures draft { OnOk result ((delay : ℕ) → draft.new
+            ≡ drafting delay (accepted moment database.now.present description.now
+            self.old.present).sends draft.old) }
+        ensures settled { self.new.settled ≡ self.old.settled }
+    {
+        self.receive(description);
+        self.request_wanted(moment, database, description.headers.as_slice())?;
+        let leads = self.is_master();
+        if leads {
+            return self.master_goes_on(alloc, moment, description, draft);
+        }
+        self.slave_replies(alloc, moment, description, draft)
+    }
+
+    // The negotiation is done, and this router is the slave.
+    fn follow(
+        &mut self,
+        alloc: Global,
+        moment: Second,
+        database: &Lsdb,
+        description: &Description,
+        draft: &mut Draft,
+    ) -> Result<(), AllocError>
+        ensures ok { OnOk result (self.new.present
+            ≡ (accepted moment database.now.present description.now
+            (negotiated false description.now.sequence moment database.now.present
+            self.old.present)).neighbor) }
+        ensures draft { OnOk result ((delay : ℕ) → draft.new
+            ≡ drafting delay (accepted moment database.now.present description.now
+            (negotiated false description.now.sequence moment database.now.present
+            self.old.present)).sends draft.old) }
+        ensures settled { self.new.settled ≡ self.old.settled }
+    {
+        self.negotiate(alloc, false, description.sequence, moment, database)?;
+        self.accept(alloc, moment, database, description, draft)
+    }
+
+    // The negotiation is done, and this router is the master.
+    fn lead(
+        &mut self,
+        alloc: Global,
+        moment: Second,
+        database: &Lsdb,
+        description: &Description,
+        draft: &mut Draft,
+    ) -> Result<(), AllocError>
+        ensures ok { OnOk result (self.new.present
+            ≡ (accepted moment database.now.present description.now
+            (negotiated true self.old.present.sequence moment database.now.present
+            self.old.present)).neighbor) }
+        ensures draft { OnOk result ((delay : ℕ) → draft.new
+            ≡ drafting delay (accepted moment database.now.present description.now
+            (negotiated true self.old.present.sequence moment database.now.present
+            self.old.present)).sends draft.old) }
+        ensures settled { self.new.settled ≡ self.old.settled }
+    {
+        let sequence = self.sequence();
+        self.negotiate(alloc, true, sequence, moment, database)?;
+        self.accept(alloc, moment, database, description, draft)
+    }
+
+    /// What the verdict on a received Description makes of the neighbor, unless it starts over.
+    /// Refused, the neighbor is to be rolled back.
+    pub fn proceed(
+        &mut self,
+        alloc: Global,
+        verdict: Verdict,
+        moment: Second,
+        database: &Lsdb,
+        description: &Description,
+        draft: &mut Draft,
+    ) -> Result<(), AllocError>
+        ensures ok { OnOk result (self.new.present
+            ≡ (proceeding (verdict_of verdict) moment database.now.present description.now
+            self.old.present).neighbor) }
+        ensures draft { OnOk result ((delay : ℕ) → draft.new
+            ≡ drafting delay (proceeding (verdict_of verdict) moment database.now.present
+            description.now self.old.present).sends draft.old) }
+        ensures settled { self.new.settled ≡ self.old.settled }
+    {
+        match verdict {
+            Verdict::Discarded => Ok(()),
+            Verdict::NegotiatedAsSlave => self.follow(alloc, moment, database, description, draft),
+            Verdict::NegotiatedAsMaster => self.lead(alloc, moment, database, description, draft),
+            Verdict::Repeated => self.repeat(moment, draft),
+            Verdict::Accepted => self.accept(alloc, moment, database, description, draft),
+            Verdict::Mismatch => Ok(()),
+        }
+    }
+}

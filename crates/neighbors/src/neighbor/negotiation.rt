@@ -1,0 +1,145 @@
+//! What is to be described once master and slave are agreed upon (RFC 2328, section 10.3,
+//! NegotiationDone).
+ghost use Rattle.std.specs.Prelude.{◌≡◌, OnOk};
+ghost use Rattle.std.specs.FinMap as finite;
+ghost use Rattle.std.specs.List.{fold};
+ghost use Rattle.lsdb.specs.Copies.{is_aged_out};
+ghost use Rattle.adjacency.specs.Descriptions.{aged_copies, negotiated, young_copies};
+ghost use Rattle.adjacency.specs.Exchanges.{is_young, with_key};
+
+use super::Neighbor;
+use adjacency::{ListEntry, State};
+use keyed_map::KeyedMap;
+use lsdb::Lsdb;
+use std::alloc::{AllocError, Global};
+use words::{Key, Second};
+
+// These keys leave the list.
+pub fn remove_keys(list: &mut KeyedMap<ListEntry>, keys: &[Key]) -> Result<(), AllocError>
+    ensures ok { OnOk result (list.new.present ≡ fold finite.remove list.old.present keys.now) }
+    ensures settled { list.new.settled ≡ list.old.settled }
+{
+    for key in keys {
+        list.remove(key)?;
+    }
+    Ok(())
+}
+
+// All keys leave the list.
+fn clear(alloc: Global, list: &mut KeyedMap<ListEntry>) -> Result<(), AllocError>
+    ensures ok { OnOk result (list.new.present ≡ finite.empty) }
+    ensures settled { list.new.settled ≡ list.old.settled }
+{
+    let keys = list.first(alloc, list.len())?;
+    remove_keys(list, &keys)
+}
+
+// The copy of this key, if there is one, goes on the list on which it belongs: at MaxAge it is to
+// be acknowledged, before to be described.
+fn list_copy(
+    moment: Second,
+    database: &Lsdb,
+    key: Key,
+    young: &mut KeyedMap<ListEntry>,
+    aged: &mut KeyedMap<ListEntry>,
+) -> Result<(), AllocError>
+    ensures young { OnOk result (young.new.present
+        ≡ with_key (is_young moment) moment database.now.present young.old.present key) }
+    ensures aged { OnOk result (aged.new.present
+        ≡ with_key (is_aged_out moment) moment database.now.present aged.old.present key) }
+    ensures young_settled { young.new.settled ≡ young.old.settled }
+    ensures aged_settled { aged.new.settled ≡ aged.old.settled }
+{
+    let Some(copy) = database.get(&key) else {
+        return Ok(());
+    };
+    let entry = ListEntry {
+        header: copy.header(moment),
+        at: moment,
+    };
+    let aged_out = copy.is_aged_out(moment);
+    if aged_out {
+        return aged.insert(key, entry);
+    }
+    young.insert(key, entry)
+}
+
+// Each copy of the database goes on the list on which it belongs. It looks at each once.
+fn list_copies(
+    moment: Second,
+    database: &Lsdb,
+    young: &mut KeyedMap<ListEntry>,
+    aged: &mut KeyedMap<ListEntry>,
+) -> Result<(), AllocError>
+    requires young { young.old.present ≡ finite.empty }
+    requires aged { aged.old.present ≡ finite.empty }
+    ensures young { OnOk result (young.new.present ≡ young_copies moment database.now.present) }
+    ensures aged { OnOk result (aged.new.present ≡ aged_copies moment database.now.present) }
+    ensures young_settled { young.new.settled ≡ young.old.settled }
+    ensures aged_settled { aged.new.settled ≡ aged.old.settled }
+{
+    for key in database.keys() {
+        list_copy(moment, database, key, young, aged)?;
+    }
+    Ok(())
+}
+
+impl Neighbor {
+    // The two lists are those of the database.
+    fn list_database(
+        &mut self,
+        alloc: Global,
+        moment: Second,
+        database: &Lsdb,
+    ) -> Result<(), AllocError>
+        ensures ok { OnOk result (self.new.present ≡ record self.old.present {
+          summary = young_copies moment database.now.present;
+          retransmissions = aged_copies moment database.now.present;
+        }) }
+        ensures settled { self.new.settled ≡ self.old.settled }
+    {
+        clear(alloc, &mut self.summary)?;
+        clear(alloc, &mut self.retransmissions)?;
+        list_copies(
+            moment,
+            database,
+            &mut self.summary,
+            &mut self.retransmissions,
+        )
+    }
+
+    // Exchange begins, with this router as the master or the slave.
+    fn enter_exchange(&mut self, moment: Second, is_master: bool, sequence: u32)
+        ensures { self.new ≡ record self.old {
+          present = record self.old.present {
+            state = State.Exchange;
+            is_master = is_master;
+            sequence = sequence;
+            retransmitted_at = moment;
+          };
+        } }
+    {
+        self.standing.state = State::Exchange;
+        self.standing.is_master = is_master;
+        self.standing.sequence = sequence;
+        self.standing.retransmitted_at = moment;
+    }
+
+    /// NegotiationDone: what is to be described are the copies of the database, but for those at
+    /// MaxAge, which are to be acknowledged. Refused, the neighbor is to be rolled back.
+    pub fn negotiate(
+        &mut self,
+        alloc: Global,
+        is_master: bool,
+        sequence: u32,
+        moment: Second,
+        database: &Lsdb,
+    ) -> Result<(), AllocError>
+        ensures ok { OnOk result (self.new.present
+            ≡ negotiated is_master sequence moment database.now.present self.old.present) }
+        ensures settled { self.new.settled ≡ self.old.settled }
+    {
+        self.enter_exchange(moment, is_master, sequence);
+        self.list_database(alloc, moment, database)
+    }
+}

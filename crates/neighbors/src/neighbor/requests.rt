@@ -1,0 +1,91 @@
+//! Link State Requests (RFC 2328, sections 10.7 and 10.9).
+ghost use Rattle.std.specs.Prelude.{◌≡◌, ℕ, not, ◌&&◌, [], ◌∷◌, OnOk};
+ghost use Rattle.std.specs.FinMap as finite;
+ghost use Rattle.std.specs.FinSet as set;
+ghost use Rattle.adjacency.specs.Contents.{Requests};
+ghost use Rattle.adjacency.specs.Drafts.{drafting};
+ghost use Rattle.adjacency.specs.Requests.{may_request, next_request, request_next};
+ghost use Rattle.adjacency.specs.Views.{keys_of};
+
+use super::{Neighbor, is_exchange_or_loading};
+use adjacency::Draft;
+use keyed_map::KeyedMap;
+use std::alloc::{AllocError, Global};
+use words::{Key, Second, Sequence};
+
+/// One Request has room for so many keys.
+const MOST_KEYS_REQUESTED: usize = 680;
+
+// Puts the keys into an empty set.
+fn put_keys(keys_set: &mut KeyedMap<()>, keys: &[Key]) -> Result<(), AllocError>
+    requires { keys_set.old.present ≡ finite.empty }
+    ensures ok { OnOk result (keys_of keys_set.new.present ≡ set.from_list keys.now) }
+    ensures settled { keys_set.new.settled ≡ keys_set.old.settled }
+{
+    for key in keys {
+        keys_set.insert(*key, ())?;
+    }
+    Ok(())
+}
+
+fn all_hold(synchronizing: bool, unrequested: bool, unasked: bool) -> bool
+    ensures { result ≡ (synchronizing && not unrequested && unasked) }
+{
+    synchronizing && !unrequested && unasked
+}
+
+impl Neighbor {
+    // Something is to be requested, and nothing is outstanding.
+    fn may_request(&self) -> bool
+        ensures { result ≡ may_request self.now.present }
+    {
+        let synchronizing = is_exchange_or_loading(self.standing.state);
+        let unrequested = self.requests.is_empty();
+        let unasked = self.outstanding.is_empty();
+        all_hold(synchronizing, unrequested, unasked)
+    }
+
+    // Requests the first keys that one Request has room for.
+    fn request_first(
+        &mut self,
+        alloc: Global,
+        moment: Second,
+        draft: &mut Draft,
+    ) -> Result<(), AllocError>
+        requires { self.old.present.outstanding ≡ set.empty }
+        ensures ok { OnOk result (self.new.present ≡ record self.old.present {
+          outstanding = set.from_list (next_request self.old.present);
+          requested_at = moment;
+        }) }
+        ensures draft { OnOk result ((delay : ℕ) → draft.new
+            ≡ drafting delay (Requests (next_request self.old.present) ∷ []) draft.old) }
+        ensures settled { self.new.settled ≡ self.old.settled }
+    {
+        let keys = self.requests.first(alloc, MOST_KEYS_REQUESTED)?;
+        put_keys(&mut self.outstanding, &keys)?;
+        self.standing.requested_at = moment;
+        draft.request(Sequence::from_vec(keys))
+    }
+
+    /// In Exchange or Loading, with nothing outstanding, a Request for the first keys of the
+    /// request list is to be sent (RFC 2328, section 10.9). Refused, the neighbor is to be rolled
+    /// back.
+    pub fn request(
+        &mut self,
+        alloc: Global,
+        moment: Second,
+        draft: &mut Draft,
+    ) -> Result<(), AllocError>
+        ensures ok { OnOk result (self.new.present
+            ≡ (request_next moment self.old.present).neighbor) }
+        ensures draft { OnOk result ((delay : ℕ) → draft.new
+            ≡ drafting delay (request_next moment self.old.present).sends draft.old) }
+        ensures settled { self.new.settled ≡ self.old.settled }
+    {
+        let may = self.may_request();
+        if may {
+            return self.request_first(alloc, moment, draft);
+        }
+        Ok(())
+    }
+}

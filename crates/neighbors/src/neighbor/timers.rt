@@ -1,0 +1,398 @@
+//! What runs out at a Tick, and what is sent again (RFC 2328, sections 10.3, 10.8, 10.9 and 13.6).
+ghost use Rattle.std.specs.Prelude.{◌≡◌, ◌==◌, ℕ, not, ◌&&◌, List, [], ◌∷◌, map, IfOk, OnOk};
+ghost use Rattle.std.specs.FinMap as finite;
+ghost use Rattle.std.specs.FinSet as set;
+ghost use Rattle.words.specs.declared.key.Key.{Key};
+ghost use Rattle.lsdb.specs.Copies.{lsa_now};
+ghost use Rattle.lsdb.specs.Headers.{Lsa};
+ghost use Rattle.adjacency.specs.Adjacencies.{has_passed, loading_done};
+ghost use Rattle.adjacency.specs.Contents.{Requests, Updates};
+ghost use Rattle.adjacency.specs.Descriptions.{is_over_for, without_old_description};
+ghost use Rattle.adjacency.specs.Drafts.{drafting};
+ghost use Rattle.adjacency.specs.Requests.{still_outstanding};
+ghost use Rattle.adjacency.specs.Retransmissions.{describe_again, next_retransmissions};
+ghost use Rattle.adjacency.specs.Retransmissions.{repeats_description, request_again, send_again};
+ghost use Rattle.adjacency.specs.Retransmissions.{that_fit, update_again};
+ghost use Rattle.adjacency.specs.Steps.{lsas_of};
+ghost use Rattle.adjacency.specs.Timers.{full_where, description_is_due, request_is_due};
+ghost use Rattle.adjacency.specs.Timers.{retransmission_is_due, that_fit_after};
+
+use super::Neighbor;
+use adjacency::{Draft, ListEntry, State};
+use keyed_map::{KeyTest, KeyedMap};
+use lsdb::{DatabaseCopy, Lsdb};
+use std::alloc::{AllocError, Global};
+use words::{Key, Second, Sequence};
+
+/// The bytes of an Update before its LSAs: the packet's header, and how many LSAs there are.
+const BEFORE_LSAS: u16 = 28;
+
+/// The bytes of the largest packet.
+const LARGEST_PACKET: u32 = 8192;
+
+// From the start to the moment, at least so many seconds have passed.
+fn has_passed(start: Second, interval: u32, moment: Second) -> bool
+    ensures { result ≡ has_passed start interval moment }
+{
+    u64::from(interval) <= moment.since(start)
+}
+
+fn is_over_for(moment: Second, dead: u32, exchanged: Option<Second>) -> bool
+    ensures { result ≡ is_over_for moment dead exchanged }
+{
+    match exchanged {
+        None => false,
+        Some(done) => has_passed(done, dead, moment),
+    }
+}
+
+// Loading with nothing left to request becomes Full.
+fn full_where(state: State, unrequested: bool) -> State
+    ensures { result ≡ full_where state unrequested }
+{
+    match state {
+        State::Init => State::Init,
+        State::ExStart => State::ExStart,
+        State::Exchange => State::Exchange,
+        State::Loading => {
+            if unrequested {
+                State::Full
+            } else {
+                State::Loading
+            }
+        }
+        State::Full => State::Full,
+    }
+}
+
+// Tells whether a Description is sent again in this state: that of ExStart, and the master's of
+// Exchange.
+fn repeats_description(state: State, is_master: bool) -> bool
+    ensures { result ≡ repeats_description state is_master }
+{
+    match state {
+        State::Init => false,
+        State::ExStart => true,
+        State::Exchange => is_master,
+        State::Loading => false,
+        State::Full => false,
+    }
+}
+
+fn both(first: bool, second: bool) -> bool
+    ensures { result ≡ (first && second) }
+{
+    first && second
+}
+
+fn some_and(none: bool, passed: bool) -> bool
+    ensures { result ≡ (not none && passed) }
+{
+    !none && passed
+}
+
+// Which keys are still on the request list.
+#[derive(Drop)]
+struct StillRequested<'a> {
+    requests: &'a KeyedMap<ListEntry>,
+}
+
+impl<'a> KeyTest<()> for StillRequested<'a> {
+    ghost accepts = { λ a key u. finite.contains_key a.requests.now.present key };
+
+    fn accepts(&self, key: &Key, _nothing: &()) -> bool {
+        self.requests.contains(key)
+    }
+}
+
+// Sends the copy if it has room behind so many bytes of an Update. Tells how many there are then,
+// or that it has none.
+fn send_if_it_fits(
+    alloc: Global,
+    moment: Second,
+    delay: u16,
+    copy: &DatabaseCopy<'_>,
+    used: u16,
+    draft: &mut Draft,
+) -> Result<Option<u16>, AllocError>
+    ensures { IfOk result (λ next. (rest : List Lsa)
+        → drafting delay (map Updates (that_fit_after next rest)) draft.new
+        ≡ drafting delay (map Updates (that_fit used (lsa_now moment copy.now ∷ rest))) draft.old) }
+{
+    let header = copy.header(moment);
+    let filled = u32::from(used) + u32::from(header.length);
+    let fits = filled <= LARGEST_PACKET;
+    if fits {
+        draft.update(alloc, delay, moment, copy)?;
+        return Ok(Some(filled as u16));
+    }
+    Ok(None)
+}
+
+// The same of the copy of this key, if there is one.
+fn send_key_if_it_fits(
+    alloc: Global,
+    moment: Second,
+    delay: u16,
+    database: &Lsdb,
+    key: &Key,
+    used: u16,
+    draft: &mut Draft,
+) -> Result<Option<u16>, AllocError>
+    ensures { IfOk result (λ next. (rest : List Key)
+        → drafting delay (map Updates (that_fit_after next
+        (lsas_of moment database.now.present rest))) draft.new
+        ≡ drafting delay (map Updates (that_fit used
+        (lsas_of moment database.now.present (key.now ∷ rest)))) draft.old) }
+{
+    match database.get(key) {
+        None => Ok(Some(used)),
+        Some(copy) => send_if_it_fits(alloc, moment, delay, &copy, used, draft),
+    }
+}
+
+// Sends the copies of the entries' keys, in their order, as many as one Update has room for. It
+// looks no further.
+fn send_that_fit(
+    alloc: Global,
+    moment: Second,
+    delay: u16,
+    database: &Lsdb,
+    entries: &KeyedMap<ListEntry>,
+    draft: &mut Draft,
+) -> Result<(), AllocError>
+    ensures { OnOk result (draft.new ≡ drafting delay
+        (map Updates (that_fit 28 (lsas_of moment database.now.present
+        (finite.keys entries.now.present)))) draft.old) }
+{
+    let mut used = BEFORE_LSAS;
+    for key in entries.keys() {
+        let next = send_key_if_it_fits(alloc, moment, delay, database, &key, used, draft)?;
+        let Some(filled) = next else {
+            return Ok(());
+        };
+        used = filled;
+    }
+    Ok(())
+}
+
+impl Neighbor {
+    // ---- what runs out
+
+    /// Tells whether the inactivity timer has run out: RouterDeadInterval (`dead`, in seconds) has
+    /// passed since it started.
+    pub fn is_inactive(&self, moment: Second, dead: u32) -> bool
+        ensures { result ≡ has_passed self.now.present.last_heard dead moment }
+    {
+        has_passed(self.standing.last_heard, dead, moment)
+    }
+
+    // The exchange was done RouterDeadInterval ago.
+    fn is_exchange_over(&self, moment: Second, dead: u32) -> bool
+        ensures { result ≡ is_over_for moment dead self.now.present.exchanged }
+    {
+        is_over_for(moment, dead, self.standing.exchanged)
+    }
+
+    // The last Description isn't kept any longer. It wants no memory.
+    fn forget_description(&mut self)
+        ensures { self.new ≡ record self.old {
+          present =
+              record self.old.present { described = None };
+        } }
+    {
+        self.described.set(None);
+    }
+
+    /// RouterDeadInterval (`dead`, in seconds) after the exchange was done the last Description is
+    /// given up (RFC 2328, section 10.8). It wants no memory.
+    pub fn give_up_description(&mut self, moment: Second, dead: u32)
+        ensures { self.new ≡ record self.old {
+          present = without_old_description moment dead
+              self.old.present;
+        } }
+    {
+        let over = self.is_exchange_over(moment, dead);
+        if over {
+            self.forget_description();
+        }
+    }
+
+    /// LoadingDone (RFC 2328, section 10.3): Loading with nothing left to request becomes Full. It
+    /// wants no memory.
+    pub fn end_loading(&mut self)
+        ensures { self.new ≡ record self.old { present = loading_done self.old.present } }
+    {
+        let unrequested = self.requests.is_empty();
+        self.standing.state = full_where(self.standing.state, unrequested);
+    }
+
+    // ---- what is sent again
+
+    // The last Description is to be sent again.
+    fn description_is_due(&self, moment: Second, interval: u16) -> bool
+        ensures { result ≡ description_is_due moment interval self.now.present }
+    {
+        let repeats = repeats_description(self.standing.state, self.standing.is_master);
+        let passed = has_passed(self.standing.described_at, u32::from(interval), moment);
+        both(repeats, passed)
+    }
+
+    // The last Request is to be sent again.
+    fn request_is_due(&self, moment: Second, interval: u16) -> bool
+        ensures { result ≡ request_is_due moment interval self.now.present }
+    {
+        let none = self.outstanding.is_empty();
+        let passed = has_passed(self.standing.requested_at, u32::from(interval), moment);
+        some_and(none, passed)
+    }
+
+    // Retransmissions are to be sent again.
+    fn retransmission_is_due(&self, moment: Second, interval: u16) -> bool
+        ensures { result ≡ retransmission_is_due moment interval self.now.present }
+    {
+        let none = self.retransmissions.is_empty();
+        let passed = has_passed(self.standing.retransmitted_at, u32::from(interval), moment);
+        some_and(none, passed)
+    }
+
+    // The last Description is sent again once RxmtInterval (`interval`, in seconds) has passed.
+    fn describe_again(
+        &mut self,
+        moment: Second,
+        interval: u16,
+        draft: &mut Draft,
+    ) -> Result<(), AllocError>
+        ensures ok { OnOk result (self.new.present
+            ≡ (describe_again moment interval self.old.present).neighbor) }
+        ensures draft { OnOk result ((delay : ℕ) → draft.new
+            ≡ drafting delay (describe_again moment interval self.old.present).sends draft.old) }
+        ensures settled { self.new.settled ≡ self.old.settled }
+    {
+        let due = self.description_is_due(moment, interval);
+        if due {
+            return self.repeat(moment, draft);
+        }
+        Ok(())
+    }
+
+    // What is outstanding and still on the request list.
+    fn still_outstanding(&self, alloc: Global) -> Result<Vec<Key>, AllocError>
+        ensures { IfOk result (λ keys. keys.items ≡ still_outstanding self.now.present) }
+    {
+        let requested = StillRequested {
+            requests: &self.requests,
+        };
+        self.outstanding.keys_where(alloc, &requested)
+    }
+
+    // Requests what is still outstanding.
+    fn request_outstanding(
+        &mut self,
+        alloc: Global,
+        moment: Second,
+        draft: &mut Draft,
+    ) -> Result<(), AllocError>
+        ensures ok { OnOk result (self.new.present
+            ≡ record self.old.present { requested_at = moment }) }
+        ensures draft { OnOk result ((delay : ℕ) → draft.new
+            ≡ drafting delay (Requests (still_outstanding self.old.present) ∷ []) draft.old) }
+        ensures settled { self.new.settled ≡ self.old.settled }
+    {
+        let keys = self.still_outstanding(alloc)?;
+        self.standing.requested_at = moment;
+        draft.request(Sequence::from_vec(keys))
+    }
+
+    // What is still outstanding is requested again once RxmtInterval (`interval`, in seconds) has
+    // passed.
+    fn request_again(
+        &mut self,
+        alloc: Global,
+        moment: Second,
+        interval: u16,
+        draft: &mut Draft,
+    ) -> Result<(), AllocError>
+        ensures ok { OnOk result (self.new.present
+            ≡ (request_again moment interval self.old.present).neighbor) }
+        ensures draft { OnOk result ((delay : ℕ) → draft.new
+            ≡ drafting delay (request_again moment interval self.old.present).sends draft.old) }
+        ensures settled { self.new.settled ≡ self.old.settled }
+    {
+        let due = self.request_is_due(moment, interval);
+        if due {
+            return self.request_outstanding(alloc, moment, draft);
+        }
+        Ok(())
+    }
+
+    // Sends the first of the retransmission list.
+    fn retransmit(
+        &mut self,
+        alloc: Global,
+        moment: Second,
+        database: &Lsdb,
+        delay: u16,
+        draft: &mut Draft,
+    ) -> Result<(), AllocError>
+        ensures ok { OnOk result (self.new.present
+            ≡ record self.old.present { retransmitted_at = moment }) }
+        ensures draft { OnOk result (draft.new
+            ≡ drafting delay (map Updates (next_retransmissions moment database.now.present
+            self.old.present)) draft.old) }
+        ensures settled { self.new.settled ≡ self.old.settled }
+    {
+        self.standing.retransmitted_at = moment;
+        send_that_fit(alloc, moment, delay, database, &self.retransmissions, draft)
+    }
+
+    // The first of the retransmission list is sent again once RxmtInterval (`interval`, in seconds)
+    // has passed.
+    fn update_again(
+        &mut self,
+        alloc: Global,
+        moment: Second,
+        interval: u16,
+        database: &Lsdb,
+        delay: u16,
+        draft: &mut Draft,
+    ) -> Result<(), AllocError>
+        ensures ok { OnOk result (self.new.present
+            ≡ (update_again moment interval database.now.present self.old.present).neighbor) }
+        ensures draft { OnOk result (draft.new
+            ≡ drafting delay (update_again moment interval database.now.present
+            self.old.present).sends draft.old) }
+        ensures settled { self.new.settled ≡ self.old.settled }
+    {
+        let due = self.retransmission_is_due(moment, interval);
+        if due {
+            return self.retransmit(alloc, moment, database, delay, draft);
+        }
+        Ok(())
+    }
+
+    /// What a Tick sends again once RxmtInterval (`interval`, in seconds) has passed since it was
+    /// sent: the Description, the Request for what is still outstanding, and the first of the
+    /// retransmission list in key order, as many as one Update has room for (RFC 2328, sections
+    /// 10.8, 10.9 and 13.6). Refused, the neighbor is to be rolled back.
+    pub fn send_again(
+        &mut self,
+        alloc: Global,
+        moment: Second,
+        interval: u16,
+        database: &Lsdb,
+        delay: u16,
+        draft: &mut Draft,
+    ) -> Result<(), AllocError>
+        ensures ok { OnOk result (self.new.present
+            ≡ (send_again moment interval database.now.present self.old.present).neighbor) }
+        ensures draft { OnOk result (draft.new
+            ≡ drafting delay (send_again moment interval database.now.present
+            self.old.present).sends draft.old) }
+        ensures settled { self.new.settled ≡ self.old.settled }
+    {
+        self.describe_again(moment, interval, draft)?;
+        self.request_again(alloc, moment, interval, draft)?;
+        self.update_again(alloc, moment, interval, database, delay, draft)
+    }
+}

@@ -1,0 +1,54 @@
+//! What an LSA of a received Update asks of the neighbor that sent it (RFC 2328, section 13).
+ghost use Rattle.std.specs.Prelude.{◌≡◌, OnOk};
+ghost use Rattle.std.specs.FinMap as finite;
+ghost use Rattle.lsa.specs.Headers.{key_of};
+ghost use Rattle.adjacency.specs.Neighbors.{is_exchange_or_loading};
+ghost use Rattle.adjacency.specs.Retransmissions.{is_entry, remove_retransmission};
+
+use super::{Neighbor, is_entry, is_exchange_or_loading};
+use lsa::Header;
+use std::alloc::AllocError;
+use words::{Key, Second};
+
+impl Neighbor {
+    /// Tells whether it is in Exchange or Loading, so that its database isn't synchronized yet.
+    pub fn is_exchange_or_loading(&self) -> bool
+        ensures { result ≡ is_exchange_or_loading self.now.present.state }
+    {
+        is_exchange_or_loading(self.standing.state)
+    }
+
+    /// Tells whether the key is on the request list.
+    pub fn requests_key(&self, key: &Key) -> bool
+        ensures { result ≡ finite.contains_key self.now.present.requests key.now }
+    {
+        self.requests.contains(key)
+    }
+
+    /// Tells whether the key is on the retransmission list.
+    pub fn has_retransmission(&self, key: &Key) -> bool
+        ensures { result ≡ finite.contains_key self.now.present.retransmissions key.now }
+    {
+        self.retransmissions.contains(key)
+    }
+
+    /// Tells whether just this instance is on the retransmission list (RFC 2328, section 13, step
+    /// 7a).
+    pub fn has_instance(&self, moment: Second, header: &Header) -> bool
+        ensures { result ≡ is_entry moment header.now
+            (finite.get self.now.present.retransmissions (key_of header.now)) }
+    {
+        let entry = self.entry(header);
+        is_entry(moment, header, entry)
+    }
+
+    /// An implied acknowledgment (RFC 2328, section 13, step 7a): the header's key leaves the
+    /// retransmission list. Refused, the neighbor is to be rolled back.
+    pub fn take_off(&mut self, header: &Header) -> Result<(), AllocError>
+        ensures ok { OnOk result (self.new.present
+            ≡ remove_retransmission (key_of header.now) self.old.present) }
+        ensures settled { self.new.settled ≡ self.old.settled }
+    {
+        self.release(header)
+    }
+}

@@ -1,0 +1,70 @@
+//! The verdict on a received Database Description (RFC 2328, section 10.6).
+ghost use Rattle.std.specs.Prelude.{◌≡◌};
+ghost use Rattle.adjacency.specs.Descriptions.{exchange_over, exchanging, is_kept, negotiating};
+ghost use Rattle.adjacency.specs.Exchanges.{judged, verdict_of};
+
+use super::Neighbor;
+use adjacency::descriptions::{
+    acceptance, changes_options, expected, follows, is_duplicate, leads, negotiation, repetition,
+    same_flag,
+};
+use adjacency::{State, Verdict};
+use packet::Description;
+use words::RouterId;
+
+impl Neighbor {
+    // Tells whether the last Description sent is kept.
+    fn is_kept(&self) -> bool
+        ensures { result ≡ is_kept self.now.present.described }
+    {
+        match self.described.get() {
+            None => false,
+            Some(_kept) => true,
+        }
+    }
+
+    fn negotiating(&self, own: RouterId, description: &Description) -> Verdict
+        ensures { verdict_of result ≡ negotiating own self.now.present description.now }
+    {
+        let standing = self.standing();
+        let follows = follows(own, standing.router, description);
+        let leads = leads(own, standing.router, standing.sequence, description);
+        negotiation(follows, leads)
+    }
+
+    fn exchanging(&self, description: &Description) -> Verdict
+        ensures { verdict_of result ≡ exchanging self.now.present description.now }
+    {
+        let standing = self.standing();
+        let same_roles = same_flag(description.master, standing.is_master);
+        let other_options = changes_options(&standing.received, description);
+        let next = description.sequence == expected(&standing);
+        let otherwise = acceptance(same_roles, description.init, other_options, next);
+        let duplicate = is_duplicate(&standing.received, description);
+        repetition(duplicate, standing.is_master, true, otherwise)
+    }
+
+    fn exchange_over(&self, description: &Description) -> Verdict
+        ensures { verdict_of result ≡ exchange_over self.now.present description.now }
+    {
+        let standing = self.standing();
+        let kept = self.is_kept();
+        let duplicate = is_duplicate(&standing.received, description);
+        repetition(duplicate, standing.is_master, kept, Verdict::Mismatch)
+    }
+
+    /// The verdict on a Description from the neighbor, whose MTU isn't too large (RFC 2328, section
+    /// 10.6).
+    pub fn verdict(&self, own: RouterId, description: &Description) -> Verdict
+        ensures { verdict_of result ≡ judged own self.now.present description.now }
+    {
+        let standing = self.standing();
+        match standing.state {
+            State::Init => Verdict::Discarded,
+            State::ExStart => self.negotiating(own, description),
+            State::Exchange => self.exchanging(description),
+            State::Loading => self.exchange_over(description),
+            State::Full => self.exchange_over(description),
+        }
+    }
+}
