@@ -35,6 +35,10 @@ SaysTheSame moment (Some a) (Some b) =
 
 -- ---- the LSAs and the times of copies apart
 
+-- the bytes of an LSA's header (RFC 2328, section A.4.1)
+abbrev pub header_length : ℕ
+header_length = 20
+
 -- one body, or neither LSA
 abbrev pub IsSameBody : (before : Option Lsa) → (now : Option Lsa) → Type 0
 IsSameBody None None = Unit {0}

@@ -63,26 +63,6 @@ pub fn foresee(alloc: Global, times: &KeyedMap<Times>, moment: Second) -> Result
     Ok(ages)
 }
 
-// How many of the aged keys' copies have MaxAge at the moment.
-fn count_aged(ages: &Ages, times: &KeyedMap<Times>, moment: Second) -> usize {
-    let mut count = 0_usize;
-    for key in ages.aged.keys() {
-        if let Some(found) = times.get(&key) {
-            if age_at(found.age, found.stored, moment) == MAX_AGE {
-                count = count.saturating_add(1);
-            }
-        }
-    }
-    count
-}
-
-/// Whether most of the aged keys' copies haven't MaxAge at the moment: they have left, or a younger
-/// one took their place. Only the time that looking at the aged takes rests on it.
-pub fn are_mostly_past(ages: &Ages, times: &KeyedMap<Times>, moment: Second) -> bool {
-    let count = ages.aged.len();
-    count > 0 && count_aged(ages, times, moment) < count.div_ceil(2)
-}
-
 /// What these times foresee, where what the ages foresee of them is known: it looks at the copies of
 /// the aged keys alone. Those that have MaxAge at the moment stay among the aged.
 pub fn foresee_again(

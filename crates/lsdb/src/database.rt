@@ -16,12 +16,13 @@ ghost use Rattle.lsdb.specs.Changes.{
   SaysTheSame,
   TellNoMaxAge,
   TellOneAge,
+  header_length,
 };
 ghost use Rattle.lsdb.specs.Joined.{aged_at};
 ghost use Rattle.words.specs.declared.key.Key.{Key as KeyValue};
 ghost use Rattle.lsdb.specs.Limits.{exceeds, has_room, own_externals};
 
-use crate::ages::{Ages, are_mostly_past, foresee, foresee_again};
+use crate::ages::{Ages, foresee, foresee_again};
 use crate::database_copy::DatabaseCopy;
 use crate::limits::{MOST_LSAS, MOST_OWN_EXTERNALS, is_own_external, recount};
 use crate::order::{MAX_AGE, age_at};
@@ -47,6 +48,9 @@ pub struct Lsdb {
     externals: usize,
     settled_externals: usize,
     ages: Ages,
+    // at most so many of the aged keys' copies have left since the ages were foreseen, or came again;
+    // only the time that looking at the aged takes rests on it
+    past: usize,
 }
 
 impl Model for Lsdb {
@@ -202,17 +206,17 @@ fn have_one_body(alloc: Global, old: &Lsa, new: &Lsa) -> Result<bool, AllocError
 
 // Whether the texts are the same behind their headers.
 fn have_one_rest(old: &[u8], new: &[u8]) -> bool
-    requires first { 20 ≤ length old.now }
-    requires second { 20 ≤ length new.now }
-    ensures { IsTrue result ↔ (drop 20 old.now ≡ drop 20 new.now) }
+    requires first { header_length ≤ length old.now }
+    requires second { header_length ≤ length new.now }
+    ensures { IsTrue result ↔ (drop header_length old.now ≡ drop header_length new.now) }
 {
     behind_header(old) == behind_header(new)
 }
 
 // The bytes of an LSA behind its header (RFC 2328, section A.4.1).
 fn behind_header(text: &[u8]) -> &[u8]
-    requires { 20 ≤ length text.now }
-    ensures { result.now ≡ drop 20 text.now }
+    requires { header_length ≤ length text.now }
+    ensures { result.now ≡ drop header_length text.now }
 {
     &text[HEADER_LENGTH..]
 }
@@ -268,6 +272,14 @@ fn tells_max_age(moment: Second, times: &Times) -> bool
     age_at(times.age, times.stored, moment) == MAX_AGE
 }
 
+// One more, where the key is among the aged.
+fn one_more_past(ages: &Ages, key: &Key, past: usize) -> usize {
+    if ages.aged.contains(key) {
+        return past.saturating_add(1);
+    }
+    past
+}
+
 impl Lsdb {
     /// The empty database of a router. It wants no memory.
     pub fn new(alloc: Global, router: RouterId) -> Self
@@ -280,6 +292,7 @@ impl Lsdb {
             externals: 0,
             settled_externals: 0,
             ages: Ages::new(alloc, Second::new(u64::MAX)),
+            past: 0,
         }
     }
 
@@ -296,6 +309,7 @@ impl Lsdb {
             externals: self.externals,
             settled_externals: self.externals,
             ages: Ages::new(alloc, Second::new(0)),
+            past: 0,
         })
     }
 
@@ -432,6 +446,7 @@ impl Lsdb {
         let name = header.key();
         let key = &name;
         let held = self.lsas.contains(key);
+        self.past = one_more_past(&self.ages, key, self.past);
         self.ages.note(moment, key, &times)?;
         self.times.insert(*key, times)?;
         self.lsas.insert(*key, StoredLsa::new(lsa))?;
@@ -499,6 +514,7 @@ impl Lsdb {
         ensures router { self.new.router ≡ self.old.router }
     {
         let held = self.lsas.contains(key);
+        self.past = one_more_past(&self.ages, key, self.past);
         self.lsas.remove(key)?;
         self.externals = recount(self.router, &self.lsas, key, held, false, self.externals);
         self.times.remove(key)
@@ -524,15 +540,17 @@ impl Lsdb {
         self.times.settle();
         self.settled_externals = self.externals;
         if moment < self.ages.due {
-            if are_mostly_past(&self.ages, &self.times, moment) {
+            if self.past > self.ages.aged.len() / 2 {
                 if let Ok(ages) = foresee_again(alloc, &self.ages, &self.times, moment) {
                     self.ages = ages;
+                    self.past = 0;
                 }
             }
             return;
         }
         if let Ok(ages) = foresee(alloc, &self.times, moment) {
             self.ages = ages;
+            self.past = 0;
         }
     }
 
