@@ -4,3 +4,4 @@ pub mod Addresses
 pub mod Seen
 pub mod Pieces
 pub mod Lines
+pub mod Profile

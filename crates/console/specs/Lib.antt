@@ -3,3 +3,4 @@ pub mod Commands
 pub mod Configurations
 pub mod Views
 pub mod Words
+pub mod Laws

@@ -1,6 +1,10 @@
 //! The lines that the console answers.
-ghost use Rattle.std.specs.Prelude.{◌≡◌, ◌≤◌, ◌∷◌, ◌++◌, IfOk, OnOk, decimal, if◌then◌else◌, string_bytes};
-ghost use Rattle.console.specs.Answers.{counter_line, counter_lines, counters_text, hops_text, interfaces_below, kind_name, neighbor_line, neighbor_lines, neighbors_text, numbers_text, route_line, route_lines, route_text, state_name, table_text};
+ghost use Rattle.std.specs.Prelude.{◌≡◌, ◌≤◌, ◌∷◌, ◌++◌, IfOk, OnOk, decimal, if◌then◌else◌};
+ghost use Rattle.std.specs.Prelude.{string_bytes};
+ghost use Rattle.console.specs.Answers.{counter_line, counter_lines, counters_text, hops_text};
+ghost use Rattle.console.specs.Answers.{interfaces_below, kind_name, neighbor_line, neighbor_lines};
+ghost use Rattle.console.specs.Answers.{neighbors_text, numbers_text, route_line, route_lines};
+ghost use Rattle.console.specs.Answers.{route_text, state_name, table_text};
 
 use adjacency::State;
 use std::alloc::{AllocError, Global};
@@ -140,7 +144,8 @@ fn push_neighbors(
     Ok(())
 }
 
-/// The lines of the neighbors at interfaces 1, 2, .., `neighbor I A.B.C.D STATE` for each that isn't Down (None), and `end`.
+/// The lines of the neighbors at interfaces 1, 2, .., `neighbor I A.B.C.D STATE` for each that
+/// isn't Down (None), and `end`.
 ///
 /// An error where memory was refused.
 pub fn neighbors_text(

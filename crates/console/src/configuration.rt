@@ -1,7 +1,11 @@
 //! The text of a configuration.
-ghost use Rattle.std.specs.Prelude.{◌≡◌, ◌≢◌, ℕ, ◌+◌, ◌≤◌, ◌<◌, ◌^◌, [], ◌∷◌, List, ◌==◌, Err, IfOk, MatchOption, decimal, codes, length};
+ghost use Rattle.std.specs.Prelude.{◌≡◌, ◌≢◌, ℕ, ◌+◌, ◌≤◌, ◌<◌, ◌^◌, [], ◌∷◌, List, ◌==◌, Err};
+ghost use Rattle.std.specs.Prelude.{IfOk, MatchOption, decimal, codes, length};
 ghost use Rattle.std.specs.List.{list_any};
-ghost use Rattle.console.specs.Configurations.{interface_words, router_words, without_last_feed, lines_in, AreInterfaces, AreLines, IsInterface, IsRouter, MayFollow, Refuses, RefusesInterfaces, RefusesLines, Says, SaysInterface, SaysRouter};
+ghost use Rattle.console.specs.Configurations.{interface_words, router_words, without_last_feed};
+ghost use Rattle.console.specs.Configurations.{lines_in, AreInterfaces, AreLines, IsInterface};
+ghost use Rattle.console.specs.Configurations.{IsRouter, MayFollow, Refuses, RefusesInterfaces};
+ghost use Rattle.console.specs.Configurations.{RefusesLines, Says, SaysInterface, SaysRouter};
 ghost use Rattle.console.specs.Views.{views};
 ghost use Rattle.words.specs.Prefixes.{Network};
 ghost use Rattle.words.specs.Text.{dotted, prefix_text};
@@ -35,7 +39,8 @@ pub struct Configured {
 /// Why a text says no configuration. The text is the line that is printed.
 #[derive(Debug, Drop, PartialEq, Eq, Error)]
 pub enum ConfigurationError {
-    /// The first line that is wrong, counted from 1, or the one behind the last where none is wrong but an interface is missing.
+    /// The first line that is wrong, counted from 1, or the one behind the last where none is wrong
+    /// but an interface is missing.
     #[error("config refusal line {0}")]
     Line(u64),
     /// Memory was refused.
@@ -63,7 +68,8 @@ impl<T: Drop> From<AllocFailed<T>> for ConfigurationError {
     }
 }
 
-/// The number of a setting that two words are: its name and, in decimal, a number from `least` to `most`.
+/// The number of a setting that two words are: its name and, in decimal, a number from `least` to
+/// `most`.
 fn read_setting(words: (&str, &str), name: &str, least: u64, most: u64) -> Option<u64>
     ensures { MatchOption result
         ((n : ℕ) → least ≤ n → n ≤ most → words.entry.0.now ≡ name.now
@@ -291,19 +297,22 @@ fn lines_of<'a>(alloc: Global, text: &'a str) -> Result<Vec<&'a str>, AllocError
     front.split('\n').collect(alloc)
 }
 
-/// The configuration that a text says: the line `router A.B.C.D`, then for each interface, N = 1, 2, .., the line
-/// `interface N A.B.C.D/L cost C hello H dead D rxmt R delay T port P peer Q`.
+/// The configuration that a text says: the line `router A.B.C.D`, then for each interface, N = 1,
+/// 2, .., the line `interface N A.B.C.D/L cost C hello H dead D rxmt R delay T port P peer Q`.
 ///
-/// The words of a line have one space between them and nothing else beside them: no space before, behind or twice, no comment, no carriage
-/// return. Numbers are decimal, with neither a sign nor a leading zero, and so are the four parts of an address. A line feed ends each
-/// line; behind the last it may be left out. There is no empty line.
+/// The words of a line have one space between them and nothing else beside them: no space before,
+/// behind or twice, no comment, no carriage return. Numbers are decimal, with neither a sign nor a
+/// leading zero, and so are the four parts of an address. A line feed ends each line; behind the
+/// last it may be left out. There is no empty line.
 ///
-/// The Router ID isn't 0.0.0.0. Addresses are distinct, their host bits may be set, and a length is at most 32. Cost, HelloInterval and
-/// RxmtInterval are 1 to 65,535, RouterDeadInterval is 1 to 4,294,967,295, InfTransDelay 1 to 3,600 (RFC 2328, appendix C.3), the two UDP
-/// ports of 127.0.0.1 are 1 to 65,535. There are 1 to 63 interfaces.
+/// The Router ID isn't 0.0.0.0. Addresses are distinct, their host bits may be set, and a length is
+/// at most 32. Cost, HelloInterval and RxmtInterval are 1 to 65,535, RouterDeadInterval is 1 to
+/// 4,294,967,295, InfTransDelay 1 to 3,600 (RFC 2328, appendix C.3), the two UDP ports of 127.0.0.1
+/// are 1 to 65,535. There are 1 to 63 interfaces.
 ///
-/// An error names the first line that isn't like this, or is one too many, or has an address again; or the line behind the last, where an
-/// interface is missing. It is `Memory` where memory was refused.
+/// An error names the first line that isn't like this, or is one too many, or has an address again;
+/// or the line behind the last, where an interface is missing. It is `Memory` where memory was
+/// refused.
 pub fn read_configuration(alloc: Global, text: &str) -> Result<Configured, ConfigurationError>
     ensures said { IfOk result (Says text.now) }
     ensures refused { (number : ℕ) → result ≡ Err (ConfigurationError.Line number)

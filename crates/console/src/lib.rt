@@ -1,10 +1,11 @@
-//! The operator's side of a router: the text of a configuration, the lines of the console, and the lines of its answers. No file, no socket
-//! and no router: texts to values, and values to texts.
+//! The operator's side of a router: the text of a configuration, the lines of the console, and the
+//! lines of its answers. No file, no socket and no router: texts to values, and values to texts.
 #![tactic(auto)]
 
 mod answers;
 mod command;
 mod configuration;
+pub mod laws;
 mod reading;
 
 pub use answers::{counters_text, neighbors_text, table_text, totals_text};

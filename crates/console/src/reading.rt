@@ -1,6 +1,8 @@
-//! Words to values. Each has one spelling: numbers are decimal without a leading zero or a sign, addresses are four such numbers below 256
-//! with dots between them, and a prefix is an address, a slash and its length.
-ghost use Rattle.std.specs.Prelude.{◌≡◌, ◌≢◌, ◌↔◌, ◌<◌, ◌≤◌, ◌^◌, ◌==◌, ◌&&◌, ◌||◌, ℕ, List, IfOk, IsTrue, MatchOption, decimal, length, map, not, slice_index};
+//! Words to values. Each has one spelling: numbers are decimal without a leading zero or a sign,
+//! addresses are four such numbers below 256 with dots between them, and a prefix is an address, a
+//! slash and its length.
+ghost use Rattle.std.specs.Prelude.{◌≡◌, ◌≢◌, ◌↔◌, ◌<◌, ◌≤◌, ◌^◌, ◌==◌, ◌&&◌, ◌||◌, ℕ, List, IfOk};
+ghost use Rattle.std.specs.Prelude.{IsTrue, MatchOption, decimal, length, map, not, slice_index};
 ghost use Rattle.std.specs.Str.{all_ascii_digits};
 ghost use Rattle.console.specs.Words.{words_in};
 ghost use Rattle.console.specs.Views.{views};
@@ -90,7 +92,8 @@ pub fn read_address(word: &str) -> Option<Address>
     }
 }
 
-/// The address and the length that the word spells, with a slash between them. Host bits may be set.
+/// The address and the length that the word spells, with a slash between them. Host bits may be
+/// set.
 pub fn read_place(word: &str) -> Option<(Address, u8)>
     ensures { MatchOption result
         ((n : Network) → n.address < 2 ^ 32 → n.length ≤ 32 → word.now ≢ prefix_text n)

@@ -1,0 +1,22 @@
+-- What a configuration's text says is what a router takes.
+use Rattle.std.specs.Prelude.{◌≡◌, ℕ, ◌<◌, true, List, map}
+use Rattle.words.specs.Constants.{clock_end}
+use Rattle.words.specs.Numbers.{Moment}
+use Rattle.events.specs.Routers.{in_profile}
+use Rattle.events.specs.declared.model.Config.{Config}
+use Rattle.console.specs.Configurations.{Says, interface_of}
+use Rattle.console.specs.declared.configuration.Configured.{Configured}
+
+-- the router of what was read, from a moment on
+abbrev pub config_from : Moment → Configured → Config
+config_from start c = record {
+  router = c.router;
+  start = start;
+  interfaces = map interface_of c.interfaces;
+}
+
+-- whatever a text says, a router takes it, from any moment of the clock on
+abbrev pub ConfigurationsAreInProfile : Type 0
+ConfigurationsAreInProfile =
+    (text : List ℕ) → (c : Configured) → (start : Moment) → start < clock_end
+    → Says text c → in_profile (config_from start c) ≡ true
