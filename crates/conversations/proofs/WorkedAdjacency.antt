@@ -8,7 +8,7 @@ use Rattle.packet.specs.declared.model.Packet.{Packet}
 use Rattle.packet.proofs.Whole.{one_packet}
 use Rattle.adjacency.specs.Adjacencies as adjacencies
 use Rattle.adjacency.specs.Adjacencies.{next_dd_sequence_start, initial_description, requests_nothing, enter_exstart}
-use Rattle.adjacency.specs.Contents.{Content, Step, no_sends}
+use Rattle.adjacency.specs.Contents.{Step, no_sends}
 use Rattle.adjacency.specs.Contents as contents
 use Rattle.adjacency.specs.Descriptions.{Verdict, act, judge, repeat}
 use Rattle.adjacency.specs.Neighbors.{Neighbor, fresh}

@@ -13,7 +13,7 @@ use Rattle.lsa.specs.declared.body.Body.{Body}
 use Rattle.lsdb.specs.Copies.{DatabaseCopy, has_just_aged_out, is_aged_out, lsa_now}
 use Rattle.lsdb.proofs.Keys.{keys_exact, keys_total}
 use Rattle.adjacency.specs.Adjacencies.{loading_done_in, requests_nothing}
-use Rattle.adjacency.specs.Contents.{Step, no_sends}
+use Rattle.adjacency.specs.Contents.{no_sends}
 use Rattle.adjacency.specs.Contents as contents
 use Rattle.adjacency.specs.Neighbors.{Neighbor, is_exchange_or_loading}
 use Rattle.adjacency.specs.Requests.{next_request, request_next}

@@ -10,7 +10,7 @@ use Rattle.lsdb.specs.Copies.{Database, DatabaseCopy}
 use Rattle.lsdb.specs.Headers.{Lsa}
 use Rattle.lsdb.proofs.Keys.{keys_exact}
 use Rattle.adjacency.specs.Adjacencies.{has_passed}
-use Rattle.adjacency.specs.Contents.{Content, Step, no_sends}
+use Rattle.adjacency.specs.Contents.{Content, no_sends}
 use Rattle.adjacency.specs.Contents as contents
 use Rattle.adjacency.specs.Descriptions.{is_over_for}
 use Rattle.adjacency.specs.Neighbors.{Neighbor}

@@ -1,6 +1,6 @@
 -- The router's own LSAs: what is wanted, new instances, what waits for a Tick, and flushing (RFC
 -- 2328, sections 12.1.6, 12.4, 13.4, 14 and 14.1).
-use Rattle.std.specs.Prelude.{ℕ, ℤ, pos, ◌+ℤ◌, ◌==◌, Bool, true, false, not, ◌&&◌, ◌||◌, nat_le}
+use Rattle.std.specs.Prelude.{ℤ, pos, ◌+ℤ◌, ◌==◌, Bool, true, false, not, ◌&&◌, ◌||◌, nat_le}
 use Rattle.std.specs.Prelude.{if◌then◌else◌, List, [], ◌∷◌, ◌++◌, Option, None, Some}
 use Rattle.std.specs.List.{filter, flat_map, fold}
 use Rattle.std.specs.FinMap as finite

@@ -1,6 +1,5 @@
 -- What is kept while LSAs say the same.
-use Rattle.std.proofs.Common.{◌≡◌, ℕ, List, [], ◌∷◌, Option, None, Some, sym, subst}
-use Rattle.offers.specs.Ways.{AreWays}
+use Rattle.std.proofs.Common.{◌≡◌, List, [], ◌∷◌, Option, None, Some, sym, subst}
 use Rattle.routes.specs.Answers.{IsNodeAnswer}
 use Rattle.routes.specs.Candidates.{AreCandidates}
 use Rattle.routes.specs.Links.{Leads}

@@ -1,5 +1,5 @@
 -- What may be kept from one event to the next (RFC 2328, section 16).
-use Rattle.std.specs.Prelude.{◌≡◌, List, None, Some, ◌↔◌}
+use Rattle.std.specs.Prelude.{List, None, Some, ◌↔◌}
 use Rattle.kept_routes.specs.Kept.{IsWalkOf, KeptWalk}
 use Rattle.kept_routes.specs.Sameness.{SayTheSame}
 use Rattle.routes.specs.Candidates.{AreCandidates}

@@ -5,7 +5,7 @@ use Rattle.std.specs.Prelude.{Option, None, Some}
 use Rattle.words.specs.declared.key.Key.{Key}
 use Rattle.lsdb.specs.Copies.{Database}
 use Rattle.adjacency.specs.Adjacencies.{mismatched}
-use Rattle.adjacency.specs.Contents.{Content, Step, Updates}
+use Rattle.adjacency.specs.Contents.{Step, Updates}
 use Rattle.adjacency.specs.Contents as neighbor
 use Rattle.adjacency.specs.Neighbors.{Neighbor, is_exchange_or_later}
 use Rattle.adjacency.specs.Steps.{after_request, answered, lsas_of}

@@ -1,27 +1,18 @@
 -- What is gathered from the LSAs of the keys is what the database offers within and between areas, where the ways are those of its links.
-use Rattle.std.proofs.Common.{◌≡◌, ◌≢◌, ℕ, ◌+◌, ◌-◌, ◌%◌, ◌^◌, ◌<◌, ◌≤◌, ◌⊎◌, inl, inr, IsTrue, cond, nat_eq, List, Option, Some, None, arith, refl, sym, ◌∙◌, ap, subst}
+use Rattle.std.proofs.Common.{◌≡◌, ℕ, ◌+◌, ◌-◌, inl, inr, cond, nat_eq, List, Option, Some, None, arith, refl, sym, ◌∙◌, ap, subst}
 use Rattle.std.specs.List.{Contains}
-use Rattle.words.specs.Interfaces.{has_interface}
-use Rattle.words.specs.Prefixes.{Network, network_address}
+use Rattle.words.specs.Prefixes.{Network}
 use Rattle.words.specs.declared.key.Key.{Key}
-use Rattle.words.specs.declared.route.Route.{Route}
-use Rattle.words.specs.declared.route.RouteKind.TheVariants.{Inter}
 use Rattle.lsa.specs.declared.body.Body.{Body}
 use Rattle.lsa.specs.declared.body.Body.TheVariants as body
-use Rattle.lsa.specs.declared.body.ExternalLsa.{ExternalLsa}
 use Rattle.lsa.specs.declared.body.SummaryLsa.{SummaryLsa}
 use Rattle.routes.specs.Answers.{IsNodeAnswer}
-use Rattle.routes.specs.Candidates.{IsExternalWay, OffersExternal, external_offer}
 use Rattle.routes.specs.Links.{Leads, network_key, router_key}
 use Rattle.routes.specs.Offers.{Attaches, OffersWithin, ReachesBoundaryRouter, intra}
 use Rattle.routes.specs.Paths.{IsWay}
 use Rattle.routes.specs.Paths.{Way as WalkWay}
-use Rattle.routes.specs.Routes.{AreRoutesAmong, IsForwarded, IsNoLater, IsNoWorse, IsRouteAmong}
-use Rattle.routes.specs.Routes.IsNoLater.{ByTag}
-use Rattle.routes.specs.Routes.IsNoWorse.{ByCost, ByDistance, ByKind}
 use Rattle.routes.specs.Said.{Said}
-use Rattle.routes.specs.Summaries.{CountsAsSummary, IsBoundaryWay, IsToldOf, IsWayBetween, OffersBetween, OffersInside, ReachesBorderRouter, inter, summary_key}
-use Rattle.routes.specs.Summaries.IsBoundaryWay.{Inside as InsideWay, Outside as OutsideWay}
+use Rattle.routes.specs.Summaries.{CountsAsSummary, OffersBetween, OffersInside, inter, summary_key}
 use Rattle.routes.specs.declared.graph.Way.{Way}
 use Rattle.routes.specs.declared.node.Node.{Node}
 use Rattle.routes.specs.declared.node.Node.TheVariants.{ANetwork, ARouter}
@@ -30,10 +21,9 @@ use Rattle.routes.specs.declared.root.Root.{Root}
 use Rattle.routes.proofs.Determined.{one_way}
 use Rattle.std.proofs.Common.{true, false, eqb-true, eq-eqb}
 use Rattle.std.proofs.lemmas.Bool.{cases_eq, cases_Bool}
-use Rattle.offers.specs.Borders.{IsBoundary, IsCounted, IsFlagged, IsFound, IsLongest, IsOutward, Tells, host, way_by}
-use Rattle.offers.specs.Borders.IsBoundary.{Inside, Outside}
+use Rattle.offers.specs.Borders.{IsCounted, IsFlagged}
 use Rattle.offers.specs.Gathering.{OfEach}
-use Rattle.offers.specs.Sources.{IsInner, IsStub, OfExternal, OfNetwork, OfRouter, OfSummary, leaving}
+use Rattle.offers.specs.Sources.{IsInner, OfNetwork, OfRouter, OfSummary, leaving}
 use Rattle.offers.specs.Sources.IsInner.{ByNetwork, ByRouter, BySummary}
 use Rattle.offers.specs.Ways.{AreWays, Ways}
 

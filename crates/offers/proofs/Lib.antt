@@ -5,4 +5,3 @@ pub mod Boundaries
 pub mod Forwarded
 pub mod Carried
 pub mod Outward
-pub mod Prefixes

@@ -1,18 +1,18 @@
 -- What is told of AS boundary routers, forwarding addresses and external destinations, where the ways are those of the database's links.
-use Rattle.std.proofs.Common.{◌≡◌, ◌≢◌, ℕ, ◌+◌, ◌-◌, ◌%◌, ◌^◌, ◌<◌, ◌≤◌, ◌⊎◌, inl, inr, IsTrue, List, Option, Some, None, arith, refl, sym, ◌∙◌, ap, subst}
+use Rattle.std.proofs.Common.{◌≡◌, ℕ, ◌+◌, ◌≤◌, inl, inr, IsTrue, List, Some, arith, refl, sym, ◌∙◌, ap, subst}
 use Rattle.std.specs.List.{Contains}
 use Rattle.std.proofs.lemmas.Bool.{cases_lt}
 use Rattle.words.specs.Interfaces.{has_interface}
-use Rattle.words.specs.Prefixes.{Network, network_address}
+use Rattle.words.specs.Prefixes.{Network}
 use Rattle.words.specs.declared.key.Key.{Key}
 use Rattle.words.specs.declared.route.Route.{Route}
 use Rattle.words.specs.declared.route.RouteKind.TheVariants.{Inter}
 use Rattle.lsa.specs.declared.body.Body.{Body}
 use Rattle.lsa.specs.declared.body.Body.TheVariants as body
 use Rattle.lsa.specs.declared.body.ExternalLsa.{ExternalLsa}
-use Rattle.routes.specs.Candidates.{IsExternalWay, OffersExternal, external_offer}
+use Rattle.routes.specs.Candidates.{IsExternalWay, OffersExternal}
 use Rattle.routes.specs.Paths.{Way as WalkWay}
-use Rattle.routes.specs.Routes.{AreRoutesAmong, IsBestAmong, IsForwarded, IsNoLater, IsNoWorse, IsRouteAmong, rank}
+use Rattle.routes.specs.Routes.{AreRoutesAmong, IsBestAmong, IsNoWorse, IsRouteAmong, rank}
 use Rattle.routes.specs.Routes.IsNoLater.{ByTag}
 use Rattle.routes.specs.Routes.IsNoWorse.{ByCost, ByDistance, ByKind}
 use Rattle.routes.specs.Said.{Said}
@@ -22,7 +22,7 @@ use Rattle.routes.specs.declared.graph.Way.{Way}
 use Rattle.routes.specs.declared.offer.Offer.{Offer}
 use Rattle.routes.specs.declared.root.Root.{Root}
 use Rattle.routes.proofs.Determined.{AreAlike, alike, as_good}
-use Rattle.offers.specs.Borders.{IsBoundary, IsFound, IsLongest, IsOutward, Tells, host, way_by}
+use Rattle.offers.specs.Borders.{IsBoundary, IsFound, IsOutward, Tells, host, way_by}
 use Rattle.offers.specs.Borders.IsBoundary.{Inside, Outside}
 use Rattle.offers.specs.Gathering.{OfEach}
 use Rattle.offers.specs.Sources.{OfExternal}

@@ -1,27 +1,27 @@
 -- Candidates where each prefix has one best offer, and the offers of a database that is given as a list of copies.
-use Rattle.std.proofs.Common.{◌≡◌, ℕ, ◌+◌, ◌-◌, ◌^◌, ◌<◌, ◌≤◌, ◌⊎◌, inl, inr, Bool, true, false, IsTrue, List, filter, arith, refl, sym, ◌∙◌, ap, subst}
+use Rattle.std.proofs.Common.{◌≡◌, ℕ, ◌+◌, ◌≤◌, ◌⊎◌, inl, inr, Bool, true, false, IsTrue, List, filter, arith, refl, sym, ◌∙◌, ap, subst}
 use Rattle.std.specs.List.{AllPairs, Contains, list_all}
-use Rattle.std.proofs.lemmas.Bool.{cases_eq, cases_lt}
-use Rattle.std.proofs.lemmas.Nat.{pow_below}
+use Rattle.std.proofs.lemmas.Bool.{cases_eq}
 use Rattle.words.specs.Interfaces.{has_interface}
-use Rattle.words.specs.Prefixes.{Network, block, mask_of, network_address}
+use Rattle.words.specs.Prefixes.{Network, mask_of, network_address}
 use Rattle.words.specs.declared.route.Route.{Route}
 use Rattle.lsa.specs.declared.body.Body.TheVariants as body
 use Rattle.lsa.specs.declared.body.Link.{Link}
 use Rattle.lsa.specs.declared.body.LinkKind.{LinkKind}
 use Rattle.lsa.specs.declared.body.LinkKind.TheVariants.{PointToPoint, Stub, Transit, Virtual}
-use Rattle.routes.specs.Candidates.{AreCandidates, IsBest, IsCandidate, Offers}
+use Rattle.routes.specs.Candidates.{AreCandidates, IsCandidate, Offers}
 use Rattle.routes.specs.Routes.IsNoLater.{ByTag}
 use Rattle.routes.specs.Links.{Leads}
 use Rattle.routes.specs.declared.node.Node.{Node}
 use Rattle.routes.specs.declared.node.Node.TheVariants.{ANetwork, ARouter}
-use Rattle.routes.specs.Offers.{Attaches, IsPrefix, OffersWithin, intra}
+use Rattle.routes.specs.Offers.{Attaches, OffersWithin, intra}
 use Rattle.routes.specs.declared.offer.Offer.{Offer}
 use Rattle.routes.specs.Routes.IsNoWorse.{ByDistance}
 use Rattle.routes.specs.Paths.{IsWay, Way}
 use Rattle.route_laws.specs.Worked.{Entries, database}
 use Rattle.routes.specs.declared.root.Root.{Root}
 use Rattle.routes.proofs.Determined.{one_candidate, one_way}
+use Rattle.routes.proofs.Prefixes.{one_prefix}
 use Rattle.route_laws.proofs.Entries.{all_pass, has_link, is_no_network, kept, links_of, is_said, sayings}
 use Rattle.routes.specs.Said.{Said, said_at}
 use Rattle.routes.specs.Routes.{IsBefore, IsBestAmong, IsNoLater, IsNoWorse, IsRouteAmong}
@@ -89,39 +89,6 @@ all_candidates said root routes sound offered ascending = record {
   );
   ascending = ascending;
 }
-
--- ---- prefixes
-
-block_within : (n : ℕ) → block n ≤ 2 ^ 32
-block_within n =
-    elim (cases_lt (32 - n) 32) [
-      | inl less ↦ let below : 2 ^ (32 - n) < 2 ^ 32 = pow_below (32 - n) 32 less in omega (arith, below)
-      | inr more ↦ let same : 32 - n ≡ 32 = omega (arith, more) in let e : 2 ^ (32 - n) ≡ 2 ^ 32 = ap (λ k. 2 ^ k) same in omega (arith, e)
-    ]
-
-no_mask_before : (a b : ℕ) → a < b → b ≤ 32 → mask_of a ≡ mask_of b → ⊥
-no_mask_before a b less within e =
-    let order : 32 - b < 32 - a = omega (arith, less, within) in
-    let below : 2 ^ (32 - b) < 2 ^ (32 - a) = pow_below (32 - b) (32 - a) order in
-    omega (arith, below, e, block_within a, block_within b)
-
-same_length : (a b : ℕ) → a ≤ 32 → b ≤ 32 → mask_of a ≡ mask_of b → a ≡ b
-same_length a b p q e =
-    elim (cases_lt a b) [
-      | inl less ↦ absurd (no_mask_before a b less q e)
-      | inr more ↦
-          elim (cases_lt b a) [
-            | inl less ↦ absurd (no_mask_before b a less p (sym e))
-            | inr also ↦ omega (arith, more, also)
-          ]
-    ]
-
--- a mask gives one prefix
-pub one_prefix : (address mask length : ℕ) (p : Network) → length ≤ 32 → mask ≡ mask_of length → IsPrefix address mask p → record { address = network_address length address; length = length } ≡ p
-one_prefix address mask length p within is k =
-    let e : length ≡ p.length = same_length length p.length within k.0 (sym is ∙ k.1) in
-    let f : network_address length address ≡ p.address = ap (λ n. network_address n address) e ∙ sym k.2 in
-    λ i. record { address = f i; length = e i }
 
 -- ---- the offers within the area
 

@@ -1,8 +1,7 @@
 -- The worked external destinations: what each external LSA offers, if it offers anything, and the candidates.
-use Rattle.std.proofs.Common.{◌≡◌, ◌≢◌, ℕ, ◌<◌, ◌≤◌, ◌⊎◌, inl, inr, Bool, true, false, not, ◌&&◌, IsTrue, nat_eq, eq-eqb, List, [], ◌∷◌, ◌++◌, None, Some, arith, refl, sym, ◌∙◌, ap, subst}
+use Rattle.std.proofs.Common.{◌≡◌, ◌≢◌, ℕ, ◌<◌, ◌≤◌, ◌⊎◌, inl, inr, Bool, true, false, not, ◌&&◌, nat_eq, eq-eqb, List, [], ◌∷◌, ◌++◌, None, Some, arith, refl, sym, ◌∙◌, ap, subst}
 use Rattle.std.specs.FinMap as finite
 use Rattle.std.specs.List.{AllByRecursion, AllPairs, Contains}
-use Rattle.words.specs.Interfaces.{has_interface}
 use Rattle.words.specs.Prefixes.{IsUnder, Network, mask_of, network_address}
 use Rattle.words.specs.declared.key.Key.{Key}
 use Rattle.words.specs.declared.route.ExternalType.TheVariants.{Type1, Type2}
@@ -21,8 +20,9 @@ use Rattle.routes.specs.declared.offer.Offer.{Offer}
 use Rattle.routes.specs.Routes.IsNoWorse.{ByCost, ByKind}
 use Rattle.routes.specs.Paths.{Way}
 use Rattle.route_laws.specs.Worked.{Entries, database, dotted, far_links, key, mask_24, near_router, network_24, next_network, own_network, router_lsa}
-use Rattle.route_laws.specs.WorkedExternals.{WorkedExternals, announced, at_max_age, by_next_network, by_other, by_own_network, destinations, external, of_first_type, passed_over}
-use Rattle.route_laws.proofs.Alone.{IsAlone, all_candidates, alone, alone_among, each_within, no_worse_itself, one_prefix, route_of}
+use Rattle.route_laws.specs.WorkedExternals.{WorkedExternals, announced, by_next_network, by_own_network, destinations, external, of_first_type, passed_over}
+use Rattle.route_laws.proofs.Alone.{IsAlone, all_candidates, alone, alone_among, each_within, route_of}
+use Rattle.routes.proofs.Prefixes.{one_prefix}
 use Rattle.routes.proofs.Determined.{one_way}
 use Rattle.route_laws.proofs.Entries.{all_pass, is_said, sayings}
 use Rattle.route_laws.proofs.Forwarding.{one_forward}

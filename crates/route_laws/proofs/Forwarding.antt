@@ -7,7 +7,7 @@ use Rattle.routes.specs.Routes.{IsForwarded}
 use Rattle.routes.specs.declared.offer.Offer.{Offer}
 use Rattle.routes.proofs.Determined.{one_route, one_way, same_hops}
 use Rattle.route_laws.specs.Laws.{BoundaryWaysAreDetermined, ForwardingIsDetermined}
-use Rattle.routes.specs.Summaries.{IsBoundaryWay, IsToldOf, IsWayBetween, OffersInside}
+use Rattle.routes.specs.Summaries.{IsToldOf, IsWayBetween, OffersInside}
 use Rattle.routes.specs.Summaries.IsBoundaryWay.{Inside, Outside}
 use Rattle.routes.specs.Links.{Leads}
 use Rattle.routes.specs.declared.node.Node.TheVariants.{ARouter}

@@ -21,7 +21,8 @@ use Rattle.routes.specs.declared.offer.Offer.{Offer}
 use Rattle.routes.specs.Paths.{IsWalk, IsWay, Step, Way}
 use Rattle.route_laws.specs.Worked.{Entries, database}
 use Rattle.routes.specs.declared.root.Root.{Root}
-use Rattle.route_laws.proofs.Alone.{StubOffer, is_stub, kind_is_stub, one_prefix}
+use Rattle.route_laws.proofs.Alone.{StubOffer, is_stub, kind_is_stub}
+use Rattle.routes.proofs.Prefixes.{one_prefix}
 use Rattle.routes.proofs.Determined.{one_way}
 use Rattle.route_laws.proofs.Entries.{Sayings, all_pass, both_true, has_link, kept, links_of, mapped, is_said, sayings}
 use Rattle.route_laws.proofs.Labels.{AreLabels, either_true, exit_of, exits_in, is_point, not_both, subset}

@@ -1,6 +1,6 @@
 -- The worked summaries: the ways, the offers and the candidates.
-use Rattle.std.proofs.Common.{◌≡◌, ℕ, ◌+◌, ◌<◌, ◌≤◌, ◌⊎◌, inl, inr, Bool, true, false, cond, not, ◌&&◌, IsTrue, nat_eq, List, [], ◌∷◌, Some, filter, bit_and, arith, refl, sym, ◌∙◌, ap, subst}
-use Rattle.std.specs.List.{AllByRecursion, AllPairs, Contains, list_all}
+use Rattle.std.proofs.Common.{◌≡◌, ℕ, ◌+◌, ◌<◌, ◌⊎◌, inl, inr, Bool, true, false, cond, not, ◌&&◌, IsTrue, nat_eq, List, [], ◌∷◌, Some, bit_and, arith, refl, sym, ◌∙◌, ap, subst}
+use Rattle.std.specs.List.{AllByRecursion, AllPairs, Contains}
 use Rattle.words.specs.Interfaces.{has_interface}
 use Rattle.words.specs.Prefixes.{Network, network_address}
 use Rattle.words.specs.declared.key.Key.{Key}
@@ -20,7 +20,7 @@ use Rattle.routes.specs.Paths.{IsWalk, IsWay, Step, Way}
 use Rattle.routes.specs.Routes.{IsBefore, IsNoWorse}
 use Rattle.routes.specs.Routes.IsBefore.{ByAddress}
 use Rattle.routes.specs.Said.{Said, said_at}
-use Rattle.routes.specs.Summaries.{CountsAsSummary, IsBoundaryWay, IsToldOf, IsWayBetween, OffersBetween, ReachesBorderRouter, inter, summary_key}
+use Rattle.routes.specs.Summaries.{CountsAsSummary, IsBoundaryWay, IsToldOf, OffersBetween, ReachesBorderRouter, inter, summary_key}
 use Rattle.routes.specs.Summaries.IsBoundaryWay.{Inside, Outside}
 use Rattle.routes.specs.declared.node.Node.{Node}
 use Rattle.routes.specs.declared.node.Node.TheVariants.{ARouter}
@@ -30,8 +30,9 @@ use Rattle.routes.proofs.Lists.{of_cons, of_empty}
 use Rattle.route_laws.specs.Worked.{database, dotted, key, mask_24, network_24, point_to_point, router_lsa}
 use Rattle.route_laws.specs.WorkedExternals.{external}
 use Rattle.route_laws.specs.WorkedSummaries.{WorkedSummaries, between_route, beyond_1, beyond_2, border_links, distant_links, distant_route, summaries_links, summaries_root, summary, told}
-use Rattle.route_laws.proofs.Alone.{IsAlone, Known, all_candidates, alone, each_within, is_stub, no_worse_itself, one_prefix}
-use Rattle.route_laws.proofs.Entries.{all_pass, is_said, links_of, sayings}
+use Rattle.route_laws.proofs.Alone.{IsAlone, all_candidates, alone, each_within}
+use Rattle.routes.proofs.Prefixes.{one_prefix}
+use Rattle.route_laws.proofs.Entries.{all_pass, is_said, sayings}
 use Rattle.route_laws.proofs.Forwarding.{boundary}
 use Rattle.route_laws.proofs.Labels.{AreChecked, at_node, checked, way_by}
 use Rattle.route_laws.proofs.Made.{back, from_root, only_one, says}

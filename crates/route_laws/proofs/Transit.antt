@@ -23,7 +23,8 @@ use Rattle.routes.specs.Paths.{IsWay, Step, Way}
 use Rattle.route_laws.specs.Worked.{database, dotted, key, mask_24, network_24, router_lsa, stub}
 use Rattle.route_laws.specs.WorkedExternals.{external}
 use Rattle.route_laws.specs.WorkedTransit.{WorkedTransit, behind_route, designated_links, inner_lsa, longest_route, network_8, network_lsa, other_links, root_links, shared_route, transit, transit_entries, transit_root, transit_route, wide_route}
-use Rattle.route_laws.proofs.Alone.{IsAlone, all_candidates, alone, alone_among, is_stub, no_worse_itself, one_prefix, route_of}
+use Rattle.route_laws.proofs.Alone.{IsAlone, all_candidates, alone, alone_among, is_stub, no_worse_itself, route_of}
+use Rattle.routes.proofs.Prefixes.{one_prefix}
 use Rattle.routes.proofs.Determined.{one_way}
 use Rattle.route_laws.proofs.Entries.{all_pass, links_of, is_said, sayings}
 use Rattle.route_laws.proofs.Forwarding.{one_forward}

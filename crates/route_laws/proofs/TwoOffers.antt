@@ -1,9 +1,9 @@
 -- The worked offers: of two tags the least, of two distances the nearer, of two metrics the lesser.
-use Rattle.std.proofs.Common.{◌≡◌, ℕ, ◌⊎◌, inl, inr, IsTrue, [], ◌∷◌, arith, refl, sym, ◌∙◌, subst}
+use Rattle.std.proofs.Common.{◌≡◌, ◌⊎◌, inl, inr, IsTrue, [], ◌∷◌, arith, refl, sym, ◌∙◌, subst}
 use Rattle.std.specs.List.{Contains}
 use Rattle.words.specs.Interfaces.{has_interface}
 use Rattle.words.specs.declared.route.Route.{Route}
-use Rattle.words.specs.declared.route.RouteKind.TheVariants.{External1, External2, Intra}
+use Rattle.words.specs.declared.route.RouteKind.TheVariants.{External1, External2}
 use Rattle.routes.specs.Routes.{AreRoutesAmong, IsBestAmong, IsNoLater, IsNoWorse, IsRouteAmong}
 use Rattle.routes.specs.Routes.IsNoLater.{ByTag}
 use Rattle.routes.specs.Routes.IsNoWorse.{ByCost, ByDistance, ByKind}

@@ -24,7 +24,8 @@ use Rattle.routes.specs.declared.offer.Offer.{Offer}
 use Rattle.routes.specs.Routes.IsNoWorse.{ByCost, ByDistance, ByKind}
 use Rattle.routes.specs.Paths.{IsWalk, IsWay, Way}
 use Rattle.route_laws.specs.Worked.{Entries, WorkedTwoRouters, abroad, abroad_1, abroad_2, abroad_lsa, database, dotted, far_links, key, mask_24, near_links, near_router, network_24, next_network, own_network, router_lsa, stub, two_routers}
-use Rattle.route_laws.proofs.Alone.{IsAlone, Known, all_candidates, alone, each_within, one_prefix, route_of}
+use Rattle.route_laws.proofs.Alone.{IsAlone, Known, all_candidates, alone, each_within, route_of}
+use Rattle.routes.proofs.Prefixes.{one_prefix}
 use Rattle.routes.proofs.Determined.{bit_of_member, one_way}
 use Rattle.route_laws.proofs.Entries.{all_pass, is_said, sayings}
 use Rattle.route_laws.proofs.Labels.{AreChecked, at_node, checked, way_by}

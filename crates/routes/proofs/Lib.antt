@@ -9,3 +9,4 @@ pub mod Bridge
 pub mod OneMore
 pub mod Listed
 pub mod Carried
+pub mod Prefixes

@@ -6,7 +6,7 @@ use Rattle.words.specs.declared.key.Key.{Key}
 use Rattle.lsdb.specs.Copies.{Database}
 use Rattle.lsdb.specs.Headers.{Header}
 use Rattle.packet.specs.declared.model.Hello.{Hello}
-use Rattle.adjacency.specs.Contents.{Acknowledges, Requests, SendsHello, Step, no_sends}
+use Rattle.adjacency.specs.Contents.{Acknowledges, Requests, SendsHello, no_sends}
 use Rattle.adjacency.specs.Contents as neighbor
 use Rattle.adjacency.specs.Neighbors.{Neighbor}
 use Rattle.adjacency.specs.Requests.{may_request, next_request, request_next}

@@ -1,4 +1,4 @@
-use Rattle.std.proofs.Common.{◌≡◌, arith, rules, sym, ◌∙◌}
+use Rattle.std.proofs.Common.{◌≡◌, rules, sym}
 use Rattle.offers.proofs.Made.{of_router}
 use Rattle.offers.proofs.area.push_router.Goals as goal
 

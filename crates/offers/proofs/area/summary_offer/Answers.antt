@@ -1,4 +1,4 @@
-use Rattle.std.proofs.Common.{◌≡◌, arith, rules, sym, ◌∙◌}
+use Rattle.std.proofs.Common.{rules}
 use Rattle.offers.proofs.Made.{no_summary, of_summary}
 use Rattle.offers.proofs.area.summary_offer.Goals as goal
 

@@ -1,4 +1,4 @@
-use Rattle.std.proofs.Common.{◌≡◌, ◌<◌, arith, rules, ap, ◌∙◌}
+use Rattle.std.proofs.Common.{arith, ap, ◌∙◌}
 use Rattle.routes.specs.declared.graph.Way.{Way}
 use Rattle.offers.specs.Borders.{host}
 use Rattle.offers.proofs.Boundaries.{below_found, inside, no_boundary, outside}

@@ -1,4 +1,4 @@
-use Rattle.std.proofs.Common.{◌≡◌, ◌≢◌, ℕ, ◌<◌, Option, Some, None, arith, rules}
+use Rattle.std.proofs.Common.{◌≢◌, ℕ, ◌<◌, Option, Some, None, arith, rules}
 use Rattle.lsa.specs.declared.body.SummaryLsa.{SummaryLsa}
 use Rattle.routes.specs.Said.{Said}
 use Rattle.offers.specs.Ways.{Ways}

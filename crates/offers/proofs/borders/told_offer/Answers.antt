@@ -1,4 +1,4 @@
-use Rattle.std.proofs.Common.{◌≡◌, ◌+◌, rules, ap, ◌∙◌}
+use Rattle.std.proofs.Common.{◌+◌, rules, ap, ◌∙◌}
 use Rattle.routes.specs.Summaries.{inter}
 use Rattle.offers.specs.Borders.{host}
 use Rattle.offers.proofs.Made.{none_told, of_told}

@@ -1,4 +1,4 @@
-use Rattle.std.proofs.Common.{◌≡◌, ◌≢◌, ◌<◌, arith, rules}
+use Rattle.std.proofs.Common.{arith, rules}
 use Rattle.offers.proofs.Made.{no_external, of_external}
 use Rattle.offers.proofs.externals.external_offer.Goals as goal
 

@@ -1,4 +1,4 @@
-use Rattle.std.proofs.Common.{◌≡◌, ◌≢◌, ◌<◌, true, arith, rules, ap}
+use Rattle.std.proofs.Common.{◌≡◌, true, arith, rules, ap}
 use Rattle.routes.specs.declared.graph.Way.{Way}
 use Rattle.offers.proofs.Boundaries.{below_longest}
 use Rattle.offers.proofs.Forwarded.{by_forwarding, by_originator, no_forwarding, no_originator}

@@ -1,8 +1,8 @@
-use Rattle.std.proofs.Common.{◌≡◌, ◌≤◌, Option, Some, None, refl, sym, subst, ◌∙◌}
+use Rattle.std.proofs.Common.{◌≡◌, ◌≤◌, Option, Some, None, sym, subst, ◌∙◌}
 use Rattle.std.specs.Prelude.{IfSome, IfNone, ℕ}
 use Rattle.words.specs.Prefixes.{IsNetwork, IsUnder, Network, mask_of}
 use Rattle.routes.specs.Offers.{IsPrefix}
-use Rattle.offers.proofs.Prefixes.{one_prefix}
+use Rattle.routes.proofs.Prefixes.{one_prefix}
 use Rattle.offers.specs.Gathering.{IsJust}
 use Rattle.offers.proofs.gathering.network_under.Goals as goal
 

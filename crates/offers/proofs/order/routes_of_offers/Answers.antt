@@ -1,4 +1,4 @@
-use Rattle.std.proofs.Common.{◌≡◌, ◌<◌, List, arith, subst}
+use Rattle.std.proofs.Common.{◌≡◌, List, arith, subst}
 use Rattle.std.specs.List.{Contains}
 use Rattle.std.specs.Prelude.{◌↔◌}
 use Rattle.offers.specs.Borders.{AreBelow}

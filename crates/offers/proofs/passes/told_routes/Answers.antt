@@ -1,6 +1,5 @@
 use Rattle.std.proofs.Common.{List, [], arith}
 use Rattle.std.specs.List.{Contains}
-use Rattle.words.specs.declared.key.Key.{Key}
 use Rattle.words.specs.declared.route.Route.{Route}
 use Rattle.routes.specs.Routes.{AreRoutesAmong}
 use Rattle.routes.specs.Said.{Said, said_at}

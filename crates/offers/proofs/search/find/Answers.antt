@@ -1,9 +1,7 @@
-use Rattle.std.proofs.Common.{◌≡◌, ℕ, ◌<◌, ◌≤◌, length, get_or, arith, rules, sym, ◌∙◌, ap}
-use Rattle.std.specs.declared.cmp.Ordering.TheVariants.{Equal, Greater, Less}
+use Rattle.std.proofs.Common.{◌≡◌, rules}
 use Rattle.std.proofs.lemmas.Fn.{always_returns_same}
 use Rattle.words.specs.Orders.{network_cmp}
 use Rattle.words.specs.declared.route.Route.{Route}
-use Rattle.offers.specs.Borders.{IsFound}
 use Rattle.offers.proofs.Ordered.{found_at, not_found, searchable}
 use Rattle.offers.proofs.search.find.Goals as goal
 

@@ -1,4 +1,4 @@
-use Rattle.std.proofs.Common.{◌≡◌, ◌≤◌, ◌<◌, ◌-◌, ◌+◌, ℕ, arith, refl, rules, subst, sym}
+use Rattle.std.proofs.Common.{◌≡◌, ◌-◌, ◌+◌, ℕ, arith, rules, subst}
 use Rattle.offers.proofs.Ordered.{AreShorter, at_most_32, is_longest, none_long, shorter_unmatched}
 use Rattle.offers.proofs.search.longest_match.Goals as goal
 

@@ -1,6 +1,6 @@
-use Rattle.std.proofs.Common.{◌≡◌, ◌≤◌, ℕ, Option, Some, None, cond, nat_le, arith, rules, sym, ap, ◌∙◌}
-use Rattle.words.specs.Prefixes.{Network, network_address}
-use Rattle.offers.proofs.Ordered.{no_match, one_match, unmarked}
+use Rattle.std.proofs.Common.{◌≡◌, rules}
+use Rattle.words.specs.Prefixes.{network_address}
+use Rattle.offers.proofs.Ordered.{no_match, one_match}
 use Rattle.offers.proofs.search.match_of_length.Goals as goal
 
 pub returns-in_err-route : goal.returns-in_err-route

@@ -1,4 +1,4 @@
-use Rattle.std.proofs.Common.{ap, map, ◌∙◌, arith}
+use Rattle.std.proofs.Common.{map, arith}
 use Rattle.flooding.specs.Links.{present}
 use Rattle.originations.specs.Described.{described_links, interfaces}
 use Rattle.originations.proofs.FullNeighbors.{count_of, described_next, interface_here}
