@@ -138,9 +138,9 @@ fn announce_as(
     originate_anyway(router, alloc, moment, key, drafts)
 }
 
-/// The destination is to be announced with these words on its tag and its metric: of the tag the low
-/// 32 bits count, and a metric of LSInfinity, 0xffffff, or more withholds it and flushes an own LSA
-/// that stands. What is announced already just so is left alone.
+/// The destination is to be announced with these words on its tag and its metric: of the tag the
+/// low 32 bits count, and a metric of LSInfinity, 0xffffff, or more withholds it and flushes an own
+/// LSA that stands. What is announced already just so is left alone.
 ///
 /// `AllocError` comes where memory was refused; the router is to be rolled back then, and the
 /// drafts are of no use.

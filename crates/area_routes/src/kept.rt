@@ -1,7 +1,9 @@
 //! The routes of a router, kept from one event to the next.
-ghost use Rattle.std.specs.Prelude.{◌≡◌, ◌+◌, ◌≤◌, ◌↔◌, None, false, length, min, IfOk, IsSome, IsTrue, OnErr, OnOk, true};
+ghost use Rattle.std.specs.Prelude.{◌≡◌, ◌+◌, ◌≤◌, ◌↔◌, None, false, length, min, IfOk, IsSome};
+ghost use Rattle.std.specs.Prelude.{IsTrue, OnErr, OnOk, true};
 ghost use Rattle.std.specs.FinMap as finite;
-ghost use Rattle.area_routes.specs.Kept.{HasStayed, KnowsAnswered, KnowsCandidates, WalksAgainOnlyThen};
+ghost use Rattle.area_routes.specs.Kept.{HasStayed, KnowsAnswered, KnowsCandidates};
+ghost use Rattle.area_routes.specs.Kept.{WalksAgainOnlyThen};
 ghost use Rattle.area_routes.specs.Offers.{AreOfferedBy, root_by};
 ghost use Rattle.kept_routes.specs.Kept.{IsWalkOf};
 ghost use Rattle.kept_routes.specs.Sameness.{AreLeft, SayTheSame};
@@ -25,10 +27,12 @@ pub struct Offered {
     pub rows: Vec<TableRow>,
 }
 
-/// The routes of a router from one event to the next. The walk of its database stays for as long as the LSAs of types 1 and 2 say the same (RFC
-/// 2328, section 16.1); candidates that were looked at, and that all of them stand among the answers, for as long as all LSAs do.
+/// The routes of a router from one event to the next. The walk of its database stays for as long as
+/// the LSAs of types 1 and 2 say the same (RFC 2328, section 16.1); candidates that were looked at,
+/// and that all of them stand among the answers, for as long as all LSAs do.
 ///
-/// Links, database and answers aren't part of it. Each call is handed them, and a clause says of which moment they are.
+/// Links, database and answers aren't part of it. Each call is handed them, and a clause says of
+/// which moment they are.
 #[derive(Drop)]
 pub struct AreaRoutes {
     walk: Routes,
@@ -43,10 +47,15 @@ impl Model for AreaRoutes {
 
     ghost Value = { KeptRoutes };
 
-    ghost view = { λ a. record { walk = a.walk; candidates = a.candidates; answered = a.answered } };
+    ghost view = { λ a. record {
+      walk = a.walk;
+      candidates = a.candidates;
+      answered = a.answered;
+    } };
 }
 
-// Whether the LSAs of the types up to this one, or of all, say at the moment what they said before the event.
+// Whether the LSAs of the types up to this one, or of all, say at the moment what they said before
+// the event.
 fn says_the_same(
     alloc: Global,
     area: &Area,
@@ -96,12 +105,15 @@ impl AreaRoutes {
         })
     }
 
-    /// Follows a router over an event, from what its area was when it was last settled, at the moment before, to what it is at this moment. It walks
-    /// again only where the router's addresses are others, or an LSA of type 1 or 2 came, left, has come to MaxAge or says something else;
-    /// another instance below MaxAge that says the same doesn't count (RFC 2328, section 13.2). There are at most 63 links and 16,384 LSAs.
+    /// Follows a router over an event, from what its area was when it was last settled, at the
+    /// moment before, to what it is at this moment. It walks again only where the router's
+    /// addresses are others, or an LSA of type 1 or 2 came, left, has come to MaxAge or says
+    /// something else; another instance below MaxAge that says the same doesn't count (RFC 2328,
+    /// section 13.2). There are at most 63 links and 16,384 LSAs.
     ///
     /// # Errors
-    /// Where memory for the walk, or for the keys of the LSAs at MaxAge, is refused; the routes stay as they were then.
+    /// Where memory for the walk, or for the keys of the LSAs at MaxAge, is refused; the routes
+    /// stay as they were then.
     pub fn follow(
         &mut self,
         alloc: Global,
@@ -119,16 +131,19 @@ impl AreaRoutes {
             (IsWalkOf (said_at moment area.now.present.database) self.new.walk) }
         ensures root { OnOk result
             (self.new.walk.root ≡ root_by router area.now.present.links) }
-        // What was known of the candidates and of the answers before is known still, or not known any more.
+        // What was known of the candidates and of the answers before is known still, or not known
+        // any more.
         ensures candidates { OnOk result
             (KnowsCandidates (said_at moment area.now.present.database) self.new) }
         ensures answered { OnOk result ((answers : Answers)
             → KnowsAnswered (said_at before area.now.settled.database) answers self.old
             → KnowsAnswered (said_at moment area.now.present.database) answers self.new) }
-        // It walks again only where the router's addresses are others, or an LSA of type 1 or 2 came, left, has come to MaxAge or says something else.
+        // It walks again only where the router's addresses are others, or an LSA of type 1 or 2
+        // came, left, has come to MaxAge or says something else.
         ensures walks { OnOk result (WalksAgainOnlyThen before moment router
             area.now.settled area.now.present self.old.walk self.new.walk) }
-        // Where that holds of LSAs of all types, what is known of the candidates and of the answers stays too.
+        // Where that holds of LSAs of all types, what is known of the candidates and of the answers
+        // stays too.
         ensures all { OnOk result (HasStayed None before moment router
             area.now.settled area.now.present self.old.walk → self.new ≡ self.old) }
         ensures err { OnErr result (self.new ≡ self.old) }
@@ -176,8 +191,8 @@ impl AreaRoutes {
         Ok(())
     }
 
-    /// Takes note of other answers: looks whether each candidate stands among them. The candidates are kept. Where memory for that is refused, it
-    /// isn't known.
+    /// Takes note of other answers: looks whether each candidate stands among them. The candidates
+    /// are kept. Where memory for that is refused, it isn't known.
     pub fn take_answers(
         &mut self,
         alloc: Global,
@@ -198,8 +213,9 @@ impl AreaRoutes {
         };
     }
 
-    /// The candidates at a moment: for each prefix that anything in the database offers one route, in the order of the prefixes (RFC 2328, section
-    /// 16). Where they are kept, it is a copy of them.
+    /// The candidates at a moment: for each prefix that anything in the database offers one route,
+    /// in the order of the prefixes (RFC 2328, section 16). Where they are kept, it is a copy of
+    /// them.
     ///
     /// # Errors
     /// Where memory for the offers or the routes is refused.
@@ -223,7 +239,8 @@ impl AreaRoutes {
         Ok(candidates)
     }
 
-    /// The routing table at a moment: the candidates whose equal route was answered with 0, in the order of the prefixes.
+    /// The routing table at a moment: the candidates whose equal route was answered with 0, in the
+    /// order of the prefixes.
     ///
     /// # Errors
     /// Where memory for the candidates or the table is refused.
@@ -267,7 +284,8 @@ impl AreaRoutes {
         Ok(Offered { candidates, rows })
     }
 
-    // Whether some candidate stands in none of the answers, by a look at each. The candidates are kept.
+    // Whether some candidate stands in none of the answers, by a look at each. The candidates are
+    // kept.
     fn lacks_answers(
         &mut self,
         alloc: Global,
@@ -295,11 +313,13 @@ impl AreaRoutes {
         Ok(lacks)
     }
 
-    /// Tells whether some candidate stands in none of the answers, so that they are to be asked for again. Where it is known that none does, no
-    /// candidate is looked at. That none does is remembered, and so are the candidates that it looked at, until an LSA says something else.
+    /// Tells whether some candidate stands in none of the answers, so that they are to be asked for
+    /// again. Where it is known that none does, no candidate is looked at. That none does is
+    /// remembered, and so are the candidates that it looked at, until an LSA says something else.
     ///
     /// # Errors
-    /// Where memory for the candidates, or for answers in order, is refused; the routes stay as they were then.
+    /// Where memory for the candidates, or for answers in order, is refused; the routes stay as
+    /// they were then.
     pub fn is_stale(
         &mut self,
         alloc: Global,

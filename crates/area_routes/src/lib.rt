@@ -1,5 +1,5 @@
-//! The routes of a router at a moment, from its links, its database and the answers that let routes in (RFC 2328, sections 11 and 16), by a walk
-//! that is kept from one event to the next.
+//! The routes of a router at a moment, from its links, its database and the answers that let routes
+//! in (RFC 2328, sections 11 and 16), by a walk that is kept from one event to the next.
 #![tactic(auto)]
 
 mod kept;

@@ -85,8 +85,8 @@ fn print_size<R: Clock + Print + AllocGlobal>(rt: &R, size: u32) -> Result<()> {
 /// Prints what events of a router take whose neighbors 1 to 3 are Full and whose fourth is in Init,
 /// at 10, 100, 1,000 and 16,384 LSAs in all: a new AS-external-LSA that comes from 1 and is sent to
 /// 2 and 3, the acknowledgment of 2, a Tick at which nothing is due, a Hello, and a Hello after all
-/// external LSAs were flushed and left; a Tick at which 100 LSAs are sent to 2 again; and all events
-/// of both routers together while the fourth comes to Full. In nanoseconds, the least of 101
+/// external LSAs were flushed and left; a Tick at which 100 LSAs are sent to 2 again; and all
+/// events of both routers together while the fourth comes to Full. In nanoseconds, the least of 101
 /// measurements; of the last, in microseconds, of 5.
 ///
 /// # Errors

@@ -167,10 +167,10 @@ pub fn externals_of(full: u16, size: u32) -> u32 {
     size.saturating_sub(1).saturating_sub(u32::from(full))
 }
 
-/// 1.1.1.1 whose neighbors at the first so many interfaces, 3 or 4, are Full; where the one at 4 isn't,
-/// it is in Init. There are so many LSAs: one of each of these routers, and AS-external-LSAs of
-/// neighbor 1. At [`MADE`] nothing is left to be sent, sent again or acknowledged; the next Hellos are
-/// due at 901.
+/// 1.1.1.1 whose neighbors at the first so many interfaces, 3 or 4, are Full; where the one at 4
+/// isn't, it is in Init. There are so many LSAs: one of each of these routers, and AS-external-LSAs
+/// of neighbor 1. At [`MADE`] nothing is left to be sent, sent again or acknowledged; the next
+/// Hellos are due at 901.
 ///
 /// # Errors
 /// Memory ran out, or the neighbors or the database aren't as they should be.

@@ -69,8 +69,8 @@ fn print_kind<R: Threads + Wait + Clock + Print + AllocGlobal + Sync>(
 
 /// Prints how many turns one worker and four workers take a second at a router with four Full
 /// neighbors and 16,384 LSAs: for Hellos, for AS-external-LSAs that say the same in their next
-/// instance, and for new ones; each without a program and with one at `count` that adds to a counter.
-/// The most of 5 measurements.
+/// instance, and for new ones; each without a program and with one at `count` that adds to a
+/// counter. The most of 5 measurements.
 ///
 /// # Errors
 /// The clock or the output failed, memory ran out, a turn was refused, or other than all datagrams

@@ -24,8 +24,9 @@ pub enum Kind {
 }
 
 impl Kind {
-    /// How many turns all workers take together in one measurement: a multiple of 4. The first turn at a new hub finds the router stale and
-    /// asks about all candidates, which among 8,000 refreshed LSAs hardly counts.
+    /// How many turns all workers take together in one measurement: a multiple of 4. The first turn
+    /// at a new hub finds the router stale and asks about all candidates, which among 8,000
+    /// refreshed LSAs hardly counts.
     pub fn turns(self) -> u32 {
         match self {
             Kind::Hello => 40_000,

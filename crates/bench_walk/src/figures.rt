@@ -28,7 +28,8 @@ fn since<R: Clock>(rt: &R, start: Instant) -> Result<u64> {
     Ok(u64::try_from(start.elapsed(rt)?.as_micros()).unwrap_or(u64::MAX))
 }
 
-// What a walk, the routes of it, and their table took, in microseconds, and how many routes there are.
+// What a walk, the routes of it, and their table took, in microseconds, and how many routes there
+// are.
 #[derive(Clone, Copy)]
 struct Times {
     walk: u64,
@@ -175,13 +176,16 @@ fn print_crowd<R: Clock + Print + AllocGlobal>(rt: &R) -> Result<()> {
     Ok(())
 }
 
-/// Prints what a walk takes, what its candidates take, what their table takes and what the test whether it is stale takes, in microseconds,
-/// the least of 11 measurements: over rings, grids and circles with a long step of 100, 1,000 and 4,000 routers, with so many externals that
-/// there are 16,384 LSAs; over a grid of 1,000 routers with 15,000 externals, without forwarding addresses and with one each; and over a grid
-/// of 16,384 routers. Last, what a walk takes beside one router that has 678 equal transit links to the Link State ID of 14,000 network-LSAs.
+/// Prints what a walk takes, what its candidates take, what their table takes and what the test
+/// whether it is stale takes, in microseconds, the least of 11 measurements: over rings, grids and
+/// circles with a long step of 100, 1,000 and 4,000 routers, with so many externals that there are
+/// 16,384 LSAs; over a grid of 1,000 routers with 15,000 externals, without forwarding addresses
+/// and with one each; and over a grid of 16,384 routers. Last, what a walk takes beside one router
+/// that has 678 equal transit links to the Link State ID of 14,000 network-LSAs.
 ///
 /// # Errors
-/// The clock or the output failed, memory ran out, or a router or an external destination has no route.
+/// The clock or the output failed, memory ran out, or a router or an external destination has no
+/// route.
 pub fn print<R: Clock + Print + AllocGlobal>(rt: &R) -> Result<()> {
     println!(rt; "microseconds, the least of {MEASUREMENTS}")?;
     print_shape(rt, shape("ring", 100, [1, 0], 16_284))?;

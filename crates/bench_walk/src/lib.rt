@@ -1,4 +1,5 @@
-//! Figures of the speed of walks and of candidates: what they take over databases of several shapes.
+//! Figures of the speed of walks and of candidates: what they take over databases of several
+//! shapes.
 #![tactic(auto)]
 
 mod figures;

@@ -11,15 +11,17 @@ pub fn moment() -> Second {
     Second::new(1)
 }
 
-/// Routers in a circle, each with a link to those so many places before and behind it and a stub network, and external destinations that
-/// those but the first announce in turn. A step of 0 is left out: with the steps 1 and 0 it is a ring, with 1 and the root of the count a grid.
+/// Routers in a circle, each with a link to those so many places before and behind it and a stub
+/// network, and external destinations that those but the first announce in turn. A step of 0 is
+/// left out: with the steps 1 and 0 it is a ring, with 1 and the root of the count a grid.
 #[derive(Clone, Copy)]
 pub struct Shape {
     pub name: &'static str,
     pub routers: u32,
     pub steps: [u32; 2],
     pub externals: u32,
-    /// Whether each external has a forwarding address, in the stub network of the router that announces it.
+    /// Whether each external has a forwarding address, in the stub network of the router that
+    /// announces it.
     pub forwards: bool,
 }
 
@@ -222,7 +224,8 @@ fn listing(alloc: Global, number: u32) -> Result<Lsa> {
     sealed(alloc, bytes)
 }
 
-/// The root beside one router that has many equal transit links, all to the Link State ID of many network-LSAs that list it.
+/// The root beside one router that has many equal transit links, all to the Link State ID of many
+/// network-LSAs that list it.
 pub fn crowd(alloc: Global) -> Result<Lsdb> {
     let mut db = Lsdb::new(alloc, RouterId::new(id_of(0)));
     let mut bytes = Vec::new(alloc);

@@ -1,5 +1,6 @@
 //! The book itself: an event is taken, and the book starts anew.
-ghost use Rattle.std.specs.Prelude.{◌≡◌, ℕ, ◌+◌, ◌^◌, ◌<◌, ◌≤◌, [], ◌∷◌, ◌++◌, ◌↔◌, length, IfOk, IsTrue, OnOk, OnErr};
+ghost use Rattle.std.specs.Prelude.{◌≡◌, ℕ, ◌+◌, ◌^◌, ◌<◌, ◌≤◌, [], ◌∷◌, ◌++◌, ◌↔◌, length, IfOk};
+ghost use Rattle.std.specs.Prelude.{IsTrue, OnOk, OnErr};
 ghost use Rattle.events.specs.Events.{Happens};
 ghost use Rattle.flood.specs.Occurrences.{occurrence_of};
 ghost use Rattle.flood.specs.Offers.{IsStaleNow};
@@ -111,10 +112,10 @@ impl<L: Ledger> Book<L> {
     /// Takes an event at a moment: what it makes of the router, and what is to be sent. The event
     /// stands last in the journal then, and counts once in the book and once in the share.
     ///
-    /// Refused, in this order: `Journal` where the journal holds 65,536 events or 2^63 were taken in
-    /// all; what the router refuses, in its own order; `Core(Memory)` only where neither the journal
-    /// nor the clock nor the interface is refused, and an allocation was. A refusal leaves the book
-    /// and the share as they were.
+    /// Refused, in this order: `Journal` where the journal holds 65,536 events or 2^63 were taken
+    /// in all; what the router refuses, in its own order; `Core(Memory)` only where neither the
+    /// journal nor the clock nor the interface is refused, and an allocation was. A refusal leaves
+    /// the book and the share as they were.
     #[tactic(auto, using(flood::proofs::Early::may_run_out, flood::proofs::Early::early_answers))]
     pub fn apply(
         &mut self,
@@ -159,8 +160,8 @@ impl<L: Ledger> Book<L> {
         Ok(outs)
     }
 
-    /// The book starts from the router as it is now, with an empty journal. It has taken no more and
-    /// no less than before.
+    /// The book starts from the router as it is now, with an empty journal. It has taken no more
+    /// and no less than before.
     ///
     /// `AllocError` comes where an allocation was refused; the book is as it was then.
     pub fn mark(&mut self) -> Result<(), AllocError>
@@ -174,8 +175,8 @@ impl<L: Ledger> Book<L> {
         Ok(())
     }
 
-    // Marks a book whose journal is full, or whose events hold more than 64 MiB. Only a full journal's
-    // mark is refused where it gets no memory.
+    // Marks a book whose journal is full, or whose events hold more than 64 MiB. Only a full
+    // journal's mark is refused where it gets no memory.
     fn make_room(&mut self) -> Result<(), AllocError>
         ensures book { IsSameOrMarked self.old self.new }
         ensures room { OnOk result (length self.new.journal < 65536) }
@@ -190,12 +191,12 @@ impl<L: Ledger> Book<L> {
         Ok(())
     }
 
-    /// Takes an event as [`apply`](Book::apply) does, in a book that is marked first where its journal
-    /// is full, or where its events hold more than 64 MiB. So `Journal` is answered only where 2^63
-    /// events were taken.
+    /// Takes an event as [`apply`](Book::apply) does, in a book that is marked first where its
+    /// journal is full, or where its events hold more than 64 MiB. So `Journal` is answered only
+    /// where 2^63 events were taken.
     ///
-    /// A mark stands, whether the event is taken or not. A mark that is made for the journal's bytes
-    /// alone refuses nothing where it gets no memory: the journal grows on.
+    /// A mark stands, whether the event is taken or not. A mark that is made for the journal's
+    /// bytes alone refuses nothing where it gets no memory: the journal grows on.
     pub fn apply_anew(
         &mut self,
         mine: &mut Share<L>,
@@ -224,8 +225,8 @@ impl<L: Ledger> Book<L> {
         self.apply(mine, moment, event)
     }
 
-    /// Whoever brings every part of the ledger, as one share, learns that the book has taken just as
-    /// many events as the share counts. It changes nothing.
+    /// Whoever brings every part of the ledger, as one share, learns that the book has taken just
+    /// as many events as the share counts. It changes nothing.
     pub fn audit(&mut self, all: &mut Share<L>)
         requires { all.old.parts ≡ L.parts }
         ensures sum { self.old.taken ≡ all.old.amount }
@@ -235,8 +236,8 @@ impl<L: Ledger> Book<L> {
         self.total.audit(all);
     }
 
-    /// Tells whether some candidate of the router as it is now stands in none of the answers of its last
-    /// installation, as [`Core::stale`] does. What clauses see of the book stays.
+    /// Tells whether some candidate of the router as it is now stands in none of the answers of its
+    /// last installation, as [`Core::stale`] does. What clauses see of the book stays.
     ///
     /// `AllocError` comes where an allocation was refused.
     pub fn is_stale(&mut self) -> Result<bool, AllocError>

@@ -1,4 +1,5 @@
-//! The candidates for the routing table: of all that a database offers, the best for each prefix (RFC 2328, section 16).
+//! The candidates for the routing table: of all that a database offers, the best for each prefix
+//! (RFC 2328, section 16).
 #![tactic(auto)]
 
 ghost use Rattle.std.specs.Prelude.{◌≡◌, ◌≤◌, Some, IfOk, length};
@@ -22,8 +23,9 @@ use shortest_paths::walk;
 use std::alloc::{AllocError, Global};
 use words::{Key, Route, Second};
 
-/// The candidates of a database at a moment: for each prefix that anything offers one route, and no others, in the order of the prefixes
-/// (RFC 2328, section 16). The database has at most 16,384 LSAs, the root at most 63 interfaces.
+/// The candidates of a database at a moment: for each prefix that anything offers one route, and no
+/// others, in the order of the prefixes (RFC 2328, section 16). The database has at most 16,384
+/// LSAs, the root at most 63 interfaces.
 ///
 /// # Errors
 /// Where memory for the walk, the offers or the routes is refused.
@@ -35,8 +37,11 @@ pub fn candidates(
 ) -> Result<Vec<Route>, AllocError>
     requires interfaces { length root.now.addresses ≤ 63 }
     requires size { finite.len db.now.present ≤ 16384 }
-    ensures candidates { IfOk result (λ routes. AreCandidates (said_at moment db.now.present) root.now routes.items) }
-    ensures every { IfOk result (λ routes. (o : Offer) → Offers (said_at moment db.now.present) root.now o → (r : RouteValue) × Contains routes.items r × (r.prefix ≡ o.prefix)) }
+    ensures candidates { IfOk result (λ routes.
+        AreCandidates (said_at moment db.now.present) root.now routes.items) }
+    ensures every { IfOk result (λ routes. (o : Offer)
+        → Offers (said_at moment db.now.present) root.now o → (r : RouteValue)
+        × Contains routes.items r × (r.prefix ≡ o.prefix)) }
 {
     let reached = walk(alloc, db, root, moment)?;
     let routes = routes_of(alloc, db, root, moment, &reached)?;
@@ -44,8 +49,9 @@ pub fn candidates(
     Ok(routes)
 }
 
-/// The candidates of a database at a moment, where these are the ways of its links: for each prefix that anything offers one route, in the
-/// order of the prefixes (RFC 2328, section 16). The time is that of a look-up for each LSA and of two sorts of the offers.
+/// The candidates of a database at a moment, where these are the ways of its links: for each prefix
+/// that anything offers one route, in the order of the prefixes (RFC 2328, section 16). The time is
+/// that of a look-up for each LSA and of two sorts of the offers.
 ///
 /// # Errors
 /// Where memory for the keys, the offers or the routes is refused.
@@ -58,7 +64,8 @@ pub fn routes_of<W: Ways>(
 ) -> Result<Vec<Route>, AllocError>
     requires near { AreNear (W.ways ways.now) }
     requires ways { AreWays (said_at moment db.now.present) root.now (W.ways ways.now) }
-    ensures { IfOk result (λ routes. AreCandidates (said_at moment db.now.present) root.now routes.items) }
+    ensures { IfOk result (λ routes. AreCandidates (said_at moment db.now.present) root.now
+        routes.items) }
 {
     let keys = db.first(alloc, db.len())?;
     let routes = routes_of_keys(alloc, db, root, moment, ways, &keys)?;
@@ -76,8 +83,10 @@ fn routes_of_keys<W: Ways>(
 ) -> Result<Vec<Route>, AllocError>
     requires near { AreNear (W.ways ways.now) }
     requires ways { AreWays (said_at moment db.now.present) root.now (W.ways ways.now) }
-    requires keys { (key : KeyValue) (says : BodyValue) → said_at moment db.now.present key ≡ Some says → Contains keys.now key }
-    ensures { IfOk result (λ routes. AreCandidates (said_at moment db.now.present) root.now routes.items) }
+    requires keys { (key : KeyValue) (says : BodyValue) → said_at moment db.now.present key
+        ≡ Some says → Contains keys.now key }
+    ensures { IfOk result (λ routes. AreCandidates (said_at moment db.now.present) root.now
+        routes.items) }
 {
     let told = told_routes(alloc, db, moment, root, ways, keys)?;
     let mut offers = inner_offers(alloc, db, moment, root, ways, keys)?;

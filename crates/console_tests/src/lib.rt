@@ -1,4 +1,5 @@
-//! Tests of `console` by its public calls. They stand above, since a crate is proved once more for its tests.
+//! Tests of `console` by its public calls. They stand above, since a crate is proved once more for
+//! its tests.
 #![tactic(auto)]
 
 #[cfg(test)]

@@ -101,8 +101,8 @@ const OF_AGE: &[Step] = &[
     Step::Sends(12, What::Tick, &[(1, MAX_AGE_ACKNOWLEDGED)]),
 ];
 
-/// A copy that comes to MaxAge is flooded, to all alike, and leaves once it is acknowledged: here by
-/// the same instance.
+/// A copy that comes to MaxAge is flooded, to all alike, and leaves once it is acknowledged: here
+/// by the same instance.
 const COMES_OF_AGE: &[Step] = &[
     Step::Sends(10, What::Packet(1, EXTERNAL_OF_AGE_3598), &[]),
     Step::Sends(12, What::Packet(1, NAMING), &[(1, MAX_AGE_SENT_ON)]),

@@ -71,8 +71,8 @@ fn is_taken(router: &Router, prefix: Prefix) -> bool
     }
 }
 
-/// Tells whether the answers are on two destinations, or another announced prefix has the Link State
-/// ID of the destination.
+/// Tells whether the answers are on two destinations, or another announced prefix has the Link
+/// State ID of the destination.
 pub fn clashes(router: &Router, tagged: External, priced: External) -> bool
     ensures { result ≡ clashes router.now.present tagged priced }
 {

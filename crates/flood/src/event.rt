@@ -45,8 +45,8 @@ impl Event {
         }
     }
 
-    /// About how many bytes the event holds outside of itself: those of a packet, 64 for each answer
-    /// of an Install.
+    /// About how many bytes the event holds outside of itself: those of a packet, 64 for each
+    /// answer of an Install.
     pub fn weight(&self) -> u64 {
         match self {
             Event::Packet(_, bytes) => bytes.as_slice().len() as u64,

@@ -88,8 +88,8 @@ pub fn take_and_keep(
     ensures limit { IfOk result (λ outs. exceeds router.new.present ≡ false) }
     ensures settled { router.new.settled ≡ router.old.settled }
     ensures kept { IfOk result (λ outs. AreKeptNow router.new.present routes.new) }
-    // It walks again only where an LSA of type 1 or 2 came, left, has come to MaxAge or says something
-    // else, or the addresses are others.
+    // It walks again only where an LSA of type 1 or 2 came, left, has come to MaxAge or says
+    // something else, or the addresses are others.
     ensures walks { IfOk result (λ outs. WalksOnlyThen router.old.present router.new.present
         routes.old.walk routes.new.walk) }
     ensures err { OnErr result (routes.new ≡ routes.old) }

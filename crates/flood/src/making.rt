@@ -63,8 +63,8 @@ fn make_part(
 /// The whole event: copies that have come to MaxAge are flooded, the event's own part is done, and
 /// the end that all events share.
 ///
-/// `AllocError` comes where memory was refused; the router is to be rolled back then, and the drafts
-/// are of no use.
+/// `AllocError` comes where memory was refused; the router is to be rolled back then, and the
+/// drafts are of no use.
 pub fn make_event(
     router: &mut Router,
     alloc: Global,

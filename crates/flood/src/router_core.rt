@@ -79,11 +79,11 @@ impl Model for Core {
 }
 
 impl Core {
-    /// A router that has heard of nobody and describes its links in its router-LSA (RFC 2328, section
-    /// 12.4.1). The start counts as the moment of a last event.
+    /// A router that has heard of nobody and describes its links in its router-LSA (RFC 2328,
+    /// section 12.4.1). The start counts as the moment of a last event.
     ///
-    /// `Interface` is answered exactly where the configuration is outside of what [`Config`] allows,
-    /// `Memory` only where an allocation was refused.
+    /// `Interface` is answered exactly where the configuration is outside of what [`Config`]
+    /// allows, `Memory` only where an allocation was refused.
     pub fn new(alloc: Global, config: &Config) -> Result<Core, ConfigError>
         ensures ok { IfOk result (λ core. core ≡ initial config.now) }
         ensures profile { IsErrOf result ConfigError.Interface ↔ (in_profile config.now ≡ false) }
@@ -109,13 +109,13 @@ impl Core {
     /// One event at a moment: what it makes of the router, and what is to be sent, in the order in
     /// which it is to be sent.
     ///
-    /// Refused, in this order: `ClockBack` where the moment is before that of the last event or isn't
-    /// below 2^62, `NoInterface` where the interface of a packet or of a link that is down doesn't
-    /// exist, `BadPacket` where the bytes are no packet's text, `Clash` where the two answers of a
-    /// `Redistribute` are on different destinations or the Link State ID is that of another announced
-    /// prefix, `Full` where the database would hold more than 16,384 LSAs, or more than 4,096 own
-    /// external ones. `Memory` comes where an allocation was refused, and neither the clock nor the
-    /// interface is. A refusal leaves the router as it was.
+    /// Refused, in this order: `ClockBack` where the moment is before that of the last event or
+    /// isn't below 2^62, `NoInterface` where the interface of a packet or of a link that is down
+    /// doesn't exist, `BadPacket` where the bytes are no packet's text, `Clash` where the two
+    /// answers of a `Redistribute` are on different destinations or the Link State ID is that of
+    /// another announced prefix, `Full` where the database would hold more than 16,384 LSAs, or
+    /// more than 4,096 own external ones. `Memory` comes where an allocation was refused, and
+    /// neither the clock nor the interface is. A refusal leaves the router as it was.
     pub fn step(&mut self, moment: Second, event: &Event) -> Result<Vec<Out>, CoreError>
         ensures ok { IfOk result (λ outs. Happens self.old moment (occurrence_of event.now)
             outs.items self.new) }
@@ -205,8 +205,8 @@ impl Core {
         self.router.area().database()
     }
 
-    /// The neighbor at the interface of this number and its state, or None where it is Down or there
-    /// is no such interface.
+    /// The neighbor at the interface of this number and its state, or None where it is Down or
+    /// there is no such interface.
     pub fn neighbor(&self, number: u16) -> Option<(RouterId, State)>
         ensures { result ≡ shown_at self.now number }
     {
@@ -259,9 +259,9 @@ impl Core {
         Ok(made)
     }
 
-    /// Tells whether some candidate stands in none of the answers of the last Install, so that they are
-    /// to be asked for again. Where that was found of none, by this call or as the answers came, and no
-    /// event since has changed what an LSA says, no candidate is looked at.
+    /// Tells whether some candidate stands in none of the answers of the last Install, so that they
+    /// are to be asked for again. Where that was found of none, by this call or as the answers
+    /// came, and no event since has changed what an LSA says, no candidate is looked at.
     ///
     /// # Errors
     /// Where memory for the candidates, or for answers in order, is refused.
@@ -279,15 +279,15 @@ impl Core {
         Ok(made)
     }
 
-    /// How many walks were made of its database since it began or was copied; it stays at its greatest
-    /// value. An event makes one at most, and only where an LSA of type 1 or 2 came, left, has come to
-    /// MaxAge or says something else, or the addresses are others.
+    /// How many walks were made of its database since it began or was copied; it stays at its
+    /// greatest value. An event makes one at most, and only where an LSA of type 1 or 2 came, left,
+    /// has come to MaxAge or says something else, or the addresses are others.
     pub fn walks(&self) -> u64 {
         self.routes.walks()
     }
 
-    /// Tells whether the external destination of this prefix is announced, or is to be as soon as an
-    /// LSA of it may go out.
+    /// Tells whether the external destination of this prefix is announced, or is to be as soon as
+    /// an LSA of it may go out.
     pub fn wants(&self, prefix: Prefix) -> bool
         ensures { result ≡ is_for prefix
             (finite.get self.now.announced (external_key self.now.id prefix)) }
@@ -295,8 +295,8 @@ impl Core {
         is_announced(&self.router, prefix)
     }
 
-    /// Lets the router go. A function above that lets one go by itself has the letting-go of each of
-    /// its parts to prove once more.
+    /// Lets the router go. A function above that lets one go by itself has the letting-go of each
+    /// of its parts to prove once more.
     pub fn close(self) {
         let Core {
             alloc: _,

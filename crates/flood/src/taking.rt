@@ -35,7 +35,8 @@ fn refuses_interface(router: &Router, number: u16) -> Option<CoreError>
     }
 }
 
-/// The refusal that an event meets before anything needs memory: for its moment, or for its interface.
+/// The refusal that an event meets before anything needs memory: for its moment, or for its
+/// interface.
 pub fn refuses(router: &Router, moment: Second, event: &Event) -> Option<CoreError>
     ensures { result ≡ early_refusal router.now.present moment (occurrence_of event.now) }
 {

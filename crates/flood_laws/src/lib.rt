@@ -6,7 +6,8 @@ ghost use Rattle.flood_laws.specs.Known.{EventsHoldOnlyWhatIsKnown, UpdatesTellW
 ghost use Rattle.flood_laws.specs.Keeping.{EventsKeepWhatIsKnown, InstancesStayInRange};
 ghost use Rattle.flood_laws.specs.Lawful.{TextsAreLawful};
 ghost use Rattle.flood_laws.specs.LimitLaws.{OthersStayWithinLimits};
-ghost use Rattle.flood_laws.specs.NeighborLaws.{FullNeighborsRequestNothing, ListsAreSound, WhatIsLeftIsRequested};
+ghost use Rattle.flood_laws.specs.NeighborLaws.{FullNeighborsRequestNothing, ListsAreSound};
+ghost use Rattle.flood_laws.specs.NeighborLaws.{WhatIsLeftIsRequested};
 ghost use Rattle.flood_laws.specs.OwnLsas.{OnlyRouterAndExternalLsasAreWanted};
 ghost use Rattle.flood_laws.specs.Retransmissions.{RetransmissionsAreOfTheDatabase};
 ghost use Rattle.events.specs.Taken.{WhatIsTakenOffWasTold};

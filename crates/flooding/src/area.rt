@@ -178,7 +178,8 @@ impl Area {
         drafts: &mut [Draft],
     ) -> Result<(), AllocError>
         requires { length drafts.old ≡ length self.old.present.links }
-        ensures ok { OnOk result (self.new.present ≡ (originated moment lsa self.old.present).area) }
+        ensures ok { OnOk result (self.new.present
+            ≡ (originated moment lsa self.old.present).area) }
         ensures drafts { OnOk result (drafts.new
             ≡ drafted (originated moment lsa self.old.present).sends
             self.old.present.links drafts.old) }
@@ -195,8 +196,8 @@ impl Area {
         )
     }
 
-    /// Premature aging (RFC 2328, section 14.1): a copy of this key that is younger than MaxAge gets
-    /// that age, and is flooded as if from nobody. Without such a copy nothing happens.
+    /// Premature aging (RFC 2328, section 14.1): a copy of this key that is younger than MaxAge
+    /// gets that age, and is flooded as if from nobody. Without such a copy nothing happens.
     ///
     /// `AllocError` comes where memory was refused; the area is to be rolled back then, and the
     /// drafts are of no use.
@@ -208,7 +209,8 @@ impl Area {
         drafts: &mut [Draft],
     ) -> Result<(), AllocError>
         requires { length drafts.old ≡ length self.old.present.links }
-        ensures ok { OnOk result (self.new.present ≡ (flushed moment key.now self.old.present).area) }
+        ensures ok { OnOk result (self.new.present
+            ≡ (flushed moment key.now self.old.present).area) }
         ensures drafts { OnOk result (drafts.new
             ≡ drafted (flushed moment key.now self.old.present).sends
             self.old.present.links drafts.old) }
@@ -225,8 +227,8 @@ impl Area {
         )
     }
 
-    /// A copy of this key that has come to MaxAge since the moment before is flooded as if from nobody
-    /// (RFC 2328, section 14). Without such a copy nothing happens.
+    /// A copy of this key that has come to MaxAge since the moment before is flooded as if from
+    /// nobody (RFC 2328, section 14). Without such a copy nothing happens.
     ///
     /// `AllocError` comes where memory was refused; the area is to be rolled back then, and the
     /// drafts are of no use.

@@ -134,8 +134,8 @@ fn is_wrapping(moment: Second, copy: &Option<DatabaseCopy<'_>>) -> bool
 }
 
 impl Tests {
-    /// The tests of an LSA that came in at this link, by the copy of its key and by whether any neighbor
-    /// is in Exchange or Loading.
+    /// The tests of an LSA that came in at this link, by the copy of its key and by whether any
+    /// neighbor is in Exchange or Loading.
     pub fn of_received(
         moment: Second,
         copy: &Option<DatabaseCopy<'_>>,

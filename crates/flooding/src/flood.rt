@@ -44,10 +44,12 @@ fn flood_links(
     ensures links { IfOk result (λ _. map present links.new
         ≡ stepped (flood_to moment sender (lsa_now moment copy.now)) (map present links.old)) }
     ensures drafts { IfOk result (λ _. drafts.new
-        ≡ drafted (stepping_sends (flood_to moment sender (lsa_now moment copy.now)) (map present links.old))
+        ≡ drafted (stepping_sends (flood_to moment sender (lsa_now moment copy.now))
+        (map present links.old))
         (map present links.old) drafts.old) }
     ensures sent { IfOk result (λ sent. sent
-        ≡ is_any (stepping_sends (flood_to moment sender (lsa_now moment copy.now)) (map present links.old))) }
+        ≡ is_any (stepping_sends (flood_to moment sender (lsa_now moment copy.now))
+        (map present links.old))) }
     ensures settled { map settled links.new ≡ map settled links.old }
 {
     let mut sent = false;

@@ -13,12 +13,13 @@ use lsdb::Lsdb;
 use std::alloc::{AllocError, Global};
 use words::{Key, Second};
 
-/// Tells whether the LSAs of the types up to this one, or of all types where there is none, are left as they were: since the database was
-/// settled, at the moment before, none of them came, left or has come to MaxAge, and none says something else. They say at the moment what those
-/// of the settled database said then.
+/// Tells whether the LSAs of the types up to this one, or of all types where there is none, are
+/// left as they were: since the database was settled, at the moment before, none of them came, left
+/// or has come to MaxAge, and none says something else. They say at the moment what those of the
+/// settled database said then.
 ///
-/// Another instance below MaxAge that says the same doesn't count (RFC 2328, section 13.2), and neither does that one was sent. The time is that
-/// of the event's edits and of `Lsdb::aged_keys`.
+/// Another instance below MaxAge that says the same doesn't count (RFC 2328, section 13.2), and
+/// neither does that one was sent. The time is that of the event's edits and of `Lsdb::aged_keys`.
 ///
 /// # Errors
 /// Where memory for the keys of the LSAs at MaxAge, or to compare texts, is refused.
@@ -47,7 +48,8 @@ pub fn say_the_same(
     Ok(are_old(db, last_type, before, moment, &keys))
 }
 
-// Whether the copies of these keys that have MaxAge had it at the moment before, those of the types up to this one.
+// Whether the copies of these keys that have MaxAge had it at the moment before, those of the types
+// up to this one.
 fn are_old(db: &Lsdb, last_type: Option<u32>, before: Second, moment: Second, keys: &[Key]) -> bool
     ensures { IsTrue result ↔ AreOld last_type before moment db.now.present keys.now }
 {
@@ -59,7 +61,8 @@ fn are_old(db: &Lsdb, last_type: Option<u32>, before: Second, moment: Second, ke
     true
 }
 
-// Whether the copy of this key has MaxAge only if it had it at the moment before, if it is of a type up to this one.
+// Whether the copy of this key has MaxAge only if it had it at the moment before, if it is of a
+// type up to this one.
 fn is_old(db: &Lsdb, last_type: Option<u32>, before: Second, moment: Second, key: &Key) -> bool
     ensures { IsTrue result ↔ IsOld last_type before moment db.now.present key.now }
 {

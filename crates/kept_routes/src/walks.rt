@@ -17,8 +17,9 @@ use std::alloc::{AllocError, Global};
 use std::marker::Model;
 use words::{Route, Second};
 
-/// The walk of a database from its root, kept to calculate candidates from without walking again. It serves for as long as the LSAs of types 1
-/// and 2 say what they said (RFC 2328, section 16.1): `laws::walks_are_kept`.
+/// The walk of a database from its root, kept to calculate candidates from without walking again.
+/// It serves for as long as the LSAs of types 1 and 2 say what they said (RFC 2328, section 16.1):
+/// `laws::walks_are_kept`.
 #[derive(Drop)]
 pub struct Routes {
     root: Root,
@@ -46,7 +47,8 @@ fn copy_of(root: &Root) -> Result<Root, AllocError>
 }
 
 impl Routes {
-    /// The first walk of a database from its root, at a moment. The database has at most 16,384 LSAs, the root at most 63 interfaces.
+    /// The first walk of a database from its root, at a moment. The database has at most 16,384
+    /// LSAs, the root at most 63 interfaces.
     ///
     /// # Errors
     /// Where memory for the walk is refused.
@@ -93,8 +95,8 @@ impl Routes {
         Ok(())
     }
 
-    /// The candidates of a database whose walk is kept, at a moment: for each prefix that anything offers one route, in the order of the
-    /// prefixes (RFC 2328, section 16).
+    /// The candidates of a database whose walk is kept, at a moment: for each prefix that anything
+    /// offers one route, in the order of the prefixes (RFC 2328, section 16).
     ///
     /// # Errors
     /// Where memory for the offers or the routes is refused.

@@ -17,9 +17,9 @@ pub trait Link {
 
     ghost gives: { Self → ℕ → List ℕ → Self → Type 0 };
 
-    /// The length of a datagram, which stands at the buffer's front, or none where none came within a
-    /// second. A datagram longer than the buffer is cut to 8,193 bytes, one more than a packet may
-    /// have.
+    /// The length of a datagram, which stands at the buffer's front, or none where none came within
+    /// a second. A datagram longer than the buffer is cut to 8,193 bytes, one more than a packet
+    /// may have.
     fn receive(&mut self, buffer: &mut [u8; 8193]) -> Result<Option<usize>, LinkFault>
         ensures length { IfOk result (λ n. IfSome n (λ n. n ≤ 8193)) }
         ensures fine { OnOk result (faults self.new ≡ faults self.old) }

@@ -41,7 +41,8 @@ impl<'a> LinkStep for Acknowledging<'a> {
 }
 
 /// An Acknowledgment of these instances came from the neighbor at the interface of this number (RFC
-/// 2328, section 13.7): just these leave its retransmission list. Without a neighbor nothing happens.
+/// 2328, section 13.7): just these leave its retransmission list. Without a neighbor nothing
+/// happens.
 ///
 /// `AllocError` comes where memory was refused; the area is to be rolled back then, and the drafts
 /// are of no use.

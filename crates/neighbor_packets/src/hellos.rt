@@ -14,8 +14,8 @@ use packet::Hello;
 use std::alloc::{AllocError, Global};
 use words::{RouterId, Second};
 
-/// Tells whether a packet of the router `from` may be of a neighbor: it is of some router, and not of
-/// this one, `own` (RFC 2328, section 8.2).
+/// Tells whether a packet of the router `from` may be of a neighbor: it is of some router, and not
+/// of this one, `own` (RFC 2328, section 8.2).
 pub fn is_foreign(own: RouterId, from: RouterId) -> bool
     ensures { result ≡ is_foreign own from }
 {
@@ -114,8 +114,8 @@ impl<'a> LinkStep for Hearing<'a> {
 
 /// A Hello of the router `from` came in at the interface of this number, to the router `own` (RFC
 /// 2328, section 10.5). It is discarded where it is of no router or of this one, where it and the
-/// interface differ in HelloInterval, RouterDeadInterval or the E bit, and where another neighbor is
-/// heard there. Else the inactivity timer starts again, Down becomes Init, and 2-WayReceived or
+/// interface differ in HelloInterval, RouterDeadInterval or the E bit, and where another neighbor
+/// is heard there. Else the inactivity timer starts again, Down becomes Init, and 2-WayReceived or
 /// 1-WayReceived follows, by whether it names this router.
 ///
 /// `AllocError` comes where memory was refused; the area is to be rolled back then, and the drafts

@@ -1,6 +1,6 @@
-//! What packets of a neighbor make of links and database (RFC 2328, sections 10.5 to 10.7 and 13.7):
-//! Hellos, Database Descriptions, Link State Requests and Acknowledgments. LSAs of an Update are
-//! `flooding::Area::receive`'s.
+//! What packets of a neighbor make of links and database (RFC 2328, sections 10.5 to 10.7 and
+//! 13.7): Hellos, Database Descriptions, Link State Requests and Acknowledgments. LSAs of an Update
+//! are `flooding::Area::receive`'s.
 #![tactic(auto)]
 
 mod acknowledgments;

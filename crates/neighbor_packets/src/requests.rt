@@ -39,9 +39,9 @@ impl<'a> LinkStep for Answering<'a> {
     }
 }
 
-/// A Link State Request for these keys came from the neighbor at the interface of this number, which
-/// is in Exchange or later (RFC 2328, section 10.7): the copies are sent, go on no list and count as
-/// sent, or, where one is missing, none is, and it is BadLSReq.
+/// A Link State Request for these keys came from the neighbor at the interface of this number,
+/// which is in Exchange or later (RFC 2328, section 10.7): the copies are sent, go on no list and
+/// count as sent, or, where one is missing, none is, and it is BadLSReq.
 ///
 /// `AllocError` comes where memory was refused; the area is to be rolled back then, and the drafts
 /// are of no use.

@@ -3,8 +3,8 @@
 use crate::named::{Kind, Named};
 use std::alloc::Global;
 
-// An instance that was flooded at an interface, when it was last sent there by the list, and whether
-// the neighbor has it. It is lost from sight where its place on the list may be another's.
+// An instance that was flooded at an interface, when it was last sent there by the list, and
+// whether the neighbor has it. It is lost from sight where its place on the list may be another's.
 #[derive(Clone, Copy)]
 struct Entry {
     interface: u16,
@@ -42,8 +42,8 @@ impl Flooded {
         }
     }
 
-    /// An instance goes out at this interface, which isn't for what came in there. At a Tick none may
-    /// that is acknowledged.
+    /// An instance goes out at this interface, which isn't for what came in there. At a Tick none
+    /// may that is acknowledged.
     pub fn tells(&mut self, interface: u16, instance: &Named, moment: u64, is_tick: bool) -> bool {
         let mut is_there = false;
         for entry in &mut self.entries {
@@ -84,7 +84,8 @@ impl Flooded {
         }
     }
 
-    /// After a Tick: whether each instance that isn't acknowledged was sent in the last RxmtInterval.
+    /// After a Tick: whether each instance that isn't acknowledged was sent in the last
+    /// RxmtInterval.
     pub fn is_sent_again(&self, moment: u64) -> bool {
         for entry in &self.entries {
             let is_listed = !entry.is_lost && !entry.is_acknowledged;

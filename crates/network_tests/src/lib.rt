@@ -10,8 +10,8 @@
 //! retransmission list isn't shown by `flood::Core`. But only what the packet that comes in names
 //! leaves it as acknowledged (`flood::Core::step`, clause `keeps`), and packets come as they were
 //! sent: so that all senders know what they tell is what "acknowledged was received" rests on. What
-//! was flooded to a neighbor that is Full ever since shows besides what its list holds: at a Tick it
-//! comes again once RxmtInterval has passed, unless the neighbor has acknowledged it.
+//! was flooded to a neighbor that is Full ever since shows besides what its list holds: at a Tick
+//! it comes again once RxmtInterval has passed, unless the neighbor has acknowledged it.
 #![tactic(auto)]
 
 #[cfg(test)]

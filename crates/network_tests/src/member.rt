@@ -16,8 +16,8 @@ pub struct Member {
     flooded: Flooded,
 }
 
-// Whether a packet came in or went out: at a Tick, for a packet that came in there, or for what else
-// happened.
+// Whether a packet came in or went out: at a Tick, for a packet that came in there, or for what
+// else happened.
 #[derive(Clone, Copy, PartialEq, Eq)]
 enum Way {
     In,

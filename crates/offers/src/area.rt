@@ -30,7 +30,8 @@ fn stub_offer(link: &Link, way: Way) -> Option<Offer>
 
 fn push_stubs(links: &[Link], way: Way, offers: &mut Vec<Offer>) -> Result<(), AllocError>
     requires { way.distance < 1073741824 }
-    ensures adds { OnOk result (Adds offers.old.items offers.new.items (OfEach (IsStub way) links.now)) }
+    ensures adds { OnOk result (Adds offers.old.items offers.new.items
+        (OfEach (IsStub way) links.now)) }
     ensures cheap { OnOk result (AreCheap offers.old.items → AreCheap offers.new.items) }
 {
     for link in links {
@@ -63,7 +64,8 @@ fn push_router<W: Ways>(
     offers: &mut Vec<Offer>,
 ) -> Result<(), AllocError>
     requires { AreNear (W.ways ways.now) }
-    ensures adds { OnOk result (Adds offers.old.items offers.new.items (OfRouter (said_at moment db.now.present) root.now (W.ways ways.now) key.now)) }
+    ensures adds { OnOk result (Adds offers.old.items offers.new.items
+        (OfRouter (said_at moment db.now.present) root.now (W.ways ways.now) key.now)) }
     ensures cheap { OnOk result (AreCheap offers.old.items → AreCheap offers.new.items) }
 {
     if key.ls_type != 1 || key.link_state_id.number() != key.advertising_router.number() {
@@ -84,7 +86,8 @@ fn push_router<W: Ways>(
 }
 
 fn network_offer<W: Ways>(db: &Lsdb, moment: Second, ways: &W, key: &Key) -> Option<Offer>
-    ensures just { IsJust (OfNetwork (said_at moment db.now.present) (W.ways ways.now) key.now) result }
+    ensures just { IsJust (OfNetwork (said_at moment db.now.present) (W.ways ways.now) key.now)
+        result }
     ensures few { AreNear (W.ways ways.now) → IfSome result (λ o. o.cost < 2147483648) }
 {
     if key.ls_type != 2 {
@@ -104,7 +107,8 @@ fn summary_offer<W: Ways>(
     key: &Key,
 ) -> Option<Offer>
     requires { AreNear (W.ways ways.now) }
-    ensures just { IsJust (OfSummary (said_at moment db.now.present) root.now (W.ways ways.now) key.now) result }
+    ensures just { IsJust (OfSummary (said_at moment db.now.present) root.now (W.ways ways.now)
+        key.now) result }
     ensures few { IfSome result (λ o. o.cost < 2147483648) }
 {
     if key.ls_type != 3 {
@@ -129,7 +133,8 @@ pub fn push_inner<W: Ways>(
     offers: &mut Vec<Offer>,
 ) -> Result<(), AllocError>
     requires { AreNear (W.ways ways.now) }
-    ensures adds { OnOk result (Adds offers.old.items offers.new.items (IsInner (said_at moment db.now.present) root.now (W.ways ways.now) key.now)) }
+    ensures adds { OnOk result (Adds offers.old.items offers.new.items
+        (IsInner (said_at moment db.now.present) root.now (W.ways ways.now) key.now)) }
     ensures cheap { OnOk result (AreCheap offers.old.items → AreCheap offers.new.items) }
 {
     push_router(db, moment, root, ways, key, offers)?;

@@ -1,4 +1,5 @@
-//! Area border routers, AS boundary routers, and what summaries tell of these (RFC 2328, sections 16.2 and 16.4).
+//! Area border routers, AS boundary routers, and what summaries tell of these (RFC 2328, sections
+//! 16.2 and 16.4).
 ghost use Rattle.std.specs.Prelude.{◌≡◌, ◌<◌, IfSome};
 ghost use Rattle.routes.specs.Said.{said_at};
 ghost use Rattle.offers.specs.Ways.{AreNear};
@@ -25,7 +26,8 @@ fn flagged_way<W: Ways>(
     router: RouterId,
     flag: u8,
 ) -> Option<Way>
-    ensures just { IsJust (IsFlagged (said_at moment db.now.present) (W.ways ways.now) router flag) result }
+    ensures just { IsJust (IsFlagged (said_at moment db.now.present) (W.ways ways.now) router flag)
+        result }
     ensures near { AreNear (W.ways ways.now) → IfSome result (λ way. way.distance < 1073741824) }
 {
     let key = Key {
@@ -49,8 +51,10 @@ pub fn counted_border<W: Ways>(
     originator: RouterId,
     lsa: &SummaryLsa,
 ) -> Option<Way>
-    ensures just { IsJust (IsCounted (said_at moment db.now.present) root.now (W.ways ways.now) originator lsa.now) result }
-    ensures near { AreNear (W.ways ways.now) → IfSome result (λ border. border.distance < 1073741824) }
+    ensures just { IsJust (IsCounted (said_at moment db.now.present) root.now (W.ways ways.now)
+        originator lsa.now) result }
+    ensures near { AreNear (W.ways ways.now) → IfSome result
+        (λ border. border.distance < 1073741824) }
     ensures metric { IfSome result (λ _. lsa.now.metric < 16777215) }
 {
     if lsa.metric >= LS_INFINITY || originator == root.router {
@@ -59,7 +63,8 @@ pub fn counted_border<W: Ways>(
     flagged_way(db, moment, ways, originator, 1)
 }
 
-/// What the summary of this key tells of an AS boundary router, as an offer of the router's name (RFC 2328, section 16.4).
+/// What the summary of this key tells of an AS boundary router, as an offer of the router's name
+/// (RFC 2328, section 16.4).
 pub fn told_offer<W: Ways>(
     db: &Lsdb,
     moment: Second,
@@ -68,7 +73,8 @@ pub fn told_offer<W: Ways>(
     key: &Key,
 ) -> Option<Offer>
     requires { AreNear (W.ways ways.now) }
-    ensures { IsJust (Tells (said_at moment db.now.present) root.now (W.ways ways.now) key.now) result }
+    ensures { IsJust (Tells (said_at moment db.now.present) root.now (W.ways ways.now) key.now)
+        result }
 {
     if key.ls_type != 4 {
         return None;
@@ -92,7 +98,8 @@ pub fn boundary_way<W: Ways>(
 ) -> Option<Way>
     requires ascend { Ascend told.now }
     requires few { AreBelow told.now }
-    ensures just { IsJust (IsBoundary (said_at moment db.now.present) (W.ways ways.now) told.now router) result }
+    ensures just { IsJust (IsBoundary (said_at moment db.now.present) (W.ways ways.now) told.now
+        router) result }
     ensures near { AreNear (W.ways ways.now) → IfSome result (λ way. way.distance < 2147483648) }
 {
     match flagged_way(db, moment, ways, router, 2) {

@@ -17,8 +17,8 @@ use lsdb::Lsdb;
 use routes::{Offer, Root, Way};
 use words::{Key, Route, RouterId, Second};
 
-/// What external destinations are reached by: AS boundary routers that summaries tell of, by their names, and the networks within and
-/// between areas, both in the order of their prefixes.
+/// What external destinations are reached by: AS boundary routers that summaries tell of, by their
+/// names, and the networks within and between areas, both in the order of their prefixes.
 #[derive(Drop)]
 pub struct Inner<'a> {
     pub routers: &'a [Route],
@@ -27,7 +27,8 @@ pub struct Inner<'a> {
     pub lengths: &'a [bool; 33],
 }
 
-// The way to an external destination: to its forwarding address, or to its originator where that is 0.0.0.0.
+// The way to an external destination: to its forwarding address, or to its originator where that is
+// 0.0.0.0.
 fn outward_way<W: Ways>(
     db: &Lsdb,
     moment: Second,
@@ -40,7 +41,8 @@ fn outward_way<W: Ways>(
     requires routers { Ascend inner.now.routers.now × AreBelow inner.now.routers.now }
     requires networks { Ascend inner.now.networks.now × AreBelow inner.now.networks.now }
     requires lengths { HasLengths inner.now.networks.now inner.now.lengths.now }
-    ensures just { IsJust (IsOutward (said_at moment db.now.present) (W.ways ways.now) inner.now.routers.now inner.now.networks.now originator lsa.now) result }
+    ensures just { IsJust (IsOutward (said_at moment db.now.present) (W.ways ways.now)
+        inner.now.routers.now inner.now.networks.now originator lsa.now) result }
     ensures near { IfSome result (λ way. way.distance < 2147483648) }
 {
     let boundary = boundary_way(db, moment, ways, inner.routers, originator)?;
@@ -64,7 +66,8 @@ pub fn external_offer<W: Ways>(
     requires routers { Ascend inner.now.routers.now × AreBelow inner.now.routers.now }
     requires networks { Ascend inner.now.networks.now × AreBelow inner.now.networks.now }
     requires lengths { HasLengths inner.now.networks.now inner.now.lengths.now }
-    ensures { IsJust (OfExternal (said_at moment db.now.present) root.now (W.ways ways.now) inner.now.routers.now inner.now.networks.now key.now) result }
+    ensures { IsJust (OfExternal (said_at moment db.now.present) root.now (W.ways ways.now)
+        inner.now.routers.now inner.now.networks.now key.now) result }
 {
     if key.ls_type != 5 {
         return None;

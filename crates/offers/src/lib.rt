@@ -1,5 +1,5 @@
-//! What the LSAs of a database offer: ways to networks within the area, between areas and to external destinations (RFC 2328, sections 16.1 to
-//! 16.4).
+//! What the LSAs of a database offer: ways to networks within the area, between areas and to
+//! external destinations (RFC 2328, sections 16.1 to 16.4).
 #![tactic(auto)]
 
 mod area;

@@ -43,7 +43,10 @@ pub fn inter(prefix: Prefix, cost: u32, hops: u64) -> Offer
 pub fn external(prefix: Prefix, lsa: &ExternalLsa, originator: RouterId, way: Way) -> Offer
     requires near { way.distance < 2147483648 }
     requires metric { lsa.now.metric < 16777215 }
-    ensures { result ≡ external_offer lsa.now.kind prefix lsa.now originator (record { distance = way.distance; hops = way.hops }) }
+    ensures { result ≡ external_offer lsa.now.kind prefix lsa.now originator (record {
+      distance = way.distance;
+      hops = way.hops;
+    }) }
 {
     match lsa.kind {
         ExternalType::Type1 => Offer {

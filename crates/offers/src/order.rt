@@ -40,7 +40,8 @@ pub fn sort(offers: &mut Vec<Offer>)
 /// # Errors
 /// Where memory for the routes is refused.
 pub fn routes_of_offers(alloc: Global, offers: &mut Vec<Offer>) -> Result<Vec<Route>, AllocError>
-    ensures routes { IfOk result (λ routes. AreRoutesAmong (λ o. Contains offers.old.items o) routes.items) }
+    ensures routes { IfOk result (λ routes. AreRoutesAmong
+        (λ o. Contains offers.old.items o) routes.items) }
     ensures few { IfOk result (λ routes. AreCheap offers.old.items → AreBelow routes.items) }
     ensures same { (o : OfferValue) → Contains offers.new.items o ↔ Contains offers.old.items o }
 {

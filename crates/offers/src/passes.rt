@@ -31,7 +31,9 @@ pub fn told_routes<W: Ways>(
     keys: &[Key],
 ) -> Result<Vec<Route>, AllocError>
     requires { AreNear (W.ways ways.now) }
-    ensures routes { IfOk result (λ routes. AreRoutesAmong (OfEach (Tells (said_at moment db.now.present) root.now (W.ways ways.now)) keys.now) routes.items) }
+    ensures routes { IfOk result (λ routes. AreRoutesAmong
+        (OfEach (Tells (said_at moment db.now.present) root.now (W.ways ways.now)) keys.now)
+        routes.items) }
     ensures few { IfOk result (λ routes. AreBelow routes.items) }
 {
     let mut offers = Vec::new(alloc);
@@ -55,7 +57,8 @@ pub fn inner_offers<W: Ways>(
     keys: &[Key],
 ) -> Result<Vec<Offer>, AllocError>
     requires { AreNear (W.ways ways.now) }
-    ensures adds { IfOk result (λ offers. Adds [] offers.items (OfEach (IsInner (said_at moment db.now.present) root.now (W.ways ways.now)) keys.now)) }
+    ensures adds { IfOk result (λ offers. Adds [] offers.items
+        (OfEach (IsInner (said_at moment db.now.present) root.now (W.ways ways.now)) keys.now)) }
     ensures cheap { IfOk result (λ offers. AreCheap offers.items) }
 {
     let mut offers = Vec::new(alloc);
@@ -82,7 +85,9 @@ pub fn push_externals<W: Ways>(
     requires routers { Ascend inner.now.routers.now × AreBelow inner.now.routers.now }
     requires networks { Ascend inner.now.networks.now × AreBelow inner.now.networks.now }
     requires lengths { HasLengths inner.now.networks.now inner.now.lengths.now }
-    ensures { OnOk result (Adds offers.old.items offers.new.items (OfEach (OfExternal (said_at moment db.now.present) root.now (W.ways ways.now) inner.now.routers.now inner.now.networks.now) keys.now)) }
+    ensures { OnOk result (Adds offers.old.items offers.new.items
+        (OfEach (OfExternal (said_at moment db.now.present) root.now (W.ways ways.now)
+        inner.now.routers.now inner.now.networks.now) keys.now)) }
 {
     for key in keys {
         push_offer(offers, external_offer(db, moment, root, ways, inner, key))?;

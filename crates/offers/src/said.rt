@@ -25,7 +25,9 @@ pub fn body_at<'a>(db: &'a Lsdb, moment: Second, key: &Key) -> Option<&'a Body>
 
 /// The router-LSA of this key.
 pub fn router_lsa<'a>(db: &'a Lsdb, moment: Second, key: &Key) -> Option<&'a RouterLsa>
-    ensures { MatchOption result ((lsa : RouterValue) → said_at moment db.now.present key.now ≡ Some (body.Router lsa) → ⊥) (λ lsa. said_at moment db.now.present key.now ≡ Some (body.Router lsa.now)) }
+    ensures { MatchOption result ((lsa : RouterValue) → said_at moment db.now.present key.now
+        ≡ Some (body.Router lsa) → ⊥) (λ lsa.
+        said_at moment db.now.present key.now ≡ Some (body.Router lsa.now)) }
 {
     match body_at(db, moment, key)? {
         Body::Router(lsa) => Some(lsa),
@@ -35,7 +37,9 @@ pub fn router_lsa<'a>(db: &'a Lsdb, moment: Second, key: &Key) -> Option<&'a Rou
 
 /// The network-LSA of this key.
 pub fn network_lsa<'a>(db: &'a Lsdb, moment: Second, key: &Key) -> Option<&'a NetworkLsa>
-    ensures { MatchOption result ((lsa : NetworkValue) → said_at moment db.now.present key.now ≡ Some (body.Network lsa) → ⊥) (λ lsa. said_at moment db.now.present key.now ≡ Some (body.Network lsa.now)) }
+    ensures { MatchOption result ((lsa : NetworkValue) → said_at moment db.now.present key.now
+        ≡ Some (body.Network lsa) → ⊥) (λ lsa.
+        said_at moment db.now.present key.now ≡ Some (body.Network lsa.now)) }
 {
     match body_at(db, moment, key)? {
         Body::Network(lsa) => Some(lsa),
@@ -45,7 +49,9 @@ pub fn network_lsa<'a>(db: &'a Lsdb, moment: Second, key: &Key) -> Option<&'a Ne
 
 /// The summary-LSA of this key that tells of a network.
 pub fn network_summary<'a>(db: &'a Lsdb, moment: Second, key: &Key) -> Option<&'a SummaryLsa>
-    ensures { MatchOption result ((lsa : SummaryValue) → said_at moment db.now.present key.now ≡ Some (body.NetworkSummary lsa) → ⊥) (λ lsa. said_at moment db.now.present key.now ≡ Some (body.NetworkSummary lsa.now)) }
+    ensures { MatchOption result ((lsa : SummaryValue) → said_at moment db.now.present key.now
+        ≡ Some (body.NetworkSummary lsa) → ⊥)
+        (λ lsa. said_at moment db.now.present key.now ≡ Some (body.NetworkSummary lsa.now)) }
 {
     match body_at(db, moment, key)? {
         Body::NetworkSummary(lsa) => Some(lsa),
@@ -55,7 +61,9 @@ pub fn network_summary<'a>(db: &'a Lsdb, moment: Second, key: &Key) -> Option<&'
 
 /// The summary-LSA of this key that tells of an AS boundary router.
 pub fn router_summary<'a>(db: &'a Lsdb, moment: Second, key: &Key) -> Option<&'a SummaryLsa>
-    ensures { MatchOption result ((lsa : SummaryValue) → said_at moment db.now.present key.now ≡ Some (body.RouterSummary lsa) → ⊥) (λ lsa. said_at moment db.now.present key.now ≡ Some (body.RouterSummary lsa.now)) }
+    ensures { MatchOption result ((lsa : SummaryValue) → said_at moment db.now.present key.now
+        ≡ Some (body.RouterSummary lsa) → ⊥) (λ lsa.
+        said_at moment db.now.present key.now ≡ Some (body.RouterSummary lsa.now)) }
 {
     match body_at(db, moment, key)? {
         Body::RouterSummary(lsa) => Some(lsa),
@@ -65,7 +73,9 @@ pub fn router_summary<'a>(db: &'a Lsdb, moment: Second, key: &Key) -> Option<&'a
 
 /// The AS-external-LSA of this key.
 pub fn external_lsa<'a>(db: &'a Lsdb, moment: Second, key: &Key) -> Option<&'a ExternalLsa>
-    ensures { MatchOption result ((lsa : ExternalValue) → said_at moment db.now.present key.now ≡ Some (body.External lsa) → ⊥) (λ lsa. said_at moment db.now.present key.now ≡ Some (body.External lsa.now)) }
+    ensures { MatchOption result ((lsa : ExternalValue) → said_at moment db.now.present key.now
+        ≡ Some (body.External lsa) → ⊥) (λ lsa.
+        said_at moment db.now.present key.now ≡ Some (body.External lsa.now)) }
 {
     match body_at(db, moment, key)? {
         Body::External(lsa) => Some(lsa),

@@ -46,7 +46,8 @@ fn match_of_length(
     Some(route)
 }
 
-/// The route of the longest prefix that the address lies in: the lengths that occur are tried, the longest first.
+/// The route of the longest prefix that the address lies in: the lengths that occur are tried, the
+/// longest first.
 pub fn longest_match(routes: &[Route], lengths: &[bool; 33], address: Address) -> Option<Route>
     requires ascend { Ascend routes.now }
     requires lengths { HasLengths routes.now lengths.now }

@@ -3,7 +3,8 @@ ghost use Rattle.std.specs.Prelude.{◌≡◌};
 
 use routes::{Node, Way};
 
-/// The ways to the nodes of a database, as the calculation of routes asks for them (RFC 2328, section 16.1).
+/// The ways to the nodes of a database, as the calculation of routes asks for them (RFC 2328,
+/// section 16.1).
 pub trait Ways {
     ghost use Rattle.std.specs.Prelude.{Option};
     ghost use Rattle.routes.specs.declared.graph.Way.{Way as WayTo};

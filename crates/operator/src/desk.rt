@@ -86,8 +86,8 @@ impl<L: Site, Q: Wait + Drop, K: Link + Drop, C: Seconds + Drop> Desk<L, Q, K, C
         self.unrefreshed = self.outlet.take(rt, hub, port, &Work::Refresh).is_err();
     }
 
-    // After the programs were changed: workers install no answer of the earlier ones any more, the port's
-    // are no older, and the table is made anew.
+    // After the programs were changed: workers install no answer of the earlier ones any more, the
+    // port's are no older, and the table is made anew.
     fn follow<R: Wait>(&mut self, rt: &R, hub: &Hub<L, Book<L>>, port: &mut Port<L>)
         ensures { self.new.interfaces ≡ self.old.interfaces }
     {

@@ -22,7 +22,8 @@ pub fn lines(made: Result<String, AllocError>) -> Told
     }
 }
 
-// The routes of the table: the candidates that have a row. Both are ordered by their prefixes, of which each has one.
+// The routes of the table: the candidates that have a row. Both are ordered by their prefixes, of
+// which each has one.
 fn routes_of(
     alloc: Global,
     candidates: &[Route],

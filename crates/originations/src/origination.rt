@@ -34,8 +34,8 @@ pub enum Origination {
     Originates(Lsa),
 }
 
-/// Tells whether MinLSInterval, five seconds, has passed since this moment at which the LSA was last
-/// originated, if it was.
+/// Tells whether MinLSInterval, five seconds, has passed since this moment at which the LSA was
+/// last originated, if it was.
 pub fn interval_is_over(moment: Second, last: Option<Second>) -> bool
     ensures { result ≡ interval_is_over moment last }
 {
@@ -70,9 +70,9 @@ fn unless_flushed(copy: Option<DatabaseCopy<'_>>) -> Origination
     }
 }
 
-/// What becomes of the router-LSA of these links, interface n at place n - 1: it goes out at once if
-/// `may_now` and MinLSInterval allow it, else at a Tick; after MaxSequenceNumber its copy is flushed
-/// first (RFC 2328, sections 12.4.1 and 12.1.6). `last` is the moment at which it was last
+/// What becomes of the router-LSA of these links, interface n at place n - 1: it goes out at once
+/// if `may_now` and MinLSInterval allow it, else at a Tick; after MaxSequenceNumber its copy is
+/// flushed first (RFC 2328, sections 12.4.1 and 12.1.6). `last` is the moment at which it was last
 /// originated, if that is known.
 ///
 /// The only error is that an allocation was refused.

@@ -121,9 +121,9 @@ fn router_body(alloc: Global, links: &[Link]) -> Result<Body, AllocError>
 }
 
 /// The instance of the own router-LSA that follows the copy of the database and describes these
-/// links, interface n at place n - 1: of each the link to its neighbor, if that is Full, and the one
-/// to its subnet (RFC 2328, section 12.4.1). None where the copy has MaxSequenceNumber: it is to be
-/// flushed first.
+/// links, interface n at place n - 1: of each the link to its neighbor, if that is Full, and the
+/// one to its subnet (RFC 2328, section 12.4.1). None where the copy has MaxSequenceNumber: it is
+/// to be flushed first.
 ///
 /// The only error is that an allocation was refused.
 pub fn router_instance(

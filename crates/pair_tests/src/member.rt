@@ -39,8 +39,8 @@ fn told<L: Site>(alloc: Global, book: &Book<L>, is_fine: bool) -> Result<String,
     table_text(alloc, &rows)
 }
 
-/// The lines of the routing table of a router whose days are over; `refused` where it isn't told that
-/// all on the way was taken.
+/// The lines of the routing table of a router whose days are over; `refused` where it isn't told
+/// that all on the way was taken.
 pub fn table_of<L: Site>(
     alloc: Global,
     hub: Hub<L, Book<L>>,

@@ -28,7 +28,8 @@ fn works<L: Site, M: Site, R: Wait>(
     }
 }
 
-// `from` hears the next packet, if one came, and what it sends comes in at `to`. Whether all was taken.
+// `from` hears the next packet, if one came, and what it sends comes in at `to`. Whether all was
+// taken.
 fn replies<L: Site, M: Site, R: Wait>(
     rt: &R,
     hub: &Hub<L, Book<L>>,
@@ -62,8 +63,8 @@ fn converse<L: Site, M: Site, R: Wait>(
     taken && !one.is_waiting() && !other.is_waiting()
 }
 
-// At each of these moments the one ticks, the other does this work, and both converse. Whether all was
-// taken.
+// At each of these moments the one ticks, the other does this work, and both converse. Whether all
+// was taken.
 fn live<L: Site, M: Site, R: Wait>(
     rt: &R,
     one_hub: &Hub<L, Book<L>>,

@@ -29,7 +29,8 @@ enum Step {
     Remove,
     // all of this is taken back
     RollBack,
-    // so many seconds after it was settled, the LSAs of types 1 and 2 say the same or don't, and so do all
+    // so many seconds after it was settled, the LSAs of types 1 and 2 say the same or don't, and so
+    // do all
     Same(u64, bool, bool),
 }
 
@@ -77,7 +78,8 @@ fn announce(alloc: Global, db: &mut Lsdb, count: u32) -> Result<(), Fail> {
     Ok(())
 }
 
-// Whether the LSAs of types 1 and 2, and whether all LSAs, say so many seconds later what those of the settled database said at first.
+// Whether the LSAs of types 1 and 2, and whether all LSAs, say so many seconds later what those of
+// the settled database said at first.
 fn same_later(alloc: Global, db: &Lsdb, seconds: u64) -> Result<(bool, bool), Fail> {
     let before = moment();
     let now = later(seconds);
@@ -123,7 +125,8 @@ fn two(alloc: Global) -> Result<Lsdb, Fail> {
 }
 
 const STEPS: [Step; 24] = [
-    // nothing is new; the LSAs were of age 1 when they came in, and are of MaxAge 3599 seconds later
+    // nothing is new; the LSAs were of age 1 when they came in, and are of MaxAge 3599 seconds
+    // later
     Step::Same(0, true, true),
     Step::Same(100, true, true),
     Step::Same(3598, true, true),

@@ -1,4 +1,5 @@
-//! Tests of `shortest_paths`, `candidates`, `tables` and `kept_routes` by their public calls. They stand above, since a crate is proved once more for its tests.
+//! Tests of `shortest_paths`, `candidates`, `tables` and `kept_routes` by their public calls. They
+//! stand above, since a crate is proved once more for its tests.
 #![tactic(auto)]
 
 #[cfg(test)]

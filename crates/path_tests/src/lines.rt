@@ -15,7 +15,8 @@ pub enum Line {
     Link(u8, u32, u32, u16),
     /// A summary-LSA of 2.2.2.2: its type, Link State ID, mask and metric.
     Summary(u8, u32, u32, u32),
-    /// The AS-external-LSA of 203.0.113.0/24 with metric 20 of this originator, and whether it is of type 2.
+    /// The AS-external-LSA of 203.0.113.0/24 with metric 20 of this originator, and whether it is
+    /// of type 2.
     External(u32, bool),
     /// The summary-LSA of 198.51.100.0/24 as it stands in `NETWORK`.
     Network,

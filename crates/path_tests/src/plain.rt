@@ -1,4 +1,5 @@
-//! The candidates of a small area by the definitions themselves (RFC 2328, section 16): all walks, all offers, and for each prefix the best.
+//! The candidates of a small area by the definitions themselves (RFC 2328, section 16): all walks,
+//! all offers, and for each prefix the best.
 use crate::area::Row;
 use lsa::{Body, ExternalLsa, Link, LinkKind, Lsa, NetworkLsa, RouterLsa, SummaryLsa};
 use routes::Root;
@@ -704,7 +705,8 @@ fn rows_by(
     rows_of(alloc, &offers)
 }
 
-/// The candidates of the LSAs, each of a key of its own, for the router that calculates, by address and length.
+/// The candidates of the LSAs, each of a key of its own, for the router that calculates, by address
+/// and length.
 pub fn plain_rows(alloc: Global, lsas: &[Lsa], root: &Root) -> Result<Vec<Row>, AllocError> {
     let walks = walks_of(alloc, lsas, root)?;
     rows_by(alloc, lsas, root, &walks)

@@ -7,7 +7,8 @@ use std::test::Fail;
 use tables::{is_stale, rows_of, table};
 use words::{Route, TableRow};
 
-// An answer: which of the candidates was asked about, the word, and by how much the cost was another.
+// An answer: which of the candidates was asked about, the word, and by how much the cost was
+// another.
 type Answer = (usize, u64, u32);
 
 #[derive(Clone, Copy)]

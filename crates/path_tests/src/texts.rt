@@ -3,7 +3,8 @@ use lsa::{Lsa, read, seal};
 use std::alloc::{AllocError, Global};
 use std::test::Fail;
 
-/// A link of a router-LSA: its type is 1 to another router, 2 to a transit network, 3 to a stub network, 4 over another area.
+/// A link of a router-LSA: its type is 1 to another router, 2 to a transit network, 3 to a stub
+/// network, 4 over another area.
 #[derive(Clone, Copy)]
 pub struct LinkText {
     pub kind: u8,

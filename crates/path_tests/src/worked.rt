@@ -5,7 +5,8 @@ use std::alloc::Global;
 use std::test::Fail;
 use words::RouteKind;
 
-// A network of 24 bits with no tag: its address, and the kind, cost, distance and set of next hops of the route to it.
+// A network of 24 bits with no tag: its address, and the kind, cost, distance and set of next hops
+// of the route to it.
 type Expected = (u32, RouteKind, u32, u32, u64);
 
 #[derive(Clone, Copy)]
@@ -20,8 +21,8 @@ struct Case<'a> {
     routes: &'a [Expected],
 }
 
-/// 1.1.1.1 with interfaces 1 and 2 of cost 5 to 2.2.2.2 and 3.3.3.3, each with a link of cost 5 to 4.4.4.4, which has the stub network
-/// 192.0.2.0/24 of metric 10.
+/// 1.1.1.1 with interfaces 1 and 2 of cost 5 to 2.2.2.2 and 3.3.3.3, each with a link of cost 5 to
+/// 4.4.4.4, which has the stub network 192.0.2.0/24 of metric 10.
 pub const SQUARE: [Line; 13] = [
     Line::Router(0x0101_0101, 0),
     Line::Link(1, 0x0202_0202, 0x0a00_0101, 5),
@@ -41,7 +42,8 @@ pub const SQUARE: [Line; 13] = [
 /// The addresses of 1.1.1.1 in the square.
 pub const SQUARE_ADDRESSES: [u32; 2] = [0x0a00_0101, 0x0a00_0201];
 
-/// 1.1.1.1 and 2.2.2.2, an AS boundary router, on a link of cost 10; the second has another network at cost 5.
+/// 1.1.1.1 and 2.2.2.2, an AS boundary router, on a link of cost 10; the second has another network
+/// at cost 5.
 pub const TWO: [Line; 7] = [
     Line::Router(0x0101_0101, 2),
     Line::Link(1, 0x0202_0202, 0x0a00_0101, 10),

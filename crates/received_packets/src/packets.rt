@@ -140,8 +140,8 @@ fn from_neighbor_in_exchange(
     }
 }
 
-// What a packet says that is heard, where the neighbor isn't in Exchange or later: Requests, Updates
-// and Acknowledgments count for nothing.
+// What a packet says that is heard, where the neighbor isn't in Exchange or later: Requests,
+// Updates and Acknowledgments count for nothing.
 fn from_neighbor_before_exchange(
     router: &mut Router,
     alloc: Global,
@@ -171,9 +171,9 @@ fn from_neighbor_before_exchange(
     }
 }
 
-/// This packet came in at the interface of this number (RFC 2328, section 8.2). A packet of no router
-/// or of this one is discarded, and so is one other than a Hello that isn't from the interface's
-/// neighbor; Requests, Updates and Acknowledgments count from Exchange on.
+/// This packet came in at the interface of this number (RFC 2328, section 8.2). A packet of no
+/// router or of this one is discarded, and so is one other than a Hello that isn't from the
+/// interface's neighbor; Requests, Updates and Acknowledgments count from Exchange on.
 ///
 /// `AllocError` comes where memory was refused; the router is to be rolled back then, and the
 /// drafts are of no use.

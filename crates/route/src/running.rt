@@ -165,12 +165,14 @@ fn run_all<
     run_crew(rt, setup, config, &workers, links, &mut desk, &mut console)
 }
 
-/// Runs this router over these sockets, that of the first interface last, and over one of the console's own, as [`run_router`] does.
+/// Runs this router over these sockets, that of the first interface last, and over one of the
+/// console's own, as [`run_router`] does.
 ///
 /// # Errors
 ///
-/// `Hooks` where the programs have no places, also for more than 63 sockets; `Configuration` with line 1 where the router isn't within the
-/// profile; `Output` where the output can't be written, `Memory` where memory was refused or a thread couldn't be started.
+/// `Hooks` where the programs have no places, also for more than 63 sockets; `Configuration` with
+/// line 1 where the router isn't within the profile; `Output` where the output can't be written,
+/// `Memory` where memory was refused or a thread couldn't be started.
 #[tactic(auto, using(crate::proofs::Fresh::all_ask))]
 pub fn operate<
     'x,
@@ -218,14 +220,17 @@ fn run_over<
     )
 }
 
-/// Runs the router that a configuration's text says, with a console that reads commands from `input` and answers on `output`, until `quit` or
-/// the end of input. Every thread is joined before it answers. The answer is the status: 0, or 3 where a worker or the console's own link
-/// failed, or the input could not be read; each worker that failed is told by a warning `worker N stopped`.
+/// Runs the router that a configuration's text says, with a console that reads commands from
+/// `input` and answers on `output`, until `quit` or the end of input. Every thread is joined before
+/// it answers. The answer is the status: 0, or 3 where a worker or the console's own link failed,
+/// or the input could not be read; each worker that failed is told by a warning `worker N stopped`.
 ///
 /// # Errors
 ///
-/// `Configuration` where the text says none, `Bind` where a port can't be had, `Socket` where the sockets can't be waited at, `Hooks` where the
-/// programs have no places, tried in this order; `Output` where the output can't be written, `Memory` where memory was refused or a thread couldn't be started.
+/// `Configuration` where the text says none, `Bind` where a port can't be had, `Socket` where the
+/// sockets can't be waited at, `Hooks` where the programs have no places, tried in this order;
+/// `Output` where the output can't be written, `Memory` where memory was refused or a thread
+/// couldn't be started.
 pub fn run_router<
     R: Net + Threads + Wait + Clock + Log + Files + AllocGlobal + Sync + Drop,
     I: BufRead,
@@ -239,8 +244,9 @@ pub fn run_router<
     run_over(rt, &configured, &wires, input, output)
 }
 
-/// Runs a router as [`run_router`] does. Where it doesn't run, a line on `output` says why. The answer is the status: 0 ended by the operator,
-/// 1 refused, 3 a socket, a worker or the output failed, 4 memory was refused or a thread couldn't be started.
+/// Runs a router as [`run_router`] does. Where it doesn't run, a line on `output` says why. The
+/// answer is the status: 0 ended by the operator, 1 refused, 3 a socket, a worker or the output
+/// failed, 4 memory was refused or a thread couldn't be started.
 pub fn route<
     R: Net + Threads + Wait + Clock + Log + Files + AllocGlobal + Sync + Drop,
     I: BufRead,

@@ -16,9 +16,9 @@ use std::alloc::{AllocError, Global};
 use words::{Key, RouterId, Second};
 
 impl Router {
-    /// A Hello of the router `from` came in at the interface of this number (RFC 2328, section 10.5). It is
-    /// discarded where the interface and it differ in HelloInterval, RouterDeadInterval or the E bit, and
-    /// where another neighbor is heard there.
+    /// A Hello of the router `from` came in at the interface of this number (RFC 2328, section
+    /// 10.5). It is discarded where the interface and it differ in HelloInterval,
+    /// RouterDeadInterval or the E bit, and where another neighbor is heard there.
     ///
     /// `AllocError` comes where memory was refused; the router is to be rolled back then, and the
     /// drafts are of no use.
@@ -53,8 +53,8 @@ impl Router {
         )
     }
 
-    /// A Database Description came from the neighbor at the interface of this number (RFC 2328, section
-    /// 10.6).
+    /// A Database Description came from the neighbor at the interface of this number (RFC 2328,
+    /// section 10.6).
     ///
     /// `AllocError` comes where memory was refused; the router is to be rolled back then, and the
     /// drafts are of no use.
@@ -87,9 +87,9 @@ impl Router {
         )
     }
 
-    /// A Link State Request for these keys came from the neighbor at the interface of this number, which is
-    /// in Exchange or later (RFC 2328, section 10.7): the copies are sent and count as sent, or, where one
-    /// is missing, none is, and it is BadLSReq.
+    /// A Link State Request for these keys came from the neighbor at the interface of this number,
+    /// which is in Exchange or later (RFC 2328, section 10.7): the copies are sent and count as
+    /// sent, or, where one is missing, none is, and it is BadLSReq.
     ///
     /// `AllocError` comes where memory was refused; the router is to be rolled back then, and the
     /// drafts are of no use.
@@ -115,8 +115,8 @@ impl Router {
         answer(&mut self.area, alloc, moment, number, keys, drafts)
     }
 
-    /// An Acknowledgment of these instances came from the neighbor at the interface of this number (RFC
-    /// 2328, section 13.7).
+    /// An Acknowledgment of these instances came from the neighbor at the interface of this number
+    /// (RFC 2328, section 13.7).
     ///
     /// `AllocError` comes where memory was refused; the router is to be rolled back then, and the
     /// drafts are of no use.

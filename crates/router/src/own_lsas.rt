@@ -11,7 +11,8 @@ use std::alloc::{AllocError, Global};
 use words::{Key, Second};
 
 impl Router {
-    /// This router originated the LSA: it takes the place of its copy, and is flooded as if from nobody.
+    /// This router originated the LSA: it takes the place of its copy, and is flooded as if from
+    /// nobody.
     ///
     /// `AllocError` comes where memory was refused; the router is to be rolled back then, and the
     /// drafts are of no use.
@@ -32,8 +33,8 @@ impl Router {
         self.area.originate(alloc, moment, lsa, drafts)
     }
 
-    /// Premature aging (RFC 2328, section 14.1): a copy of this key that is younger than MaxAge gets that
-    /// age, and is flooded as if from nobody. Without such a copy nothing happens.
+    /// Premature aging (RFC 2328, section 14.1): a copy of this key that is younger than MaxAge
+    /// gets that age, and is flooded as if from nobody. Without such a copy nothing happens.
     ///
     /// `AllocError` comes where memory was refused; the router is to be rolled back then, and the
     /// drafts are of no use.

@@ -13,8 +13,8 @@ use std::alloc::{AllocError, Global};
 use words::Second;
 
 impl Router {
-    /// An LSA of an Update came in at the interface of this number: tells which case it is, and does
-    /// what the case says. What the router makes of an LSA of its own is no part of it.
+    /// An LSA of an Update came in at the interface of this number: tells which case it is, and
+    /// does what the case says. What the router makes of an LSA of its own is no part of it.
     ///
     /// `AllocError` comes where memory was refused; the router is to be rolled back then, and the
     /// drafts are of no use.

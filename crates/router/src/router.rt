@@ -171,8 +171,8 @@ impl Router {
         self.moment.set(moment);
     }
 
-    /// The routes that an Install was asked for, with the words that answer, in the place of those of
-    /// the last one. It wants no memory.
+    /// The routes that an Install was asked for, with the words that answer, in the place of those
+    /// of the last one. It wants no memory.
     pub fn install(&mut self, answers: Sequence<(Route, u64)>)
         ensures { self.new ≡ record self.old {
           present = record self.old.present { answers = answers };
@@ -221,7 +221,7 @@ impl Router {
         self.moment.roll_back();
     }
 
-    /// Lets the router go. A function above that lets one go by itself has the letting-go of each of
-    /// its parts to prove once more.
+    /// Lets the router go. A function above that lets one go by itself has the letting-go of each
+    /// of its parts to prove once more.
     pub fn close(self) {}
 }

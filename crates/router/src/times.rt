@@ -1,5 +1,5 @@
-//! What runs out, what is requested and what is sent again (RFC 2328, sections 9.5, 10.3, 10.8, 10.9,
-//! 13.5, 13.6 and 14).
+//! What runs out, what is requested and what is sent again (RFC 2328, sections 9.5, 10.3, 10.8,
+//! 10.9, 13.5, 13.6 and 14).
 ghost use Rattle.std.specs.Prelude.{◌≡◌, List, OnOk, length, map};
 ghost use Rattle.adjacency.specs.Drafts.{Drafted};
 ghost use Rattle.received.specs.Outcomes.{on_links};
@@ -15,8 +15,8 @@ use std::alloc::{AllocError, Global};
 use words::Second;
 
 impl Router {
-    /// Each copy that has come to MaxAge since the moment before is flooded as if from nobody (RFC 2328,
-    /// section 14).
+    /// Each copy that has come to MaxAge since the moment before is flooded as if from nobody (RFC
+    /// 2328, section 14).
     ///
     /// `AllocError` comes where memory was refused; the router is to be rolled back then, and the
     /// drafts are of no use.
@@ -37,7 +37,8 @@ impl Router {
         timers::with_ages(&mut self.area, alloc, before, moment, drafts)
     }
 
-    /// What is next is requested of each neighbor of which nothing is outstanding (RFC 2328, section 10.9).
+    /// What is next is requested of each neighbor of which nothing is outstanding (RFC 2328,
+    /// section 10.9).
     ///
     /// `AllocError` comes where memory was refused; the router is to be rolled back then, and the
     /// drafts are of no use.
@@ -57,7 +58,8 @@ impl Router {
         timers::request_all(&mut self.area, alloc, moment, drafts)
     }
 
-    /// What a Tick sends again where RxmtInterval has passed (RFC 2328, sections 10.8, 10.9 and 13.6).
+    /// What a Tick sends again where RxmtInterval has passed (RFC 2328, sections 10.8, 10.9 and
+    /// 13.6).
     ///
     /// `AllocError` comes where memory was refused; the router is to be rolled back then, and the
     /// drafts are of no use.
@@ -97,7 +99,8 @@ impl Router {
         timers::acknowledge_all(&mut self.area, alloc, moment, drafts)
     }
 
-    /// A Hello is sent at each interface at which none was sent for HelloInterval (RFC 2328, section 9.5).
+    /// A Hello is sent at each interface at which none was sent for HelloInterval (RFC 2328,
+    /// section 9.5).
     ///
     /// `AllocError` comes where memory was refused; the router is to be rolled back then, and the
     /// drafts are of no use.
@@ -117,8 +120,8 @@ impl Router {
         timers::send_hellos(&mut self.area, alloc, moment, drafts)
     }
 
-    /// Copies at MaxAge that are on no retransmission list leave the database, unless some neighbor is in
-    /// Exchange or Loading (RFC 2328, section 14).
+    /// Copies at MaxAge that are on no retransmission list leave the database, unless some neighbor
+    /// is in Exchange or Loading (RFC 2328, section 14).
     ///
     /// `AllocError` comes where memory was refused; the router is to be rolled back then, and the
     /// drafts are of no use.
@@ -139,8 +142,8 @@ impl Router {
         timers::remove_aged(&mut self.area, alloc, moment)
     }
 
-    /// What runs out at a Tick: a neighbor that wasn't heard for RouterDeadInterval is Down, and a last
-    /// Description is given up. It wants no memory.
+    /// What runs out at a Tick: a neighbor that wasn't heard for RouterDeadInterval is Down, and a
+    /// last Description is given up. It wants no memory.
     pub fn run_out(&mut self, moment: Second)
         ensures makes { (first : List Drafted)
             → Makes (on_area (on_links (map (run_out moment)))) self.old.present self.new.present

@@ -109,7 +109,8 @@ fn wires<R: Net + AllocGlobal>(rt: &R, port: u16, peers: &[u16]) -> Result<Vec<W
     bind_each(rt, rt.alloc(), &interfaces)
 }
 
-// The status of a router with these sockets, or 9 where `neighbors` isn't answered by the one line `end`.
+// The status of a router with these sockets, or 9 where `neighbors` isn't answered by the one line
+// `end`.
 fn run<R: Net + Threads + Wait + Clock + Log + Files + AllocGlobal + Sync + Drop>(
     rt: &R,
     wires: &[Wire],

@@ -1,4 +1,5 @@
-//! `routerd`: runs a router, and assembles, lists, verifies and runs its programs. What it does stands in `commands` and `route`. Its tests are of routers that run.
+//! `routerd`: runs a router, and assembles, lists, verifies and runs its programs. What it does
+//! stands in `commands` and `route`. Its tests are of routers that run.
 #![tactic(auto)]
 
 #[cfg(test)]
@@ -18,7 +19,8 @@ use std::io::{BufRead, Write};
 use std::process::ExitCode;
 use std::{env, io};
 
-/// The configuration of the router that the words ask for. `main` runs it, which alone has this machine's threads.
+/// The configuration of the router that the words ask for. `main` runs it, which alone has this
+/// machine's threads.
 #[derive(Drop)]
 struct Asked {
     alloc: Global,
@@ -38,7 +40,8 @@ impl Routing for Asked {
     }
 }
 
-/// Hands the arguments and the standard streams to the program, runs the router that they ask for, if they do, and ends with the status.
+/// Hands the arguments and the standard streams to the program, runs the router that they ask for,
+/// if they do, and ends with the status.
 fn main(rt: HostRuntime) -> ExitCode {
     let mut input = rt.reader();
     let mut output = io::writer(&rt);

@@ -1,4 +1,5 @@
-//! Two routers over loopback sockets in one process, until each has the other's external destination in its table.
+//! Two routers over loopback sockets in one process, until each has the other's external
+//! destination in its table.
 use log::Log;
 use route::run_router;
 use std::io::{self, BufReader, ErrorKind, Read, Write};
@@ -59,7 +60,8 @@ impl<'a, R: Wait> Write for Printer<'a, R> {
     }
 }
 
-// A console's input: a first line, then `table` every half second until both are done, for at most 45 seconds, and `quit`.
+// A console's input: a first line, then `table` every half second until both are done, for at most
+// 45 seconds, and `quit`.
 #[derive(Drop)]
 struct Operator<'a, R> {
     rt: &'a R,

@@ -40,8 +40,8 @@ fn put_due(router: &Router, moment: Second, key: Key, due: &mut Vec<Key>) -> Res
     Ok(())
 }
 
-/// The keys of the own LSAs that are wanted and due at this moment, in their order: each waits for a
-/// Tick, has left the database, or is of LSRefreshTime, 1800 seconds, or more (RFC 2328, section
+/// The keys of the own LSAs that are wanted and due at this moment, in their order: each waits for
+/// a Tick, has left the database, or is of LSRefreshTime, 1800 seconds, or more (RFC 2328, section
 /// 12.4).
 ///
 /// The only error is that an allocation was refused.

@@ -1,4 +1,5 @@
-//! The least walks through a database: the nodes that walks from the root lead to, each with its way (RFC 2328, section 16.1).
+//! The least walks through a database: the nodes that walks from the root lead to, each with its
+//! way (RFC 2328, section 16.1).
 #![tactic(auto)]
 
 mod reached;

@@ -9,8 +9,9 @@ use routes::{Node, Root, Way};
 use std::alloc::{AllocError, Global};
 use std::marker::Model;
 
-/// The nodes of a database and the ways to those that walks from the root lead to, as `walk` found them. It doesn't look at the database
-/// again, so it serves for as long as the LSAs of types 1 and 2 say the same. Clauses see the lists of both, the nodes in order.
+/// The nodes of a database and the ways to those that walks from the root lead to, as `walk` found
+/// them. It doesn't look at the database again, so it serves for as long as the LSAs of types 1 and
+/// 2 say the same. Clauses see the lists of both, the nodes in order.
 #[derive(Debug, Drop)]
 pub struct Reached {
     nodes: Vec<Node>,

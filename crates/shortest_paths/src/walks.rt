@@ -12,18 +12,20 @@ use routes::{Node, Root, least_ways};
 use std::alloc::{AllocError, Global};
 use words::Second;
 
-/// The ways to all nodes that walks over the links of a database lead to: for each its least cost, and exactly the interfaces of the first
-/// links of all least walks (RFC 2328, section 16.1). Where the root's router-LSA isn't there or is at MaxAge, the root alone is reached.
+/// The ways to all nodes that walks over the links of a database lead to: for each its least cost,
+/// and exactly the interfaces of the first links of all least walks (RFC 2328, section 16.1). Where
+/// the root's router-LSA isn't there or is at MaxAge, the root alone is reached.
 ///
-/// The database has at most 16,384 LSAs, the root at most 63 interfaces. The time is that of a look-up for each LSA, a look-up for each
-/// link and the search for least walks.
+/// The database has at most 16,384 LSAs, the root at most 63 interfaces. The time is that of a
+/// look-up for each LSA, a look-up for each link and the search for least walks.
 ///
 /// # Errors
 /// Where memory for the nodes, the graph or the ways is refused.
 pub fn walk(alloc: Global, db: &Lsdb, root: &Root, moment: Second) -> Result<Reached, AllocError>
     requires interfaces { length root.now.addresses ≤ 63 }
     requires size { finite.len db.now.present ≤ 16384 }
-    ensures ways { IfOk result (λ reached. AreWays (said_at moment db.now.present) root.now (way_in reached)) }
+    ensures ways { IfOk result (λ reached. AreWays (said_at moment db.now.present) root.now
+        (way_in reached)) }
     ensures near { IfOk result (λ reached. AreNear (way_in reached)) }
 {
     let nodes = nodes_of(alloc, db, moment)?;

@@ -1,4 +1,5 @@
-//! UDP sockets of 127.0.0.1, one for each interface: any worker sends at each of them, its own worker alone receives.
+//! UDP sockets of 127.0.0.1, one for each interface: any worker sends at each of them, its own
+//! worker alone receives.
 ghost use Rattle.std.specs.Prelude.{◌≡◌, ◌≤◌, ◌<◌, ℕ, IfOk, IfSome, OnOk, OnErr, length, vec_len};
 
 use crate::error::SocketError;
@@ -53,7 +54,8 @@ struct Ear {
     events: Events,
 }
 
-/// A worker's link: it sends at each interface, and receives at its own, if it has one. Once it has failed it gives and takes nothing more.
+/// A worker's link: it sends at each interface, and receives at its own, if it has one. Once it has
+/// failed it gives and takes nothing more.
 #[derive(Drop)]
 pub struct Sockets<'a> {
     wires: &'a [Wire],
@@ -74,8 +76,8 @@ fn listen<R: Net>(rt: &R, alloc: Global, wire: &Wire) -> io::Result<Ear> {
 }
 
 impl<'a> Sockets<'a> {
-    /// The link of the worker at the interface of this index. `Wait` where the socket can't be waited
-    /// at, or there is none of this index; `Memory` where memory was refused.
+    /// The link of the worker at the interface of this index. `Wait` where the socket can't be
+    /// waited at, or there is none of this index; `Memory` where memory was refused.
     pub fn of_interface<R: Net>(
         rt: &R,
         alloc: Global,

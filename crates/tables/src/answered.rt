@@ -13,11 +13,12 @@ use crate::order::{are_in_order, in_order};
 use std::alloc::{AllocError, Global};
 use words::Route;
 
-/// The routing table (RFC 2328, section 11): exactly the candidates whose equal route was answered with 0, in the order of their prefixes. The
-/// answers are those of the program that the operator asks of each route; 0 lets it in.
+/// The routing table (RFC 2328, section 11): exactly the candidates whose equal route was answered
+/// with 0, in the order of their prefixes. The answers are those of the program that the operator
+/// asks of each route; 0 lets it in.
 ///
-/// Each candidate is looked up by halving. Answers in the order of their routes, as those to all candidates in turn are, serve as they stand,
-/// others as a copy that is put in order.
+/// Each candidate is looked up by halving. Answers in the order of their routes, as those to all
+/// candidates in turn are, serve as they stand, others as a copy that is put in order.
 ///
 /// # Errors
 /// Where memory for the table or that copy is refused.
@@ -38,10 +39,12 @@ pub fn table(
     Ok(table)
 }
 
-/// Tells whether some candidate's equal route has no answer at all, so that the program is to be asked again. The time is that of [`table`].
+/// Tells whether some candidate's equal route has no answer at all, so that the program is to be
+/// asked again. The time is that of [`table`].
 ///
 /// # Errors
-/// Where the answers don't stand in the order of their routes, and memory for a copy of them is refused.
+/// Where the answers don't stand in the order of their routes, and memory for a copy of them is
+/// refused.
 pub fn is_stale(
     alloc: Global,
     candidates: &[Route],

@@ -1,4 +1,5 @@
-//! The routing table: the candidates that the operator's program let in, and whether it is to be asked again.
+//! The routing table: the candidates that the operator's program let in, and whether it is to be
+//! asked again.
 #![tactic(auto)]
 
 mod answered;

@@ -5,7 +5,8 @@ ghost use Rattle.tables.specs.Rows.{row_of, rows_of};
 use std::alloc::{AllocError, Global};
 use words::{Route, TableRow};
 
-/// The rows of a table as programs see them, one for each route, in their order: the prefix and the whole cost.
+/// The rows of a table as programs see them, one for each route, in their order: the prefix and the
+/// whole cost.
 ///
 /// # Errors
 /// Where memory for the rows is refused.

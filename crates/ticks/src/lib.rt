@@ -31,8 +31,8 @@ fn run_out(
     router.forget_originations(alloc, moment)
 }
 
-// Own LSAs that wait or are to be refreshed are originated; which, is found before the first of them
-// is.
+// Own LSAs that wait or are to be refreshed are originated; which, is found before the first of
+// them is.
 fn originate_what_is_due(
     router: &mut Router,
     alloc: Global,

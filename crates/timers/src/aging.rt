@@ -88,9 +88,9 @@ fn each_come_of_age(
 /// Each copy that has come to MaxAge since the moment before is flooded as if from nobody
 /// (RFC 2328, section 14), in the order of their keys, into the draft of each interface.
 ///
-/// It looks at no copy within one moment, and else at each only where one may have come of age since
-/// the database last looked, as `Lsdb::aged_keys` says. `AllocError` comes where memory was refused;
-/// the area is to be rolled back then, and the drafts are of no use.
+/// It looks at no copy within one moment, and else at each only where one may have come of age
+/// since the database last looked, as `Lsdb::aged_keys` says. `AllocError` comes where memory was
+/// refused; the area is to be rolled back then, and the drafts are of no use.
 pub fn with_ages(
     area: &mut Area,
     alloc: Global,

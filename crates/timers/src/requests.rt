@@ -20,7 +20,8 @@ impl LinkStep for NextRequest {
     ghost use Rattle.adjacency.specs.Requests.{request_next};
     ghost use Rattle.flooding.specs.Links.{with_neighbor};
 
-    ghost after = { λ a database link. with_neighbor (step_on (request_next a.moment) link.neighbor) link };
+    ghost after = { λ a database link. with_neighbor (step_on (request_next a.moment) link.neighbor)
+        link };
 
     ghost sends = { λ a database link. sent_on (request_next a.moment) link.neighbor };
 

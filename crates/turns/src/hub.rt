@@ -88,8 +88,8 @@ impl<L: Site, B: Taker<L>> Hub<L, B> {
     }
 
     /// Tells the workers that the programs were changed: a refresh that follows a turn which began
-    /// before isn't taken any more, so that no answer of an earlier program comes after those of the
-    /// refresh that whoever changed them makes.
+    /// before isn't taken any more, so that no answer of an earlier program comes after those of
+    /// the refresh that whoever changed them makes.
     pub fn programs_changed(&self) {
         let _before = self.changes.fetch_add(1, Ordering::SeqCst);
     }
@@ -152,8 +152,8 @@ impl<L: Site, B: Taker<L>> Hub<L, B> {
 }
 
 impl<L: Site> Hub<L, Book<L>> {
-    /// The neighbor at the interface of this number and its state, or None where it is Down or there is
-    /// no such interface.
+    /// The neighbor at the interface of this number and its state, or None where it is Down or
+    /// there is no such interface.
     pub fn neighbor<R: Wait>(&self, rt: &R, interface: u16) -> Option<(RouterId, State)> {
         let guard = self.book.lock(rt);
         let book: &Book<L> = &*guard;
@@ -167,7 +167,8 @@ impl<L: Site> Hub<L, Book<L>> {
         book.now().wants(prefix)
     }
 
-    /// How many events the book has taken, for whoever brings every share: just as many as they count.
+    /// How many events the book has taken, for whoever brings every share: just as many as they
+    /// count.
     pub fn taken<R: Wait>(&self, rt: &R, all: &mut Share<L>) -> u64
         requires { all.old.parts ≡ L.parts }
         ensures taken { result ≡ all.old.amount }

@@ -1,5 +1,5 @@
-//! Turns at one router: each brings a datagram, a Tick or a command, asks the published programs what
-//! the event needs, and gives the event to the router's book under one lock.
+//! Turns at one router: each brings a datagram, a Tick or a command, asks the published programs
+//! what the event needs, and gives the event to the router's book under one lock.
 //!
 //! What a turn says is said of the event that it gave: the book is behind the lock, and of it the
 //! type [`book::Book`] and a ledger tell, in which each port's share counts its own events.

@@ -9,8 +9,8 @@ use maps::Seat;
 use std::marker::{Brand, PhantomData};
 use std::sync::ledger::Ledger;
 
-/// Which ledger counts the events, which table of shared words the seats are of and how many it gave,
-/// and whose published programs the askers run.
+/// Which ledger counts the events, which table of shared words the seats are of and how many it
+/// gave, and whose published programs the askers run.
 ///
 /// A hub's type and its ports' types name it. Who starts workers picks it, by `Brand`.
 pub trait Site: Ledger {

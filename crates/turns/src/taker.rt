@@ -14,9 +14,9 @@ use words::Second;
 
 /// Takes events, and tells what it offers.
 ///
-/// What it says of an event that it took, and of what it offers, is left open here: a turn, which is
-/// proved for any such type, can say it only by the call itself. So a turn that gave another event,
-/// at another moment, or to another book, couldn't say what it promises.
+/// What it says of an event that it took, and of what it offers, is left open here: a turn, which
+/// is proved for any such type, can say it only by the call itself. So a turn that gave another
+/// event, at another moment, or to another book, couldn't say what it promises.
 pub trait Taker<L: Ledger> {
     ghost took: { Moment → Event → List Out → Type 0 };
 

@@ -18,15 +18,16 @@ use words::Second;
 /// event to the book under the lock. Where that left the router stale, a refresh follows, which
 /// passes no gate. It may wait for the lock.
 ///
-/// At a [`Book`](book::Book) the outs are those that the event gives, by the rules of a whole event,
-/// from some router to some router; which router it was, only the book knows.
+/// At a [`Book`](book::Book) the outs are those that the event gives, by the rules of a whole
+/// event, from some router to some router; which router it was, only the book knows.
 ///
 /// Refused: `Away` where `tag`, `price` or `veto` got no reading; else as the book refuses it
-/// ([`Book::apply_anew`](book::Book::apply_anew)): its journal first, then the router's order. `Memory`
-/// may come before any of them, while the programs are asked. A refused turn gave the book nothing;
-/// the steps that the programs made on the shared words stand, and so does a mark. The refresh is
-/// refused too where the programs were changed since the turn began ([`Hub::programs_changed`]). A
-/// refusal of the refresh leaves the turn's outs as they are: the next turn tries again.
+/// ([`Book::apply_anew`](book::Book::apply_anew)): its journal first, then the router's order.
+/// `Memory` may come before any of them, while the programs are asked. A refused turn gave the book
+/// nothing; the steps that the programs made on the shared words stand, and so does a mark. The
+/// refresh is refused too where the programs were changed since the turn began
+/// ([`Hub::programs_changed`]). A refusal of the refresh leaves the turn's outs as they are: the
+/// next turn tries again.
 pub fn turn<L: Site, B: Taker<L>, G: Gate, R: Wait>(
     rt: &R,
     hub: &Hub<L, B>,

@@ -1,5 +1,5 @@
-//! Workers that take turns at one router ([`turn`]): what they start with, the loop of one over its link
-//! and its clock, and what they bring back.
+//! Workers that take turns at one router ([`turn`]): what they start with, the loop of one over its
+//! link and its clock, and what they bring back.
 #![tactic(auto)]
 
 mod opening;

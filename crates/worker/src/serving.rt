@@ -35,11 +35,11 @@ impl Ended {
 }
 
 /// A worker's life: each round it makes a Tick's turn where the second has changed, and a turn with
-/// the datagram that its link gave, and sends the outs. It ends when `quit` is set, which it looks at
-/// once a round, or when its link fails, and with a fault then alone.
+/// the datagram that its link gave, and sends the outs. It ends when `quit` is set, which it looks
+/// at once a round, or when its link fails, and with a fault then alone.
 ///
-/// A refused turn sends nothing. After a fault in the midst of a turn's outs the event stands, and the
-/// later outs aren't sent.
+/// A refused turn sends nothing. After a fault in the midst of a turn's outs the event stands, and
+/// the later outs aren't sent.
 pub fn run<L: Site, B: Taker<L>, G: Gate, K: Link, S: Seconds, R: Wait>(
     rt: &R,
     alloc: Global,
@@ -123,9 +123,9 @@ fn serve<L: Site, B: Taker<L>, G: Gate, K: Link, S: Seconds, R: Wait>(
     send_all(link, &turned)
 }
 
-/// A turn at the moment. Where the clock of the router is ahead of this one it is tried again, at most
-/// three times, each time at a new moment, which asks the programs anew. What it gives and how it is
-/// refused is as the last [`turn`] says; the moment is that of this last one then.
+/// A turn at the moment. Where the clock of the router is ahead of this one it is tried again, at
+/// most three times, each time at a new moment, which asks the programs anew. What it gives and how
+/// it is refused is as the last [`turn`] says; the moment is that of this last one then.
 pub fn tried<L: Site, B: Taker<L>, G: Gate, S: Seconds, R: Wait>(
     rt: &R,
     hub: &Hub<L, B>,

@@ -7,19 +7,19 @@ use std::alloc::{AllocError, Global};
 use std::sync::ledger::Share;
 use turns::{Book, Hub, Port, Site};
 
-/// The share that counts every event of the book, and the ports' seats, all of the hub's table: what
-/// [`Shared::close`](maps::Shared::close) asks for.
+/// The share that counts every event of the book, and the ports' seats, all of the hub's table:
+/// what [`Shared::close`](maps::Shared::close) asks for.
 #[derive(Drop)]
 pub struct Settled<L: Site> {
     pub share: Share<L>,
     pub seats: Vec<Seat>,
 }
 
-/// Puts the shares of the ports and the rest of the ledger together. The book has taken just as many
-/// events as they count.
+/// Puts the shares of the ports and the rest of the ledger together. The book has taken just as
+/// many events as they count.
 ///
-/// `AllocError` comes where an allocation was refused; the ports are lost then, and the book is as it
-/// was.
+/// `AllocError` comes where an allocation was refused; the ports are lost then, and the book is as
+/// it was.
 pub fn settle<L: Site>(
     alloc: Global,
     book: &mut Book<L>,
@@ -55,8 +55,8 @@ pub struct Closed<L: Site> {
     pub seats: Vec<Seat>,
 }
 
-/// Settles with the ports, once all came back, and lets the book go. The book had taken just as many
-/// events as the share counts; the words come with all their seats, as
+/// Settles with the ports, once all came back, and lets the book go. The book had taken just as
+/// many events as the share counts; the words come with all their seats, as
 /// [`Shared::close`](maps::Shared::close) asks for them.
 ///
 /// `AllocError` comes where the ports didn't come back, or an allocation was refused.

@@ -10,8 +10,8 @@ use std::alloc::{AllocError, Global};
 use std::sync::Wait;
 use std::sync::ledger::Blank;
 
-/// What the workers of one router start with, for so many ports: the shared words with a seat for each
-/// port, an asker for each, and a ledger with a part for each.
+/// What the workers of one router start with, for so many ports: the shared words with a seat for
+/// each port, an asker for each, and a ledger with a part for each.
 #[derive(Drop)]
 pub struct Setup {
     pub(crate) blank: Blank,
@@ -31,8 +31,8 @@ impl Setup {
     ///
     /// # Errors
     ///
-    /// `Count` where `ports` is 0 or above 64, which is tried first; `Memory` where an allocation is
-    /// refused; `Places` where there was no place for an asker.
+    /// `Count` where `ports` is 0 or above 64, which is tried first; `Memory` where an allocation
+    /// is refused; `Places` where there was no place for an asker.
     pub fn new<R: Wait + Drop>(
         alloc: Global,
         rt: R,

@@ -23,8 +23,8 @@ fn calls(alloc: Global, fails: usize) -> Result<Vec<Answer>, AllocError> {
     Ok(answers)
 }
 
-/// A worker runs at this port, whose link fails at the call of this number, counted from 0: its status,
-/// and how many datagrams it sent.
+/// A worker runs at this port, whose link fails at the call of this number, counted from 0: its
+/// status, and how many datagrams it sent.
 pub fn serve<L: Site, R: Wait>(
     rt: &R,
     alloc: Global,
@@ -43,8 +43,8 @@ pub fn serve<L: Site, R: Wait>(
     Ok((ended.status(), link.sent))
 }
 
-// The first round has a Tick, the refresh that follows it, and two Hellos that are sent; then each call
-// receives a Hello. A fault while sending leaves the two events, and sends no later packet.
+// The first round has a Tick, the refresh that follows it, and two Hellos that are sent; then each
+// call receives a Hello. A fault while sending leaves the two events, and sends no later packet.
 #[test]
 fn a_worker_ends_at_a_fault_and_keeps_the_events_before(rt: HostRuntime) -> Result<(), Fail> {
     for fails in 0..41usize {

@@ -21,8 +21,8 @@ enum Call {
     Mark,
 }
 
-// So many calls, what the last one is answered (0, or the number of the refusal), and what the journal
-// holds and the book has taken after it.
+// So many calls, what the last one is answered (0, or the number of the refusal), and what the
+// journal holds and the book has taken after it.
 #[derive(Clone, Copy, Debug)]
 struct Row {
     times: u32,
@@ -65,8 +65,8 @@ fn called<L: Ledger>(book: &mut Book<L>, share: &mut Share<L>, call: Call, event
 // The number of a refusal for want of memory.
 const MEMORY: u8 = 6;
 
-// What a refusal leaves as it was: the journal's length and how many events were taken, the router's moment, how many LSAs it has, and
-// whether there are neighbors.
+// What a refusal leaves as it was: the journal's length and how many events were taken, the
+// router's moment, how many LSAs it has, and whether there are neighbors.
 fn shown<L: Ledger>(book: &Book<L>) -> (usize, u64, Second, usize, bool) {
     let router = book.now();
     let heard = router.neighbor(1).is_some() || router.neighbor(2).is_some();
@@ -79,8 +79,8 @@ fn shown<L: Ledger>(book: &Book<L>) -> (usize, u64, Second, usize, bool) {
     )
 }
 
-// The answer of a call. An allocation may be refused once, as a run of the tests with a refusal makes it: then the book is as it was, and
-// answers in full the next time.
+// The answer of a call. An allocation may be refused once, as a run of the tests with a refusal
+// makes it: then the book is as it was, and answers in full the next time.
 fn answered<L: Ledger>(book: &mut Book<L>, share: &mut Share<L>, call: Call, event: &Event) -> u8
     requires { 0 < share.old.parts }
     ensures { share.new.parts ≡ share.old.parts }
@@ -105,7 +105,8 @@ fn called_often<L: Ledger>(book: &mut Book<L>, share: &mut Share<L>, row: &Row, 
     answer
 }
 
-// Whether the journal grew on where it was to start anew, which no memory was left for: a mark for the journal's bytes alone refuses nothing.
+// Whether the journal grew on where it was to start anew, which no memory was left for: a mark for
+// the journal's bytes alone refuses nothing.
 fn play_rows<L: Ledger, R: Abort>(
     rt: &R,
     book: &mut Book<L>,
@@ -197,8 +198,8 @@ fn installation(alloc: Global, answer: VetoAnswer, count: usize) -> Result<Event
     Ok(Event::Install(Sequence::from_vec(answers)))
 }
 
-// An Install of 262,144 answers counts as 16 MiB, so that four of them, with what each entry takes, are
-// more than 64 MiB.
+// An Install of 262,144 answers counts as 16 MiB, so that four of them, with what each entry takes,
+// are more than 64 MiB.
 #[test]
 fn a_journal_of_64_mebibytes_starts_anew(rt: HostRuntime) -> Result<(), Fail> {
     let alloc = rt.alloc();

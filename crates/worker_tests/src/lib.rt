@@ -1,5 +1,5 @@
-//! Tests of the router's book and of its workers, by their public calls. They stand above, since a crate
-//! is proved once more for its tests.
+//! Tests of the router's book and of its workers, by their public calls. They stand above, since a
+//! crate is proved once more for its tests.
 //!
 //! A test is a list of steps, which a player carries out at a router with three ports.
 #![tactic(auto)]

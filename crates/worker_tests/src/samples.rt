@@ -1,5 +1,5 @@
-//! A router, a destination, packets and programs for tests. What is refused memory is made once more, since an allocation may be refused
-//! once, in a run of the tests with a refusal.
+//! A router, a destination, packets and programs for tests. What is refused memory is made once
+//! more, since an allocation may be refused once, in a run of the tests with a refusal.
 use events::{Config, Interface};
 use std::alloc::{AllocError, Global};
 use std::test::Fail;

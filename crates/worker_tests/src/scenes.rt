@@ -27,15 +27,16 @@ pub enum Scene<'a> {
     FailingLink(usize),
     /// Port 1 makes a Tick's turn at each moment below this.
     Ticks(u64),
-    /// A Hello at moment 5 is held at the gate of port 1, until port 2 has ticked at each moment from 5
-    /// to below this.
+    /// A Hello at moment 5 is held at the gate of port 1, until port 2 has ticked at each moment
+    /// from 5 to below this.
     Held(u64),
 }
 
 /// What is seen in the end.
 #[derive(Clone, Copy, Debug, PartialEq, Eq)]
 pub struct End {
-    /// The number of the turn's refusal or of a refusal among the turns, that of a refresh too, or the worker's status.
+    /// The number of the turn's refusal or of a refusal among the turns, that of a refresh too, or
+    /// the worker's status.
     pub status: u8,
     /// How many datagrams were sent.
     pub sent: usize,
@@ -160,8 +161,9 @@ pub fn play<R: Threads + Wait + Clock + Abort + Sync>(
     play_at::<Brand, R, &R>(rt, alloc, setup, loader, core, destination, scene)
 }
 
-/// Plays the scene, which ends so. An allocation may be refused once, as a run of the tests with a refusal makes it: where the scene doesn't
-/// end so, it is played once more, from its start; one of two threads only where a turn was refused memory.
+/// Plays the scene, which ends so. An allocation may be refused once, as a run of the tests with a
+/// refusal makes it: where the scene doesn't end so, it is played once more, from its start; one of
+/// two threads only where a turn was refused memory.
 pub fn ends<R: Threads + Wait + Clock + Abort + Sync>(
     rt: &R,
     alloc: Global,

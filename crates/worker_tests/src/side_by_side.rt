@@ -55,8 +55,8 @@ pub fn tick<L: Site, R: Wait>(
     refused
 }
 
-/// Holds the Hello of port 1 at moment 5 until port 2 has ticked at each moment from 5 to below this:
-/// what it is answered, or a Tick that was refused; 9 where the gate gave up.
+/// Holds the Hello of port 1 at moment 5 until port 2 has ticked at each moment from 5 to below
+/// this: what it is answered, or a Tick that was refused; 9 where the gate gave up.
 pub fn hold<L: Site + Send + Sync, R: Threads + Wait + Clock + Sync, Q: Wait + Drop>(
     rt: &R,
     alloc: Global,
@@ -111,7 +111,8 @@ fn a_turn_whose_moment_has_passed_is_refused(rt: HostRuntime) -> Result<(), Fail
     ends(&rt, rt.alloc(), Scene::Held(1_001), wanted)
 }
 
-// The first Tick is followed by a refresh; the journal is full after 65,536 events, and starts anew.
+// The first Tick is followed by a refresh; the journal is full after 65,536 events, and starts
+// anew.
 #[test]
 fn no_turn_is_refused_for_its_journal(rt: HostRuntime) -> Result<(), Fail> {
     let wanted = End {

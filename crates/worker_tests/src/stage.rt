@@ -18,8 +18,8 @@ use worker::{
 /// What is done: a turn, or a change of the programs, which each port learns then.
 #[derive(Clone, Copy, Debug)]
 pub enum Deed {
-    /// The Hello comes in at the interface of this number, with so many zeros behind it: a turn of the
-    /// interface's port. All other turns are of port 0.
+    /// The Hello comes in at the interface of this number, with so many zeros behind it: a turn of
+    /// the interface's port. All other turns are of port 0.
     Hear(u16, usize),
     Tick,
     /// A Tick's turn during which the programs are changed.
@@ -150,8 +150,9 @@ impl<L: Site, Q: Wait + Drop> Stage<L, Q> {
         }
     }
 
-    // A turn at this port. An allocation may be refused once, as a run of the tests with a refusal makes it: then all is as it was, but for
-    // the steps of programs, and the same turn is answered in full.
+    // A turn at this port. An allocation may be refused once, as a run of the tests with a refusal
+    // makes it: then all is as it was, but for the steps of programs, and the same turn is answered
+    // in full.
     fn take<R: Wait>(
         &mut self,
         rt: &R,

@@ -67,7 +67,8 @@ fn a_refresh_follows_until_nothing_is_stale(rt: HostRuntime) -> Result<(), Fail>
     play_steps(&rt, rt.alloc(), &steps, 6)
 }
 
-// A refresh that was asked before the programs were changed isn't taken after it; the next turn tries again.
+// A refresh that was asked before the programs were changed isn't taken after it; the next turn
+// tries again.
 #[test]
 fn a_refresh_of_earlier_programs_is_not_taken(rt: HostRuntime) -> Result<(), Fail> {
     let not_asked = Seen { rows: 0, ..STARTED };

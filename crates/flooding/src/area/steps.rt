@@ -60,8 +60,8 @@ impl Area {
         step_links(alloc, step, &self.database, &mut self.links, drafts)
     }
 
-    /// The link of this number takes the step; what it sends goes into the draft of its interface, and
-    /// each copy that an Update takes along counts as sent at this moment.
+    /// The link of this number takes the step; what it sends goes into the draft of its interface,
+    /// and each copy that an Update takes along counts as sent at this moment.
     ///
     /// `AllocError` comes where memory was refused; the area is to be rolled back then, and the
     /// drafts are of no use.

@@ -1,5 +1,5 @@
-//! What packets of the neighbor make of the conversation with it (RFC 2328, sections 10.5 to 10.7 and
-//! 13.7).
+//! What packets of the neighbor make of the conversation with it (RFC 2328, sections 10.5 to 10.7
+//! and 13.7).
 ghost use Rattle.std.specs.Prelude.{◌≡◌, ℕ, OnOk, Some};
 ghost use Rattle.adjacency.specs.Adjacencies.{after_hello};
 ghost use Rattle.adjacency.specs.Contents.{no_sends, sent_on, step_on};
@@ -18,8 +18,9 @@ use std::alloc::{AllocError, Global};
 use words::{Key, RouterId, Second};
 
 impl Link {
-    /// A Hello came from this router, which names this router or doesn't (RFC 2328, section 10.5): it
-    /// was accepted, so the neighbor is Down or of this Router ID. It does what `Place::hello` says.
+    /// A Hello came from this router, which names this router or doesn't (RFC 2328, section 10.5):
+    /// it was accepted, so the neighbor is Down or of this Router ID. It does what `Place::hello`
+    /// says.
     ///
     /// `AllocError` comes where memory was refused; the link is to be rolled back then.
     pub fn hello(
@@ -42,8 +43,8 @@ impl Link {
         self.place.hello(alloc, moment, from, names, draft)
     }
 
-    /// A Database Description came from the neighbor, to the router of the Router ID `own` (RFC 2328,
-    /// section 10.6). It does what `Place::description` says.
+    /// A Database Description came from the neighbor, to the router of the Router ID `own` (RFC
+    /// 2328, section 10.6). It does what `Place::description` says.
     ///
     /// `AllocError` comes where memory was refused; the link is to be rolled back then.
     pub fn description(
@@ -71,8 +72,8 @@ impl Link {
             .description(alloc, own, moment, database, description, draft)
     }
 
-    /// A Link State Request for these keys came from the neighbor (RFC 2328, section 10.7). It does what
-    /// `Place::answer` says, by the interface's InfTransDelay.
+    /// A Link State Request for these keys came from the neighbor (RFC 2328, section 10.7). It does
+    /// what `Place::answer` says, by the interface's InfTransDelay.
     ///
     /// `AllocError` comes where memory was refused; the link is to be rolled back then.
     pub fn answer(
@@ -96,8 +97,8 @@ impl Link {
             .answer(alloc, moment, delay, database, keys, draft)
     }
 
-    /// An Acknowledgment of these instances came from the neighbor (RFC 2328, section 13.7). It does what
-    /// `Place::ack` says.
+    /// An Acknowledgment of these instances came from the neighbor (RFC 2328, section 13.7). It
+    /// does what `Place::ack` says.
     ///
     /// `AllocError` comes where memory was refused; the link is to be rolled back then.
     pub fn acknowledged(&mut self, moment: Second, headers: &[Header]) -> Result<(), AllocError>
