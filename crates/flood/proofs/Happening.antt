@@ -6,10 +6,10 @@ use Rattle.received.specs.Outcomes.{Send}
 use Rattle.event_rooms.specs.RoomLaws.{IsRoomy}
 use Rattle.event_rooms.proofs.Roomy.{every_packet_has_room}
 use Rattle.events.specs.declared.model.Out.{Out}
+use Rattle.flood_laws.specs.InOrder.{IsInOrder}
 use Rattle.flood_laws.specs.Keeping.{AnnouncesAddress, AreTexts, HoldsInstances, KeepsWhatIsKnown}
-use Rattle.flood_laws.specs.Known.{AnnouncesItsOwn}
 use Rattle.flood_laws.proofs.Keeping.{events_keep_what_is_known, instances_stay_in_range}
-use Rattle.flood_laws.proofs.Known.{only_what_is_known}
+use Rattle.flood_laws.proofs.Acknowledged.{routers_stay_in_order}
 use Rattle.events.specs.Endings.{start_event}
 use Rattle.events.specs.Events.{Happens}
 use Rattle.events.specs.Packing.{outs_of}
@@ -30,16 +30,16 @@ module _ (old : Router) (moment : ℕ) (event : Occurrence) (p : Part) (is : IsP
   }
 
   -- and keeps what is known, where it is written as texts
-  pub made_keeps : (outs : List Out) (new : Router) → IsMade old moment p outs new → AnnouncesAddress event → AnnouncesItsOwn old → HoldsInstances old
+  pub made_keeps : (outs : List Out) (new : Router) → IsMade old moment p outs new → AnnouncesAddress event → IsInOrder old → HoldsInstances old
       → AreTexts old.id old.area.links (made old moment p).sends → KeepsWhatIsKnown old moment event outs new
   unfolding made_happens
-  made_keeps outs new made address own holds texts = events_keep_what_is_known old moment event outs new (made_happens outs new made) address own holds texts
+  made_keeps outs new made address order holds texts = events_keep_what_is_known old moment event outs new (made_happens outs new made) address order holds texts
 
-  pub made_own : (outs : List Out) (new : Router) → IsMade old moment p outs new → AnnouncesItsOwn old → AnnouncesItsOwn new
-  made_own outs new made own = (only_what_is_known.event old moment event outs new (made_happens outs new made) own).0
+  pub made_order : (outs : List Out) (new : Router) → IsMade old moment p outs new → IsInOrder old → IsInOrder new
+  made_order outs new made order = routers_stay_in_order.event old moment event outs new (made_happens outs new made) order
 
-  pub made_holds : (outs : List Out) (new : Router) → IsMade old moment p outs new → AnnouncesAddress event → AnnouncesItsOwn old → HoldsInstances old → HoldsInstances new
-  made_holds outs new made address own holds = instances_stay_in_range.event old moment event outs new (made_happens outs new made) address own holds
+  pub made_holds : (outs : List Out) (new : Router) → IsMade old moment p outs new → AnnouncesAddress event → IsInOrder old → HoldsInstances old → HoldsInstances new
+  made_holds outs new made address order holds = instances_stay_in_range.event old moment event outs new (made_happens outs new made) address order.own holds
 
   makes : Happens old moment event (outs_of old.id old.area.links (made old moment p).sends) (made old moment p).router
   makes = made_happens _ _ (record { router = refl; outs = refl })

@@ -48,8 +48,8 @@ impl Model for Core {
     ghost use Rattle.events.specs.Refusals.{exceeds};
     ghost use Rattle.events.specs.Routers.{Router as Shown};
     ghost use Rattle.flood.specs.Offers.{AreKeptNow};
+    ghost use Rattle.flood_laws.specs.InOrder.{IsInOrder};
     ghost use Rattle.flood_laws.specs.Keeping.{HoldsInstances};
-    ghost use Rattle.flood_laws.specs.Known.{AnnouncesItsOwn};
 
     ghost Value = { Shown };
 
@@ -66,14 +66,15 @@ impl Model for Core {
     ghost view = { λ a. a.router.present };
 
     // Between events nothing is to be taken back, all that may be sent has room in packets, and no
-    // limit is passed. The router announces under its own Router ID alone, and the numbers of the
-    // instances that it holds are in their ranges. What is kept for routes is that of the moment of
-    // the last event.
+    // limit is passed. The router announces external destinations under its own Router ID alone,
+    // what stands on its retransmission lists is of its database, and the numbers of the instances
+    // that it holds are in their ranges. What is kept for routes is that of the moment of the last
+    // event.
     ghost invariant = { λ a.
         (a.router.settled ≡ a.router.present)
         × IsRoomy a.router.present
         × (exceeds a.router.present ≡ false)
-        × AnnouncesItsOwn a.router.present
+        × IsInOrder a.router.present
         × HoldsInstances a.router.present
         × AreKeptNow a.router.present a.routes };
 }
@@ -121,7 +122,8 @@ impl Core {
             outs.items self.new) }
         // The Router ID stays, each packet that is sent is from this router, and each instance that
         // it holds or tells afterwards was held before, came in the event's Update, or is a new one
-        // of its own LSAs. What the event's packet takes off a retransmission list, it tells.
+        // of its own LSAs. What leaves a retransmission list as acknowledged, the event's packet
+        // from that neighbor tells.
         ensures keeps { IfOk result (λ outs. KeepsWhatIsKnown self.old moment
             (occurrence_of event.now) outs.items self.new) }
         // Which refusal it is; none stands where the event is taken.

@@ -4,8 +4,8 @@ ghost use Rattle.event_rooms.specs.RoomLaws.{IsRoomy};
 ghost use Rattle.events.specs.Events.{Happens};
 ghost use Rattle.events.specs.Refusals.{Answers, exceeds, is_interface, no_interface};
 ghost use Rattle.events.specs.Routers.{Occurrence};
+ghost use Rattle.flood_laws.specs.InOrder.{IsInOrder};
 ghost use Rattle.flood_laws.specs.Keeping.{AreTexts, HoldsInstances, KeepsWhatIsKnown};
-ghost use Rattle.flood_laws.specs.Known.{AnnouncesItsOwn};
 ghost use Rattle.flood.specs.Early.{early_refusal};
 ghost use Rattle.flood.specs.Occurrences.{occurrence_of};
 ghost use Rattle.flood.specs.Parts.{HasInterface, IsMade, IsPartOf, TellsLimit, made};
@@ -90,13 +90,13 @@ pub fn take(
 ) -> Result<Vec<Out>, CoreError>
     requires settled { router.old.settled ≡ router.old.present }
     requires roomy { IsRoomy router.old.present }
-    requires own { AnnouncesItsOwn router.old.present }
+    requires order { IsInOrder router.old.present }
     requires holds { HoldsInstances router.old.present }
     ensures ok { IfOk result (λ outs. Happens router.old.present moment (occurrence_of event.now)
         outs.items router.new.present) }
     ensures keeps { IfOk result (λ outs. KeepsWhatIsKnown router.old.present moment
         (occurrence_of event.now) outs.items router.new.present) }
-    ensures own { OnOk result (AnnouncesItsOwn router.new.present) }
+    ensures order { OnOk result (IsInOrder router.new.present) }
     ensures holds { OnOk result (HoldsInstances router.new.present) }
     ensures refused { Answers router.old.present moment (occurrence_of event.now) result }
     ensures limit { IfOk result (λ outs. exceeds router.new.present ≡ false) }

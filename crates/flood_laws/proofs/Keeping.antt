@@ -39,13 +39,17 @@ use Rattle.events.specs.LsaInstances.{LsaInstance, instance_of_header, instance_
 use Rattle.events.specs.Originations.{external_key, has_max_sequence, new_instance, next_sequence, router_key}
 use Rattle.events.specs.Packing.{at_interface, bodies, out_of, outs_at}
 use Rattle.events.specs.Routers.{Occurrence, Router, fresh_link, unannounced}
-use Rattle.events.specs.Worlds.{IsKnown, IsLawfulOut, instances_stored}
+use Rattle.flood_laws.specs.Worlds.{IsKnown, IsLawfulOut, instances_stored}
 use Rattle.flood_laws.specs.Keeping.{AnnouncesAddress, AreTexts, AreTextsAt, EventsKeepWhatIsKnown, HoldsInstances, InstancesStayInRange, IsInstance, IsLsaKey, IsText, KeepsWhatIsKnown}
-use Rattle.flood_laws.specs.Known.{AnnouncesItsOwn, Bears, IsNewInstance, IsTextOf, instances_in_content, instances_in_sends}
-use Rattle.flood_laws.proofs.Known.{Enters, Leaves, each_all, event_known, event_leaves, held_named, left_all, named_by, named_sends, none_on, of_member, of_members, only_what_is_known, own_if_new, paired_all, right_all}
-use Rattle.flood_laws.proofs.Packed.{at_number, bodies_bear}
+use Rattle.flood_laws.specs.InOrder.{AnnouncesItsOwn, IsInOrder}
+use Rattle.flood_laws.specs.NewInstances.{IsNewInstance}
+use Rattle.flood_laws.specs.Known.{Bears, EventsHoldOnlyWhatIsKnown, IsOutOf, IsTextOf, instances_in_content, instances_in_sends}
+use Rattle.flood_laws.specs.TakenOff.{TakesOffWhatIsTold}
+use Rattle.flood_laws.proofs.Acknowledged.{taken_off_was_told}
+use Rattle.flood_laws.proofs.Known.{Enters, IsExplained, Leaves, all_known, all_new, event_leaves, first_own, held_named, left_all, named_by, named_sends, new_ones, none_on, of_member, of_members, own_stays, paired_all, right_all, router_stays}
+use Rattle.flood_laws.proofs.News.{all_explained}
+use Rattle.flood_laws.proofs.Packed.{at_number, bodies_bear, outs_bear}
 use Rattle.flood_laws.proofs.Read.{read_unless}
-use Rattle.flood_laws.proofs.Taken.{taken_was_told}
 use Rattle.flood_laws.proofs.Told.{IsOwn, first_told, told}
 
 -- ---- the text of an LSA is read with the name that was written, whatever else its header says
@@ -261,37 +265,45 @@ module _ (old : Router) (moment : ℕ) (event : Occurrence) (outs : List Out) (n
   pub stays_in_range : HoldsInstances new
   stays_in_range =
       let l : Leaves IsInstance IsLsaKey (λ name is. is.key) old event p = leaves in
-      let all : AllByRecursion IsInstance (instances_stored p.router ++ instances_in_sends p.sends) =
-      each_all (λ name. IsKnown old event l.originated name × IsInstance name) IsInstance (λ name k. k.1) (instances_stored p.router ++ instances_in_sends p.sends) l.known in
       subst HoldsInstances (sym happens.router)
       (record {
         id = subst (λ id. id < 2 ^ 32) (sym l.same_router) holds.id;
-        held = λ name c. of_member IsInstance (instances_stored p.router) (left_all IsInstance (instances_stored p.router) (instances_in_sends p.sends) all) name c;
+        held = λ name c. of_member IsInstance (instances_stored p.router) (left_all IsInstance (instances_stored p.router) (instances_in_sends p.sends) l.holds) name c;
         announced = l.announced;
       })
 
-  pub keeps_what_is_known : AreTexts old.id old.area.links p.sends → KeepsWhatIsKnown old moment event outs new
-  keeps_what_is_known texts =
-      let l : Leaves IsInstance IsLsaKey (λ name is. is.key) old event p = leaves in
-      let known : AllByRecursion (Known old event l.originated p.sends) (instances_stored p.router ++ instances_in_sends p.sends) = l.known in
-      let stored : AllByRecursion (Known old event l.originated p.sends) (instances_stored p.router) =
-      left_all (Known old event l.originated p.sends) (instances_stored p.router) (instances_in_sends p.sends) known in
-      let said : AllByRecursion (λ (s : Send). AllByRecursion (Known old event l.originated p.sends) (instances_in_content s.content)) p.sends =
-      named_sends (Known old event l.originated p.sends) p.sends (right_all (Known old event l.originated p.sends) (instances_stored p.router) (instances_in_sends p.sends) known) in
-      let lawful : AllByRecursion (IsLawfulOut old event l.originated) outs =
-      subst (λ os. AllByRecursion (IsLawfulOut old event l.originated) os) (sym happens.sent) (outs_lawful old event l.originated p.sends said 1 old.area.links texts) in
-      record {
-        originated = l.originated;
-        new_instances = l.new_instances;
-        keeps = record {
-          same_router = ap (λ (r : Router). r.id) happens.router ∙ l.same_router;
-          own = λ name c. own_if_new old.id name (of_member (IsNewInstance old.id) l.originated l.new_instances name c);
-          held = λ name c.
-              (of_member (Known old event l.originated p.sends) (instances_stored p.router) stored name (subst (λ (r : Router). Contains (instances_stored r) name) happens.router c)).0;
-          sent = λ out c. of_member (IsLawfulOut old event l.originated) outs lawful out c;
-        };
-        taken = λ number bytes packet is text name c. taken_was_told moment number packet old name c;
-      }
+  module _ (order : IsInOrder old) where
+    abbrev New : LsaInstance → Type 0
+    New name = IsNewInstance old moment event new name
+
+    abbrev names : List LsaInstance
+    names = instances_stored p.router ++ instances_in_sends p.sends
+
+    why : AllByRecursion (IsExplained old event New) names
+    why = all_explained old moment event outs new happens order
+
+    pub keeps_what_is_known : TakesOffWhatIsTold old moment event new → AreTexts old.id old.area.links p.sends → KeepsWhatIsKnown old moment event outs new
+    keeps_what_is_known taken texts =
+        let originated : List LsaInstance = new_ones old event New names why in
+        let known : AllByRecursion (Known old event originated p.sends) names =
+        paired_all (IsKnown old event originated) IsInstance names (all_known old event New names why) leaves.holds in
+        let stored : AllByRecursion (Known old event originated p.sends) (instances_stored p.router) =
+        left_all (Known old event originated p.sends) (instances_stored p.router) (instances_in_sends p.sends) known in
+        let said : AllByRecursion (λ (s : Send). AllByRecursion (Known old event originated p.sends) (instances_in_content s.content)) p.sends =
+        named_sends (Known old event originated p.sends) p.sends (right_all (Known old event originated p.sends) (instances_stored p.router) (instances_in_sends p.sends) known) in
+        let lawful : AllByRecursion (IsLawfulOut old event originated) outs =
+        subst (λ os. AllByRecursion (IsLawfulOut old event originated) os) (sym happens.sent) (outs_lawful old event originated p.sends said 1 old.area.links texts) in
+        record {
+          originated = originated;
+          keeps = record {
+            same_router = router_stays old moment event outs new happens own;
+            is_new = λ name c. of_member New originated (all_new old event New names why) name c;
+            held = λ name c.
+                (of_member (Known old event originated p.sends) (instances_stored p.router) stored name (subst (λ (r : Router). Contains (instances_stored r) name) happens.router c)).0;
+            sent = λ out c. of_member (IsLawfulOut old event originated) outs lawful out c;
+            taken = taken;
+          };
+        }
 
 -- ---- the start, and every run
 
@@ -317,15 +329,41 @@ run_in_range : (steps : List Step) (old new : Router) → AllByRecursion (λ (s 
     → HoldsInstances new
 run_in_range [] old new addresses same own holds = subst HoldsInstances (sym same) holds
 run_in_range (s ∷ steps) old new addresses run own holds =
-    run_in_range steps run.0 new addresses.1 run.2 (event_known old s.moment s.event s.outs run.0 run.1 own).0
+    run_in_range steps run.0 new addresses.1 run.2 (own_stays old s.moment s.event s.outs run.0 run.1 own)
     (stays_in_range old s.moment s.event s.outs run.0 run.1 addresses.0 own holds)
 
 pub instances_stay_in_range : InstancesStayInRange
 instances_stay_in_range = record {
   first = first_in_ranges;
   event = stays_in_range;
-  run = λ c steps new router addresses run. run_in_range steps (initial c) new addresses run (only_what_is_known.first c) (first_in_ranges c router);
+  run = λ c steps new router addresses run. run_in_range steps (initial c) new addresses run (first_own c) (first_in_ranges c router);
 }
 
 pub events_keep_what_is_known : EventsKeepWhatIsKnown
-events_keep_what_is_known = keeps_what_is_known
+events_keep_what_is_known old moment event outs new happens address order holds texts =
+    keeps_what_is_known old moment event outs new happens address order.own holds order (taken_off_was_told old moment event outs new happens order) texts
+
+-- ---- what an event leaves and sends is known
+
+pub only_what_is_known : EventsHoldOnlyWhatIsKnown
+only_what_is_known old moment event outs new happens order =
+    let p : EventState = end_event old moment happens.after in
+    let names : List LsaInstance = instances_stored p.router ++ instances_in_sends p.sends in
+    let New : LsaInstance → Type 0 = λ name. IsNewInstance old moment event new name in
+    let why : AllByRecursion (IsExplained old event New) names = all_explained old moment event outs new happens order in
+    let originated : List LsaInstance = new_ones old event New names why in
+    let K : LsaInstance → Type 0 = IsKnown old event originated in
+    let known : AllByRecursion K names = all_known old event New names why in
+    record {
+      originated = originated;
+      same_router = router_stays old moment event outs new happens order.own;
+      is_new = λ name c. of_member New originated (all_new old event New names why) name c;
+      held = λ name c.
+          of_member K (instances_stored p.router) (left_all K (instances_stored p.router) (instances_in_sends p.sends) known) name
+          (subst (λ (r : Router). Contains (instances_stored r) name) happens.router c);
+      sent = λ out c.
+          of_member (IsOutOf K old.id) outs
+          (subst (λ os. AllByRecursion (IsOutOf K old.id) os) (sym happens.sent)
+          (outs_bear K old.id p.sends (named_sends K p.sends (right_all K (instances_stored p.router) (instances_in_sends p.sends) known)) 1 old.area.links))
+          out c;
+    }

@@ -1,11 +1,10 @@
--- What an event leaves in a router and what it sends is known: held before, brought by the event's Update, or new.
+-- What is so of all names that a router holds, brings in and tells is so of those that an event leaves and sends; and why a name is known.
 use Rattle.std.proofs.Common.{◌≡◌, ℕ, false, zero, suc, ◌<◌, length, List, [], ◌∷◌, ◌++◌, map, Option, None, Some, refl, sym, ap, subst, ◌∙◌, arith}
 use Rattle.std.specs.Prelude.{slice_index_or}
 use Rattle.std.specs.FinMap as finite
 use Rattle.std.specs.List.{AllByRecursion, Contains, cons_option, filter_map, flat_map}
 use Rattle.words.specs.declared.key.Key.{Key}
 use Rattle.words.specs.declared.route.External.{External}
-use Rattle.lsa.specs.Origination.{sealed_lsa}
 use Rattle.lsa.specs.Reading.{lsa_in}
 use Rattle.lsa.specs.declared.body.Body.{Body as LsaBody}
 use Rattle.lsdb.specs.Copies.{DatabaseCopy}
@@ -26,14 +25,14 @@ use Rattle.received.proofs.Told.{OfArea, OfLink, OfLinks, OfSend, OfWaiting}
 use Rattle.events.specs.declared.model.Config.{Config}
 use Rattle.events.specs.declared.model.Out.{Out}
 use Rattle.events.specs.Endings.{end_event}
-use Rattle.events.specs.Events.{Happens, Run, Step, initial}
-use Rattle.flood_laws.specs.Known.{AnnouncesItsOwn, EventsHoldOnlyWhatIsKnown, HoldsWhatIsKnown, IsNewInstance, IsOutOf, instances_in_content, instances_in_send, instances_in_sends}
+use Rattle.events.specs.Events.{Happens, initial}
+use Rattle.flood_laws.specs.InOrder.{AnnouncesItsOwn}
+use Rattle.flood_laws.specs.Known.{instances_in_content, instances_in_send, instances_in_sends}
 use Rattle.events.specs.LsaInstances.{LsaInstance, instance_of_lsa, instance_of_header, instances_received, instances_in_update}
 use Rattle.events.specs.Originations.{external_key, has_max_sequence, new_instance, router_key}
 use Rattle.events.specs.EventState.{EventState}
 use Rattle.events.specs.Routers.{Occurrence, Router, fresh_link, unannounced}
-use Rattle.events.specs.Worlds.{IsKnown, instances_stored, instances_on_link, instances_on_list}
-use Rattle.flood_laws.proofs.Packed.{outs_bear}
+use Rattle.flood_laws.specs.Worlds.{IsKnown, instances_stored, instances_on_link, instances_on_list}
 use Rattle.flood_laws.proofs.Told.{IsOwn, event_told, first_told, told}
 use Rattle.event_rooms.proofs.Walk.{IfRead, OfBrought, OfBytes, OfEvent}
 use Rattle.flood_laws.proofs.Worlds.{one_more}
@@ -178,37 +177,29 @@ module _ (K : LsaInstance → Type 0) (P : Key → Type 0) (so : (name : LsaInst
 
 -- ---- why a name is known
 
-pub data IsExplained (old : Router) (event : Occurrence) (name : LsaInstance) : Type 0 where
-  Held : Contains (instances_stored old) name → IsExplained old event name
+pub data IsExplained (old : Router) (event : Occurrence) (N : LsaInstance → Type 0) (name : LsaInstance) : Type 0 where
+  Held : Contains (instances_stored old) name → IsExplained old event N name
   Brought : (number : ℕ) (bytes : List ℕ) (packet : Packet) → event ≡ Occurrence.Packet number bytes → PacketText bytes packet
-      → Contains (instances_received packet.body) name → IsExplained old event name
-  New : IsNewInstance old.id name → IsExplained old event name
+      → Contains (instances_received packet.body) name → IsExplained old event N name
+  New : N name → IsExplained old event N name
 
-own_name : (key : Key) (copy : Option DatabaseCopy) (says : LsaBody) → (instance_of_lsa (new_instance key copy says)).key.advertising_router ≡ key.advertising_router
-unfolding sealed_lsa
-own_name key copy says = refl
-
-pub own_if_new : (id : ℕ) (name : LsaInstance) → IsNewInstance id name → name.key.advertising_router ≡ id
-own_if_new id name n = sym (ap (λ (m : LsaInstance). m.key.advertising_router) n.is) ∙ own_name n.key n.copy n.says ∙ n.own
-
-module _ (old : Router) (event : Occurrence) where
-  -- those that are new
-  new_one : (name : LsaInstance) → IsExplained old event name → Option LsaInstance
+-- N holds of those that are new
+module _ (old : Router) (event : Occurrence) (N : LsaInstance → Type 0) where
+  new_one : (name : LsaInstance) → IsExplained old event N name → Option LsaInstance
   new_one name (IsExplained.Held c) = None
   new_one name (IsExplained.Brought number bytes packet is text c) = None
   new_one name (IsExplained.New n) = Some name
 
-  new_ones : (names : List LsaInstance) → AllByRecursion (IsExplained old event) names → List LsaInstance
+  pub new_ones : (names : List LsaInstance) → AllByRecursion (IsExplained old event N) names → List LsaInstance
   new_ones [] h = []
   new_ones (name ∷ names) h = cons_option (new_one name h.0) (new_ones names h.1)
 
-  all_new : (names : List LsaInstance) (h : AllByRecursion (IsExplained old event) names) → AllByRecursion (IsNewInstance old.id) (new_ones names h)
+  pub all_new : (names : List LsaInstance) (h : AllByRecursion (IsExplained old event N) names) → AllByRecursion N (new_ones names h)
   unfolding new_ones new_one
   all_new [] h = tt
   all_new (name ∷ names) h = with_first h.0 (all_new names h.1)
     where
-      with_first : (e : IsExplained old event name) → AllByRecursion (IsNewInstance old.id) (new_ones names h.1)
-          → AllByRecursion (IsNewInstance old.id) (cons_option (new_one name e) (new_ones names h.1))
+      with_first : (e : IsExplained old event N name) → AllByRecursion N (new_ones names h.1) → AllByRecursion N (cons_option (new_one name e) (new_ones names h.1))
       with_first (IsExplained.Held c) rest = rest
       with_first (IsExplained.Brought number bytes packet is text c) rest = rest
       with_first (IsExplained.New n) rest = (n, rest)
@@ -218,12 +209,12 @@ module _ (old : Router) (event : Occurrence) where
   known_more more x name (IsKnown.Brought number bytes packet is text c) = IsKnown.Brought number bytes packet is text c
   known_more more x name (IsKnown.Originated c) = IsKnown.Originated (one_more x more name c)
 
-  all_known : (names : List LsaInstance) (h : AllByRecursion (IsExplained old event) names) → AllByRecursion (IsKnown old event (new_ones names h)) names
+  pub all_known : (names : List LsaInstance) (h : AllByRecursion (IsExplained old event N) names) → AllByRecursion (IsKnown old event (new_ones names h)) names
   unfolding new_ones new_one
   all_known [] h = tt
   all_known (name ∷ names) h = with_first h.0 (all_known names h.1)
     where
-      with_first : (e : IsExplained old event name) → AllByRecursion (IsKnown old event (new_ones names h.1)) names
+      with_first : (e : IsExplained old event N name) → AllByRecursion (IsKnown old event (new_ones names h.1)) names
           → AllByRecursion (IsKnown old event (cons_option (new_one name e) (new_ones names h.1))) (name ∷ names)
       with_first (IsExplained.Held c) rest = (IsKnown.Held c, rest)
       with_first (IsExplained.Brought number bytes packet is text c) rest = (IsKnown.Brought number bytes packet is text c, rest)
@@ -249,12 +240,7 @@ announces t r all key e is = (subst (IfThere (IsOwn t r.id) key) is (all key)).0
 
 -- ---- an event
 
-second_of : (E Q : LsaInstance → Type 0) (key : Key) (copy : Option DatabaseCopy) → IfThere (λ k c. E (instance_of_lsa c.lsa) × Q (instance_of_lsa c.lsa)) key copy
-    → IfThere (λ k c. Q (instance_of_lsa c.lsa)) key copy
-second_of E Q key None h = tt
-second_of E Q key (Some c) h = h.1
-
--- beside why a name is known, what else is so of names and of their keys
+-- what is so of names and of their keys
 module _ (Q : LsaInstance → Type 0) (P : Key → Type 0) (so : (name : LsaInstance) → Q name → P name.key) where
   -- it is so of what is there before the event, of what the event brings, and of new instances
   pub record Enters (old : Router) (event : Occurrence) : Type 0 where
@@ -269,56 +255,32 @@ module _ (Q : LsaInstance → Type 0) (P : Key → Type 0) (so : (name : LsaInst
 
   -- so it is of what is there after it, and of what is sent
   pub record Leaves (old : Router) (event : Occurrence) (p : EventState) : Type 0 where
-    pub originated : List LsaInstance
-    pub new_instances : AllByRecursion (IsNewInstance old.id) originated
-    pub known : AllByRecursion (λ name. IsKnown old event originated name × Q name) (instances_stored p.router ++ instances_in_sends p.sends)
+    pub holds : AllByRecursion Q (instances_stored p.router ++ instances_in_sends p.sends)
     pub same_router : p.router.id ≡ old.id
     pub own : AnnouncesItsOwn p.router
     pub announced : (key : Key) (e : External) → finite.get p.router.announced key ≡ Some e → P key
 
   module _ (old : Router) (moment : ℕ) (event : Occurrence) (outs : List Out) (new : Router) (happens : Happens old moment event outs new) where
-    abbrev K : LsaInstance → Type 0
-    K name = IsExplained old event name × Q name
-
     abbrev t : Telling
-    t = named_by K P (λ name k. so name k.1) (length old.area.links)
+    t = named_by Q P so (length old.area.links)
 
     abbrev p : EventState
     p = end_event old moment happens.after
 
-    abbrev names : List LsaInstance
-    names = instances_stored p.router ++ instances_in_sends p.sends
-
     left : AnnouncesItsOwn old → Enters old event → OfEvent (told t old.id) p
     left own enters =
-        event_told t old.id
-        (λ key copy says its wants. (
-          IsExplained.New (record { key = key; copy = copy; says = says; own = its.0; is = refl }),
-          enters.new key copy says its.1 (second_of (IsExplained old event) Q key copy wants.0) wants.1,
-        ))
-        enters.own old moment event happens.after
+        event_told t old.id (λ key copy says its wants. enters.new key copy says its.1 wants.0 wants.1) enters.own old moment event happens.after
         (record {
-          packet = λ number bytes packet is text.
-              body_brought K P (λ name k. so name k.1) (length old.area.links) packet.body
-              (paired_all (IsExplained old event) Q (instances_received packet.body)
-              (of_members (IsExplained old event) (instances_received packet.body) (λ name c. IsExplained.Brought number bytes packet is text c)) (enters.brought number bytes packet is text));
+          packet = λ number bytes packet is text. body_brought Q P so (length old.area.links) packet.body (enters.brought number bytes packet is text);
           key = λ tagged tag priced price is. ((refl, enters.asked tagged tag priced price is), tt);
         })
-        happens.own
-        (named_held K P (λ name k. so name k.1) (length old.area.links) old refl
-        (paired_all (IsExplained old event) Q (instances_stored old) (of_members (IsExplained old event) (instances_stored old) (λ name c. IsExplained.Held c)) enters.held))
-        refl (all_own t old own enters.announced)
+        happens.own (named_held Q P so (length old.area.links) old refl enters.held) refl (all_own t old own enters.announced)
 
     pub event_leaves : AnnouncesItsOwn old → Enters old event → Leaves old event p
     event_leaves own enters =
         let end : OfEvent (told t old.id) p = left own enters in
-        let all : AllByRecursion K names = held_named K P (λ name k. so name k.1) (length old.area.links) p.router p.sends end.area in
-        let why : AllByRecursion (IsExplained old event) names = each_all K (IsExplained old event) (λ name k. k.0) names all in
-        let originated : List LsaInstance = new_ones old event names why in
         record {
-          originated = originated;
-          new_instances = all_new old event names why;
-          known = paired_all (IsKnown old event originated) Q names (all_known old event names why) (each_all K Q (λ name k. k.1) names all);
+          holds = held_named Q P so (length old.area.links) p.router p.sends end.area;
           same_router = end.announced.0;
           own = announces t p.router (subst (λ id. AllIn (IsOwn t id) p.router.announced) (sym end.announced.0) end.announced.1);
           announced = λ key e is. (subst (IfThere (IsOwn t old.id) key) is (end.announced.1 key)).1;
@@ -327,11 +289,9 @@ module _ (Q : LsaInstance → Type 0) (P : Key → Type 0) (so : (name : LsaInst
 abbrev Any : LsaInstance → Type 0
 Any name = Unit {0}
 
-pub event_known : (old : Router) (moment : ℕ) (event : Occurrence) (outs : List Out) (new : Router) → Happens old moment event outs new
-    → AnnouncesItsOwn old → AnnouncesItsOwn new × HoldsWhatIsKnown old event outs new
-event_known old moment event outs new happens own =
-    let p : EventState = end_event old moment happens.after in
-    let l : Leaves Any (λ key. Unit {0}) (λ name q. tt) old event p =
+own_left : (old : Router) (moment : ℕ) (event : Occurrence) (outs : List Out) (new : Router) (happens : Happens old moment event outs new)
+    → AnnouncesItsOwn old → Leaves Any (λ key. Unit {0}) (λ name q. tt) old event (end_event old moment happens.after)
+own_left old moment event outs new happens own =
     event_leaves Any (λ key. Unit {0}) (λ name q. tt) old moment event outs new happens own
     (record {
       own = tt;
@@ -340,28 +300,13 @@ event_known old moment event outs new happens own =
       brought = λ number bytes packet is text. of_members Any (instances_received packet.body) (λ name c. tt);
       asked = λ tagged tag priced price is. tt;
       new = λ key copy says its there goes. tt;
-    }) in
-    let originated : List LsaInstance = l.originated in
-    let known : AllByRecursion (IsKnown old event originated) (instances_stored p.router ++ instances_in_sends p.sends) =
-    each_all (λ name. IsKnown old event originated name × Any name) (IsKnown old event originated) (λ name k. k.0) (instances_stored p.router ++ instances_in_sends p.sends) l.known in (
-      subst AnnouncesItsOwn (sym happens.router) l.own,
-      record {
-        originated = originated;
-        new_instances = l.new_instances;
-        same_router = ap (λ (r : Router). r.id) happens.router ∙ l.same_router;
-        own = λ name c. own_if_new old.id name (of_member (IsNewInstance old.id) originated l.new_instances name c);
-        held = λ name c.
-            of_member (IsKnown old event originated) (instances_stored p.router) (left_all (IsKnown old event originated) (instances_stored p.router) (instances_in_sends p.sends) known) name
-            (subst (λ (r : Router). Contains (instances_stored r) name) happens.router c);
-        sent = λ out c.
-            of_member (IsOutOf (IsKnown old event originated) old.id) outs
-            (subst (λ os. AllByRecursion (IsOutOf (IsKnown old event originated) old.id) os) (sym happens.sent)
-            (outs_bear (IsKnown old event originated) old.id p.sends
-            (named_sends (IsKnown old event originated) p.sends (right_all (IsKnown old event originated) (instances_stored p.router) (instances_in_sends p.sends) known)) 1
-            old.area.links))
-            out c;
-      },
-    )
+    })
+
+pub own_stays : (old : Router) (moment : ℕ) (event : Occurrence) (outs : List Out) (new : Router) → Happens old moment event outs new → AnnouncesItsOwn old → AnnouncesItsOwn new
+own_stays old moment event outs new happens own = subst AnnouncesItsOwn (sym happens.router) (own_left old moment event outs new happens own).own
+
+pub router_stays : (old : Router) (moment : ℕ) (event : Occurrence) (outs : List Out) (new : Router) → Happens old moment event outs new → AnnouncesItsOwn old → new.id ≡ old.id
+router_stays old moment event outs new happens own = ap (λ (r : Router). r.id) happens.router ∙ (own_left old moment event outs new happens own).same_router
 
 -- ---- the start, and every run
 
@@ -372,7 +317,7 @@ none_on t (i ∷ is) = (record { neighbor = tt; acknowledgments = none_in (OfWai
 abbrev anything : Config → Telling
 anything c = named_by Any (λ key. Unit {0}) (λ name q. tt) (length (map fresh_link c.interfaces))
 
-first_own : (c : Config) → AnnouncesItsOwn (initial c)
+pub first_own : (c : Config) → AnnouncesItsOwn (initial c)
 first_own c =
     let start : EventState = record { router = unannounced c; sends = [] } in
     let at : OfEvent (told (anything c) c.router) start = record {
@@ -381,14 +326,3 @@ first_own c =
     } in
     let end = first_told (anything c) c.router (λ key copy says its wants. tt) tt c.start start at in
     announces (anything c) (initial c) (subst (λ id. AllIn (IsOwn (anything c) id) (initial c).announced) (sym end.announced.0) end.announced.1)
-
-run_own : (steps : List Step) (old new : Router) → Run old steps new → AnnouncesItsOwn old → AnnouncesItsOwn new
-run_own [] old new same h = subst AnnouncesItsOwn (sym same) h
-run_own (s ∷ steps) old new run h = run_own steps run.0 new run.2 (event_known old s.moment s.event s.outs run.0 run.1 h).0
-
-pub only_what_is_known : EventsHoldOnlyWhatIsKnown
-only_what_is_known = record {
-  first = first_own;
-  event = event_known;
-  run = λ c steps new run. run_own steps (initial c) new run (first_own c);
-}

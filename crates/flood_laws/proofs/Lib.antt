@@ -13,3 +13,9 @@ pub mod Requesting
 pub mod Limits
 pub mod Retransmitted
 pub mod OwnLsas
+pub mod EventWalk
+pub mod Owing
+pub mod Leaving
+pub mod Acknowledged
+pub mod News
+pub mod WrongSteps

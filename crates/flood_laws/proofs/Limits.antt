@@ -62,17 +62,17 @@ body_or other (Some says) = says
 
 -- ---- what is announced
 
-abbrev AreExternal : ByKey External → Type 0
+abbrev pub AreExternal : ByKey External → Type 0
 AreExternal announced = (key : Key) (e : External) → finite.get announced key ≡ Some e → key.ls_type ≡ 5
 
-one_more : (announced : ByKey External) (k : Key) (e : External) → k.ls_type ≡ 5 → AreExternal announced → AreExternal (finite.insert announced k e)
+pub one_more : (announced : ByKey External) (k : Key) (e : External) → k.ls_type ≡ 5 → AreExternal announced → AreExternal (finite.insert announced k e)
 one_more announced k e is h key x at = by_key (same_key key k) refl (sym (finite.get-insert keys_total announced k e key) ∙ at)
   where
     by_key : (b : Bool) → same_key key k ≡ b → cond b (Some e) (finite.get announced key) ≡ Some x → key.ls_type ≡ 5
     by_key true same found = ap (λ (q : Key). q.ls_type) (tied_key key k same) ∙ is
     by_key false same found = h key x found
 
-one_less : (announced : ByKey External) (k : Key) → AreExternal announced → AreExternal (finite.remove announced k)
+pub one_less : (announced : ByKey External) (k : Key) → AreExternal announced → AreExternal (finite.remove announced k)
 one_less announced k h key x at = by_key (same_key key k) (sym (finite.get-remove keys_total announced k key) ∙ at)
   where
     by_key : (b : Bool) → cond b None (finite.get announced key) ≡ Some x → key.ls_type ≡ 5
@@ -94,7 +94,7 @@ wanted_type r key says externals wants = by_key (same_key key (router_key r.id))
         of_announced (Some e) there found = ap (λ o. type_of (body_or says o)) (sym found) ∙ sym (externals key e there)
 
 -- the key of a new instance
-new_key : (key : Key) (copy : Option DatabaseCopy) (says : LsaBody) → type_of says ≡ key.ls_type → lsa_key (new_instance key copy says) ≡ key
+pub new_key : (key : Key) (copy : Option DatabaseCopy) (says : LsaBody) → type_of says ≡ key.ls_type → lsa_key (new_instance key copy says) ≡ key
 unfolding sealed_lsa
 new_key key copy says is = ap (λ t. record { ls_type = t; link_state_id = key.link_state_id; advertising_router = key.advertising_router }) is
 

@@ -53,13 +53,13 @@ use Rattle.flood_laws.specs.Retransmissions.{AreOfTheDatabase, HasItsRetransmiss
 use Rattle.flood_laws.proofs.Always.{each_so}
 use Rattle.flood_laws.proofs.Invariants.{exchange_settled, filled_on_kept, still_heard_kept}
 
-if_so : {X : Type 0} (P R : Key → X → Type 0) (key : Key) (o : Option X) → ((x : X) → P key x → R key x) → IfThere P key o → IfThere R key o
+pub if_so : {X : Type 0} (P R : Key → X → Type 0) (key : Key) (o : Option X) → ((x : X) → P key x → R key x) → IfThere P key o → IfThere R key o
 if_so P R key None so h = tt
 if_so P R key (Some x) so h = so x h
 
 -- ---- what is so of a neighbor: its lists are sound, and its retransmissions are the database's
 
-abbrev OfIt : Database → Fact
+abbrev pub OfIt : Database → Fact
 OfIt db state s r t o = Sound state s r t o × AllIn (IsOfCopy db) t
 
 abbrev Begins : Database → ByKey ListEntry → Type 0
@@ -101,10 +101,10 @@ of_aged db key moment c there aged = (
       (stays_aged c.lsa.header.age c.stored moment now (eqb-true (age_at c.lsa.header.age c.stored moment) 3600 aged) later),
 )
 
-abbrev There : Database → Key → DatabaseCopy → Type 0
+abbrev pub There : Database → Key → DatabaseCopy → Type 0
 There db key c = finite.get db key ≡ Some c
 
-all_there : (db : Database) → AllByRecursion (OfEntry (There db)) (finite.entries db)
+pub all_there : (db : Database) → AllByRecursion (OfEntry (There db)) (finite.entries db)
 all_there db = entries_in (There db) db (λ key. found key (finite.get db key) refl)
   where
     found : (key : Key) (o : Option DatabaseCopy) → finite.get db key ≡ o → IfThere (There db) key o
@@ -125,13 +125,13 @@ begun moment db = made_in (IsOfCopy db) _ (aged_entries db moment (finite.entrie
 
 -- ---- copies under their own keys
 
-abbrev IsOwnKey : Key → DatabaseCopy → Type 0
+abbrev pub IsOwnKey : Key → DatabaseCopy → Type 0
 IsOwnKey key c = lsa_key c.lsa ≡ key
 
-abbrev OwnKeys : Database → Type 0
+abbrev pub OwnKeys : Database → Type 0
 OwnKeys db = AllIn IsOwnKey db
 
-own_at : (db : Database) (key : Key) (c : DatabaseCopy) → OwnKeys db → finite.get db key ≡ Some c → lsa_key c.lsa ≡ key
+pub own_at : (db : Database) (key : Key) (c : DatabaseCopy) → OwnKeys db → finite.get db key ≡ Some c → lsa_key c.lsa ≡ key
 own_at db key c own there = subst (IfThere IsOwnKey key) there (own key)
 
 own_changed : (key : Key) (change : DatabaseCopy → DatabaseCopy) → ((c : DatabaseCopy) → lsa_key (change c).lsa ≡ lsa_key c.lsa) → (db : Database)
@@ -219,8 +219,8 @@ module _ (moment : ℕ) (sender : Option ℕ) (lsa : Lsa) (old new : Database)
 -- ---- links and database
 
 pub record IsItsOwn (a : Area) : Type 0 where
-  keys : OwnKeys a.database
-  each : HoldsOfEach (Of (OfIt a.database)) a.links
+  pub keys : OwnKeys a.database
+  pub each : HoldsOfEach (Of (OfIt a.database)) a.links
 
 abbrev OfOutcome : Outcome → Type 0
 OfOutcome o = IsItsOwn o.area
@@ -305,7 +305,7 @@ both_aged : (a b : Bool) → (a && b) ≡ true → a ≡ true
 both_aged true b e = refl
 both_aged false b e = e
 
-ages_kept : (before moment : ℕ) (es : List (Key × DatabaseCopy)) (o : Outcome) → AllByRecursion (StillThere o.area.database) es → OfOutcome o
+pub ages_kept : (before moment : ℕ) (es : List (Key × DatabaseCopy)) (o : Outcome) → AllByRecursion (StillThere o.area.database) es → OfOutcome o
     → OfOutcome (fold (with_age before moment) o es)
 ages_kept before moment [] o still h = h
 ages_kept before moment (e ∷ es) o still h =
@@ -440,7 +440,7 @@ module _ (moment : ℕ) (a : Area) where
 
 -- ---- the whole event
 
-abbrev its_own : Invariant
+abbrev pub its_own : Invariant
 its_own = record {
   of_area = λ a sends. IsItsOwn a;
   of_announced = λ id announced. Unit {0};
@@ -453,7 +453,7 @@ keys_any : (keys : List Key) → AllByRecursion (λ key. Unit {0}) keys
 keys_any [] = tt
 keys_any (key ∷ keys) = (tt, keys_any keys)
 
-parts_keep : IsKeptByParts its_own
+pub parts_keep : IsKeptByParts its_own
 parts_keep = record {
   ages = λ before moment o h. ages_kept before moment (finite.entries o.area.database) o (still_all o.area.database _ (all_there o.area.database)) h;
   flushes = λ moment key c o is young h. flushes_kept moment key c o is h;
@@ -556,7 +556,7 @@ all_of db n are key = found (finite.get n.retransmissions key) refl
     found None is = tt
     found (Some x) is = are key x is
 
-told : (r : Router) → IsItsOwn r.area → HasItsRetransmissions r
+pub told : (r : Router) → IsItsOwn r.area → HasItsRetransmissions r
 told r h = record {
   keys = λ key copy there. own_at r.area.database key copy h.keys there;
   lists = each_so (Of (OfIt r.area.database)) HasSoundLists (λ n at. sound_lists n at.0) r.area.links h.each;
@@ -571,7 +571,7 @@ both_each db (x ∷ xs) lists entries = (one x.neighbor lists.0 entries.0, both_
     one None sound are = tt
     one (Some n) sound are = (sound_of n sound, all_of db n are)
 
-read : (r : Router) → HasItsRetransmissions r → IsItsOwn r.area
+pub read : (r : Router) → HasItsRetransmissions r → IsItsOwn r.area
 read r h = record {
   keys = λ key. found key (finite.get r.area.database key) refl;
   each = both_each r.area.database r.area.links h.lists h.entries;

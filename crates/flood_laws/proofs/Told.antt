@@ -54,11 +54,10 @@ abbrev pub IsWanted : Telling → Key → Option DatabaseCopy → LsaBody → Ty
 IsWanted t key copy says =
     IfThere (OfCopy t) key copy × (has_max_sequence copy ≡ false) × ((r : Router) × (length r.area.links ≡ t.count) × (wanted_body r key ≡ Some says))
 
-module _ (t : Telling) (id : ℕ) (news : (key : Key) (copy : Option DatabaseCopy) (says : LsaBody) → IsOwnKey t id key → IsWanted t key copy says → t.of_lsa (new_instance key copy says))
-    (router_told : t.of_key (router_key id)) where
+module _ (t : Telling) where
   -- ---- ages, and the router's own LSAs
 
-  ages_told : (before moment : ℕ) (es : List (Key × DatabaseCopy)) (o : Outcome) → AllByRecursion (OfEntry (OfCopy t)) es → OfOutcome t o
+  pub ages_told : (before moment : ℕ) (es : List (Key × DatabaseCopy)) (o : Outcome) → AllByRecursion (OfEntry (OfCopy t)) es → OfOutcome t o
       → OfOutcome t (fold (with_age before moment) o es)
   ages_told before moment [] o so h = h
   ages_told before moment (e ∷ es) o so h =
@@ -66,7 +65,7 @@ module _ (t : Telling) (id : ℕ) (news : (key : Key) (copy : Option DatabaseCop
       (chosen (OfOutcome t) (has_just_aged_out before moment e.1) (flood_from_nobody moment (lsa_now moment e.1) o) o
       (λ is. flood_told t moment None (lsa_now moment e.1) o (lsa_now_told t moment e.1 so.0) h) (λ is. h))
 
-  flushed_told : (moment : ℕ) (key : Key) (c : DatabaseCopy) (o : Outcome) → finite.get o.area.database key ≡ Some c → OfOutcome t o
+  pub flushed_told : (moment : ℕ) (key : Key) (c : DatabaseCopy) (o : Outcome) → finite.get o.area.database key ≡ Some c → OfOutcome t o
       → OfOutcome t (flood_from_nobody moment (lsa_aged 3600 c.lsa) (on_database (age_out moment key) o))
   flushed_told moment key c o is h =
       let so : IfThere (OfCopy t) key (Some c) = subst (IfThere (OfCopy t) key) is (h.copies key) in
@@ -75,6 +74,52 @@ module _ (t : Telling) (id : ℕ) (news : (key : Key) (copy : Option DatabaseCop
       (changed_told t key (λ d. record d { lsa = lsa_aged 3600 d.lsa; stored = moment }) (λ d at. t.aged 3600 d.lsa (omega arith) at) o.area.database h.copies) h in
       flood_told t moment None (lsa_aged 3600 c.lsa) (on_database (age_out moment key) o) (t.aged 3600 c.lsa (omega arith) so) old
 
+  -- ---- each link
+
+  pub exchange_settled : (moment dead : ℕ) (o : Option Neighbor) → OfOwedIfAny t o → OfOwedIfAny t (settled_exchange moment dead o)
+  exchange_settled moment dead None h = tt
+  exchange_settled moment dead (Some n) h = old_description_told t moment dead n h
+
+  pub each_link : (change : Link → Link) → ((link : Link) → OfLink t link → OfLink t (change link)) → (o : Outcome) → OfOutcome t o → OfOutcome t (on_links (map change) o)
+  each_link change keeps o h = on_links_told t (map change) o (each_link_told t change keeps o.area.links h.links) (length-map o.area.links change) h
+
+  pub filled_on_told : (o : Option Neighbor) → OfOwedIfAny t o → OfOwedIfAny t (loading_done_on o)
+  filled_on_told None h = tt
+  filled_on_told (Some n) h = filled_told t n h
+
+  -- ---- what each link sends by itself
+
+  pub sends_told : (f : Link → List Content) → ((link : Link) → OfLink t link → AllByRecursion (OfContent t) (f link)) → (k : ℕ) (xs : List Link) → OfLinks t xs
+      → AllByRecursion (OfSend t) (flat_map (λ (e : ℕ × Link). numbered e.0 (f e.1)) (enumerate_from k xs))
+  sends_told f each k [] h = tt
+  sends_told f each k (x ∷ xs) h =
+      joined (OfSend t) (numbered k (f x)) (flat_map (λ (e : ℕ × Link). numbered e.0 (f e.1)) (enumerate_from (k + 1) xs))
+      (numbered_told t k (f x) (each x h.0)) (sends_told f each (k + 1) xs h.1)
+
+  pub acknowledgments_told : (es : List (Key × Header)) → AllByRecursion (OfEntry (OfWaiting t)) es → AllByRecursion (OfContent t) (map Content.Acknowledges (map (λ e. e.1) es))
+  acknowledgments_told [] h = tt
+  acknowledgments_told (e ∷ es) h = (h.0, acknowledgments_told es h.1)
+
+  pub hello_told_on : (moment : ℕ) (link : Link) → AllByRecursion (OfContent t) (hello_sent_on moment link)
+  hello_told_on moment link =
+      chosen (AllByRecursion (OfContent t)) (hello_is_due moment link) (Content.SendsHello (hello_on link) ∷ []) [] (λ is. (tt, tt)) (λ is. tt)
+
+  -- ---- a Hello
+
+  pub hello_heard : (own moment number from : ℕ) (hello : Hello) (link : Option Link) (o : Outcome) → OfOwedIfAny t (neighbor_on link) → OfOutcome t o
+      → OfOutcome t (heard_on own moment number from hello link o)
+  hello_heard own moment number from hello None o here h = h
+  hello_heard own moment number from hello (Some link) o here h =
+      let s : NeighborStep = adjacencies.after_hello moment from (names own hello) link.neighbor in
+      let so : OfStep t s = hello_told t moment from (names own hello) link.neighbor here in
+      chosen (OfOutcome t) (accepts own from hello link) (hear moment number s o) o
+      (λ is.
+      sending_told t moment (numbered number s.sends) _ (numbered_told t number s.sends so.sends)
+      (change_told t number (with_neighbor s.neighbor) (λ l at. record { neighbor = so.neighbor; acknowledgments = at.acknowledgments }) o h))
+      (λ is. h)
+
+module _ (t : Telling) (id : ℕ) (news : (key : Key) (copy : Option DatabaseCopy) (says : LsaBody) → IsOwnKey t id key → IsWanted t key copy says → t.of_lsa (new_instance key copy says))
+    (router_told : t.of_key (router_key id)) where
   originated_told : (moment : ℕ) (key : Key) (says : LsaBody) (p : EventState) → IsOwnKey t id key → has_max_sequence (finite.get p.router.area.database key) ≡ false
       → wanted_body p.router key ≡ Some says → OfArea t p.router.area p.sends
       → OfOutcome t (install_and_flood moment (new_instance key (finite.get p.router.area.database key) says) (outcome p))
@@ -84,36 +129,6 @@ module _ (t : Telling) (id : ℕ) (news : (key : Key) (copy : Option DatabaseCop
       flood_told t moment None lsa (on_database (install_originated moment lsa) (outcome p)) so
       (on_database_told t (install_originated moment lsa) (outcome p)
       (inserted_in (OfCopy t) p.router.area.database (lsa_key lsa) (record { lsa = lsa; stored = moment; installed = None; sent = None }) h.copies so) h)
-
-  -- ---- each link
-
-  exchange_settled : (moment dead : ℕ) (o : Option Neighbor) → OfOwedIfAny t o → OfOwedIfAny t (settled_exchange moment dead o)
-  exchange_settled moment dead None h = tt
-  exchange_settled moment dead (Some n) h = old_description_told t moment dead n h
-
-  each_link : (change : Link → Link) → ((link : Link) → OfLink t link → OfLink t (change link)) → (o : Outcome) → OfOutcome t o → OfOutcome t (on_links (map change) o)
-  each_link change keeps o h = on_links_told t (map change) o (each_link_told t change keeps o.area.links h.links) (length-map o.area.links change) h
-
-  filled_on_told : (o : Option Neighbor) → OfOwedIfAny t o → OfOwedIfAny t (loading_done_on o)
-  filled_on_told None h = tt
-  filled_on_told (Some n) h = filled_told t n h
-
-  -- ---- what each link sends by itself
-
-  sends_told : (f : Link → List Content) → ((link : Link) → OfLink t link → AllByRecursion (OfContent t) (f link)) → (k : ℕ) (xs : List Link) → OfLinks t xs
-      → AllByRecursion (OfSend t) (flat_map (λ (e : ℕ × Link). numbered e.0 (f e.1)) (enumerate_from k xs))
-  sends_told f each k [] h = tt
-  sends_told f each k (x ∷ xs) h =
-      joined (OfSend t) (numbered k (f x)) (flat_map (λ (e : ℕ × Link). numbered e.0 (f e.1)) (enumerate_from (k + 1) xs))
-      (numbered_told t k (f x) (each x h.0)) (sends_told f each (k + 1) xs h.1)
-
-  acknowledgments_told : (es : List (Key × Header)) → AllByRecursion (OfEntry (OfWaiting t)) es → AllByRecursion (OfContent t) (map Content.Acknowledges (map (λ e. e.1) es))
-  acknowledgments_told [] h = tt
-  acknowledgments_told (e ∷ es) h = (h.0, acknowledgments_told es h.1)
-
-  hello_told_on : (moment : ℕ) (link : Link) → AllByRecursion (OfContent t) (hello_sent_on moment link)
-  hello_told_on moment link =
-      chosen (AllByRecursion (OfContent t)) (hello_is_due moment link) (Content.SendsHello (hello_on link) ∷ []) [] (λ is. (tt, tt)) (λ is. tt)
 
   -- ---- the own LSAs that are due
 
@@ -134,27 +149,15 @@ module _ (t : Telling) (id : ℕ) (news : (key : Key) (copy : Option DatabaseCop
 
   -- ---- the parts, and the whole event
 
-  hello_heard : (own moment number from : ℕ) (hello : Hello) (link : Option Link) (o : Outcome) → OfOwedIfAny t (neighbor_on link) → OfOutcome t o
-      → OfOutcome t (heard_on own moment number from hello link o)
-  hello_heard own moment number from hello None o here h = h
-  hello_heard own moment number from hello (Some link) o here h =
-      let s : NeighborStep = adjacencies.after_hello moment from (names own hello) link.neighbor in
-      let so : OfStep t s = hello_told t moment from (names own hello) link.neighbor here in
-      chosen (OfOutcome t) (accepts own from hello link) (hear moment number s o) o
-      (λ is.
-      sending_told t moment (numbered number s.sends) _ (numbered_told t number s.sends so.sends)
-      (change_told t number (with_neighbor s.neighbor) (λ l at. record { neighbor = so.neighbor; acknowledgments = at.acknowledgments }) o h))
-      (λ is. h)
-
   parts_told : IsKeptByParts (told t id)
   parts_told = record {
-    ages = λ before moment o h. ages_told before moment (finite.entries o.area.database) o (entries_in (OfCopy t) o.area.database h.copies) h;
-    flushes = λ moment key c o is young h. flushed_told moment key c o is h;
+    ages = λ before moment o h. ages_told t before moment (finite.entries o.area.database) o (entries_in (OfCopy t) o.area.database h.copies) h;
+    flushes = λ moment key c o is young h. flushed_told t moment key c o is h;
     originates = λ moment key says p own goes wants grows h. originated_told moment key says p own goes wants h.area;
     own_router = λ r own. (own.0, subst (λ (i : ℕ). t.of_key (router_key i)) (sym own.0) router_told);
     case = λ case moment number lsa so o h. case_told t case moment number lsa o so h;
     own_received = λ r lsa so is own. (is ∙ own.0, t.key lsa so);
-    hello = λ own moment number from hello o h. hello_heard own moment number from hello (link_at number o.area.links) o (one_told t number o.area.links h.links) h;
+    hello = λ own moment number from hello o h. hello_heard t own moment number from hello (link_at number o.area.links) o (one_told t number o.area.links h.links) h;
     description = λ own moment number d o h.
         one_neighbor_told t moment number (after_description own moment o.area.database d)
         (description_told t own moment o.area.database d h.copies) o h;
@@ -168,9 +171,9 @@ module _ (t : Telling) (id : ℕ) (news : (key : Key) (copy : Option DatabaseCop
         (λ n at. quiet_told t (after_acknowledgment moment headers n) (acknowledgment_told t moment headers n at)) o h;
     due = λ moment r own. due_told moment r own.0 own.1;
     inactive = λ moment o h.
-        each_link (run_out moment)
+        each_link t (run_out moment)
         (λ link at. record {
-          neighbor = exchange_settled moment link.interface.dead_interval (adjacencies.after_inactivity_timer moment link.interface.dead_interval link.neighbor)
+          neighbor = exchange_settled t moment link.interface.dead_interval (adjacencies.after_inactivity_timer moment link.interface.dead_interval link.neighbor)
               (still_heard_told t moment link.interface.dead_interval link.neighbor at.neighbor);
           acknowledgments = at.acknowledgments;
         }) o h;
@@ -178,18 +181,18 @@ module _ (t : Telling) (id : ℕ) (news : (key : Key) (copy : Option DatabaseCop
         each_told t moment (again moment o) (λ number link n at. again_told t moment link.interface.retransmit_interval o.area.database n h.copies at) o h;
     acknowledges = λ moment o h.
         sending_told t moment (sends_of acknowledgments_on o.area.links) (on_links (map without_acknowledgments) o)
-        (sends_told acknowledgments_on
-        (λ link at. acknowledgments_told (finite.entries link.acknowledgments) (entries_in (OfWaiting t) link.acknowledgments at.acknowledgments)) 1 o.area.links h.links)
-        (each_link without_acknowledgments (λ link at. record { neighbor = at.neighbor; acknowledgments = none_in (OfWaiting t) }) o h);
+        (sends_told t acknowledgments_on
+        (λ link at. acknowledgments_told t (finite.entries link.acknowledgments) (entries_in (OfWaiting t) link.acknowledgments at.acknowledgments)) 1 o.area.links h.links)
+        (each_link t without_acknowledgments (λ link at. record { neighbor = at.neighbor; acknowledgments = none_in (OfWaiting t) }) o h);
     hellos = λ moment o h.
         sending_told t moment (sends_of (hello_sent_on moment) o.area.links) (on_links (map (with_hello_sent moment)) o)
-        (sends_told (hello_sent_on moment) (λ link at. hello_told_on moment link) 1 o.area.links h.links)
-        (each_link (with_hello_sent moment) (λ link at. record { neighbor = at.neighbor; acknowledgments = at.acknowledgments }) o h);
+        (sends_told t (hello_sent_on moment) (λ link at. hello_told_on t moment link) 1 o.area.links h.links)
+        (each_link t (with_hello_sent moment) (λ link at. record { neighbor = at.neighbor; acknowledgments = at.acknowledgments }) o h);
     announces = λ r e own h. (h.0, inserted_in (IsOwn t id) r.announced (external_key r.id e.prefix) e h.1 own);
     unannounces = λ r key h. (h.0, removed_in (IsOwn t id) r.announced key h.1);
     link_down = λ number o h. change_told t number taken_down (λ link at. record { neighbor = tt; acknowledgments = at.acknowledgments }) o h;
     loaded = λ o h.
-        each_link link_loading_done (λ link at. record { neighbor = filled_on_told link.neighbor at.neighbor; acknowledgments = at.acknowledgments }) o h;
+        each_link t link_loading_done (λ link at. record { neighbor = filled_on_told t link.neighbor at.neighbor; acknowledgments = at.acknowledgments }) o h;
     requests = λ moment o h. each_told t moment (λ number link n. request_next moment n) (λ number link n at. request_told t moment n at) o h;
     removes = λ moment o h.
         on_database_told t (λ db. finite.retain_keys db (stays moment o.area)) o (retained_in (OfCopy t) o.area.database (stays moment o.area) h.copies) h;

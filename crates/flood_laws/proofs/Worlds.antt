@@ -5,13 +5,14 @@ use Rattle.std.specs.List.{Contains}
 use Rattle.std.proofs.lemmas.List.Elements.{Contains-append_cases, Contains-append_left, Contains-append_right}
 use Rattle.packet.specs.declared.model.Packet.{Packet}
 use Rattle.packet.specs.Text.{PacketText}
+use Rattle.words.specs.Numbers.{RouterNumber}
 use Rattle.packet.proofs.Whole.{one_packet}
 use Rattle.events.specs.declared.model.Config.{Config}
 use Rattle.events.specs.Events.{initial}
 use Rattle.events.specs.Routers.{Occurrence, Router}
 use Rattle.events.specs.LsaInstances.{LsaInstance, instances_received, instances_advertised}
-use Rattle.events.specs.Worlds.{AcknowledgedWasReceived, Brings, Datagram, IsHistory, IsKnown, IsLawfulOut, Joins, Knowledge, Lives, Restarts, World, WorldStep, all_known, begun_with, known_as, knows, instances_stored, sent_from}
-use Rattle.flood_laws.proofs.Taken.{taken_was_told}
+use Rattle.flood_laws.specs.Worlds.{AcknowledgedWasReceived, Brings, Datagram, IsHistory, IsKnown, IsLawfulOut, Joins, Knowledge, Lives, Restarts, World, WorldStep, all_known, begun_with, known_as, knows, instances_stored, sent_from, MayHappen}
+use Rattle.flood_laws.specs.TakenOff.{IsTold}
 
 -- ---- lists
 
@@ -28,7 +29,7 @@ mapped_at f [] x k lt e = absurd (omega (arith, lt))
 mapped_at f (y ∷ ys) x zero lt e = let first : 0 < suc (length (map f ys)) = omega arith in (0, first, ap f e)
 mapped_at f (y ∷ ys) x (suc k) lt e = let further : k < length ys = omega (arith, lt) in one_more (f y) (map f ys) (f x) (mapped_at f ys x k further e)
 
-mapped : {X Y : Type 0} (f : X → Y) (xs : List X) (x : X) → Contains xs x → Contains (map f xs) (f x)
+pub mapped : {X Y : Type 0} (f : X → Y) (xs : List X) (x : X) → Contains xs x → Contains (map f xs) (f x)
 mapped f xs x c = mapped_at f xs x c.0 c.1 c.2
 
 unmapped_at : {X Y : Type 0} (f : X → Y) (xs : List X) (y : Y) (k : ℕ) → k < length (map f xs) → slice_index_or (map f xs) k y ≡ y → (x : X) × Contains xs x × (f x ≡ y)
@@ -39,7 +40,7 @@ unmapped_at f (x ∷ xs) y (suc k) lt e =
     let found = unmapped_at f xs y k further e in
     (found.0, one_more x xs found.0 found.1, found.2)
 
-unmapped : {X Y : Type 0} (f : X → Y) (xs : List X) (y : Y) → Contains (map f xs) y → (x : X) × Contains xs x × (f x ≡ y)
+pub unmapped : {X Y : Type 0} (f : X → Y) (xs : List X) (y : Y) → Contains (map f xs) y → (x : X) × Contains xs x × (f x ≡ y)
 unmapped f xs y c = unmapped_at f xs y c.0 c.1 c.2
 
 changed_place : {X : Type 0} (xs : List X) (i j : ℕ) (x y : X) → slice_get (set xs i x) j ≡ Some y → (x ≡ y) ⊎ (slice_get xs j ≡ Some y)
@@ -154,9 +155,24 @@ history_knows : (joins : Joins) (steps : List World) (w last : World) → IsHist
 history_knows joins [] w last h knowing = subst IsKnowing h knowing
 history_knows joins (next ∷ rest) w last h knowing = history_knows joins rest next last h.1 (step_knows joins w next h.0 knowing)
 
-pub acknowledged_was_received : AcknowledgedWasReceived
-acknowledged_was_received joins configs steps w after apart lawful history place moment number bytes packet text l name taken =
+-- what came in was sent, and what was sent was known
+heard_known : (joins : Joins) (w : World) → IsKnowing w → (place number : ℕ) (bytes : List ℕ) (packet : Packet) → MayHappen joins w place (Occurrence.Packet number bytes) → PacketText bytes packet
+    → (name : LsaInstance) → Contains (instances_advertised packet.body) name → Contains w.known (knows packet.router name)
+heard_known joins w knowing place number bytes packet may text name told =
+    knowing.told may.0 may.1 packet (subst (λ bs. PacketText bs packet) may.3 text) name told
+
+told_known : (joins : Joins) (configs : List Config) (steps : List World) (w after : World) → IsHistory joins (begun_with configs) steps w
+    → (place moment : ℕ) (event : Occurrence) → Lives joins w place moment event after → (number : ℕ) (router : RouterNumber) (name : LsaInstance) → IsTold event number router name
+    → Contains w.known (knows router name)
+told_known joins configs steps w after history place moment event l number router name told =
     let knowing : IsKnowing w = history_knows joins steps (begun_with configs) w history (knows_first configs) in
-    let d : Datagram = l.may.0 in
-    let its : PacketText d.bytes packet = subst (λ bs. PacketText bs packet) l.may.3 text in
-    knowing.told d l.may.1 packet its name (taken_was_told moment number packet l.old name taken)
+    subst (λ (r : RouterNumber). Contains w.known (knows r name)) told.from
+    (heard_known joins w knowing place number told.bytes told.packet (subst (MayHappen joins w place) told.is l.may) told.text name told.told)
+
+pub acknowledged_was_received : AcknowledgedWasReceived
+acknowledged_was_received = record {
+  told = λ joins configs steps w after apart lawful history place moment event l number router name told.
+      told_known joins configs steps w after history place moment event l number router name told;
+  left = λ joins configs steps w after apart lawful history place moment event l number n name taken.
+      told_known joins configs steps w after history place moment event l number n.router name (l.keeps.taken number n name taken);
+}

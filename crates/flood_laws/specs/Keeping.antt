@@ -9,7 +9,6 @@ use Rattle.words.specs.Numbers.{InterfaceNumber, Moment, RouterNumber}
 use Rattle.words.specs.declared.key.Key.{Key}
 use Rattle.words.specs.declared.route.External.{External}
 use Rattle.packet.specs.declared.model.Body.{Body}
-use Rattle.packet.specs.declared.model.Packet.{Packet}
 use Rattle.packet.specs.Text.{PacketText, canonical}
 use Rattle.received.specs.Links.{Link}
 use Rattle.received.specs.Outcomes.{Send}
@@ -17,12 +16,12 @@ use Rattle.events.specs.declared.model.Config.{Config}
 use Rattle.events.specs.declared.model.Out.{Out}
 use Rattle.events.specs.Endings.{end_event}
 use Rattle.events.specs.Events.{Happens, Run, Step, initial}
-use Rattle.events.specs.LsaInstances.{LsaInstance, instances_advertised}
+use Rattle.events.specs.LsaInstances.{LsaInstance}
 use Rattle.events.specs.Packing.{at_interface, bodies, packet_of}
 use Rattle.events.specs.Routers.{Occurrence, Router}
-use Rattle.events.specs.Taken.{taken_by}
-use Rattle.events.specs.Worlds.{Keeps, instances_stored}
-use Rattle.flood_laws.specs.Known.{AnnouncesItsOwn, IsNewInstance}
+use Rattle.flood_laws.specs.InOrder.{AnnouncesItsOwn, IsInOrder}
+use Rattle.flood_laws.specs.TakenOff.{TakesOffWhatIsTold}
+use Rattle.flood_laws.specs.Worlds.{Keeps, instances_stored}
 
 -- ---- what a step keeps
 
@@ -30,13 +29,7 @@ pub record KeepsWhatIsKnown (old : Router) (moment : Moment) (event : Occurrence
     (outs : List Out) (new : Router) : Type 0 where
   -- what the event originates
   pub originated : List LsaInstance
-  pub new_instances : AllByRecursion (IsNewInstance old.id) originated
   pub keeps : Keeps old moment event outs new originated
-  -- what the event's packet takes off, it tells
-  pub taken : (number : ℕ) (bytes : List ℕ) (packet : Packet)
-      → event ≡ Occurrence.Packet number bytes → PacketText bytes packet
-      → (name : LsaInstance) → Contains (taken_by moment number packet old) name
-      → Contains (instances_advertised packet.body) name
 
 -- ---- A Rust value's numbers are in their ranges; a clause's may be any.
 
@@ -78,6 +71,15 @@ pub record InstancesStayInRange : Type 0 where
       → AllByRecursion (λ (s : Step). AnnouncesAddress s.event) steps
       → Run (initial c) steps new → HoldsInstances new
 
+-- ---- what is taken off was told
+
+-- what leaves a retransmission list as acknowledged, the event's packet from that neighbor tells
+abbrev pub WhatIsTakenOffWasTold : Type 0
+WhatIsTakenOffWasTold =
+    (old : Router) (moment : Moment) (event : Occurrence) (outs : List Out) (new : Router)
+    → Happens old moment event outs new → IsInOrder old
+    → TakesOffWhatIsTold old moment event new
+
 -- ---- the law
 
 -- what is written for it is a text of a packet of this router that says so
@@ -95,12 +97,12 @@ abbrev pub AreTexts : RouterNumber → List Link → List Send → Type 0
 AreTexts own links sends =
     AllByRecursion (λ (e : ℕ × Link). AreTextsAt own sends e.0 e.1) (enumerate_from 1 links)
 
--- of a router that announces under its own Router ID alone, whose instances have their numbers in
--- their ranges, where what is sent is written as texts
+-- of a router as it is in every run, whose instances have their numbers in their ranges, where what
+-- is sent is written as texts
 abbrev pub EventsKeepWhatIsKnown : Type 0
 EventsKeepWhatIsKnown =
     (old : Router) (moment : Moment) (event : Occurrence) (outs : List Out) (new : Router)
     → (happens : Happens old moment event outs new) → AnnouncesAddress event
-    → AnnouncesItsOwn old → HoldsInstances old
+    → IsInOrder old → HoldsInstances old
     → AreTexts old.id old.area.links (end_event old moment happens.after).sends
     → KeepsWhatIsKnown old moment event outs new

@@ -1,36 +1,24 @@
 -- What an event leaves in a router and what it sends: instances that were held before, came in the
 -- event's Update, or are new ones of the router's own LSAs.
-use Rattle.std.specs.Prelude.{◌≡◌, ℕ, List, [], ◌∷◌, map, Option, Some}
-use Rattle.std.specs.FinMap as finite
+use Rattle.std.specs.Prelude.{◌≡◌, ℕ, List, [], ◌∷◌, map}
 use Rattle.std.specs.List.{AllByRecursion, Contains, flat_map}
-use Rattle.words.specs.declared.key.Key.{Key}
-use Rattle.words.specs.declared.route.External.{External}
+use Rattle.words.specs.Numbers.{Moment}
 use Rattle.lsa.specs.Headers.{IsHeader}
 use Rattle.lsa.specs.Text.{text}
-use Rattle.lsa.specs.declared.body.Body.{Body as LsaBody}
-use Rattle.lsdb.specs.Copies.{DatabaseCopy}
 use Rattle.lsdb.specs.Headers.{Lsa}
 use Rattle.packet.specs.declared.model.Body.{Body}
 use Rattle.packet.specs.declared.model.Body.TheVariants as packets
 use Rattle.adjacency.specs.Contents.{Content}
 use Rattle.received.specs.Outcomes.{Send}
-use Rattle.events.specs.declared.model.Config.{Config}
 use Rattle.events.specs.declared.model.Out.{Out}
-use Rattle.events.specs.Events.{Happens, Run, Step, initial}
+use Rattle.events.specs.Events.{Happens}
 use Rattle.events.specs.LsaInstances.{LsaInstance, instance_of_lsa, instance_of_header}
 use Rattle.events.specs.LsaInstances.{instances_in_update}
-use Rattle.events.specs.Originations.{new_instance}
 use Rattle.events.specs.Packing.{out_of}
 use Rattle.events.specs.Routers.{Occurrence, Router}
-use Rattle.events.specs.Worlds.{IsKnown, instances_stored}
-
--- a new instance of an LSA whose Advertising Router is this one
-pub record IsNewInstance (id : ℕ) (name : LsaInstance) : Type 0 where
-  pub key : Key
-  pub copy : Option DatabaseCopy
-  pub says : LsaBody
-  pub own : key.advertising_router ≡ id
-  pub is : instance_of_lsa (new_instance key copy says) ≡ name
+use Rattle.flood_laws.specs.InOrder.{IsInOrder}
+use Rattle.flood_laws.specs.NewInstances.{IsNewInstance}
+use Rattle.flood_laws.specs.Worlds.{IsKnown, instances_stored}
 
 -- the instances that an Update or an Acknowledgment is to name
 abbrev pub instances_in_content : Content → List LsaInstance
@@ -67,32 +55,22 @@ pub record IsOutOf (K : LsaInstance → Type 0) (own : ℕ) (out : Out) : Type 0
   pub is : out ≡ out_of own number says
   pub bears : Bears K says
 
--- a router announces under its own Router ID alone
-abbrev pub AnnouncesItsOwn : Router → Type 0
-AnnouncesItsOwn r =
-    (key : Key) (e : External) → finite.get r.announced key ≡ Some e → key.advertising_router ≡ r.id
-
-pub record HoldsWhatIsKnown (old : Router) (event : Occurrence) (outs : List Out)
-    (new : Router) : Type 0 where
+pub record HoldsWhatIsKnown (old : Router) (moment : Moment) (event : Occurrence)
+    (outs : List Out) (new : Router) : Type 0 where
   -- what the event originates
   pub originated : List LsaInstance
-  pub new_instances : AllByRecursion (IsNewInstance old.id) originated
   pub same_router : new.id ≡ old.id
-  pub own : (name : LsaInstance) → Contains originated name → name.key.advertising_router ≡ old.id
+  pub is_new : (name : LsaInstance) → Contains originated name
+      → IsNewInstance old moment event new name
   pub held : (name : LsaInstance) → Contains (instances_stored new) name
       → IsKnown old event originated name
   pub sent : (out : Out) → Contains outs out → IsOutOf (IsKnown old event originated) old.id out
 
-pub record EventsHoldOnlyWhatIsKnown : Type 0 where
-  -- at the start
-  pub first : (c : Config) → AnnouncesItsOwn (initial c)
-  -- each event
-  pub event : (old : Router) (moment : ℕ) (event : Occurrence) (outs : List Out) (new : Router)
-      → Happens old moment event outs new → AnnouncesItsOwn old → AnnouncesItsOwn new
-      × HoldsWhatIsKnown old event outs new
-  -- so after every run from the start, whatever happens in it
-  pub run : (c : Config) (steps : List Step) (new : Router) → Run (initial c) steps new
-      → AnnouncesItsOwn new
+-- of a router as it is in every run
+abbrev pub EventsHoldOnlyWhatIsKnown : Type 0
+EventsHoldOnlyWhatIsKnown =
+    (old : Router) (moment : Moment) (event : Occurrence) (outs : List Out) (new : Router)
+    → Happens old moment event outs new → IsInOrder old → HoldsWhatIsKnown old moment event outs new
 
 -- an Update of the texts of LSAs whose headers' numbers are in their ranges names none but those
 -- LSAs

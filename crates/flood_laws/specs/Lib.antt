@@ -1,3 +1,7 @@
+pub mod NewInstances
+pub mod InOrder
+pub mod TakenOff
+pub mod Worlds
 pub mod Known
 pub mod Keeping
 pub mod Lawful
@@ -5,3 +9,4 @@ pub mod NeighborLaws
 pub mod LimitLaws
 pub mod Retransmissions
 pub mod OwnLsas
+pub mod WrongSteps

@@ -4,14 +4,16 @@
 
 ghost use Rattle.flood_laws.specs.Known.{EventsHoldOnlyWhatIsKnown, UpdatesTellWhatTheyBear};
 ghost use Rattle.flood_laws.specs.Keeping.{EventsKeepWhatIsKnown, InstancesStayInRange};
+ghost use Rattle.flood_laws.specs.InOrder.{RoutersStayInOrder};
+ghost use Rattle.flood_laws.specs.Keeping.{WhatIsTakenOffWasTold};
 ghost use Rattle.flood_laws.specs.Lawful.{TextsAreLawful};
 ghost use Rattle.flood_laws.specs.LimitLaws.{OthersStayWithinLimits};
 ghost use Rattle.flood_laws.specs.NeighborLaws.{FullNeighborsRequestNothing, ListsAreSound};
 ghost use Rattle.flood_laws.specs.NeighborLaws.{WhatIsLeftIsRequested};
 ghost use Rattle.flood_laws.specs.OwnLsas.{OnlyRouterAndExternalLsasAreWanted};
 ghost use Rattle.flood_laws.specs.Retransmissions.{RetransmissionsAreOfTheDatabase};
-ghost use Rattle.events.specs.Taken.{WhatIsTakenOffWasTold};
-ghost use Rattle.events.specs.Worlds.{AcknowledgedWasReceived};
+ghost use Rattle.flood_laws.specs.Worlds.{AcknowledgedWasReceived};
+ghost use Rattle.flood_laws.specs.WrongSteps.{AnotherAcknowledgmentTakesNothingOff};
 
 /// A neighbor that is Full has nothing to request: so it is at the start, each event keeps it so,
 /// and so it is after every run (RFC 2328, section 10.3).
@@ -56,9 +58,17 @@ pub fn only_router_and_external_lsas_are_wanted()
     ensures { OnlyRouterAndExternalLsasAreWanted }
 {}
 
-/// What an Acknowledgment, or an LSA that is an implied acknowledgment, takes off the
-/// retransmission list of its sender is an instance that the packet tells, by key, sequence number
-/// and checksum (RFC 2328, sections 13 and 13.7).
+/// What lets entries be followed through events: a router announces external destinations, under its
+/// own Router ID alone, and what stands on its retransmission lists is of its database. So it is at
+/// the start, each event keeps it so, and so it is after every run.
+pub fn routers_stay_in_order()
+    ensures { RoutersStayInOrder }
+{}
+
+/// Where an entry leaves the retransmission list of a neighbor in an event, the event's packet came
+/// from that neighbor and tells the instance, by key, sequence number and checksum: unless the
+/// adjacency is given up, which clears the lists, or the LSA is flooded in the event, which replaces
+/// its entries (RFC 2328, sections 13, step 7a, and 13.7).
 pub fn what_is_taken_off_was_told()
     ensures { WhatIsTakenOffWasTold }
 {}
@@ -97,15 +107,23 @@ pub fn instances_stay_in_range()
 /// Router ID stays, each packet that is sent is from this router, and each instance in the
 /// database, on the retransmission lists and among the delayed acknowledgments that it leaves, and
 /// each that an Update or an Acknowledgment tells that it sends, was held before, came in the
-/// event's Update, or is a new one of the router's own LSAs. What the event's packet takes off a
-/// retransmission list as acknowledged, it tells (RFC 2328, sections 13 and 13.7).
+/// event's Update, or is a new one of the router's own LSAs. What leaves a retransmission list as
+/// acknowledged, the event's packet from that neighbor tells (RFC 2328, sections 13 and 13.7).
 pub fn events_keep_what_is_known()
     ensures { EventsKeepWhatIsKnown }
 {}
 
+/// A step that takes an entry off a retransmission list for an acknowledgment of an older instance,
+/// or of any other than the one on the list, isn't one that keeps what acknowledgments rest on (RFC
+/// 2328, section 13.7).
+pub fn another_acknowledgment_takes_nothing_off()
+    ensures { AnotherAcknowledgmentTakesNothingOff }
+{}
+
 /// Over every history of routers whose steps keep what `Keeps` says, whatever is lost, repeated or
-/// late and whoever begins anew: what a packet takes off a retransmission list as acknowledged, the
-/// router that it is from had received or originated.
+/// late and whoever begins anew: where an entry leaves the retransmission list of a neighbor, and
+/// neither is the adjacency given up nor the LSA flooded in that step, the neighbor had received or
+/// originated the instance.
 pub fn acknowledged_was_received()
     ensures { AcknowledgedWasReceived }
 {}

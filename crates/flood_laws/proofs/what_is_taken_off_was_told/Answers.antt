@@ -1,5 +1,5 @@
-use Rattle.flood_laws.proofs.Taken.{taken_was_told}
+use Rattle.flood_laws.proofs.Acknowledged.{taken_off_was_told}
 use Rattle.flood_laws.proofs.what_is_taken_off_was_told.Goals as goal
 
 pub returns : goal.returns
-returns c = taken_was_told
+returns c = taken_off_was_told

@@ -1,7 +1,7 @@
 use Rattle.std.proofs.Common.{◌≡◌, None, sym, ◌∙◌}
 use Rattle.flood.specs.Early.{early_refusal}
 use Rattle.flood.specs.Occurrences.{occurrence_of}
-use Rattle.flood.proofs.Happening.{made_happens, made_holds, made_keeps, made_own}
+use Rattle.flood.proofs.Happening.{made_happens, made_holds, made_keeps, made_order}
 use Rattle.flood.proofs.Made.{if_ok, if_ok_with, ok_if}
 use Rattle.flood.proofs.Refusing.{event_answers}
 use Rattle.flood.proofs.taking.take.Goals as goal
@@ -17,13 +17,13 @@ returns-clause-keeps c =
     if_ok_with c.make.result
     (λ outs is texts.
     made_keeps c.args.router.now.present c.args.moment (occurrence_of c.args.event.now) c.in_ok-part.part c.in_ok-part.ensures.part outs.items c.make.new.router.present is c.read_part.ensures.address
-    c.requires.own c.requires.holds texts)
+    c.requires.order c.requires.holds texts)
     c.make.ensures.made c.make.ensures.texts
 
-pub returns-clause-own : goal.returns-clause-own
-returns-clause-own c =
+pub returns-clause-order : goal.returns-clause-order
+returns-clause-order c =
     ok_if c.make.result
-    (λ outs is. made_own c.args.router.now.present c.args.moment (occurrence_of c.args.event.now) c.in_ok-part.part c.in_ok-part.ensures.part outs.items c.make.new.router.present is c.requires.own)
+    (λ outs is. made_order c.args.router.now.present c.args.moment (occurrence_of c.args.event.now) c.in_ok-part.part c.in_ok-part.ensures.part outs.items c.make.new.router.present is c.requires.order)
     c.make.ensures.made
 
 pub returns-clause-holds : goal.returns-clause-holds
@@ -31,7 +31,7 @@ returns-clause-holds c =
     ok_if c.make.result
     (λ outs is.
     made_holds c.args.router.now.present c.args.moment (occurrence_of c.args.event.now) c.in_ok-part.part c.in_ok-part.ensures.part outs.items c.make.new.router.present is c.read_part.ensures.address
-    c.requires.own c.requires.holds)
+    c.requires.order c.requires.holds)
     c.make.ensures.made
 
 pub returns-clause-refused : goal.returns-clause-refused

@@ -5,8 +5,8 @@ use Rattle.event_rooms.specs.RoomLaws.{IsRoomy}
 use Rattle.events.specs.Refusals.{exceeds}
 use Rattle.flooding.specs.Kept.{RouterArea}
 use Rattle.flood.proofs.Kept.{begun}
+use Rattle.flood_laws.specs.InOrder.{IsInOrder}
 use Rattle.flood_laws.specs.Keeping.{HoldsInstances}
-use Rattle.flood_laws.specs.Known.{AnnouncesItsOwn}
 use Rattle.flood.proofs.router_core.Core.copy.Goals as goal
 
 pub invariant_of-result : goal.invariant_of-result
@@ -15,7 +15,7 @@ invariant_of-result c =
       ap (λ k. k.settled) c.in_ok-router.ensures ∙ sym present,
       subst IsRoomy (sym present) c.self.invariant.1,
       ap exceeds present ∙ c.self.invariant.2,
-      subst AnnouncesItsOwn (sym present) c.self.invariant.3,
+      subst IsInOrder (sym present) c.self.invariant.3,
       subst HoldsInstances (sym present) c.self.invariant.4,
       begun c.in_ok-router.router.present c.id.result c.area.result.now.present c.moment.result c.in-Ok.routes
           c.id.ensures (ap (λ (a : RouterArea). a.present) c.area.ensures.parts) c.moment.ensures c.in-Ok.ensures.walk c.in-Ok.ensures.root c.in-Ok.ensures.candidates c.in-Ok.ensures.answered,

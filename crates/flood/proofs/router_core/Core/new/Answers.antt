@@ -5,10 +5,10 @@ use Rattle.event_rooms.specs.RoomLaws.{IsRoomy}
 use Rattle.event_rooms.proofs.Roomy.{every_packet_has_room}
 use Rattle.events.specs.Refusals.{exceeds}
 use Rattle.events.specs.Routers.{in_profile}
+use Rattle.flood_laws.specs.InOrder.{IsInOrder}
 use Rattle.flood_laws.specs.Keeping.{HoldsInstances}
-use Rattle.flood_laws.specs.Known.{AnnouncesItsOwn}
 use Rattle.flood_laws.proofs.Keeping.{instances_stay_in_range}
-use Rattle.flood_laws.proofs.Known.{only_what_is_known}
+use Rattle.flood_laws.proofs.Acknowledged.{routers_stay_in_order}
 use Rattle.flood_laws.proofs.Limits.{others_stay_within_limits}
 use Rattle.flooding.specs.Kept.{RouterArea}
 use Rattle.flood.proofs.Kept.{begun}
@@ -23,7 +23,7 @@ invariant_of-result c =
       settled,
       subst IsRoomy (sym is) (every_packet_has_room.first c.args.config.now fine),
       ap exceeds is ∙ others_stay_within_limits.start c.args.config.now,
-      subst AnnouncesItsOwn (sym is) (only_what_is_known.first c.args.config.now),
+      subst IsInOrder (sym is) (routers_stay_in_order.first c.args.config.now),
       subst HoldsInstances (sym is) (instances_stay_in_range.first c.args.config.now router),
       begun c.settle.new.self.present c.id.result c.area.result.now.present c.moment.result c.in-Ok.routes
           c.id.ensures (ap (λ (a : RouterArea). a.present) c.area.ensures.parts) c.moment.ensures c.in-Ok.ensures.walk c.in-Ok.ensures.root c.in-Ok.ensures.candidates c.in-Ok.ensures.answered,

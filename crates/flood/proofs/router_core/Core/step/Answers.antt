@@ -2,8 +2,8 @@ use Rattle.std.proofs.Common.{sym, ap, ◌∙◌, subst}
 use Rattle.event_rooms.specs.RoomLaws.{IsRoomy}
 use Rattle.events.specs.Refusals.{exceeds}
 use Rattle.events.specs.Routers.{Router}
+use Rattle.flood_laws.specs.InOrder.{IsInOrder}
 use Rattle.flood_laws.specs.Keeping.{HoldsInstances}
-use Rattle.flood_laws.specs.Known.{AnnouncesItsOwn}
 use Rattle.flood.specs.Occurrences.{occurrence_of}
 use Rattle.flood.specs.Offers.{AreKeptNow}
 use Rattle.flood.proofs.Happening.{stays_roomy}
@@ -16,7 +16,7 @@ invariant_of-self c =
       subst IsRoomy (sym is)
           (stays_roomy c.self.inside.router.present c.args.moment (occurrence_of c.args.event.now) c.in-Ok.outs.items c.take_and_keep.new.router.present c.in-Ok.ensures.ok c.self.invariant.1),
       ap exceeds is ∙ c.in-Ok.ensures.limit,
-      subst AnnouncesItsOwn (sym is) c.in-Ok.ensures.own,
+      subst IsInOrder (sym is) c.in-Ok.ensures.order,
       subst HoldsInstances (sym is) c.in-Ok.ensures.holds,
       subst (λ (s : Router). AreKeptNow s c.take_and_keep.new.routes) (sym is) c.in-Ok.ensures.kept,
     )

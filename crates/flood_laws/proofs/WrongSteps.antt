@@ -1,0 +1,83 @@
+-- An acknowledgment of another instance than the one on the list takes nothing off.
+use Rattle.std.proofs.Common.{◌≡◌, ℕ, true, false, cond, List, Option, None, Some, refl, sym, ap, subst, ◌∙◌}
+use Rattle.std.specs.Prelude.{◌==◌}
+use Rattle.std.specs.List.{Contains}
+use Rattle.std.proofs.lemmas.Bool.{eqb-false}
+use Rattle.lsdb.specs.Headers.{Header}
+use Rattle.packet.specs.declared.model.Body.TheVariants as body
+use Rattle.packet.specs.declared.model.Packet.{Packet}
+use Rattle.packet.specs.Text.{PacketText}
+use Rattle.packet.proofs.Whole.{one_packet}
+use Rattle.adjacency.specs.Neighbors.{Neighbor}
+use Rattle.adjacency.specs.Retransmissions.{remove_retransmission}
+use Rattle.adjacency.proofs.Kept.{chosen}
+use Rattle.received.specs.Links.{Link, neighbor_at}
+use Rattle.received.proofs.Flooded.{removed}
+use Rattle.events.specs.declared.model.Out.{Out}
+use Rattle.events.specs.LsaInstances.{LsaInstance, instances_advertised}
+use Rattle.events.specs.Routers.{Occurrence, Router}
+use Rattle.flood_laws.specs.NewInstances.{BringsLsa, lsas_brought}
+use Rattle.flood_laws.specs.TakenOff.{IsFlooded, IsTakenOff, IsTold, listed_instance}
+use Rattle.flood_laws.specs.Worlds.{Keeps}
+use Rattle.flood_laws.specs.WrongSteps.{AcknowledgesAnother, AnotherAcknowledgmentTakesNothingOff, release_on, released, without_entry}
+use Rattle.flood_laws.proofs.Leaving.{numbered_kept}
+use Rattle.flood_laws.proofs.Lists.{of_empty}
+
+bytes_of : List ℕ → Occurrence → List ℕ
+bytes_of other (Occurrence.Packet number bytes) = bytes
+bytes_of other Occurrence.Tick = other
+bytes_of other (Occurrence.Redistribute tagged tag priced price) = other
+bytes_of other (Occurrence.Withdraw prefix) = other
+bytes_of other (Occurrence.Install answers) = other
+bytes_of other (Occurrence.LinkDown number) = other
+
+same_bytes : (a b : ℕ) (bytes others : List ℕ) → Occurrence.Packet a bytes ≡ Occurrence.Packet b others → bytes ≡ others
+unfolding bytes_of
+same_bytes a b bytes others e = ap (bytes_of bytes) e
+
+module _ (old : Router) (moment number : ℕ) (n : Neighbor) (name : LsaInstance) (bytes : List ℕ) (headers : List Header)
+    (at : AcknowledgesAnother old moment number n name bytes headers) where
+  abbrev new : Router
+  new = without_entry number name.key old
+
+  abbrev event : Occurrence
+  event = Occurrence.Packet number bytes
+
+  abbrev sent : Packet
+  sent = record { router = n.router; body = body.Acknowledgment headers }
+
+  -- whatever packet the bytes are, it is this one
+  is_it : (other : ℕ) (others : List ℕ) (packet : Packet) → event ≡ Occurrence.Packet other others → PacketText others packet → sent ≡ packet
+  is_it other others packet is text = one_packet bytes sent packet at.text (subst (λ bs. PacketText bs packet) (sym (same_bytes number other bytes others is)) text)
+
+  left_there : neighbor_at number new.area.links ≡ Some (remove_retransmission name.key n)
+  left_there =
+      numbered_kept (λ (o : Option Neighbor). o ≡ Some n) (λ (o : Option Neighbor). o ≡ Some (remove_retransmission name.key n)) (λ none. absurd cc)
+      (λ (e : ℕ × Link). cond (e.0 == number) (release_on name.key e.1) e.1) number
+      (λ link is. chosen (λ (l : Link). l.neighbor ≡ Some (remove_retransmission name.key n)) (number == number) (release_on name.key link) link
+      (λ here. ap (released name.key) is) (λ away. absurd (eqb-false number number away refl)))
+      old.area.links at.there
+
+  not_flooded : IsFlooded old moment event new number n name.key → ⊥
+  not_flooded (IsFlooded.Newer newer st) =
+      let b : BringsLsa event newer.lsa = newer.brought in
+      of_empty newer.lsa (subst (λ (p : Packet). Contains (lsas_brought p.body) newer.lsa) (sym (is_it b.number b.bytes b.packet b.is b.text)) b.among)
+  not_flooded (IsFlooded.Originated it st) = it.not_before it.now
+  not_flooded (IsFlooded.Aged comes asked) = let no_such : true ≡ false = sym comes ∙ at.young in absurd cc
+
+  pub taken_off : IsTakenOff old moment event new number n name
+  taken_off = record {
+    after = remove_retransmission name.key n;
+    adjacent = record { was = at.there; is = left_there; same_router = refl; from = at.part; on = at.part };
+    stood = at.owed;
+    left = λ owed. let none : None ≡ Some name = sym (ap (listed_instance name.key) (removed n.retransmissions name.key)) ∙ owed in absurd cc;
+    not_flooded = not_flooded;
+  }
+
+  pub never_kept : (outs : List Out) (originated : List LsaInstance) → Keeps old moment event outs new originated → ⊥
+  never_kept outs originated keeps =
+      let told : IsTold event number n.router name = keeps.taken number n name taken_off in
+      at.another (subst (λ (p : Packet). Contains (instances_advertised p.body) name) (sym (is_it number told.bytes told.packet told.is told.text)) told.told)
+
+pub another_takes_nothing_off : AnotherAcknowledgmentTakesNothingOff
+another_takes_nothing_off = never_kept

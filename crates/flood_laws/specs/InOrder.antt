@@ -1,0 +1,34 @@
+-- What holds of a router at every point of a run, and lets entries be followed through an event.
+use Rattle.std.specs.Prelude.{◌≡◌, List, Some}
+use Rattle.std.specs.FinMap as finite
+use Rattle.words.specs.Numbers.{Moment}
+use Rattle.words.specs.declared.key.Key.{Key}
+use Rattle.words.specs.declared.route.External.{External}
+use Rattle.events.specs.declared.model.Config.{Config}
+use Rattle.events.specs.declared.model.Out.{Out}
+use Rattle.events.specs.Events.{Happens, Run, Step, initial}
+use Rattle.events.specs.Routers.{Occurrence, Router}
+use Rattle.flood_laws.specs.LimitLaws.{AnnouncesExternals}
+use Rattle.flood_laws.specs.Retransmissions.{HasItsRetransmissions}
+
+-- a router announces under its own Router ID alone
+abbrev pub AnnouncesItsOwn : Router → Type 0
+AnnouncesItsOwn r =
+    (key : Key) (e : External) → finite.get r.announced key ≡ Some e → key.advertising_router ≡ r.id
+
+-- it announces external destinations, under its own Router ID, and what stands on its
+-- retransmission lists is of its database
+pub record IsInOrder (r : Router) : Type 0 where
+  pub own : AnnouncesItsOwn r
+  pub externals : AnnouncesExternals r
+  pub retransmissions : HasItsRetransmissions r
+
+pub record RoutersStayInOrder : Type 0 where
+  -- at the start
+  pub first : (c : Config) → IsInOrder (initial c)
+  -- after each event, where it held before it
+  pub event : (old : Router) (moment : Moment) (event : Occurrence) (outs : List Out)
+      (new : Router) → Happens old moment event outs new → IsInOrder old → IsInOrder new
+  -- so after every run from the start, whatever happens in it
+  pub run : (c : Config) (steps : List Step) (new : Router) → Run (initial c) steps new
+      → IsInOrder new

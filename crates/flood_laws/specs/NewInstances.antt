@@ -1,0 +1,72 @@
+-- What an event brings, and new instances of the router's own LSAs, as facts of the router before
+-- the event and after it (RFC 2328, section 12.4).
+use Rattle.std.specs.Prelude.{◌≡◌, ℕ, List, [], Option, None, Some}
+use Rattle.std.specs.FinMap as finite
+use Rattle.std.specs.List.{Contains, filter_map}
+use Rattle.words.specs.Numbers.{InterfaceNumber, Moment}
+use Rattle.words.specs.declared.key.Key.{Key}
+use Rattle.lsa.specs.Reading.{lsa_in}
+use Rattle.lsa.specs.declared.body.Body.{Body as LsaBody}
+use Rattle.lsdb.specs.Copies.{DatabaseCopy}
+use Rattle.lsdb.specs.Headers.{Lsa, lsa_key}
+use Rattle.packet.specs.declared.model.Body.{Body}
+use Rattle.packet.specs.declared.model.Body.TheVariants as body
+use Rattle.packet.specs.declared.model.Packet.{Packet}
+use Rattle.packet.specs.Text.{PacketText}
+use Rattle.events.specs.LsaInstances.{LsaInstance, instance_of_lsa}
+use Rattle.events.specs.Originations.{new_instance}
+use Rattle.events.specs.Routers.{Occurrence, Router}
+
+-- ---- what an event brings
+
+-- the readable LSAs of an Update
+abbrev pub lsas_brought : Body → List Lsa
+lsas_brought (body.Hello h) = []
+lsas_brought (body.Description d) = []
+lsas_brought (body.Request keys) = []
+lsas_brought (body.Update lsas) = filter_map lsa_in lsas
+lsas_brought (body.Acknowledgment headers) = []
+
+-- the event's Update brings this LSA
+pub record BringsLsa (event : Occurrence) (lsa : Lsa) : Type 0 where
+  pub number : InterfaceNumber
+  pub bytes : List ℕ
+  pub packet : Packet
+  pub is : event ≡ Occurrence.Packet number bytes
+  pub text : PacketText bytes packet
+  pub among : Contains (lsas_brought packet.body) lsa
+
+-- ---- what an event originates
+
+-- in the event the router originated its LSA of this key: it remembers that it did at this moment,
+-- and didn't before
+pub record Originates (old : Router) (moment : Moment) (new : Router) (key : Key) : Type 0 where
+  pub own : key.advertising_router ≡ old.id
+  pub now : finite.get new.originated key ≡ Some moment
+  pub not_before : finite.get old.originated key ≡ Some moment → ⊥
+
+-- as flooding installs it
+abbrev pub installed_copy : Moment → Lsa → DatabaseCopy
+installed_copy moment lsa = record {
+  lsa = lsa;
+  stored = moment;
+  installed = Some moment;
+  sent = None;
+}
+
+-- the copy of the key, if there is one, that a new instance comes after: what the database had, or
+-- what the event's Update brought
+pub data IsLastCopy (old : Router) (moment : Moment) (event : Occurrence) (key : Key)
+    (copy : Option DatabaseCopy) : Type 0 where
+  Had : copy ≡ finite.get old.area.database key → IsLastCopy old moment event key copy
+  Brought : (lsa : Lsa) → BringsLsa event lsa → lsa_key lsa ≡ key
+      → copy ≡ Some (installed_copy moment lsa) → IsLastCopy old moment event key copy
+
+-- a new instance that the router originates in the event, past the number of the last copy
+pub record IsNewInstance (old : Router) (moment : Moment) (event : Occurrence) (new : Router)
+    (name : LsaInstance) : Type 0 where
+  pub originates : Originates old moment new name.key
+  pub copy : Option DatabaseCopy
+  pub last : IsLastCopy old moment event name.key copy
+  pub says : LsaBody
+  pub is : instance_of_lsa (new_instance name.key copy says) ≡ name

@@ -1,0 +1,208 @@
+-- Routers joined by links: what they send may be lost, repeated, reordered and late, and routers
+-- may begin anew, but nothing is forged. What an acknowledgment takes off a retransmission list was
+-- received, or originated, by the neighbor.
+use Rattle.std.specs.Prelude.{◌≡◌, ℕ, ◌==◌, Bool, true, not, ◌&&◌, List, [], ◌∷◌, ◌++◌, map, Option}
+use Rattle.std.specs.Prelude.{None, Some, slice_get, slice_set}
+use Rattle.std.specs.List.{Contains, flat_map, list_all, list_any}
+use Rattle.std.specs.FinMap as finite
+use Rattle.words.specs.Numbers.{InterfaceNumber, RouterNumber}
+use Rattle.lsdb.specs.Instances.{ListEntry}
+use Rattle.packet.specs.declared.model.Packet.{Packet}
+use Rattle.packet.specs.Text.{PacketText}
+use Rattle.adjacency.specs.Neighbors.{Neighbor}
+use Rattle.received.specs.Links.{Link}
+use Rattle.events.specs.declared.model.Config.{Config}
+use Rattle.events.specs.declared.model.Out.{Out}
+use Rattle.events.specs.Events.{initial}
+use Rattle.events.specs.LsaInstances.{LsaInstance, instance_of_lsa, instance_of_header}
+use Rattle.events.specs.LsaInstances.{instances_received, instances_advertised}
+use Rattle.events.specs.Routers.{Occurrence, Router, in_profile}
+use Rattle.flood_laws.specs.NewInstances.{IsNewInstance}
+use Rattle.flood_laws.specs.TakenOff.{IsTakenOff, IsTold, TakesOffWhatIsTold}
+
+-- ---- what a router holds
+
+abbrev pub instances_on_list : Option Neighbor → List LsaInstance
+instances_on_list None = []
+instances_on_list (Some n) =
+    map (λ (l : ListEntry). instance_of_header l.header) (finite.values n.retransmissions)
+
+abbrev pub instances_on_link : Link → List LsaInstance
+instances_on_link link =
+    instances_on_list link.neighbor ++ map instance_of_header (finite.values link.acknowledgments)
+
+-- in its database, on its retransmission lists and among its delayed acknowledgments
+abbrev pub instances_stored : Router → List LsaInstance
+instances_stored r =
+    map (λ c. instance_of_lsa c.lsa) (finite.values r.area.database)
+    ++ flat_map instances_on_link r.area.links
+
+-- ---- what a router's step keeps
+
+-- the instance was held before, came in the event's Update, or is one of the router's own that it
+-- originates
+pub data IsKnown (old : Router) (event : Occurrence) (originated : List LsaInstance)
+    (name : LsaInstance) : Type 0 where
+  Held : Contains (instances_stored old) name → IsKnown old event originated name
+  Brought : (number : ℕ) (bytes : List ℕ) (packet : Packet) → event ≡ Occurrence.Packet number bytes
+      → PacketText bytes packet
+      → Contains (instances_received packet.body) name → IsKnown old event originated name
+  Originated : Contains originated name → IsKnown old event originated name
+
+-- the packet is from the router itself, and each instance that it tells is known
+pub record IsLawfulOut (old : Router) (event : Occurrence) (originated : List LsaInstance)
+    (out : Out) : Type 0 where
+  pub packet : Packet
+  pub text : PacketText out.bytes packet
+  pub own : packet.router ≡ old.id
+  pub known : (name : LsaInstance) → Contains (instances_advertised packet.body) name
+      → IsKnown old event originated name
+
+-- all that holds of a router's step and that acknowledgments rest on
+pub record Keeps (old : Router) (moment : ℕ) (event : Occurrence) (outs : List Out) (new : Router)
+    (originated : List LsaInstance) : Type 0 where
+  pub same_router : new.id ≡ old.id
+  -- what is originated are new instances of the router's own LSAs
+  pub is_new : (name : LsaInstance) → Contains originated name
+      → IsNewInstance old moment event new name
+  pub held : (name : LsaInstance) → Contains (instances_stored new) name
+      → IsKnown old event originated name
+  pub sent : (out : Out) → Contains outs out → IsLawfulOut old event originated out
+  -- what leaves a retransmission list as acknowledged, the event's packet from that neighbor tells
+  pub taken : TakesOffWhatIsTold old moment event new
+
+-- ---- the world
+
+-- an interface of a router, by the router's place
+pub record End : Type 0 where
+  pub router : ℕ
+  pub interface : ℕ
+
+pub record Datagram : Type 0 where
+  pub from : End
+  pub bytes : List ℕ
+
+-- that a router, by its Router ID, received or originated an instance
+pub record Knowledge : Type 0 where
+  pub router : ℕ
+  pub name : LsaInstance
+
+-- the routers, all that was ever sent, and all that was ever received or originated, in whatever
+-- life
+pub record World : Type 0 where
+  pub routers : List Router
+  pub sent : List Datagram
+  pub known : List Knowledge
+
+-- the other end of a link
+abbrev pub Joins : Type 0
+Joins = End → Option End
+
+abbrev pub sent_from : InterfaceNumber → Out → Datagram
+sent_from place o = record {
+  from = record { router = place; interface = o.interface };
+  bytes = o.bytes;
+}
+
+abbrev pub knows : RouterNumber → LsaInstance → Knowledge
+knows router name = record { router = router; name = name }
+
+abbrev pub known_as : RouterNumber → List LsaInstance → List Knowledge
+known_as router names = map (knows router) names
+
+-- the instances that an event brings to a router
+abbrev pub Brings : Occurrence → List LsaInstance → Type 0
+Brings (Occurrence.Packet number bytes) names =
+    (packet : Packet) × PacketText bytes packet × (names ≡ instances_received packet.body)
+Brings Occurrence.Tick names = names ≡ []
+Brings (Occurrence.Redistribute tagged tag priced price) names = names ≡ []
+Brings (Occurrence.Withdraw prefix) names = names ≡ []
+Brings (Occurrence.Install answers) names = names ≡ []
+Brings (Occurrence.LinkDown number) names = names ≡ []
+
+-- bytes come in that were ever sent at the other end of the link; all else may happen at any time
+abbrev pub MayHappen : Joins → World → InterfaceNumber → Occurrence → Type 0
+MayHappen joins w place (Occurrence.Packet number bytes) =
+    (d : Datagram) × Contains w.sent d
+    × (joins (record { router = place; interface = number }) ≡ Some d.from) × (bytes ≡ d.bytes)
+MayHappen joins w place Occurrence.Tick = Unit {0}
+MayHappen joins w place (Occurrence.Redistribute tagged tag priced price) = Unit {0}
+MayHappen joins w place (Occurrence.Withdraw prefix) = Unit {0}
+MayHappen joins w place (Occurrence.Install answers) = Unit {0}
+MayHappen joins w place (Occurrence.LinkDown number) = Unit {0}
+
+-- something happens to the router at this place
+pub record Lives (joins : Joins) (before : World) (place moment : ℕ) (event : Occurrence)
+    (after : World) : Type 0 where
+  pub old : Router
+  pub here : slice_get before.routers place ≡ Some old
+  pub may : MayHappen joins before place event
+  pub outs : List Out
+  pub new : Router
+  pub brought : List LsaInstance
+  pub brings : Brings event brought
+  pub originated : List LsaInstance
+  pub keeps : Keeps old moment event outs new originated
+  pub is : after ≡ record {
+    routers = slice_set before.routers place new;
+    sent = before.sent ++ map (sent_from place) outs;
+    known = before.known ++ known_as old.id (brought ++ originated);
+  }
+
+-- the router at this place begins anew under its Router ID
+pub record Restarts (before : World) (place : ℕ) (after : World) : Type 0 where
+  pub old : Router
+  pub here : slice_get before.routers place ≡ Some old
+  pub config : Config
+  pub lawful : in_profile config ≡ true
+  pub same : config.router ≡ old.id
+  pub is : after ≡ record before {
+    routers = slice_set before.routers place (initial config);
+    known = before.known ++ known_as (initial config).id (instances_stored (initial config));
+  }
+
+pub data WorldStep (joins : Joins) (before after : World) : Type 0 where
+  Life : (place moment : ℕ) (event : Occurrence) → Lives joins before place moment event after
+      → WorldStep joins before after
+  Restart : (place : ℕ) → Restarts before place after → WorldStep joins before after
+
+-- each step from the world that the one before it leaves
+abbrev pub IsHistory : Joins → World → List World → World → Type 0
+IsHistory joins w [] last = w ≡ last
+IsHistory joins w (next ∷ rest) last = WorldStep joins w next × IsHistory joins next rest last
+
+-- no two have one Router ID
+abbrev pub have_names_apart : List Config → Bool
+have_names_apart [] = true
+have_names_apart (c ∷ others) =
+    not (list_any (λ (d : Config). d.router == c.router) others) && have_names_apart others
+
+abbrev pub all_known : List Router → List Knowledge
+all_known routers = flat_map (λ (r : Router). known_as r.id (instances_stored r)) routers
+
+abbrev pub begun_with : List Config → World
+begun_with configs = record {
+  routers = map initial configs;
+  sent = [];
+  known = all_known (map initial configs);
+}
+
+-- Whatever is lost, repeated, reordered or late, and whoever begins anew, at each step of a router:
+pub record AcknowledgedWasReceived : Type 0 where
+  -- what an Acknowledgment or an Update tells that comes in, the router that it is from had
+  -- received or originated
+  pub told : (joins : Joins) (configs : List Config) (steps : List World) (w after : World)
+      → have_names_apart configs ≡ true → list_all in_profile configs ≡ true
+      → IsHistory joins (begun_with configs) steps w
+      → (place moment : ℕ) (event : Occurrence) → Lives joins w place moment event after
+      → (number : InterfaceNumber) (router : RouterNumber) (name : LsaInstance)
+      → IsTold event number router name → Contains w.known (knows router name)
+  -- where an entry leaves a neighbor's retransmission list, and neither is the adjacency given up
+  -- nor the LSA flooded, that neighbor had received or originated the instance
+  pub left : (joins : Joins) (configs : List Config) (steps : List World) (w after : World)
+      → have_names_apart configs ≡ true → list_all in_profile configs ≡ true
+      → IsHistory joins (begun_with configs) steps w
+      → (place moment : ℕ) (event : Occurrence) (lives : Lives joins w place moment event after)
+      → (number : InterfaceNumber) (n : Neighbor) (name : LsaInstance)
+      → IsTakenOff lives.old moment event lives.new number n name
+      → Contains w.known (knows n.router name)

@@ -1,0 +1,55 @@
+-- A wrong step, which what a router keeps rules out: an acknowledgment of an older instance, or of
+-- any other than the one on the list, takes the entry off (RFC 2328, section 13.7).
+use Rattle.std.specs.Prelude.{◌≡◌, ℕ, true, false, List, map, Option, None, Some}
+use Rattle.std.specs.FinMap as finite
+use Rattle.std.specs.List.{Contains}
+use Rattle.words.specs.Numbers.{InterfaceNumber, Moment}
+use Rattle.words.specs.declared.key.Key.{Key}
+use Rattle.lsdb.specs.Headers.{Header}
+use Rattle.packet.specs.declared.model.Body.TheVariants as body
+use Rattle.packet.specs.Text.{PacketText}
+use Rattle.adjacency.specs.Neighbors.{Neighbor, is_exchange_or_later}
+use Rattle.adjacency.specs.Retransmissions.{remove_retransmission}
+use Rattle.received.specs.Links.{Link, change_link, neighbor_at}
+use Rattle.events.specs.declared.model.Out.{Out}
+use Rattle.events.specs.LsaInstances.{LsaInstance, instance_of_header}
+use Rattle.events.specs.Routers.{Occurrence, Router}
+use Rattle.flood_laws.specs.TakenOff.{comes_to_max_age, owes}
+use Rattle.flood_laws.specs.Worlds.{Keeps}
+
+-- the entry of the key leaves the list of the neighbor at this interface, and nothing else changes
+abbrev pub released : Key → Option Neighbor → Option Neighbor
+released key None = None
+released key (Some n) = Some (remove_retransmission key n)
+
+abbrev pub release_on : Key → Link → Link
+release_on key link = record link { neighbor = released key link.neighbor }
+
+abbrev pub without_entry : InterfaceNumber → Key → Router → Router
+without_entry number key r =
+    record r {
+      area = record r.area { links = change_link number (release_on key) r.area.links };
+    }
+
+-- a neighbor in Exchange or later has an instance to acknowledge, whose LSA doesn't come to MaxAge
+-- by this moment; and these bytes are an Acknowledgment from it that doesn't name that instance
+pub record AcknowledgesAnother (old : Router) (moment : Moment) (number : InterfaceNumber)
+    (n : Neighbor) (name : LsaInstance) (bytes : List ℕ) (headers : List Header) : Type 0 where
+  pub there : neighbor_at number old.area.links ≡ Some n
+  pub part : is_exchange_or_later n.state ≡ true
+  pub owed : owes n name.key ≡ Some name
+  pub young : comes_to_max_age old.moment moment (finite.get old.area.database name.key)
+      (finite.get old.area.database name.key) ≡ false
+  pub text : PacketText bytes
+      (record { router = n.router; body = body.Acknowledgment headers })
+  pub another : Contains (map instance_of_header headers) name → ⊥
+
+-- a step that takes that entry off doesn't keep what a router's step keeps, whatever it sends
+abbrev pub AnotherAcknowledgmentTakesNothingOff : Type 0
+AnotherAcknowledgmentTakesNothingOff =
+    (old : Router) (moment : Moment) (number : InterfaceNumber) (n : Neighbor)
+    (name : LsaInstance) (bytes : List ℕ) (headers : List Header)
+    → AcknowledgesAnother old moment number n name bytes headers
+    → (outs : List Out) (originated : List LsaInstance)
+    → Keeps old moment (Occurrence.Packet number bytes) outs (without_entry number name.key old)
+    originated → ⊥
