@@ -10,7 +10,5 @@ pub mod Packing
 pub mod Events
 pub mod Refusals
 pub mod LsaInstances
-pub mod Taken
-pub mod Worlds
 pub mod Laws
 pub mod Numbers
