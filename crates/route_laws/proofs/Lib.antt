@@ -1,11 +1,11 @@
 mod TableLaws
 mod Forwarding
-mod Entries
-mod NoSummaries
-mod Labels
-mod Alone
+pub mod Entries
+pub mod NoSummaries
+pub mod Labels
+pub mod Alone
 mod TwoOffers
-mod Made
+pub mod Made
 mod Square
 mod TwoRouters
 mod Parts
