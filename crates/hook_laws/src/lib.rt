@@ -2,9 +2,9 @@
 //! that does nothing: whatever a program answers, this is all that follows.
 #![tactic(auto)]
 
-ghost use Rattle.program_laws.specs.Announced.{WhatIsAnnouncedWasAskedFor};
-ghost use Rattle.program_laws.specs.Tables.{VetoesOnlyKeepRoutesOut};
-ghost use Rattle.program_laws.specs.Vetoes.{VetoesAreNotHeard};
+ghost use Rattle.hook_laws.specs.Announced.{WhatIsAnnouncedWasAskedFor};
+ghost use Rattle.hook_laws.specs.Tables.{VetoesOnlyKeepRoutesOut};
+ghost use Rattle.hook_laws.specs.Vetoes.{VetoesAreNotHeard};
 
 /// Other routers notice nothing of what a program answers at `veto`: of two Installs of one router
 /// at one moment with any two lists of answers the packets that are sent are the same, and so is

@@ -14,7 +14,7 @@ use Rattle.events.specs.Originations.{flush, has_max_sequence, has_room, may_ori
 use Rattle.events.specs.Packing.{outs_of}
 use Rattle.events.specs.Routers.{Occurrence, Router}
 use Rattle.events.specs.declared.model.Out.{Out}
-use Rattle.program_laws.specs.Vetoes.{VetoesAreNotHeard, without_answers}
+use Rattle.hook_laws.specs.Vetoes.{VetoesAreNotHeard, without_answers}
 
 -- ---- a part that doesn't look at the answers does the same without them
 

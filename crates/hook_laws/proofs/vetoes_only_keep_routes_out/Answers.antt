@@ -1,4 +1,4 @@
-use Rattle.program_laws.proofs.vetoes_only_keep_routes_out.Goals as goal
+use Rattle.hook_laws.proofs.vetoes_only_keep_routes_out.Goals as goal
 
 pub returns : goal.returns
 returns c = record {

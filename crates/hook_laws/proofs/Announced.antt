@@ -37,7 +37,7 @@ use Rattle.events.specs.Routers.{Occurrence, Router, unannounced}
 use Rattle.events.specs.Ticks.{after_tick, run_out}
 use Rattle.events.specs.declared.model.Config.{Config}
 use Rattle.events.specs.declared.model.Out.{Out}
-use Rattle.program_laws.specs.Announced.{IsAskedFor, WhatIsAnnouncedWasAskedFor}
+use Rattle.hook_laws.specs.Announced.{IsAskedFor, WhatIsAnnouncedWasAskedFor}
 
 tied_key : (q k : Key) → same_key q k ≡ true → q ≡ k
 tied_key q k is = keys_exact q k (equal (key_cmp q k) is)
