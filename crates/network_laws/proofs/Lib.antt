@@ -1,0 +1,7 @@
+mod Members
+mod Hop
+mod Passed
+mod Arrived
+mod Found
+mod Row
+mod Anew
