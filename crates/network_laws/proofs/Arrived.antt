@@ -3,7 +3,7 @@ use Rattle.std.proofs.Common.{◌≡◌, ℕ, zero, suc, ◌<◌, ◌⊎◌, inl
 use Rattle.std.proofs.lemmas.Bool.{cases_lt}
 use Rattle.words.specs.Interfaces.{has_interface}
 use Rattle.words.specs.declared.route.Route.{Route}
-use Rattle.candidate_laws.specs.Laws.{EveryOfferHasACandidate}
+use Rattle.candidate_laws.specs.Laws.{CandidatesAreCheapestWalks, EveryOfferHasACandidate}
 use Rattle.offers.specs.Borders.{IsLongest}
 use Rattle.forwarding_laws.specs.Laws.{EachHopIsNearer, RoutesEndAtTheNetwork}
 use Rattle.forwarding_laws.specs.Outward.{EachHopLeadsToAnOriginator}
@@ -27,20 +27,20 @@ last_at first (next ∷ third ∷ others) (suc k) e = last_again next first thir
     last_again next first third (fourth ∷ others) zero e = absurd (omega (arith, e))
     last_again next first third (fourth ∷ others) (suc k) e = last_again third first fourth others k (omega (arith, e))
 
-module _ (topology : Topology) (converged : HasConverged topology) (premises : OwnRouterLsasMeetThePremises) (every : EveryOfferHasACandidate) (hops : EachHopIsNearer) (toward : EachHopLeadsToAnOriginator) (ends : RoutesEndAtTheNetwork)
+module _ (topology : Topology) (converged : HasConverged topology) (premises : OwnRouterLsasMeetThePremises) (every : EveryOfferHasACandidate) (cheapest : CandidatesAreCheapestWalks) (hops : EachHopIsNearer) (toward : EachHopLeadsToAnOriginator) (ends : RoutesEndAtTheNetwork)
     (hop : EachHopLeadsOn) (address : ℕ) where
   at_last : (place : ℕ) (route : Route) → ForwardsBy topology converged hop address place route → ((to : ℕ) → HandsTo topology address place to → ⊥) → IsThere topology address place
   at_last place route f nobody =
       let a : Forwarder = f.forwarder in
-      let h = some_hop topology converged premises every hops toward ends place a f.stands route f.longest.among in
+      let h = some_hop topology converged premises every cheapest hops toward ends place a f.stands route f.longest.among in
       elim (cases_lt 0 h.0) [
         | inl away ↦
-            let n = next_by topology converged premises every place a f.stands route f.longest.among h.0 away h.1 in
+            let n = next_by topology converged premises every cheapest place a f.stands route f.longest.among h.0 away h.1 in
             absurd (nobody n.other (record { forwarder = a; stands = f.stands; route = route; longest = f.longest; interface = h.0; away = away; is_hop = h.1; is_across = n.is_across }))
         | inr none ↦
             let itself : h.0 ≡ 0 = omega (arith, none) in
             let P : ℕ → Type 0 = λ i. IsTrue (has_interface route.hops i) in
-            Attached a f.stands route f.longest (at_home topology converged premises every hops toward ends place a f.stands route f.longest.among (subst P itself h.1))
+            Attached a f.stands route f.longest (at_home topology converged premises every cheapest hops toward ends place a f.stands route f.longest.among (subst P itself h.1))
       ]
 
   later_last : (place : ℕ) (route : Route) → IsLater topology converged hop address route place → ((to : ℕ) → HandsTo topology address place to → ⊥) → IsThere topology address place
@@ -56,6 +56,6 @@ module _ (topology : Topology) (converged : HasConverged topology) (premises : O
       let e = last_at first (next ∷ others) k (omega arith) in
       subst P (sym e) (later_last (get_or (next ∷ others) k first) route (each_later topology converged hop address first (next ∷ others) handed route f k first (omega arith))) nobody
 
-pub arrive : OwnRouterLsasMeetThePremises → EveryOfferHasACandidate → EachHopIsNearer → EachHopLeadsToAnOriginator → RoutesEndAtTheNetwork → EachHopLeadsOn → PacketsArrive
-arrive premises every hops toward ends hop topology converged address first others a p route longest handed nobody =
-    is_there topology converged premises every hops toward ends hop address first others route (record { forwarder = a; stands = p; longest = longest }) handed nobody
+pub arrive : OwnRouterLsasMeetThePremises → EveryOfferHasACandidate → CandidatesAreCheapestWalks → EachHopIsNearer → EachHopLeadsToAnOriginator → RoutesEndAtTheNetwork → EachHopLeadsOn → PacketsArrive
+arrive premises every cheapest hops toward ends hop topology converged address first others a p route longest handed nobody =
+    is_there topology converged premises every cheapest hops toward ends hop address first others route (record { forwarder = a; stands = p; longest = longest }) handed nobody

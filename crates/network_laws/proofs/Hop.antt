@@ -1,23 +1,27 @@
 -- One hop: the next router has a better route of the same prefix, which is its longest for the address, or announces the address itself.
-use Rattle.std.proofs.Common.{◌≡◌, ℕ, ◌+◌, ◌<◌, ◌≤◌, ◌⊎◌, inl, inr, IsTrue, List, [], ◌∷◌, Some, length, arith, refl, sym, ◌∙◌, ap, subst}
+use Rattle.std.proofs.Common.{◌≡◌, ◌≢◌, ℕ, ◌+◌, ◌<◌, ◌≤◌, ◌⊎◌, inl, inr, IsTrue, List, [], ◌∷◌, Some, length, arith, refl, sym, ◌∙◌, ap, subst}
 use Rattle.std.specs.List.{Contains}
 use Rattle.std.proofs.lemmas.Bool.{cases_eq, cases_lt}
+use Rattle.std.proofs.lemmas.Option.{slice_get_read}
 use Rattle.words.specs.Interfaces.{has_interface}
 use Rattle.words.specs.Prefixes.{IsUnder, Network}
 use Rattle.words.specs.declared.route.Route.{Route}
-use Rattle.words.specs.declared.route.RouteKind.{RouteKind}
-use Rattle.words.specs.declared.route.RouteKind.TheVariants.{External1, External2, Inter, Intra}
+use Rattle.words.specs.declared.route.RouteKind.TheVariants.{Intra}
 use Rattle.lsa.specs.declared.body.Body.TheVariants as body
-use Rattle.candidate_laws.specs.Laws.{EveryOfferHasACandidate, IsReached}
+use Rattle.lsa.specs.declared.body.ExternalLsa.{ExternalLsa}
+use Rattle.lsa.specs.declared.body.Link.{Link as RouterLink}
+use Rattle.lsa.specs.declared.body.LinkKind.TheVariants.{PointToPoint}
+use Rattle.candidate_laws.specs.Laws.{CandidatesAreCheapestWalks, EveryOfferHasACandidate, IsReached}
 use Rattle.offers.specs.Borders.{IsLongest}
 use Rattle.routes.proofs.Determined.{same_kind}
 use Rattle.routes.specs.Candidates.{IsBest, IsCandidate, Offers, OffersExternal, external_offer}
 use Rattle.routes.specs.Candidates.Offers.{Between, External, Within}
-use Rattle.routes.specs.Links.{Leads, LeadsTo, Says}
+use Rattle.routes.specs.Links.{Counts, Leads, LeadsTo, Says}
 use Rattle.routes.specs.Offers.{Attaches, OffersWithin, ReachesBoundaryRouter}
 use Rattle.routes.specs.Paths.{IsLeastWalk, IsWalk, IsWay, Step, Way, price_of}
-use Rattle.routes.specs.Routes.{rank}
+use Rattle.routes.specs.Routes.{IsForwarded, IsRouteAmong, rank}
 use Rattle.routes.specs.Said.{Said}
+use Rattle.routes.specs.Summaries.{OffersBetween, OffersInside}
 use Rattle.routes.specs.Summaries.IsBoundaryWay.{Inside}
 use Rattle.routes.specs.declared.node.Node.{Node}
 use Rattle.routes.specs.declared.node.Node.TheVariants.{ARouter}
@@ -30,18 +34,14 @@ use Rattle.forwarding_laws.specs.Outward.IsToward.{Boundary}
 use Rattle.forwarding_laws.proofs.Found.{HasRoute, exit_within, has_one, has_route}
 use Rattle.forwarding_laws.proofs.Least as least
 use Rattle.forwarding_laws.proofs.Nearer.{price_of_own, walk_there}
-use Rattle.forwarding_laws.proofs.Outward.{candidate_is_as_good, external_hops, external_prefix}
+use Rattle.forwarding_laws.proofs.Outward.{Again, again_has_route, again_is_better, candidate_is_as_good, external_beats, external_hops, external_prefix}
 use Rattle.forwarding_premises.specs.Laws.{OwnRouterLsasMeetThePremises}
 use Rattle.network_laws.specs.Laws.{EachHopLeadsOn, IsAttached, LeadsOn}
+use Rattle.network_laws.specs.Laws.IsAttached.{ToForwardingAddress, ToNetwork}
 use Rattle.network_laws.specs.Laws.LeadsOn.{AtHome, Further, ToAnnouncer}
 use Rattle.network_laws.specs.Topologies.{Announces, Forwarder, HasConverged, IsAnnouncedAt, StandsAt, Topology, root_of, says_of}
-use Rattle.network_laws.proofs.Members.{addresses, direct_among, is_inside, member, names, none_between, same_says}
-
-pub within_or_not : (k : RouteKind) → (k ≡ Intra) ⊎ (k ≡ Intra → ⊥)
-within_or_not Intra = inl refl
-within_or_not Inter = inr (λ e. cc)
-within_or_not External1 = inr (λ e. cc)
-within_or_not External2 = inr (λ e. cc)
+use Rattle.network_laws.proofs.Members.{IsMember, addresses, is_inside, member, names, none_between, same_says}
+use Rattle.network_laws.proofs.Inside.{LongestInside, from_candidate, is_intra, longest_inside, to_candidate, within_or_not}
 
 prefix_of : (said : Said) (root : Root) (o : Offer) (x : OffersExternal said root o) → o.prefix ≡ x.prefix
 prefix_of said root o x = ap (λ (y : Offer). y.prefix) x.is ∙ external_prefix x.lsa.kind x.prefix x.lsa x.originator x.way
@@ -53,7 +53,7 @@ announced_by said root o x router address e under =
     let U : Network → Type 0 = λ n. IsUnder address n in
     record { id = x.id; lsa = x.lsa; its = subst S e x.its; prefix = x.prefix; is_prefix = x.is_prefix; under = subst U (prefix_of said root o x) under }
 
-module _ (topology : Topology) (converged : HasConverged topology) (premises : OwnRouterLsasMeetThePremises) (every : EveryOfferHasACandidate) where
+module _ (topology : Topology) (converged : HasConverged topology) (premises : OwnRouterLsasMeetThePremises) (every : EveryOfferHasACandidate) (cheapest : CandidatesAreCheapestWalks) where
 
   -- ---- back: where a link leads to a router, each of its networks is known at this end too
 
@@ -72,26 +72,79 @@ module _ (topology : Topology) (converged : HasConverged topology) (premises : O
         let there = walk_there (says_of a.router) (root_of b.router) (root_of a.router) (names topology converged premises place place a a p p) (ARouter b.router.id) node is.distance.0 is.distance.1.is_walk in
         record { walk = there.0; is_walk = there.1 }
 
-    within_here : (o : Offer) → OffersWithin (says_of a.router) (root_of b.router) o → HasRoute a.table o.prefix
+    -- a route within the area, for a prefix
+    record HasIntra (prefix : Network) : Type 0 where
+      route : Route
+      among : Contains a.table route
+      is_for : route.prefix ≡ prefix
+      intra : route.kind ≡ Intra
+
+    mine : IsMember (says_of a.router) a
+    mine = member topology converged premises place place a a p p
+
+    within_here : (o : Offer) → OffersWithin (says_of a.router) (root_of b.router) o → HasIntra o.prefix
     within_here o x =
         let w = walk_here x.node x.way x.reached in
         let cost : ℕ = price + price_of w.walk + x.more in
         let y : IsReached (says_of a.router) (root_of a.router) x.prefix cost exit = record { node = x.node; more = x.more; attached = x.attached; walk = step ∷ w.walk; is_walk = (link, w.is_walk); costs = refl; leaves_by = refl } in
-        let r = has_one (says_of a.router) (root_of a.router) every a.table (member topology converged premises place place a a p p).candidates x.prefix cost exit y in
-        (r.0, r.1, r.2 ∙ sym (ap (λ (y : Offer). y.prefix) x.is))
+        let r = has_one (says_of a.router) (root_of a.router) every a.table mine.candidates x.prefix cost exit y in
+        let P : Network → Type 0 = λ n. IsReached (says_of a.router) (root_of a.router) n cost exit in
+        record {
+          route = r.0;
+          among = r.1;
+          is_for = r.2 ∙ sym (ap (λ (y : Offer). y.prefix) x.is);
+          intra = cheapest.preferred (says_of a.router) (root_of a.router) r.0 cost exit ((mine.candidates.each r.0).0 r.1) (subst P (sym r.2) y);
+        }
+
+    -- a route of the other router, among what may lead to a forwarding address
+    inside_here : (r : Route) → IsRouteAmong (OffersInside (says_of a.router) (root_of b.router)) r → HasIntra r.prefix
+    inside_here r k = by_case k.is_best.offered
+      where
+        by_case : OffersInside (says_of a.router) (root_of b.router) k.first → HasIntra r.prefix
+        by_case (inr x) = absurd (none_between topology converged premises place other a b p q k.first x)
+        by_case (inl x) = let h = within_here k.first x in record { route = h.route; among = h.among; is_for = h.is_for ∙ k.is_best.is_for; intra = h.intra }
+
+    -- the way to an external destination at this end
+    record IsWayHere (x_id : ℕ) (lsa : ExternalLsa) (boundary : Way) : Type 0 where
+      way : Way
+      direct : lsa.forwarding ≡ 0 → way ≡ boundary
+      forwarded : lsa.forwarding ≢ 0 → IsForwarded (OffersInside (says_of a.router) (root_of a.router)) lsa.forwarding way
+
+    way_here : (o : Offer) (x : OffersExternal (says_of a.router) (root_of b.router) o) (boundary : Way) → IsWayHere x.id x.lsa boundary
+    way_here o x boundary =
+        elim (cases_eq x.lsa.forwarding 0) [
+          | inl e ↦ record { way = boundary; direct = λ _. refl; forwarded = λ some. absurd (some e) }
+          | inr some ↦
+              let f = x.is_way.forwarded some in
+              let h = inside_here f.by f.is_route in
+              let U : Network → Type 0 = λ n. IsUnder x.lsa.forwarding n in
+              let best : LongestInside a.table x.lsa.forwarding = longest_inside a.table x.lsa.forwarding h.route h.among (h.intra, subst U (sym h.is_for) f.under) in
+              let none = none_between topology converged premises place place a a p p in
+              record {
+                way = record { distance = best.route.cost; hops = best.route.hops };
+                direct = λ e. absurd (some e);
+                forwarded = λ _. record {
+                  by = best.route;
+                  is_route = from_candidate (says_of a.router) (root_of a.router) none best.route ((mine.candidates.each best.route).0 best.among) best.leads.0;
+                  under = best.leads.1;
+                  longest = λ r k under. best.longest r ((mine.candidates.each r).1 (to_candidate (says_of a.router) (root_of a.router) none r k)) (is_intra (says_of a.router) (root_of a.router) none r k, under);
+                  is = refl;
+                };
+              }
+        ]
 
     external_here : (o : Offer) (x : OffersExternal (says_of a.router) (root_of b.router) o) → (x.originator ≡ a.router.id → ⊥) → HasRoute a.table o.prefix
     external_here o x other_router =
         let r = is_inside topology converged premises place other a b p q x.originator x.is_way.boundary x.is_way.reaches in
-        let direct = direct_among topology converged premises place other a b p q x.id x.originator x.lsa x.is_way.boundary x.its r.reached in
         let w = walk_here (ARouter x.originator) x.is_way.boundary r.reached in
         elim (has_route a.table o.prefix) [
           | inl h ↦ h
           | inr none ↦ absurd (
               least.way (Leads (says_of a.router) (root_of a.router)) (ARouter a.router.id) (ARouter x.originator) (length (root_of a.router).addresses + 1)
-              (λ s l. exit_within (says_of a.router) (root_of a.router) s.target s.price s.exit l) (step ∷ w.walk) (link, w.is_walk) (λ way.
-              let mine : Offer = external_offer x.lsa.kind x.prefix x.lsa x.originator way.0 in
-              let offered : Offers (says_of a.router) (root_of a.router) mine = External (record {
+              (λ s l. exit_within (says_of a.router) (root_of a.router) s.target s.price s.exit l) (step ∷ w.walk) (link, w.is_walk) (λ boundary.
+              let there = way_here o x boundary.0 in
+              let own : Offer = external_offer x.lsa.kind x.prefix x.lsa x.originator there.way in
+              let offered : Offers (says_of a.router) (root_of a.router) own = External (record {
                 id = x.id;
                 originator = x.originator;
                 lsa = x.lsa;
@@ -100,16 +153,16 @@ module _ (topology : Topology) (converged : HasConverged topology) (premises : O
                 of_another = other_router;
                 prefix = x.prefix;
                 is_prefix = x.is_prefix;
-                way = way.0;
-                is_way = record { boundary = way.0; reaches = Inside (record { lsa = r.lsa; its = r.its; has_e = r.has_e; reached = way.1 }); direct = λ _. refl; forwarded = λ some. absurd (some direct) };
+                way = there.way;
+                is_way = record { boundary = boundary.0; reaches = Inside (record { lsa = r.lsa; its = r.its; has_e = r.has_e; reached = boundary.1 }); direct = there.direct; forwarded = there.forwarded };
                 is = refl;
               }) in
-              let known = every (says_of a.router) (root_of a.router) a.table mine (member topology converged premises place place a a p p).candidates offered in
-              none (known.0, known.1, known.2 ∙ external_prefix x.lsa.kind x.prefix x.lsa x.originator way.0 ∙ sym (prefix_of (says_of a.router) (root_of b.router) o x))))
+              let known = every (says_of a.router) (root_of a.router) a.table own mine.candidates offered in
+              none (known.0, known.1, known.2 ∙ external_prefix x.lsa.kind x.prefix x.lsa x.originator there.way ∙ sym (prefix_of (says_of a.router) (root_of b.router) o x))))
         ]
 
     here : (address : ℕ) → (Announces (says_of a.router) a.router.id address → ⊥) → (o : Offer) → Offers (says_of a.router) (root_of b.router) o → IsUnder address o.prefix → HasRoute a.table o.prefix
-    here address silent o (Within x) under = within_here o x
+    here address silent o (Within x) under = let h = within_here o x in (h.route, h.among, h.is_for)
     here address silent o (Between x) under = absurd (none_between topology converged premises place other a b p q o x)
     here address silent o (External x) under =
         elim (cases_eq x.originator a.router.id) [
@@ -155,18 +208,35 @@ module _ (topology : Topology) (converged : HasConverged topology) (premises : O
     Better : (following : Route) → Contains next.table following → following.prefix ≡ r.prefix → IsBetter following r → Forth address r place next
     Announcing : IsAnnouncedAt topology address place → Forth address r place next
 
-  -- an external LSA by which packets are sent to another router
+  -- an external LSA by which packets are sent, and the way to the router that it comes from
   record IsSent (place : ℕ) (a : Forwarder) (o : Offer) : Type 0 where
     x : OffersExternal (says_of a.router) (root_of a.router) o
     inside : ReachesBoundaryRouter (says_of a.router) (root_of a.router) x.originator x.is_way.boundary
-    direct : x.lsa.forwarding ≡ 0
 
   sent : (place : ℕ) (a : Forwarder) → StandsAt topology place a → (o : Offer) → Offers (says_of a.router) (root_of a.router) o → (rank o.kind ≡ 0 → ⊥) → IsSent place a o
   sent place a p o (Within x) outside = absurd (outside (ap (λ (y : Offer). rank y.kind) x.is))
   sent place a p o (Between x) outside = absurd (none_between topology converged premises place place a a p p o x)
-  sent place a p o (External x) outside =
-      let r = is_inside topology converged premises place place a a p p x.originator x.is_way.boundary x.is_way.reaches in
-      record { x = x; inside = r; direct = direct_among topology converged premises place place a a p p x.id x.originator x.lsa x.is_way.boundary x.its r.reached }
+  sent place a p o (External x) outside = record { x = x; inside = is_inside topology converged premises place place a a p p x.originator x.is_way.boundary x.is_way.reaches }
+
+  hops_of : (place : ℕ) (a : Forwarder) (o : Offer) (s : IsSent place a o) → o.hops ≡ s.x.way.hops
+  hops_of place a o s = ap (λ (y : Offer). y.hops) s.x.is ∙ external_hops s.x.lsa.kind s.x.prefix s.x.lsa s.x.originator s.x.way
+
+  -- the route to a forwarding address is one of the table
+  record IsBy (a : Forwarder) (way : Way) (address : ℕ) : Type 0 where
+    f : IsForwarded (OffersInside (says_of a.router) (root_of a.router)) address way
+    among : Contains a.table f.by
+    intra : f.by.kind ≡ Intra
+    hops : way.hops ≡ f.by.hops
+
+  by_of : (place : ℕ) (a : Forwarder) → StandsAt topology place a → (way : Way) (address : ℕ) → IsForwarded (OffersInside (says_of a.router) (root_of a.router)) address way → IsBy a way address
+  by_of place a p way address f =
+      let none = none_between topology converged premises place place a a p p in
+      record {
+        f = f;
+        among = ((member topology converged premises place place a a p p).candidates.each f.by).1 (to_candidate (says_of a.router) (root_of a.router) none f.by f.is_route);
+        intra = is_intra (says_of a.router) (root_of a.router) none f.by f.is_route;
+        hops = ap (λ (w : Way). w.hops) f.is;
+      }
 
   -- a route that isn't within the area comes of no offer that is
   outside : (place : ℕ) (a : Forwarder) → StandsAt topology place a → (r : Route) → Contains a.table r → (r.kind ≡ Intra → ⊥) → (o : Offer) → IsBest (says_of a.router) (root_of a.router) r.prefix o → rank o.kind ≡ 0 → ⊥
@@ -174,22 +244,123 @@ module _ (topology : Topology) (converged : HasConverged topology) (premises : O
       other (same_kind r.kind Intra ((candidate_is_as_good (says_of a.router) (root_of a.router) r o (candidate place a p r t) best).kind ∙ e))
 
   module _ (hops : EachHopIsNearer) (toward : EachHopLeadsToAnOriginator) (ends : RoutesEndAtTheNetwork) where
-    within_forth : (place : ℕ) (a : Forwarder) → StandsAt topology place a → (address : ℕ) (r : Route) → Contains a.table r → r.kind ≡ Intra → (i : ℕ) → 0 < i → IsTrue (has_interface r.hops i) → (n : IsNext place a i)
-        → Forth address r n.other n.next
-    within_forth place a p address r t intra i away is_hop n =
+    -- the next router's route of a prefix within the area
+    record IsOn (r : Route) (next : Forwarder) : Type 0 where
+      following : Route
+      among : Contains next.table following
+      is_for : following.prefix ≡ r.prefix
+      intra : following.kind ≡ Intra
+      less : following.cost < r.cost
+
+    within_on : (place : ℕ) (a : Forwarder) → StandsAt topology place a → (r : Route) → Contains a.table r → r.kind ≡ Intra → (i : ℕ) → 0 < i → IsTrue (has_interface r.hops i) → (n : IsNext place a i) → IsOn r n.next
+    within_on place a p r t intra i away is_hop n =
         let k = candidate place a p r t in
         let hands : HandsOn (says_of a.router) (root_of a.router) r n.next.router.id = record { interface = i; away = away; is_hop = is_hop; other_end = n.end } in
         let own = names topology converged premises place n.other a n.next p n.stands in
         let its = (member topology converged premises place n.other a n.next p n.stands).candidates in
         let f = hops.has_one (says_of a.router) (root_of a.router) (root_of n.next.router) r k intra hands own n.next.table its in
         let near = hops.nearer (says_of a.router) (root_of a.router) (root_of n.next.router) r k intra hands own f.0 ((its.each f.0).0 f.1) f.2 in
-        Better f.0 f.1 f.2 (ByCost (ap rank (near.0 ∙ sym intra)) near.1)
+        record { following = f.0; among = f.1; is_for = f.2; intra = near.0; less = near.1 }
 
-    external_forth : (place : ℕ) (a : Forwarder) → StandsAt topology place a → (address : ℕ) (r : Route) → Contains a.table r → IsUnder address r.prefix → (i : ℕ) → (n : IsNext place a i) → (o : Offer)
+    within_forth : (place : ℕ) (a : Forwarder) → StandsAt topology place a → (address : ℕ) (r : Route) → Contains a.table r → r.kind ≡ Intra → (i : ℕ) → 0 < i → IsTrue (has_interface r.hops i) → (n : IsNext place a i)
+        → Forth address r n.other n.next
+    within_forth place a p address r t intra i away is_hop n =
+        let f = within_on place a p r t intra i away is_hop n in
+        Better f.following f.among f.is_for (ByCost (ap rank (f.intra ∙ sym intra)) f.less)
+
+    -- a link leads back
+    record IsBack (place : ℕ) (a b : Forwarder) : Type 0 where
+      price : ℕ
+      exit : ℕ
+      link : LeadsTo (says_of a.router) (root_of b.router) (ARouter b.router.id) (ARouter a.router.id) price exit
+
+    back_by : (place : ℕ) (a : Forwarder) → StandsAt topology place a → (i : ℕ) (n : IsNext place a i) → IsBack place a n.next
+    back_by place a p i n =
+        let said = says_of a.router in
+        let root = root_of n.next.router in
+        let its : RouterLink = n.link.1.0 in
+        let named = names topology converged premises place n.other a n.next p n.stands its n.link.1.1 (inl n.link.1.2) in
+        let current = (member topology converged premises place n.other a n.next p n.stands).current in
+        let counts : Counts said root n.next.router.id PointToPoint a.router.id its.metric (named.0 + 1) = record {
+          link = its;
+          its = n.link.1.1;
+          is_kind = n.link.1.2;
+          is_id = n.link.1.3;
+          costs = refl;
+          not_free = premises.not_free said n.next.router.id n.next.router.area.links current (converged.up_to_date n.other n.next n.stands).costs its n.link.1.1 n.link.1.2;
+          by_interface = λ _. (named.0, refl, slice_get_read root.addresses (length root.addresses) named.0 its.link_data refl named.1 (sym named.2));
+          elsewhere = λ other. absurd (other refl);
+        } in
+        record { price = its.metric; exit = named.0 + 1; link = (counts, (n.link.0.link, n.link.0.its, n.link.0.is_kind, n.link.0.is_id)) }
+
+    -- the next router offers the same destination at less
+    module _ (place : ℕ) (a : Forwarder) (p : StandsAt topology place a) (o : Offer) (s : IsSent place a o) (i : ℕ) (is_hop : IsTrue (has_interface o.hops i)) (n : IsNext place a i)
+        (other_router : n.next.router.id ≡ s.x.originator → ⊥) (some : s.x.lsa.forwarding ≢ 0) (away : 0 < i) where
+      by : IsBy a s.x.way s.x.lsa.forwarding
+      by = by_of place a p s.x.way s.x.lsa.forwarding (s.x.is_way.forwarded some)
+
+      on : IsOn by.f.by n.next
+      on = let Has : ℕ → Type 0 = λ h. IsTrue (has_interface h i) in within_on place a p by.f.by by.among by.intra i away (subst Has (hops_of place a o s ∙ by.hops) is_hop) n
+
+      abbrev its_said : Said
+      its_said = says_of a.router
+
+      none_there : (x : Offer) → OffersBetween its_said (root_of n.next.router) x → ⊥
+      none_there = none_between topology converged premises place n.other a n.next p n.stands
+
+      its : IsMember its_said n.next
+      its = member topology converged premises place n.other a n.next p n.stands
+
+      forwarded_there : IsForwarded (OffersInside its_said (root_of n.next.router)) s.x.lsa.forwarding (record { distance = on.following.cost; hops = on.following.hops })
+      forwarded_there =
+          let U : Network → Type 0 = λ m. IsUnder s.x.lsa.forwarding m in
+          record {
+            by = on.following;
+            is_route = from_candidate its_said (root_of n.next.router) none_there on.following ((its.candidates.each on.following).0 on.among) on.intra;
+            under = subst U (sym on.is_for) by.f.under;
+            longest = λ r k under.
+                let h = inside_here place n.other a n.next p n.stands n.price i n.link r k in
+                let here : IsRouteAmong (OffersInside its_said (root_of a.router)) h.route = from_candidate its_said (root_of a.router) (none_between topology converged premises place place a a p p) h.route (candidate place a p h.route h.among) h.intra in
+                let low : h.route.prefix.length ≤ by.f.by.prefix.length = by.f.longest h.route here (subst U (sym h.is_for) under) in
+                omega (arith, low, ap (λ (m : Network). m.length) h.is_for, ap (λ (m : Network). m.length) on.is_for);
+            is = refl;
+          }
+
+      forwarded_again : (Again its_said (root_of n.next.router) o → ⊥) → ⊥
+      forwarded_again none =
+          let home = back_by place a p i n in
+          let walk : List (Step Node) = s.inside.reached.distance.0 in
+          let there = walk_there its_said (root_of a.router) (root_of n.next.router) (names topology converged premises place n.other a n.next p n.stands) (ARouter a.router.id) (ARouter s.x.originator) walk s.inside.reached.distance.1.is_walk in
+          let first : Step Node = record { target = ARouter a.router.id; price = home.price; exit = home.exit } in
+          least.way (Leads its_said (root_of n.next.router)) (ARouter n.next.router.id) (ARouter s.x.originator) (length (root_of n.next.router).addresses + 1)
+          (λ st l. exit_within its_said (root_of n.next.router) st.target st.price st.exit l) (first ∷ there.0) (home.link, there.1) (λ boundary.
+          let far : Way = s.x.way in
+          let near : Way = record { distance = on.following.cost; hops = on.following.hops } in
+          let less : near.distance < far.distance = omega (arith, on.less, ap (λ (w : Way). w.distance) by.f.is) in
+          let P : Offer → Type 0 = λ y. Again its_said (root_of n.next.router) y in
+          none (subst P (sym s.x.is) (record {
+            offer = external_offer s.x.lsa.kind s.x.prefix s.x.lsa s.x.originator near;
+            offered = External (record {
+              id = s.x.id;
+              originator = s.x.originator;
+              lsa = s.x.lsa;
+              its = s.x.its;
+              reachable = s.x.reachable;
+              of_another = λ e. other_router (sym e);
+              prefix = s.x.prefix;
+              is_prefix = s.x.is_prefix;
+              way = near;
+              is_way = record { boundary = boundary.0; reaches = Inside (record { lsa = s.inside.lsa; its = s.inside.its; has_e = s.inside.has_e; reached = boundary.1 }); direct = λ e. absurd (some e); forwarded = λ _. forwarded_there };
+              is = refl;
+            });
+            is_for = external_prefix s.x.lsa.kind s.x.prefix s.x.lsa s.x.originator near ∙ sym (external_prefix s.x.lsa.kind s.x.prefix s.x.lsa s.x.originator far);
+            beats = external_beats s.x.lsa.kind s.x.prefix s.x.lsa s.x.originator near far less;
+          })))
+
+    external_forth : (place : ℕ) (a : Forwarder) → StandsAt topology place a → (address : ℕ) (r : Route) → Contains a.table r → IsUnder address r.prefix → (i : ℕ) → 0 < i → (n : IsNext place a i) → (o : Offer)
         → IsBest (says_of a.router) (root_of a.router) r.prefix o → IsTrue (has_interface o.hops i) → IsSent place a o → Forth address r n.other n.next
-    external_forth place a p address r t under i n o best is_hop s =
+    external_forth place a p address r t under i away n o best is_hop s =
         let k = candidate place a p r t in
-        let hands : HandsToward (says_of a.router) (root_of a.router) r n.next.router.id s.x.originator = record { offer = o; is_best = best; toward = Boundary s.x refl s.direct s.x.is_way.boundary s.inside; interface = i; is_hop = is_hop; other_end = n.end } in
         let own = names topology converged premises place n.other a n.next p n.stands in
         let its = (member topology converged premises place n.other a n.next p n.stands).candidates in
         elim (cases_eq n.next.router.id s.x.originator) [
@@ -199,8 +370,16 @@ module _ (topology : Topology) (converged : HasConverged topology) (premises : O
               let A : Said → Type 0 = λ d. Announces d n.next.router.id address in
               Announcing (record { forwarder = n.next; stands = n.stands; announces = subst A (same_says topology converged premises place n.other a n.next p n.stands) told })
           | inr other ↦
-              let f = toward.has_one (says_of a.router) (root_of a.router) (root_of n.next.router) r s.x.originator k hands own other n.next.table its in
-              Better f.0 f.1 f.2 (toward.better (says_of a.router) (root_of a.router) (root_of n.next.router) r s.x.originator k hands own other f.0 ((its.each f.0).0 f.1) f.2)
+              elim (cases_eq s.x.lsa.forwarding 0) [
+                | inl direct ↦
+                    let hands : HandsToward (says_of a.router) (root_of a.router) r n.next.router.id s.x.originator = record { offer = o; is_best = best; hops = o.hops; toward = Boundary s.x refl direct s.x.is_way.boundary s.inside refl; interface = i; is_hop = is_hop; other_end = n.end } in
+                    let f = toward.has_one (says_of a.router) (root_of a.router) (root_of n.next.router) r s.x.originator k hands own other n.next.table its in
+                    Better f.0 f.1 f.2 (toward.better (says_of a.router) (root_of a.router) (root_of n.next.router) r s.x.originator k hands own other f.0 ((its.each f.0).0 f.1) f.2)
+                | inr some ↦
+                    let again = forwarded_again place a p o s i is_hop n other some away in
+                    let f = again_has_route every (says_of a.router) (root_of n.next.router) r.prefix o best.is_for again n.next.table its in
+                    Better f.0 f.1 f.2 (again_is_better (says_of a.router) (root_of a.router) (root_of n.next.router) r o k best again f.0 ((its.each f.0).0 f.1) f.2)
+              ]
         ]
 
     forth : (place : ℕ) (a : Forwarder) → StandsAt topology place a → (address : ℕ) (r : Route) → Contains a.table r → IsUnder address r.prefix → (i : ℕ) → 0 < i → IsTrue (has_interface r.hops i) → (n : IsNext place a i)
@@ -210,25 +389,25 @@ module _ (topology : Topology) (converged : HasConverged topology) (premises : O
           | inl intra ↦ within_forth place a p address r t intra i away is_hop n
           | inr other ↦
               let o = ((candidate place a p r t).hops i).0 is_hop in
-              external_forth place a p address r t under i n o.0 o.1 o.2 (sent place a p o.0 o.1.offered (outside place a p r t other o.0 o.1))
+              external_forth place a p address r t under i away n o.0 o.1 o.2 (sent place a p o.0 o.1.offered (outside place a p r t other o.0 o.1))
         ]
 
     -- ---- the next hop 0
 
-    away_from : (place : ℕ) (a : Forwarder) (o : Offer) (s : IsSent place a o) → (i : ℕ) → IsTrue (has_interface o.hops i) → 0 < i
-    away_from place a o s i t =
+    -- where the way is the one to the router that the LSA comes from, it has a next hop, and 0 is none
+    away_from : (place : ℕ) (a : Forwarder) (o : Offer) (s : IsSent place a o) → s.x.lsa.forwarding ≡ 0 → (i : ℕ) → IsTrue (has_interface o.hops i) → 0 < i
+    away_from place a o s direct i t =
         let Has : ℕ → Type 0 = λ h. IsTrue (has_interface h i) in
-        let hops : o.hops ≡ s.x.is_way.boundary.hops = ap (λ (y : Offer). y.hops) s.x.is ∙ external_hops s.x.lsa.kind s.x.prefix s.x.lsa s.x.originator s.x.way ∙ ap (λ (w : Way). w.hops) (s.x.is_way.direct s.direct) in
-        let hop = (s.inside.reached.hops i).0 (subst Has hops t) in
+        let hop = (s.inside.reached.hops i).0 (subst Has (hops_of place a o s ∙ ap (λ (w : Way). w.hops) (s.x.is_way.direct direct)) t) in
         let first : Step Node = hop.0 in
         let some = price_of_own (says_of a.router) (root_of a.router) first.target first.price first.exit hop.2.is_walk.0 in
         omega (arith, some.1, hop.3)
 
-    first_hop : (place : ℕ) (a : Forwarder) (o : Offer) (s : IsSent place a o) → (i : ℕ) × IsTrue (has_interface o.hops i)
-    first_hop place a o s = by_walk s.inside.reached.distance.0 s.inside.reached.distance.1
+    direct_hop : (place : ℕ) (a : Forwarder) (o : Offer) (s : IsSent place a o) → s.x.lsa.forwarding ≡ 0 → (i : ℕ) × IsTrue (has_interface o.hops i)
+    direct_hop place a o s direct = by_walk s.inside.reached.distance.0 s.inside.reached.distance.1
       where
         hops_are : o.hops ≡ s.x.is_way.boundary.hops
-        hops_are = ap (λ (y : Offer). y.hops) s.x.is ∙ external_hops s.x.lsa.kind s.x.prefix s.x.lsa s.x.originator s.x.way ∙ ap (λ (w : Way). w.hops) (s.x.is_way.direct s.direct)
+        hops_are = hops_of place a o s ∙ ap (λ (w : Way). w.hops) (s.x.is_way.direct direct)
 
         by_walk : (walk : List (Step Node)) → IsLeastWalk (Leads (says_of a.router) (root_of a.router)) (ARouter a.router.id) walk (ARouter s.x.originator) → (i : ℕ) × IsTrue (has_interface o.hops i)
         by_walk [] l = absurd (let e : ARouter a.router.id ≡ ARouter s.x.originator = l.is_walk in let same : s.x.originator ≡ a.router.id = cc in s.x.of_another same)
@@ -236,14 +415,34 @@ module _ (topology : Topology) (converged : HasConverged topology) (premises : O
             let Has : ℕ → Type 0 = λ h. IsTrue (has_interface h first.exit) in
             (first.exit, subst Has (sym hops_are) ((s.inside.reached.hops first.exit).1 (first, rest, l, refl)))
 
+    first_hop : (place : ℕ) (a : Forwarder) → StandsAt topology place a → (o : Offer) (s : IsSent place a o) → (i : ℕ) × IsTrue (has_interface o.hops i)
+    first_hop place a p o s =
+        elim (cases_eq s.x.lsa.forwarding 0) [
+          | inl direct ↦ direct_hop place a o s direct
+          | inr some ↦
+              let by = by_of place a p s.x.way s.x.lsa.forwarding (s.x.is_way.forwarded some) in
+              let h = ends.some_hop (says_of a.router) (root_of a.router) by.f.by (candidate place a p by.f.by by.among) by.intra in
+              let Has : ℕ → Type 0 = λ hops. IsTrue (has_interface hops h.0) in
+              (h.0, subst Has (sym (hops_of place a o s ∙ by.hops)) h.1)
+        ]
+
+    external_home : (place : ℕ) (a : Forwarder) → StandsAt topology place a → (r : Route) → (o : Offer) → IsBest (says_of a.router) (root_of a.router) r.prefix o → IsTrue (has_interface o.hops 0) → (s : IsSent place a o) → IsAttached a r
+    external_home place a p r o best is_hop s =
+        elim (cases_eq s.x.lsa.forwarding 0) [
+          | inl direct ↦ absurd (let away : 0 < 0 = away_from place a o s direct 0 is_hop in omega (arith, away))
+          | inr some ↦
+              let by = by_of place a p s.x.way s.x.lsa.forwarding (s.x.is_way.forwarded some) in
+              let Has : ℕ → Type 0 = λ hops. IsTrue (has_interface hops 0) in
+              let at = ends.attached (says_of a.router) (root_of a.router) by.f.by (candidate place a p by.f.by by.among) by.intra (subst Has (hops_of place a o s ∙ by.hops) is_hop) in
+              ToForwardingAddress o best s.x by.f.by.prefix by.f.by.cost by.f.under at
+        ]
+
     pub at_home : (place : ℕ) (a : Forwarder) → StandsAt topology place a → (r : Route) → Contains a.table r → IsTrue (has_interface r.hops 0) → IsAttached a r
     at_home place a p r t is_hop =
         let k = candidate place a p r t in
         elim (within_or_not r.kind) [
-          | inl intra ↦ ends.attached (says_of a.router) (root_of a.router) r k intra is_hop
-          | inr other ↦
-              let o = (k.hops 0).0 is_hop in
-              absurd (let away : 0 < 0 = away_from place a o.0 (sent place a p o.0 o.1.offered (outside place a p r t other o.0 o.1)) 0 o.2 in omega (arith, away))
+          | inl intra ↦ ToNetwork (ends.attached (says_of a.router) (root_of a.router) r k intra is_hop)
+          | inr other ↦ (let o = (k.hops 0).0 is_hop in external_home place a p r o.0 o.1 o.2 (sent place a p o.0 o.1.offered (outside place a p r t other o.0 o.1)))
         ]
 
     -- each route has a next hop
@@ -254,7 +453,7 @@ module _ (topology : Topology) (converged : HasConverged topology) (premises : O
           | inl intra ↦ ends.some_hop (says_of a.router) (root_of a.router) r k intra
           | inr other ↦
               let s = sent place a p k.first k.is_best.offered (outside place a p r t other k.first k.is_best) in
-              let h = first_hop place a k.first s in
+              let h = first_hop place a p k.first s in
               (h.0, (k.hops h.0).1 (k.first, k.is_best, h.1))
         ]
 
@@ -289,6 +488,6 @@ module _ (topology : Topology) (converged : HasConverged topology) (premises : O
         on n (Better f t same good) = Further n.other n.next f n.is_across n.stands (is_longest n f t same) same good
         on n (Announcing x) = ToAnnouncer n.other n.is_across x
 
-pub each_hop : OwnRouterLsasMeetThePremises → EveryOfferHasACandidate → EachHopIsNearer → EachHopLeadsToAnOriginator → RoutesEndAtTheNetwork → EachHopLeadsOn
-each_hop premises every hops toward ends topology converged address place a p silent r longest i is_hop =
-    leads_on topology converged premises every hops toward ends address place a p silent r longest i is_hop
+pub each_hop : OwnRouterLsasMeetThePremises → EveryOfferHasACandidate → CandidatesAreCheapestWalks → EachHopIsNearer → EachHopLeadsToAnOriginator → RoutesEndAtTheNetwork → EachHopLeadsOn
+each_hop premises every cheapest hops toward ends topology converged address place a p silent r longest i is_hop =
+    leads_on topology converged premises every cheapest hops toward ends address place a p silent r longest i is_hop

@@ -1,4 +1,5 @@
 mod Members
+mod Inside
 mod Hop
 mod Passed
 mod Arrived

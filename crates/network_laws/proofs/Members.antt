@@ -1,15 +1,12 @@
 -- What holds of each router of a converged topology, and that no walk leads out of the topology.
 use Rattle.std.proofs.Common.{◌≡◌, ℕ, ◌<◌, IsTrue, List, [], ◌∷◌, Some, bit_and, arith, refl, sym, ◌∙◌, ap, subst}
 use Rattle.std.specs.List.{flat_map}
-use Rattle.words.specs.declared.key.Key.{Key}
 use Rattle.words.specs.declared.route.Route.{Route}
-use Rattle.lsa.specs.declared.body.Body.{Body}
 use Rattle.lsa.specs.declared.body.Body.TheVariants as body
-use Rattle.lsa.specs.declared.body.ExternalLsa.{ExternalLsa}
 use Rattle.lsa.specs.declared.body.RouterLsa.{RouterLsa}
 use Rattle.events.specs.Originations.{links_of, router_body}
 use Rattle.routes.specs.Candidates.{AreCandidates}
-use Rattle.routes.specs.Links.{IsRouterLsa, Leads, LeadsTo, Says}
+use Rattle.routes.specs.Links.{IsRouterLsa, Leads, LeadsTo}
 use Rattle.routes.specs.Paths.{IsWalk, IsWay, Step, Way}
 use Rattle.routes.specs.Offers.{ReachesBoundaryRouter}
 use Rattle.routes.specs.Said.{Said}
@@ -22,18 +19,16 @@ use Rattle.routes.specs.declared.root.Root.{Root}
 use Rattle.forwarding_laws.specs.Laws.{NamesItsInterfaces}
 use Rattle.forwarding_laws.proofs.Nearer.{leads_there}
 use Rattle.forwarding_premises.specs.Laws.{HaveOwnAddresses, IsCurrent, OwnRouterLsasMeetThePremises}
-use Rattle.network_laws.specs.Topologies.{Forwarder, HasConverged, IsUpToDate, StandsAt, Topology, external_key, root_of, says_of}
+use Rattle.network_laws.specs.Topologies.{Forwarder, HasConverged, IsUpToDate, StandsAt, Topology, root_of, says_of}
 
 -- of one router, where its database says this
 pub record IsMember (said : Said) (f : Forwarder) : Type 0 where
   pub current : IsCurrent said f.router.id f.router.area.links
-  pub direct : (id : ℕ) (lsa : ExternalLsa) → Says said (external_key id f.router.id) (body.External lsa) → lsa.forwarding ≡ 0
   pub candidates : AreCandidates said (root_of f.router) f.table
 
 its_own : (f : Forwarder) → IsUpToDate f → IsMember (says_of f.router) f
 its_own f u = record {
   current = u.current;
-  direct = u.direct;
   candidates = record { each = λ r. (λ t. ((u.is_table.each r).0 t).0, λ k. (u.is_table.each r).1 (k, u.let_in r k)); ascending = u.is_table.ascending };
 }
 
@@ -104,13 +99,3 @@ module _ (topology : Topology) (converged : HasConverged topology) (premises : O
   pub is_inside : (place root : ℕ) (a b : Forwarder) → StandsAt topology place a → StandsAt topology root b → (router : ℕ) (way : Way) → IsBoundaryWay (says_of a.router) (root_of b.router) router way → ReachesBoundaryRouter (says_of a.router) (root_of b.router) router way
   is_inside place root a b p q router way (Inside r) = r
   is_inside place root a b p q router way (Outside never x) = absurd (no_border place root a b p q x.told.originator x.border x.told.counts.reaches)
-
-  -- the external LSAs of a router that a way leads to have no forwarding address
-  pub direct_among : (place root : ℕ) (a b : Forwarder) → StandsAt topology place a → StandsAt topology root b → (id router : ℕ) (lsa : ExternalLsa) (way : Way) → Says (says_of a.router) (external_key id router) (body.External lsa)
-      → IsWay (Leads (says_of a.router) (root_of b.router)) (ARouter b.router.id) (ARouter router) way → lsa.forwarding ≡ 0
-  direct_among place root a b p q id router lsa way its is =
-      let g = reached_among place root a b p q (ARouter router) way is in
-      let e : ARouter router ≡ ARouter g.forwarder.router.id = g.is in
-      let same : router ≡ g.forwarder.router.id = cc in
-      let S : ℕ → Type 0 = λ r. Says (says_of a.router) (external_key id r) (body.External lsa) in
-      (member place g.place a g.forwarder p g.stands).direct id lsa (subst S same its)

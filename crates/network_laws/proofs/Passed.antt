@@ -78,11 +78,11 @@ module _ (topology : Topology) (converged : HasConverged topology) (hop : EachHo
   each_later first [] handed route f k d low = absurd (omega (arith, low))
   each_later first (next ∷ others) handed route f zero d low = next_is first next handed.0 handed.1 route f
   each_later first (next ∷ []) handed route f (suc k) d low = absurd (omega (arith, low))
-  each_later first (next ∷ third ∷ others) handed route f (suc k) d low = on (next_is first next handed.0 handed.1 route f)
+  each_later first (next ∷ third ∷ others) handed route f (suc k) d low = on (λ its g. each_later next (third ∷ others) handed.2 its g k d (omega (arith, low))) (next_is first next handed.0 handed.1 route f)
     where
-      on : IsLater route next → IsLater route (get_or (third ∷ others) k d)
-      on (Announcing x) = absurd (handed.2.1 x)
-      on (ByBetter its g good) = later_still route its (get_or (third ∷ others) k d) good (each_later next (third ∷ others) handed.2 its g k d (omega (arith, low)))
+      on : ((its : Route) → ForwardsBy next its → IsLater its (get_or (third ∷ others) k d)) → IsLater route next → IsLater route (get_or (third ∷ others) k d)
+      on further (Announcing x) = absurd (handed.2.1 x)
+      on further (ByBetter its g good) = later_still route its (get_or (third ∷ others) k d) good (further its g)
 
   rest_handed : (first : ℕ) (others : List ℕ) → IsHandedAlong topology address (first ∷ others) → IsHandedAlong topology address others
   rest_handed first [] handed = tt

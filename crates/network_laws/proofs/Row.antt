@@ -35,21 +35,15 @@ use Rattle.route_laws.proofs.Entries.{is_no_network, links_of, mapped, sayings}
 use Rattle.route_laws.proofs.Labels.{AreChecked}
 use Rattle.route_laws.proofs.Made.{back, from_other, from_root, linked, only_one, says}
 use Rattle.route_laws.proofs.NoSummaries.{is_no_summary}
-use Rattle.forwarding_premises.specs.Laws.{HaveOwnAddresses}
+use Rattle.forwarding_premises.specs.Laws.{HaveCosts, HaveOwnAddresses}
 use Rattle.network_laws.specs.Laws.{IsThere}
+use Rattle.network_laws.specs.Laws.IsAttached.{ToNetwork}
 use Rattle.network_laws.specs.Laws.IsThere.{Attached}
 use Rattle.network_laws.specs.Topologies.{AreJoined, AreUpToDate, Forwarder, HandsTo, IsAcross, IsAnnouncedAt, IsUpToDate, SayTheSame, Topology, root_of, says_of}
 use Rattle.network_laws.specs.Worked.{CrossedLinksMayLoop, DifferingDatabasesMayLoop, WorkedTopology, address, anew, anew_links, anew_routes, between, crossed, differing, forwarder, full, in_a_row, interface_at, left, left_id, left_links, left_routes, link_with, middle, middle_id, middle_links, middle_routes, narrow, right, right_id, right_links, right_routes, row, wide, wide_network}
 use Rattle.network_laws.proofs.Found.{candidates_of, is_router, no_external, only_within, stub_offered, three_in_order, two_in_order, way_to}
 
 -- ---- lists of three
-
-of_three : (P : Route → Type 0) (a b c : Route) → P a → P b → P c → (r : Route) → Contains (a ∷ b ∷ c ∷ []) r → P r
-of_three P a b c at_a at_b at_c r t =
-    elim (of_cons a (b ∷ c ∷ []) r t) [
-      | inl e ↦ subst P e at_a
-      | inr later ↦ of_two P b c at_b at_c r later
-    ]
 
 pub of_two : (P : Route → Type 0) (a b : Route) → P a → P b → (r : Route) → Contains (a ∷ b ∷ []) r → P r
 of_two P a b at_a at_b r t =
@@ -60,6 +54,13 @@ of_two P a b at_a at_b r t =
             | inl e ↦ subst P e at_b
             | inr none ↦ absurd (of_empty r none)
           ]
+    ]
+
+of_three : (P : Route → Type 0) (a b c : Route) → P a → P b → P c → (r : Route) → Contains (a ∷ b ∷ c ∷ []) r → P r
+of_three P a b c at_a at_b at_c r t =
+    elim (of_cons a (b ∷ c ∷ []) r t) [
+      | inl e ↦ subst P e at_a
+      | inr later ↦ of_two P b c at_b at_c r later
     ]
 
 three_places : {X : Type 0} (P : ℕ → X → Type 0) (a b c : X) → P 0 a → P 1 b → P 2 c → (k : ℕ) (x : X) → slice_get (a ∷ b ∷ c ∷ []) k ≡ Some x → P k x
@@ -295,24 +296,24 @@ right_candidates =
 
 -- ---- each router for itself
 
-pub up_to_date : (es : Entries) (id : ℕ) (links : List Link) (routes : List Route) → Says (said_at 0 (database es)) (router_key id) (router_body links) → HaveOwnAddresses links → list_all is_router (sayings es) ≡ true
+pub up_to_date : (es : Entries) (id : ℕ) (links : List Link) (routes : List Route) → Says (said_at 0 (database es)) (router_key id) (router_body links) → HaveOwnAddresses links → HaveCosts links → list_all is_router (sayings es) ≡ true
     → AreCandidates (said_at 0 (database es)) (root_by id links) routes → IsUpToDate (forwarder id links es routes)
-up_to_date es id links routes current apart alone are = record {
+up_to_date es id links routes current apart costs alone are = record {
   current = current;
   addresses = apart;
-  direct = λ key lsa its. absurd (no_external es alone _ lsa its);
+  costs = costs;
   is_table = record { each = λ r. (λ t. ((are.each r).0 t, mapped (λ (x : Route). (x, 0)) routes r t), λ k. (are.each r).1 k.0); ascending = are.ascending };
   let_in = λ r k. mapped (λ (x : Route). (x, 0)) routes r ((are.each r).1 k);
 }
 
 pub left_is : IsUpToDate left
-left_is = up_to_date row left_id left_links left_routes left_says refl refl left_candidates
+left_is = up_to_date row left_id left_links left_routes left_says refl refl refl left_candidates
 
 middle_is : IsUpToDate middle
-middle_is = up_to_date row middle_id middle_links middle_routes middle_says refl refl middle_candidates
+middle_is = up_to_date row middle_id middle_links middle_routes middle_says refl refl refl middle_candidates
 
 right_is : IsUpToDate right
-right_is = up_to_date row right_id right_links right_routes right_says refl refl right_candidates
+right_is = up_to_date row right_id right_links right_routes right_says refl refl refl right_candidates
 
 row_is : (place : ℕ) (f : Forwarder) → slice_get (left ∷ middle ∷ right ∷ []) place ≡ Some f → IsUpToDate f
 row_is = three_places (λ place f. IsUpToDate f) left middle right left_is middle_is right_is
@@ -375,7 +376,7 @@ pub worked : WorkedTopology
 worked = record {
   converged = record { up_to_date = row_is; agree = λ place other a b p q key. ap (λ (s : Said). s key) (says_row place a p ∙ sym (says_row other b q)); joined = row_joined };
   handed_along = (left_to_1 in_a_row.across refl, silent_row in_a_row.across 0, (middle_to in_a_row.across 2 refl, silent_row in_a_row.across 1, tt));
-  is_there = Attached right refl (narrow 5 1) (narrow_longest 10 2 15 2 5 1) (narrow_stub, linked row right_id (lsa_of right_links) right_says narrow_stub (1, omega arith, refl), refl, (omega arith, refl, refl), refl);
+  is_there = Attached right refl (narrow 5 1) (narrow_longest 10 2 15 2 5 1) (ToNetwork (narrow_stub, linked row right_id (lsa_of right_links) right_says narrow_stub (1, omega arith, refl), refl, (omega arith, refl, refl), refl));
 }
 
 pub crossed_links : CrossedLinksMayLoop

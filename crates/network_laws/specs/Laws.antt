@@ -4,25 +4,35 @@ use Rattle.std.specs.Prelude.{◌≡◌, ◌≢◌, ℕ, ◌≤◌, IsTrue, List
 use Rattle.std.specs.List.{AllPairs}
 use Rattle.words.specs.Interfaces.{has_interface}
 use Rattle.words.specs.Numbers.{InterfaceNumber}
+use Rattle.words.specs.Prefixes.{IsUnder, Network}
 use Rattle.words.specs.declared.route.Route.{Route}
 use Rattle.offers.specs.Borders.{IsLongest}
+use Rattle.routes.specs.Candidates.{IsBest, OffersExternal}
 use Rattle.routes.specs.Offers.{Attaches}
 use Rattle.routes.specs.declared.node.Node.TheVariants.{ARouter}
+use Rattle.routes.specs.declared.offer.Offer.{Offer}
 use Rattle.forwarding_laws.specs.Outward.{IsBetter}
 use Rattle.network_laws.specs.Topologies.{Forwarder, HandsTo, HasConverged, IsAnnouncedAt}
-use Rattle.network_laws.specs.Topologies.{IsHandedAlong, StandsAt, Topology, says_of}
+use Rattle.network_laws.specs.Topologies.{IsHandedAlong, StandsAt, Topology, root_of, says_of}
 
 -- ---- one hop
 
--- a stub link of the router's own has the network of the route, at the route's cost
-abbrev pub IsAttached : Forwarder → Route → Type 0
-IsAttached forwarder route =
-    Attaches (says_of forwarder.router) (ARouter forwarder.router.id) route.prefix route.cost
+-- a stub link of the router's own has the network of the route, at the route's cost, or that of the
+-- forwarding address of an external LSA that the route comes of
+pub data IsAttached (forwarder : Forwarder) (route : Route) : Type 0 where
+  ToNetwork : Attaches (says_of forwarder.router) (ARouter forwarder.router.id) route.prefix
+      route.cost → IsAttached forwarder route
+  ToForwardingAddress : (offer : Offer)
+      → IsBest (says_of forwarder.router) (root_of forwarder.router) route.prefix offer
+      → (external : OffersExternal (says_of forwarder.router) (root_of forwarder.router) offer)
+      → (prefix : Network) (cost : ℕ) → IsUnder external.lsa.forwarding prefix
+      → Attaches (says_of forwarder.router) (ARouter forwarder.router.id) prefix cost
+      → IsAttached forwarder route
 
 -- what becomes of a packet to the address that a router sends by this next hop of its route
 pub data LeadsOn (topology : Topology) (address place : ℕ) (forwarder : Forwarder) (route : Route)
     (interface : InterfaceNumber) : Type 0 where
-  -- 0 stands for the router itself, which is attached to the network
+  -- 0 stands for the router itself, which is attached
   AtHome : interface ≡ 0 → IsAttached forwarder route
       → LeadsOn topology address place forwarder route interface
   -- the router at the other end forwards it by a better route of the same prefix
@@ -66,7 +76,7 @@ last_of place (next ∷ others) = last_of next others
 
 -- a packet to the address needs to go no further than to the router at this place
 pub data IsThere (topology : Topology) (address place : ℕ) : Type 0 where
-  -- the router is attached to the network of the longest prefix
+  -- the router is attached, by its route of the longest prefix
   Attached : (forwarder : Forwarder) → StandsAt topology place forwarder → (route : Route)
       → IsLongest forwarder.table address route → IsAttached forwarder route
       → IsThere topology address place

@@ -19,7 +19,7 @@ use Rattle.routes.specs.Offers.{IsPrefix}
 use Rattle.routes.specs.Said.{Said, said_at}
 use Rattle.routes.specs.Tables.{IsLetIn}
 use Rattle.routes.specs.declared.root.Root.{Root}
-use Rattle.forwarding_premises.specs.Laws.{HaveOwnAddresses, IsCurrent}
+use Rattle.forwarding_premises.specs.Laws.{HaveCosts, HaveOwnAddresses, IsCurrent}
 
 -- ---- routers and links
 
@@ -56,12 +56,10 @@ pub record IsUpToDate (forwarder : Forwarder) : Type 0 where
   -- its database has the router-LSA that its interfaces and neighbors make now
   pub current : (let router = forwarder.router in
       IsCurrent (says_of router) router.id router.area.links)
-  -- no two of its interfaces have one address, as in each configuration that a router takes
+  -- no two of its interfaces have one address, and each costs at least 1, as in each configuration
+  -- that a router takes
   pub addresses : HaveOwnAddresses forwarder.router.area.links
-  -- its external LSAs have no forwarding address, as each that it originates
-  pub direct : (id : ℕ) (lsa : ExternalLsa)
-      → Says (says_of forwarder.router) (external_key id forwarder.router.id) (body.External lsa)
-      → lsa.forwarding ≡ 0
+  pub costs : HaveCosts forwarder.router.area.links
   -- its table is that of its candidates and of its program's answers
   pub is_table : (let router = forwarder.router in
       IsTableOf router.id router.area router.moment router.answers forwarder.table)

@@ -9,7 +9,7 @@ ghost use Rattle.network_laws.specs.Laws.{RoutersForwardWithoutLoops};
 ghost use Rattle.network_laws.specs.Worked.{CrossedLinksMayLoop, DifferingDatabasesMayLoop};
 ghost use Rattle.network_laws.specs.Worked.{WorkedTopology};
 
-use candidate_laws::every_offer_has_a_candidate;
+use candidate_laws::{candidates_are_cheapest_walks, every_offer_has_a_candidate};
 use forwarding_laws::{each_hop_is_nearer, each_hop_leads_to_an_originator};
 use forwarding_laws::routes_end_at_the_network;
 use forwarding_premises::own_router_lsas_meet_the_premises;
@@ -19,6 +19,7 @@ use forwarding_premises::own_router_lsas_meet_the_premises;
 pub fn each_hop_leads_on()
     ensures { EachHopLeadsOn }
 {
+    candidates_are_cheapest_walks();
     every_offer_has_a_candidate();
     each_hop_is_nearer();
     each_hop_leads_to_an_originator();
@@ -39,6 +40,7 @@ pub fn routers_forward_without_loops()
 pub fn packets_arrive()
     ensures { PacketsArrive }
 {
+    candidates_are_cheapest_walks();
     every_offer_has_a_candidate();
     each_hop_is_nearer();
     each_hop_leads_to_an_originator();
