@@ -13,6 +13,7 @@ use Rattle.network_laws.specs.Laws.IsThere.{Announced, Attached}
 use Rattle.network_laws.specs.Topologies.{Forwarder, HandsTo, HasConverged, IsHandedAlong, StandsAt, Topology}
 use Rattle.network_laws.proofs.Hop.{at_home, next_by, some_hop}
 use Rattle.network_laws.proofs.Passed.{ForwardsBy, IsLater, each_later}
+use Rattle.network_laws.proofs.Passed.IsLater.{Announcing, ByBetter}
 
 last_at : (first : ℕ) (others : List ℕ) (k : ℕ) → length others ≡ suc k → last_of first others ≡ get_or others k first
 last_at first [] k e = absurd (omega (arith, e))
@@ -44,8 +45,8 @@ module _ (topology : Topology) (converged : HasConverged topology) (premises : O
       ]
 
   later_last : (place : ℕ) (route : Route) → IsLater topology converged hop address route place → ((to : ℕ) → HandsTo topology address place to → ⊥) → IsThere topology address place
-  later_last place route (IsLater.ByBetter its g good) nobody = at_last place its g nobody
-  later_last place route (IsLater.Announcing x) nobody = Announced x
+  later_last place route (ByBetter its g good) nobody = at_last place its g nobody
+  later_last place route (Announcing x) nobody = Announced x
 
   pub is_there : (first : ℕ) (others : List ℕ) (route : Route) → ForwardsBy topology converged hop address first route → IsHandedAlong topology address (first ∷ others) → ((to : ℕ) → HandsTo topology address (last_of first others) to → ⊥)
       → IsThere topology address (last_of first others)

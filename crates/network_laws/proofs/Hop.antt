@@ -105,12 +105,12 @@ module _ (topology : Topology) (converged : HasConverged topology) (premises : O
         by_case (inl x) = let h = within_here k.first x in record { route = h.route; among = h.among; is_for = h.is_for ∙ k.is_best.is_for; intra = h.intra }
 
     -- the way to an external destination at this end
-    record IsWayHere (x_id : ℕ) (lsa : ExternalLsa) (boundary : Way) : Type 0 where
+    record IsWayHere (lsa : ExternalLsa) (boundary : Way) : Type 0 where
       way : Way
       direct : lsa.forwarding ≡ 0 → way ≡ boundary
       forwarded : lsa.forwarding ≢ 0 → IsForwarded (OffersInside (says_of a.router) (root_of a.router)) lsa.forwarding way
 
-    way_here : (o : Offer) (x : OffersExternal (says_of a.router) (root_of b.router) o) (boundary : Way) → IsWayHere x.id x.lsa boundary
+    way_here : (o : Offer) (x : OffersExternal (says_of a.router) (root_of b.router) o) (boundary : Way) → IsWayHere x.lsa boundary
     way_here o x boundary =
         elim (cases_eq x.lsa.forwarding 0) [
           | inl e ↦ record { way = boundary; direct = λ _. refl; forwarded = λ some. absurd (some e) }

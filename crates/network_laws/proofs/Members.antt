@@ -89,7 +89,7 @@ module _ (topology : Topology) (converged : HasConverged topology) (premises : O
       let R : ℕ → Type 0 = λ n. IsRouterLsa (says_of a.router) n r.lsa in
       let said : Some (body.Router r.lsa) ≡ Some (router_body g.forwarder.router.area.links) = sym (subst R same r.its) ∙ current in
       let are : r.lsa ≡ record { flags = 2; links = flat_map links_of g.forwarder.router.area.links } = cc in
-      let none : bit_and 2 1 ≡ 1 = ap (λ (x : RouterLsa). bit_and x.flags 1) (sym are) ∙ r.has_b in
+      let none : 0 ≡ 1 = ap (λ (x : RouterLsa). bit_and x.flags 1) (sym are) ∙ r.has_b in
       omega (arith, none)
 
   -- so nothing is offered by another area
