@@ -94,10 +94,10 @@ pub candidates_of : (said : Said) (root : Root) (offers : List Offer) → InOrde
 candidates_of said root offers ordered offered only up =
     all_candidates said root (map (λ (o : Offer). route_of o) offers)
     (λ r t.
-        let k = of_map offers r t in
-        let alone_is : IsAlone said root k.0 = λ other o same. inl (one_of (λ (x : Offer). x.prefix) offers ordered other k.0 (only other o) k.1 same) in
-        let P : Route → Type 0 = λ x. IsCandidate said root x in
-        subst P k.2 (alone said root k.0 (offered k.0 k.1) alone_is))
+    let k = of_map offers r t in
+    let alone_is : IsAlone said root k.0 = λ other o same. inl (one_of (λ (x : Offer). x.prefix) offers ordered other k.0 (only other o) k.1 same) in
+    let P : Route → Type 0 = λ x. IsCandidate said root x in
+    subst P k.2 (alone said root k.0 (offered k.0 k.1) alone_is))
     (λ o given. (route_of o, mapped (λ (x : Offer). route_of x) offers o (only o given), refl)) up
 
 -- ---- what stub links offer
@@ -141,7 +141,7 @@ only_within es root offers routers networks summaries known o (External x) = abs
 pub way_to : (es : Entries) (root : Root) (distance hops : ℕ → ℕ) → AreChecked root (sayings es) distance hops → (router : ℕ) (walk : List (Step Node))
     → IsWalk (Leads (said_at 0 (database es)) root) (ARouter root.router) walk (ARouter router) → price_of walk ≡ distance router
     → ((i : ℕ) → IsTrue (has_interface (hops router) i) → (first : Step Node) × (rest : List (Step Node)) × IsWalk (Leads (said_at 0 (database es)) root) (ARouter root.router) (first ∷ rest) (ARouter router)
-      × (price_of (first ∷ rest) ≡ distance router) × (first.exit ≡ i))
+    × (price_of (first ∷ rest) ≡ distance router) × (first.exit ≡ i))
     → IsWay (Leads (said_at 0 (database es)) root) (ARouter root.router) (ARouter router) (record { distance = distance router; hops = hops router })
 way_to es root distance hops are router walk is costs each =
     way_by (Leads (said_at 0 (database es)) root) (ARouter root.router) (at_node distance) (at_node hops) (checked root 0 es distance hops are) (ARouter router) walk is costs each

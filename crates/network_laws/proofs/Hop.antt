@@ -54,7 +54,6 @@ announced_by said root o x router address e under =
     record { id = x.id; lsa = x.lsa; its = subst S e x.its; prefix = x.prefix; is_prefix = x.is_prefix; under = subst U (prefix_of said root o x) under }
 
 module _ (topology : Topology) (converged : HasConverged topology) (premises : OwnRouterLsasMeetThePremises) (every : EveryOfferHasACandidate) (cheapest : CandidatesAreCheapestWalks) where
-
   -- ---- back: where a link leads to a router, each of its networks is known at this end too
 
   module _ (place other : ℕ) (a b : Forwarder) (p : StandsAt topology place a) (q : StandsAt topology other b) (price exit : ℕ)

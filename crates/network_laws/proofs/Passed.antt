@@ -134,7 +134,7 @@ module _ (topology : Topology) (converged : HasConverged topology) (hop : EachHo
   each_below first [] f p handed x (suc k, low, is) = absurd (omega (arith, low))
   each_below first (next ∷ others) f p handed x (suc k, low, is) =
       let h = handed.0 in
-      let by = record { forwarder = h.forwarder; stands = h.stands; longest = h.longest } in
+      let by : ForwardsBy topology converged hop address first h.route = record { forwarder = h.forwarder; stands = h.stands; longest = h.longest } in
       let there = stands_there topology converged hop address first (next ∷ others) handed h.route by k x (omega (arith, low)) in
       omega (arith, there, is)
 

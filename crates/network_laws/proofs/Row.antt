@@ -349,7 +349,7 @@ row_joined =
     three_places (λ place f. EachJoined in_a_row place f.router.area.links) left middle right
     (one_joined in_a_row 0 (interface_at (dotted 192 0 3 1) 23) (full middle_id) (record { other = 1; is_across = refl; forwarder = middle; stands = refl; is = refl }))
     (two_joined in_a_row 1 (interface_at (dotted 10 0 0 1) 24) (interface_at (dotted 10 0 0 2) 24) (full left_id) (full right_id) (record { other = 0; is_across = refl; forwarder = left; stands = refl; is = refl })
-        (record { other = 2; is_across = refl; forwarder = right; stands = refl; is = refl }))
+    (record { other = 2; is_across = refl; forwarder = right; stands = refl; is = refl }))
     (one_joined in_a_row 2 (interface_at (dotted 192 0 2 1) 24) (full middle_id) (record { other = 1; is_across = refl; forwarder = middle; stands = refl; is = refl }))
 
 -- ---- packets

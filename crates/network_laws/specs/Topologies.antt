@@ -60,7 +60,8 @@ pub record IsUpToDate (forwarder : Forwarder) : Type 0 where
   -- that a router takes
   pub addresses : HaveOwnAddresses forwarder.router.area.links
   pub costs : HaveCosts forwarder.router.area.links
-  -- its table is that of its candidates and of its program's answers
+  -- its table is that of its candidates and of its program's answers, which `Core::rows` answers
+  -- (the `IsTableNow` of `flood`)
   pub is_table : (let router = forwarder.router in
       IsTableOf router.id router.area router.moment router.answers forwarder.table)
   -- which let in each candidate

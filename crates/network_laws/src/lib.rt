@@ -10,8 +10,9 @@ ghost use Rattle.network_laws.specs.Worked.{CrossedLinksMayLoop, DifferingDataba
 ghost use Rattle.network_laws.specs.Worked.{WorkedTopology};
 
 use candidate_laws::{candidates_are_cheapest_walks, every_offer_has_a_candidate};
-use forwarding_laws::{each_hop_is_nearer, each_hop_leads_to_an_originator};
-use forwarding_laws::routes_end_at_the_network;
+use forwarding_laws::{
+    each_hop_is_nearer, each_hop_leads_to_an_originator, routes_end_at_the_network,
+};
 use forwarding_premises::own_router_lsas_meet_the_premises;
 
 /// Each next hop of a router leads to a router with a better route of the same prefix, or to one
