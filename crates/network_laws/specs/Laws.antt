@@ -13,7 +13,8 @@ use Rattle.routes.specs.declared.node.Node.TheVariants.{ARouter}
 use Rattle.routes.specs.declared.offer.Offer.{Offer}
 use Rattle.forwarding_laws.specs.Outward.{IsBetter}
 use Rattle.network_laws.specs.Topologies.{Forwarder, HandsTo, HasConverged, IsAnnouncedAt}
-use Rattle.network_laws.specs.Topologies.{IsHandedAlong, StandsAt, Topology, root_of, says_of}
+use Rattle.network_laws.specs.Topologies.{IsHandedAlong, StandsAt, Topology, root_of}
+use Rattle.network_laws.specs.Topologies.{says_of}
 
 -- ---- one hop
 

@@ -1,7 +1,8 @@
-//! Laws of networks of routers, each carried by a function that does nothing (RFC 2328, sections 11
-//! and 16): where the databases of all routers say the same, no packet comes to a router twice, and
-//! it arrives. They speak of routers as the rules of events have them, with the routing tables that
-//! a router answers.
+//! Laws of networks of routers, each carried by a function that does nothing (RFC 2328, sections
+//! 11 and 16): where the databases of all routers say the same, no packet comes to a router twice,
+//! and it arrives. They speak of routers as the rules of events have them, with the routing tables
+//! that a router answers. Worked topologies show that the laws speak of something, and where they
+//! end.
 #![tactic(auto)]
 
 ghost use Rattle.network_laws.specs.Laws.{EachHopLeadsOn, PacketsArrive};
@@ -36,8 +37,8 @@ pub fn routers_forward_without_loops()
     each_hop_leads_on();
 }
 
-/// A packet to an address is handed on until it comes to a router that is attached to its network,
-/// or that announces the address itself.
+/// A packet to an address is handed on until it comes to a router that is attached to its
+/// network, or that announces the address itself.
 pub fn packets_arrive()
     ensures { PacketsArrive }
 {
@@ -50,8 +51,8 @@ pub fn packets_arrive()
     each_hop_leads_on();
 }
 
-/// Three routers in a row, whose databases say the same: a packet that lies in the networks of both
-/// ends is handed along the row to the smaller one.
+/// Three routers in a row, whose databases say the same: a packet to an address in the networks
+/// of both ends is handed along the row to the smaller one.
 pub fn worked_topology()
     ensures { WorkedTopology }
 {}
