@@ -18,8 +18,8 @@ use Rattle.network_laws.specs.Topologies.{says_of}
 
 -- ---- one hop
 
--- a stub link of the router's own has the network of the route, at the route's cost, or that of the
--- forwarding address of an external LSA that the route comes of
+-- the router is attached by a stub link of its own: to the network of the route, at the route's
+-- cost, or to that of the forwarding address of an external LSA that the route comes of
 pub data IsAttached (forwarder : Forwarder) (route : Route) : Type 0 where
   ToNetwork : Attaches (says_of forwarder.router) (ARouter forwarder.router.id) route.prefix
       route.cost → IsAttached forwarder route
