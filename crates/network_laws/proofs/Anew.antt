@@ -1,8 +1,7 @@
 -- The worked topology in which the middle router has begun anew: its candidates, premises, and the packet that comes back.
-use Rattle.std.proofs.Common.{◌≡◌, ℕ, zero, suc, ◌+◌, ◌<◌, ◌≤◌, inl, inr, cond, Bool, false, true, IsTrue, nat_eq, List, [], ◌∷◌, filter, Option, None, Some, slice_get, arith, refl, sym, ◌∙◌, ap, subst}
+use Rattle.std.proofs.Common.{◌≡◌, ℕ, ◌≤◌, inl, inr, cond, nat_eq, List, [], ◌∷◌, filter, Some, slice_get, arith, refl, sym, subst}
 use Rattle.std.specs.List.{Contains}
-use Rattle.words.specs.Interfaces.{has_interface}
-use Rattle.words.specs.Prefixes.{IsUnder, Network}
+use Rattle.words.specs.Prefixes.{IsUnder}
 use Rattle.words.specs.declared.key.Key.{Key}
 use Rattle.words.specs.declared.route.Route.{Route}
 use Rattle.lsa.specs.declared.body.Body.TheVariants as body
@@ -14,10 +13,9 @@ use Rattle.offers.specs.Borders.{IsLongest}
 use Rattle.routes.proofs.Lists.{of_cons, of_empty}
 use Rattle.routes.specs.Candidates.{AreCandidates, Offers}
 use Rattle.routes.specs.Links.{IsRouterLsa, Leads, LeadsTo, Says}
-use Rattle.routes.specs.Paths.{IsWay, Step, Way}
+use Rattle.routes.specs.Paths.{IsWay, Way}
 use Rattle.routes.specs.Routes.IsBefore.{ByAddress}
 use Rattle.routes.specs.Said.{Said, said_at}
-use Rattle.routes.specs.declared.node.Node.{Node}
 use Rattle.routes.specs.declared.node.Node.TheVariants.{ARouter}
 use Rattle.routes.specs.declared.offer.Offer.{Offer}
 use Rattle.routes.specs.declared.root.Root.{Root}
@@ -26,10 +24,10 @@ use Rattle.route_laws.proofs.Alone.{Known, StubOffer, is_stub}
 use Rattle.route_laws.proofs.Entries.{links_of, sayings}
 use Rattle.route_laws.proofs.Labels.{AreChecked}
 use Rattle.route_laws.proofs.Made.{back, from_root, only_one, says}
-use Rattle.network_laws.specs.Topologies.{AreJoined, AreUpToDate, Forwarder, HandsTo, IsAnnouncedAt, IsUpToDate, says_of}
+use Rattle.network_laws.specs.Topologies.{AreJoined, Forwarder, IsAnnouncedAt, IsUpToDate, says_of}
 use Rattle.network_laws.specs.Worked.{DifferingDatabasesMayLoop, address, anew, anew_links, anew_routes, between, differing, forwarder, full, interface_at, left, left_id, left_links, middle_id, narrow, row, wide}
 use Rattle.network_laws.proofs.Found.{candidates_of, no_external, only_within, stub_offered, two_in_order, way_to}
-use Rattle.network_laws.proofs.Row.{EachJoined, between_offer, first_joined, first_stub, hops_at, hops_from, left_is, lsa_of, narrow_longest, no_hop, of_two, one_joined, row_says, second_stub, to, two_places, up_to_date, way, wide_offer, wide_stub}
+use Rattle.network_laws.proofs.Row.{EachJoined, between_offer, first_joined, first_stub, left_is, lsa_of, narrow_longest, no_hop, of_two, one_joined, second_stub, to, two_places, up_to_date, way, wide_offer, wide_stub}
 
 abbrev anew_says : Said
 anew_says = said_at 0 (database anew)

@@ -1,16 +1,15 @@
 -- A router with a route for the address that hands its packets to nobody is attached to the network.
-use Rattle.std.proofs.Common.{◌≡◌, ℕ, zero, suc, ◌<◌, ◌⊎◌, inl, inr, IsTrue, List, [], ◌∷◌, length, get_or, arith, refl, sym, subst}
+use Rattle.std.proofs.Common.{◌≡◌, ℕ, zero, suc, inl, inr, IsTrue, List, [], ◌∷◌, length, get_or, arith, refl, sym, subst}
 use Rattle.std.proofs.lemmas.Bool.{cases_lt}
 use Rattle.words.specs.Interfaces.{has_interface}
 use Rattle.words.specs.declared.route.Route.{Route}
 use Rattle.candidate_laws.specs.Laws.{CandidatesAreCheapestWalks, EveryOfferHasACandidate}
-use Rattle.offers.specs.Borders.{IsLongest}
 use Rattle.forwarding_laws.specs.Laws.{EachHopIsNearer, RoutesEndAtTheNetwork}
 use Rattle.forwarding_laws.specs.Outward.{EachHopLeadsToAnOriginator}
 use Rattle.forwarding_premises.specs.Laws.{OwnRouterLsasMeetThePremises}
 use Rattle.network_laws.specs.Laws.{EachHopLeadsOn, IsThere, PacketsArrive, last_of}
 use Rattle.network_laws.specs.Laws.IsThere.{Announced, Attached}
-use Rattle.network_laws.specs.Topologies.{Forwarder, HandsTo, HasConverged, IsHandedAlong, StandsAt, Topology}
+use Rattle.network_laws.specs.Topologies.{Forwarder, HandsTo, HasConverged, IsHandedAlong, Topology}
 use Rattle.network_laws.proofs.Hop.{at_home, next_by, some_hop}
 use Rattle.network_laws.proofs.Passed.{ForwardsBy, IsLater, each_later}
 use Rattle.network_laws.proofs.Passed.IsLater.{Announcing, ByBetter}

@@ -1,5 +1,5 @@
 -- The candidates of a database of router-LSAs that is given as a list of copies, where each prefix has one offer.
-use Rattle.std.proofs.Common.{◌≡◌, ℕ, zero, suc, ◌<◌, ◌≤◌, ◌⊎◌, inl, inr, Bool, true, false, IsTrue, List, [], ◌∷◌, length, get_or, map, filter, arith, refl, sym, ◌∙◌, ap, subst}
+use Rattle.std.proofs.Common.{◌≡◌, ℕ, zero, suc, inl, inr, Bool, true, false, IsTrue, List, [], ◌∷◌, length, map, filter, arith, refl, sym, ◌∙◌, ap, subst}
 use Rattle.std.specs.List.{AllPairs, Contains, list_all}
 use Rattle.words.specs.Interfaces.{has_interface}
 use Rattle.words.specs.Prefixes.{Network, network_address}
@@ -12,10 +12,10 @@ use Rattle.lsa.specs.declared.body.Link.{Link}
 use Rattle.lsa.specs.declared.body.LinkKind.TheVariants.{Stub}
 use Rattle.routes.proofs.Determined.{never_both}
 use Rattle.routes.proofs.Lists.{first_is, later_is, of_cons, of_empty}
-use Rattle.routes.specs.Candidates.{AreCandidates, IsCandidate, Offers, OffersExternal}
+use Rattle.routes.specs.Candidates.{AreCandidates, IsCandidate, Offers}
 use Rattle.routes.specs.Candidates.Offers.{Between, External, Within}
 use Rattle.routes.specs.Links.{IsRouterLsa, Leads, Says}
-use Rattle.routes.specs.Paths.{IsWalk, IsWay, Step, Way, price_of}
+use Rattle.routes.specs.Paths.{IsWalk, IsWay, Step, price_of}
 use Rattle.routes.specs.Routes.{IsBefore}
 use Rattle.routes.specs.Said.{Said, said_at}
 use Rattle.routes.specs.declared.node.Node.{Node}
@@ -24,7 +24,7 @@ use Rattle.routes.specs.declared.offer.Offer.{Offer}
 use Rattle.routes.specs.declared.root.Root.{Root}
 use Rattle.route_laws.specs.Worked.{Entries, database, router_lsa}
 use Rattle.route_laws.proofs.Alone.{IsAlone, Known, StubOffer, all_candidates, alone, each_within, is_stub, route_of}
-use Rattle.route_laws.proofs.Entries.{all_pass, has_link, is_no_network, is_said, links_of, mapped, sayings}
+use Rattle.route_laws.proofs.Entries.{all_pass, is_no_network, is_said, links_of, mapped, sayings}
 use Rattle.route_laws.proofs.Labels.{AreChecked, at_node, checked, way_by}
 use Rattle.route_laws.proofs.Made.{linked}
 use Rattle.route_laws.proofs.NoSummaries.{is_no_summary, nothing_between}

@@ -1,7 +1,6 @@
 -- What holds of each router of a converged topology, and that no walk leads out of the topology.
-use Rattle.std.proofs.Common.{◌≡◌, ℕ, ◌<◌, IsTrue, List, [], ◌∷◌, Some, bit_and, arith, refl, sym, ◌∙◌, ap, subst}
+use Rattle.std.proofs.Common.{◌≡◌, ℕ, List, [], ◌∷◌, Some, bit_and, arith, refl, sym, ◌∙◌, ap, subst}
 use Rattle.std.specs.List.{flat_map}
-use Rattle.words.specs.declared.route.Route.{Route}
 use Rattle.lsa.specs.declared.body.Body.TheVariants as body
 use Rattle.lsa.specs.declared.body.RouterLsa.{RouterLsa}
 use Rattle.events.specs.Originations.{links_of, router_body}
@@ -15,7 +14,6 @@ use Rattle.routes.specs.Summaries.IsBoundaryWay.{Inside, Outside}
 use Rattle.routes.specs.declared.offer.Offer.{Offer}
 use Rattle.routes.specs.declared.node.Node.{Node}
 use Rattle.routes.specs.declared.node.Node.TheVariants.{ARouter}
-use Rattle.routes.specs.declared.root.Root.{Root}
 use Rattle.forwarding_laws.specs.Laws.{NamesItsInterfaces}
 use Rattle.forwarding_laws.proofs.Nearer.{leads_there}
 use Rattle.forwarding_premises.specs.Laws.{HaveOwnAddresses, IsCurrent, OwnRouterLsasMeetThePremises}

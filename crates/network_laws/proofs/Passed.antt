@@ -1,9 +1,8 @@
 -- Along the routers that hand a packet on the routes are better and better, so that it comes to none twice.
-use Rattle.std.proofs.Common.{◌≡◌, ℕ, zero, suc, ◌<◌, ◌≤◌, ◌⊎◌, inl, inr, IsTrue, List, [], ◌∷◌, Some, length, get_or, arith, refl, sym, ◌∙◌, ap, subst}
+use Rattle.std.proofs.Common.{◌≡◌, ℕ, zero, suc, ◌<◌, ◌≤◌, inl, inr, List, [], ◌∷◌, Some, length, get_or, arith, refl, sym, ◌∙◌, ap, subst}
 use Rattle.std.specs.List.{Contains}
 use Rattle.std.proofs.lemmas.Bool.{cases_lt}
 use Rattle.std.proofs.lemmas.Option.{slice_get_within}
-use Rattle.words.specs.Interfaces.{has_interface}
 use Rattle.words.specs.Prefixes.{IsUnder, Network, network_address}
 use Rattle.words.specs.declared.route.Route.{Route}
 use Rattle.offers.specs.Borders.{IsLongest}

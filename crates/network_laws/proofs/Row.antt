@@ -1,15 +1,12 @@
 -- The worked topologies: candidates of each router, premises, and packets.
-use Rattle.std.proofs.Common.{◌≡◌, ℕ, zero, suc, ◌+◌, ◌<◌, ◌≤◌, inl, inr, cond, Bool, false, true, IsTrue, nat_eq, List, [], ◌∷◌, map, filter, Option, None, Some, slice_get, arith, refl, sym, ◌∙◌, ap, subst}
+use Rattle.std.proofs.Common.{◌≡◌, ℕ, zero, suc, ◌+◌, ◌≤◌, inl, inr, cond, true, IsTrue, nat_eq, List, [], ◌∷◌, filter, Option, None, Some, slice_get, arith, refl, sym, ◌∙◌, ap, subst}
 use Rattle.std.specs.Int.{bit_at}
 use Rattle.std.specs.List.{Contains, flat_map, list_all}
 use Rattle.std.proofs.lemmas.Nat.Bits.{bit_at-suc, bit_at-zero}
 use Rattle.words.specs.Interfaces.{has_interface}
-use Rattle.words.specs.Numbers.{InterfaceNumber, RouterNumber}
-use Rattle.words.specs.Prefixes.{IsUnder, Network}
-use Rattle.words.specs.declared.key.Key.{Key}
+use Rattle.words.specs.Numbers.{InterfaceNumber}
 use Rattle.words.specs.declared.route.Route.{Route}
 use Rattle.lsa.specs.declared.body.Body.TheVariants as body
-use Rattle.lsa.specs.declared.body.ExternalLsa.{ExternalLsa}
 use Rattle.lsa.specs.declared.body.Link.{Link as RouterLink}
 use Rattle.adjacency.specs.Neighbors.{Neighbor, is_full}
 use Rattle.adjacency.specs.declared.interface.Interface.{Interface}
@@ -18,7 +15,7 @@ use Rattle.events.specs.Originations.{links_of as links_made, router_body, route
 use Rattle.offers.specs.Borders.{IsLongest}
 use Rattle.received.specs.Links.{Link, neighbor_at}
 use Rattle.routes.proofs.Determined.{bit_of_member}
-use Rattle.routes.proofs.Lists.{first_is, of_cons, of_empty}
+use Rattle.routes.proofs.Lists.{of_cons, of_empty}
 use Rattle.routes.specs.Candidates.{AreCandidates, Offers}
 use Rattle.routes.specs.Links.{IsRouterLsa, Leads, LeadsTo, Says}
 use Rattle.routes.specs.Offers.{intra}
@@ -29,19 +26,17 @@ use Rattle.routes.specs.declared.node.Node.{Node}
 use Rattle.routes.specs.declared.node.Node.TheVariants.{ARouter}
 use Rattle.routes.specs.declared.offer.Offer.{Offer}
 use Rattle.routes.specs.declared.root.Root.{Root}
-use Rattle.route_laws.specs.Worked.{Entries, copy_of, database, dotted, network_24, router_lsa}
+use Rattle.route_laws.specs.Worked.{Entries, database, dotted, network_24, router_lsa}
 use Rattle.route_laws.proofs.Alone.{Known, StubOffer, is_stub}
-use Rattle.route_laws.proofs.Entries.{is_no_network, links_of, mapped, sayings}
+use Rattle.route_laws.proofs.Entries.{links_of, mapped, sayings}
 use Rattle.route_laws.proofs.Labels.{AreChecked}
 use Rattle.route_laws.proofs.Made.{back, from_other, from_root, linked, only_one, says}
-use Rattle.route_laws.proofs.NoSummaries.{is_no_summary}
 use Rattle.forwarding_premises.specs.Laws.{HaveCosts, HaveOwnAddresses}
-use Rattle.network_laws.specs.Laws.{IsThere}
 use Rattle.network_laws.specs.Laws.IsAttached.{ToNetwork}
 use Rattle.network_laws.specs.Laws.IsThere.{Attached}
-use Rattle.network_laws.specs.Topologies.{AreJoined, AreUpToDate, Forwarder, HandsTo, IsAcross, IsAnnouncedAt, IsUpToDate, SayTheSame, Topology, root_of, says_of}
-use Rattle.network_laws.specs.Worked.{CrossedLinksMayLoop, DifferingDatabasesMayLoop, WorkedTopology, address, anew, anew_links, anew_routes, between, crossed, differing, forwarder, full, in_a_row, interface_at, left, left_id, left_links, left_routes, link_with, middle, middle_id, middle_links, middle_routes, narrow, right, right_id, right_links, right_routes, row, wide, wide_network}
-use Rattle.network_laws.proofs.Found.{candidates_of, is_router, no_external, only_within, stub_offered, three_in_order, two_in_order, way_to}
+use Rattle.network_laws.specs.Topologies.{AreJoined, Forwarder, HandsTo, IsAcross, IsAnnouncedAt, IsUpToDate, Topology, says_of}
+use Rattle.network_laws.specs.Worked.{CrossedLinksMayLoop, WorkedTopology, address, between, crossed, forwarder, full, in_a_row, interface_at, left, left_id, left_links, left_routes, link_with, middle, middle_id, middle_links, middle_routes, narrow, right, right_id, right_links, right_routes, row, wide, wide_network}
+use Rattle.network_laws.proofs.Found.{candidates_of, is_router, no_external, only_within, stub_offered, three_in_order, way_to}
 
 -- ---- lists of three
 
@@ -78,9 +73,6 @@ two_places P a b at_a at_b (suc (suc k)) x e = absurd (cc)
 
 abbrev pub row_says : Said
 row_says = said_at 0 (database row)
-
-abbrev anew_says : Said
-anew_says = said_at 0 (database anew)
 
 abbrev pub lsa_of : List Link → List RouterLink
 lsa_of links = flat_map links_made links

@@ -15,7 +15,6 @@ use Rattle.adjacency.specs.Neighbors.{Neighbor, fresh}
 use Rattle.adjacency.specs.declared.interface.Interface.{Interface}
 use Rattle.adjacency.specs.declared.state.State.TheVariants.{Full}
 use Rattle.events.specs.Originations.{router_body, router_key}
-use Rattle.events.specs.Routers.{Router}
 use Rattle.received.specs.Links.{Link}
 use Rattle.route_laws.specs.Worked.{Entries, copy_of, database, dotted, network_24}
 use Rattle.network_laws.specs.Laws.{IsThere}
