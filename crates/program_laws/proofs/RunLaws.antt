@@ -28,11 +28,11 @@ no_steps hook = record { steps = refl; leads = refl }
 pub loads_of_context : (hook : Hook) (kept : List Region) → AreKeptRegions loads_context hook kept → slice_get kept 0 ≡ Some regions.Context
 loads_of_context hook kept are = are blank 0 [] start (no_steps hook) (Load Unsigned64 0 1 (pos 0)) 1 (pointers.Context 0) refl refl refl
 
+offset_is : (a b : ℕ) → contents.Address (pointers.Context a) ≡ contents.Address (pointers.Context b) → a ≡ b
+offset_is a b is = cc
+
 context_apart : contents.Address (pointers.Context 0) ≡ contents.Address (pointers.Context 8) → ⊥
-context_apart is = let same : 0 ≡ 8 = offset_same is in omega (arith, same)
-  where
-    offset_same : contents.Address (pointers.Context 0) ≡ contents.Address (pointers.Context 8) → 0 ≡ 8
-    offset_same is = cc
+context_apart is = let same = offset_is 0 8 is in omega (arith, same)
 
 nothing_is_number : (n : ℕ) → contents.Nothing ≡ contents.Number n → ⊥
 nothing_is_number n is = cc
