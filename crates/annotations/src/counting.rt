@@ -1,7 +1,7 @@
 //! The same for code with loops that have no rank: their turns are counted.
 ghost use Rattle.std.specs.Prelude.{IfOk, IfErr, Some};
 ghost use Rattle.isa.specs.Spelling.{Spells};
-ghost use Rattle.annotations.specs.Annotated.{IsAnnotation};
+ghost use Rattle.annotations.specs.Annotated.{IsCodeAnnotation};
 ghost use Rattle.annotations.specs.Verdict.{IsCountedAttempt, IsNoVerdict, IsTurnsShortfall};
 
 use crate::attempt::{Attempt, try_both};
@@ -140,7 +140,7 @@ pub fn annotate_counted(
     given: &[Statement],
     turns: u32,
 ) -> Result<Annotated, Shortfall>
-    ensures accepted { IfOk result (λ a. IsAnnotation hook (Some turns) bytes.now a.object a.bytes.items a.accepted) }
+    ensures accepted { IfOk result (λ a. IsCodeAnnotation hook (Some turns) bytes.now a.object a.bytes.items a.accepted) }
     ensures refused { IfErr result (IsTurnsShortfall hook (Some turns) bytes.now) }
 {
     let code = decode(alloc, bytes)?;

@@ -1,9 +1,8 @@
 //! From a file with code, bare or in an object, to an object that the verifier accepts.
 ghost use Rattle.std.specs.Prelude.{◌≡◌, ◌↔◌, IfOk, IfErr, IsTrue, take};
 ghost use Rattle.object.specs.Spelling.{magic};
-ghost use Rattle.annotations.specs.Annotated.{IsAnnotation};
-ghost use Rattle.annotations.specs.Verdict.{IsTurnsShortfall};
-ghost use Rattle.annotations.specs.Files.{IsFileAnnotation, IsFileShortfall};
+ghost use Rattle.annotations.specs.Annotated.{IsAnnotation, IsCodeAnnotation};
+ghost use Rattle.annotations.specs.Verdict.{IsFileShortfall, IsTurnsShortfall};
 
 use crate::annotating::annotate;
 use crate::counting::annotate_counted;
@@ -28,7 +27,7 @@ fn annotate_code(
     given: &[Statement],
     turns: Option<u32>,
 ) -> Result<Annotated, Shortfall>
-    ensures accepted { IfOk result (λ a. IsAnnotation hook turns code.now a.object a.bytes.items a.accepted) }
+    ensures accepted { IfOk result (λ a. IsCodeAnnotation hook turns code.now a.object a.bytes.items a.accepted) }
     ensures refused { IfErr result (IsTurnsShortfall hook turns code.now) }
 {
     match turns {
@@ -51,7 +50,7 @@ pub fn annotate_file(
     file: &[u8],
     turns: Option<u32>,
 ) -> Result<Annotated, Shortfall>
-    ensures accepted { IfOk result (λ a. IsFileAnnotation hook turns file.now a.object a.bytes.items a.accepted) }
+    ensures accepted { IfOk result (λ a. IsAnnotation hook turns file.now a.object a.bytes.items a.accepted) }
     ensures refused { IfErr result (IsFileShortfall hook turns file.now) }
 {
     if !is_object(file) {
