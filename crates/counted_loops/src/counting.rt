@@ -96,19 +96,19 @@ fn redirected(
     slots: usize,
     heads: &[usize],
     slot: usize,
-    instruction: Instruction,
+    instruction: &Instruction,
 ) -> Result<Instruction, CountError>
     requires slots { slots ≤ 4096 }
     requires slot { slot < 4096 }
     requires few { length heads.now ≤ 4096 }
-    ensures { IfOk result (λ i. i ≡ redirected slots slot instruction (place_of heads.now slot (jump_target slot instruction))) }
+    ensures { IfOk result (λ i. i ≡ redirected slots slot instruction.now (place_of heads.now slot (jump_target slot instruction.now))) }
 {
-    match place_of(heads, slot, jump_of(slot, &instruction)) {
+    match place_of(heads, slot, jump_of(slot, instruction)) {
         Some(place) => {
             let distance = distance_between(slot + 1, detour_at(slots, place))?;
-            Ok(with_distance(instruction, distance))
+            Ok(with_distance(*instruction, distance))
         }
-        None => Ok(instruction),
+        None => Ok(*instruction),
     }
 }
 
@@ -118,20 +118,18 @@ fn push_slot(
     slots: usize,
     heads: &[usize],
     slot: usize,
-    place: Slot,
+    place: &Slot,
 ) -> Result<(), CountError>
     requires slots { slots ≤ 4096 }
     requires slot { slot < 4096 }
     requires few { length heads.now ≤ 4096 }
-    ensures { OnOk result (builder.new ≡ builder.old ++ slots_at slots heads.now slot place) }
+    ensures { OnOk result (builder.new ≡ builder.old ++ slots_at slots heads.now slot place.now) }
 {
-    match place {
-        Slot::Start(instruction) => {
-            builder.push(redirected(slots, heads, slot, instruction)?)?;
-            Ok(())
-        }
-        Slot::SecondHalf => Ok(()),
+    if let Slot::Start(instruction) = place {
+        let pushed = redirected(slots, heads, slot, instruction)?;
+        builder.push(pushed)?;
     }
+    Ok(())
 }
 
 /// Adds the code, in which the jumps back to the heads go to their detours.
@@ -141,7 +139,7 @@ fn push_code(builder: &mut CodeBuilder, code: &Code, heads: &[usize]) -> Result<
 {
     let slots = code.len();
     for (slot, place) in code.slots().iter().enumerate() {
-        push_slot(builder, slots, heads, slot, *place)?;
+        push_slot(builder, slots, heads, slot, place)?;
     }
     Ok(())
 }
