@@ -112,6 +112,23 @@ fn redirected(
     }
 }
 
+/// Adds the instruction, which goes to the detour of its head instead, if it jumps back to one.
+fn push_redirected(
+    builder: &mut CodeBuilder,
+    slots: usize,
+    heads: &[usize],
+    slot: usize,
+    instruction: &Instruction,
+) -> Result<(), CountError>
+    requires slots { slots ≤ 4096 }
+    requires slot { slot < 4096 }
+    requires few { length heads.now ≤ 4096 }
+    ensures { OnOk result (builder.new ≡ builder.old ++ slots_at slots heads.now slot (Slot.Start instruction.now)) }
+{
+    builder.push(redirected(slots, heads, slot, instruction)?)?;
+    Ok(())
+}
+
 /// Adds the instruction that begins at the slot, if one does.
 fn push_slot(
     builder: &mut CodeBuilder,
@@ -125,11 +142,10 @@ fn push_slot(
     requires few { length heads.now ≤ 4096 }
     ensures { OnOk result (builder.new ≡ builder.old ++ slots_at slots heads.now slot place.now) }
 {
-    if let Slot::Start(instruction) = place {
-        let pushed = redirected(slots, heads, slot, instruction)?;
-        builder.push(pushed)?;
+    match place {
+        Slot::Start(instruction) => push_redirected(builder, slots, heads, slot, instruction),
+        Slot::SecondHalf => Ok(()),
     }
-    Ok(())
 }
 
 /// Adds the code, in which the jumps back to the heads go to their detours.
