@@ -1,0 +1,100 @@
+//! From a file with code, bare or in an object, to an object that the verifier accepts.
+ghost use Rattle.std.specs.Prelude.{◌≡◌, ◌≢◌, ◌↔◌, IfOk, IfErr, IsTrue, take};
+ghost use Rattle.object.specs.Spelling.{magic};
+ghost use Rattle.annotations.specs.Annotated.{IsAnnotation, IsCodeAnnotation};
+ghost use Rattle.annotations.specs.Verdict.{IsFileShortfall, IsTurnsShortfall};
+
+use crate::annotating::annotate;
+use crate::counting::annotate_counted;
+use crate::shortfall::Shortfall;
+use crate::verdict::Annotated;
+use isa::Hook;
+use object::{Statement, read};
+use std::alloc::Global;
+
+/// Whether the bytes begin as an object's file does.
+fn is_object(bytes: &[u8]) -> bool
+    ensures { IsTrue result ↔ (take 4 bytes.now ≡ magic) }
+{
+    bytes.len() >= 4 && bytes[0] == 0x42 && bytes[1] == 0x50 && bytes[2] == 0x46 && bytes[3] == 0x48
+}
+
+/// Finds statements and ranks for the code.
+#[tactic(auto, using(crate::proofs::Faults::plain_annotation, crate::proofs::Faults::without_turns))]
+fn annotate_code(
+    alloc: Global,
+    hook: Hook,
+    code: &[u8],
+    given: &[Statement],
+    turns: Option<u32>,
+) -> Result<Annotated, Shortfall>
+    ensures accepted { IfOk result (λ a. IsCodeAnnotation hook turns code.now a.object a.bytes.items a.accepted) }
+    ensures refused { IfErr result (IsTurnsShortfall hook turns code.now) }
+{
+    match turns {
+        Some(turns) => annotate_counted(alloc, hook, code, given, turns),
+        None => {
+            let annotated = annotate(alloc, hook, code, given)?;
+            Ok(annotated)
+        }
+    }
+}
+
+/// The same for a file that is bare code.
+#[tactic(auto, using(crate::proofs::Faults::file_annotation, crate::proofs::Faults::of_the_file))]
+fn annotate_bare(
+    alloc: Global,
+    hook: Hook,
+    file: &[u8],
+    turns: Option<u32>,
+) -> Result<Annotated, Shortfall>
+    requires { take 4 file.now ≢ magic }
+    ensures accepted { IfOk result (λ a. IsAnnotation hook turns file.now a.object a.bytes.items a.accepted) }
+    ensures refused { IfErr result (IsFileShortfall hook turns file.now) }
+{
+    let annotated = annotate_code(alloc, hook, file, &[], turns)?;
+    Ok(annotated)
+}
+
+/// The same for a file that has to be an object.
+#[tactic(auto, using(crate::proofs::Faults::file_annotation, crate::proofs::Faults::of_the_object))]
+fn annotate_object(
+    alloc: Global,
+    hook: Hook,
+    file: &[u8],
+    turns: Option<u32>,
+) -> Result<Annotated, Shortfall>
+    ensures accepted { IfOk result (λ a. IsAnnotation hook turns file.now a.object a.bytes.items a.accepted) }
+    ensures refused { IfErr result (IsFileShortfall hook turns file.now) }
+{
+    let object = read(alloc, file)?;
+    if object.hook() != hook {
+        return Err(Shortfall::OtherHook(object.hook()));
+    }
+    let annotated = annotate_code(alloc, hook, object.code(), object.statements(), turns)?;
+    Ok(annotated)
+}
+
+/// Finds statements and ranks for the code in the file: bare code, or an object with statements of its own,
+/// which may be partial. With `turns` the turns are counted of loops that have no rank.
+///
+/// # Errors
+///
+/// Where the file is no code, or begins as an object's and is none, or is an object for another hook; where
+/// the verifier refuses the code with the best statements that were found; where turns can't be counted;
+/// and where memory is refused.
+pub fn annotate_file(
+    alloc: Global,
+    hook: Hook,
+    file: &[u8],
+    turns: Option<u32>,
+) -> Result<Annotated, Shortfall>
+    ensures accepted { IfOk result (λ a. IsAnnotation hook turns file.now a.object a.bytes.items a.accepted) }
+    ensures refused { IfErr result (IsFileShortfall hook turns file.now) }
+{
+    if is_object(file) {
+        annotate_object(alloc, hook, file, turns)
+    } else {
+        annotate_bare(alloc, hook, file, turns)
+    }
+}
