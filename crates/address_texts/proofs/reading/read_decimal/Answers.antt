@@ -1,5 +1,5 @@
-use Rattle.console.proofs.Decimals.{not_digits, with_leading_zero, spelled, unread}
-use Rattle.console.proofs.reading.read_decimal.Goals as goal
+use Rattle.address_texts.proofs.Decimals.{not_digits, with_leading_zero, spelled, unread}
+use Rattle.address_texts.proofs.reading.read_decimal.Goals as goal
 
 pub returns-then-not-is_digits : goal.returns-then-not-is_digits
 returns-then-not-is_digits c = not_digits c.args.word.now (cc)

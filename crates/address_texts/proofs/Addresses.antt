@@ -15,7 +15,7 @@ use Rattle.std.proofs.lemmas.Str.Pattern.{IsSplitOnceResult, split_after, split_
 use denote.Ref.{Bor}
 use Rattle.words.specs.Prefixes.{Network, IsNetwork}
 use Rattle.words.specs.Text.{dotted, prefix_text}
-use Rattle.console.proofs.Decimals.{own}
+use Rattle.address_texts.proofs.Decimals.{own}
 
 -- ---- addresses
 

@@ -1,6 +1,6 @@
 use Rattle.std.proofs.Common.{◌≡◌, drop}
 use Rattle.std.specs.Str.{all_ascii_digits}
-use Rattle.console.proofs.reading.is_digits.Given as goal
+use Rattle.address_texts.proofs.reading.is_digits.Given as goal
 
 -- what stands before the byte are digits
 abbrev pub invariant-loop-byte : goal.invariant-loop-byte
