@@ -1,0 +1,234 @@
+//! The statements so far.
+
+use crate::edges::{Edge, registers_of};
+use crate::joining::{Growth, Value, first_statement, joined_statement};
+use crate::widening::Widening;
+use kinds::{State, put};
+use liveness::Registers;
+use object::Statement;
+use std::alloc::{AllocError, Global};
+
+/// What a pass over the code does with what it finds at an edge.
+#[derive(Clone, Copy, PartialEq, Eq, Debug)]
+pub enum Purpose {
+    /// It widens the statement there.
+    Rise,
+    /// It collects a new statement from the edges alone.
+    Fall,
+    /// It keeps the edge.
+    Gather,
+}
+
+/// The statements so far, a place for each site.
+#[derive(Drop)]
+pub struct Draft {
+    pub purpose: Purpose,
+    /// Whether edges that no run takes are followed too, to sites that have no statement.
+    pub is_lenient: bool,
+    pub has_changed: bool,
+    /// Whether the segment that begins at the entry is still to be passed over.
+    pub is_new: bool,
+    /// Which segments are still to be passed over, since their statements have changed.
+    waiting: Vec<bool>,
+    /// How often the statements have changed.
+    changes: Vec<u32>,
+    pub stated: Vec<Option<Statement>>,
+    pub found: Vec<Option<Statement>>,
+    pub edges: Vec<Edge>,
+}
+
+/// A site that an edge leads to: its slot, whether a jump back goes there, which registers may still be
+/// read there, and where bounds that grow there stop.
+#[derive(Clone, Copy)]
+pub struct Arrival<'a> {
+    pub slot: usize,
+    pub site: usize,
+    pub is_head: bool,
+    pub live: Registers,
+    pub limits: &'a [u64],
+}
+
+/// So many places without a statement.
+fn unstated(alloc: Global, size: usize) -> Result<Vec<Option<Statement>>, AllocError> {
+    let mut places = Vec::new(alloc);
+    for _ in 0..size {
+        places.push(None)?;
+    }
+    Ok(places)
+}
+
+fn held(places: &[Option<Statement>], site: usize) -> Option<&Statement> {
+    match places.get(site) {
+        Some(Some(statement)) => Some(statement),
+        _ => None,
+    }
+}
+
+fn keep(places: &mut Vec<Option<Statement>>, site: usize, statement: Statement) {
+    if site < places.len() {
+        places[site] = Some(statement);
+    }
+}
+
+/// How often a statement grows as it does, and then to limits; after that its bounds are given up.
+const EXACT_CHANGES: u32 = 3;
+
+const LIMITED_CHANGES: u32 = 40;
+
+fn widening_after(changes: u32) -> Widening {
+    if changes < EXACT_CHANGES {
+        Widening::None
+    } else if changes < LIMITED_CHANGES {
+        Widening::Limits
+    } else {
+        Widening::Any
+    }
+}
+
+impl Draft {
+    pub fn new(alloc: Global, size: usize) -> Result<Draft, AllocError> {
+        Ok(Draft {
+            purpose: Purpose::Rise,
+            is_lenient: false,
+            has_changed: false,
+            is_new: true,
+            waiting: vec![in alloc; false; size]?,
+            changes: vec![in alloc; 0; size]?,
+            stated: unstated(alloc, size)?,
+            found: unstated(alloc, size)?,
+            edges: Vec::new(alloc),
+        })
+    }
+
+    /// What is stated at the site so far.
+    pub fn statement(&self, site: usize) -> Option<&Statement> {
+        held(&self.stated, site)
+    }
+
+    /// Starts a pass.
+    pub fn begin(&mut self, alloc: Global, purpose: Purpose) -> Result<(), AllocError> {
+        self.purpose = purpose;
+        self.has_changed = false;
+        if purpose == Purpose::Fall {
+            self.found = unstated(alloc, self.stated.len())?;
+        }
+        Ok(())
+    }
+
+    /// Makes what a falling pass found the statements. A site that nothing came to keeps its own.
+    pub fn settle(&mut self) {
+        for site in 0..self.stated.len() {
+            let next = held(&self.found, site).copied();
+            if let Some(next) = next {
+                if self.stated[site] != Some(next) {
+                    self.stated[site] = Some(next);
+                    self.has_changed = true;
+                }
+            }
+        }
+    }
+
+    /// Has all segments passed over again.
+    pub fn renew(&mut self) {
+        self.is_new = true;
+        for site in 0..self.waiting.len() {
+            self.waiting[site] = true;
+        }
+    }
+
+    /// Whether the segment that begins at the site is to be passed over now.
+    pub fn is_due(&mut self, site: usize) -> bool {
+        if self.purpose != Purpose::Rise {
+            return true;
+        }
+        let is_waiting = self.waiting.get(site).copied().unwrap_or(false);
+        put(&mut self.waiting, site, false);
+        is_waiting
+    }
+
+    /// States this at the site.
+    pub fn assume(&mut self, site: usize, statement: Statement) {
+        keep(&mut self.stated, site, statement);
+        put(&mut self.waiting, site, true);
+        let changes = self.changes.get(site).copied().unwrap_or(0);
+        put(&mut self.changes, site, changes.saturating_add(1));
+        self.has_changed = true;
+    }
+
+    /// How the bounds at the site grow.
+    fn growth_at<'a>(&self, arrival: &Arrival<'a>) -> Growth<'a> {
+        let changes = self.changes.get(arrival.site).copied().unwrap_or(0);
+        let widening = if arrival.is_head {
+            widening_after(changes)
+        } else {
+            Widening::None
+        };
+        Growth {
+            widening,
+            limits: arrival.limits,
+        }
+    }
+
+    fn rise(&mut self, arrival: &Arrival<'_>, state: &State<Value>) {
+        let growth = self.growth_at(arrival);
+        let old = held(&self.stated, arrival.site).copied();
+        let next = match old {
+            Some(old) => joined_statement(growth, &old, arrival.live, state),
+            None => first_statement(arrival.slot, arrival.live, state),
+        };
+        if let Some(next) = next {
+            if old != Some(next) {
+                self.assume(arrival.site, next);
+            }
+        }
+    }
+
+    fn fall(&mut self, arrival: &Arrival<'_>, state: &State<Value>) {
+        let exact = Growth {
+            widening: Widening::None,
+            limits: arrival.limits,
+        };
+        let next = match held(&self.found, arrival.site) {
+            Some(old) => joined_statement(exact, old, arrival.live, state),
+            None => first_statement(arrival.slot, arrival.live, state),
+        };
+        if let Some(next) = next {
+            keep(&mut self.found, arrival.site, next);
+        }
+    }
+
+    fn gather(
+        &mut self,
+        alloc: Global,
+        from: Option<usize>,
+        to: usize,
+        is_back: bool,
+        state: &State<Value>,
+    ) -> Result<(), AllocError> {
+        let edge = Edge {
+            from: from.unwrap_or(self.stated.len()),
+            to,
+            is_back,
+            state: registers_of(alloc, state)?,
+        };
+        self.edges.push(edge)?;
+        Ok(())
+    }
+
+    /// Takes an edge: from the start of a segment, the entry where that is none.
+    pub fn take(
+        &mut self,
+        alloc: Global,
+        arrival: &Arrival<'_>,
+        from: Option<usize>,
+        is_back: bool,
+        state: &State<Value>,
+    ) -> Result<(), AllocError> {
+        match self.purpose {
+            Purpose::Rise => self.rise(arrival, state),
+            Purpose::Fall => self.fall(arrival, state),
+            Purpose::Gather => self.gather(alloc, from, arrival.site, is_back, state)?,
+        }
+        Ok(())
+    }
+}

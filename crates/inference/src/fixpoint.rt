@@ -1,0 +1,99 @@
+//! Passes over the code until the statements stay as they are.
+
+use crate::draft::{Draft, Purpose};
+use crate::edges::Edge;
+use crate::flow::Program;
+use crate::sites::{Sites, sites_of};
+use crate::widening::limits_of;
+use isa::{Code, Hook};
+use liveness::live_registers;
+use object::Statement;
+use std::alloc::{AllocError, Global};
+
+/// The statements that were found for code, without ranks: a place for each site, and the edges between
+/// them, with what is known there.
+#[derive(Drop)]
+pub struct Inference {
+    pub sites: Sites,
+    pub stated: Vec<Option<Statement>>,
+    pub edges: Vec<Edge>,
+}
+
+/// How often the statements are narrowed at most.
+const MOST_FALLS: u32 = 12;
+
+/// How often a statement can change, at most, before its bounds are given up, and after.
+const MOST_CHANGES: usize = 64;
+
+/// Widens the statements until no edge leads out of them.
+fn rise(program: &Program<'_>, draft: &mut Draft) -> Result<(), AllocError> {
+    draft.renew();
+    for _ in 0..program
+        .sites
+        .len()
+        .saturating_mul(MOST_CHANGES)
+        .saturating_add(1)
+    {
+        draft.begin(program.alloc, Purpose::Rise)?;
+        program.pass(draft)?;
+        if !draft.has_changed {
+            return Ok(());
+        }
+    }
+    Ok(())
+}
+
+/// Narrows the statements to what comes along their edges.
+fn fall(program: &Program<'_>, draft: &mut Draft) -> Result<(), AllocError> {
+    for _ in 0..MOST_FALLS {
+        draft.begin(program.alloc, Purpose::Fall)?;
+        program.pass(draft)?;
+        draft.settle();
+        if !draft.has_changed {
+            return Ok(());
+        }
+    }
+    Ok(())
+}
+
+/// The statements of the program without ranks, and the edges between them.
+fn drafted(program: &Program<'_>) -> Result<Draft, AllocError> {
+    let mut draft = Draft::new(program.alloc, program.sites.len())?;
+    rise(program, &mut draft)?;
+    fall(program, &mut draft)?;
+    draft.is_lenient = true;
+    rise(program, &mut draft)?;
+    draft.is_lenient = false;
+    fall(program, &mut draft)?;
+    draft.begin(program.alloc, Purpose::Gather)?;
+    program.pass(&mut draft)?;
+    Ok(draft)
+}
+
+/// Finds statements for the code at the hook: at each slot that a jump goes to, and behind each
+/// instruction that never goes on. The statements that are given lend their slots and their numbers.
+pub fn infer_statements(
+    alloc: Global,
+    code: &Code,
+    hook: Hook,
+    given: &[Statement],
+) -> Result<Inference, AllocError> {
+    let sites = sites_of(alloc, code, given)?;
+    let live = live_registers(alloc, code, hook)?;
+    let limits = limits_of(alloc, code, given)?;
+    let program = Program {
+        alloc,
+        code,
+        hook,
+        sites: &sites,
+        live: &live,
+        limits: &limits,
+    };
+    let draft = drafted(&program)?;
+    let Draft { stated, edges, .. } = draft;
+    Ok(Inference {
+        sites,
+        stated,
+        edges,
+    })
+}

@@ -1,0 +1,16 @@
+//! Statements for code that has none, found by passing over it until nothing changes. What comes out is
+//! a guess: an object counts only once the verifier accepts it.
+#![tactic(auto)]
+
+mod draft;
+mod edges;
+mod fixpoint;
+mod flow;
+mod joining;
+mod sites;
+mod widening;
+
+pub use edges::Edge;
+pub use fixpoint::{Inference, infer_statements};
+pub use joining::Value;
+pub use sites::Sites;

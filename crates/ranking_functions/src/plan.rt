@@ -1,0 +1,97 @@
+//! Ranks as they are being made: at each site the terms, and the constant that they need.
+
+use crate::trouble::Endless;
+use kinds::put;
+use object::{Rank, RankTerm};
+use std::alloc::{AllocError, Global};
+
+/// Which of the two terms of a rank.
+#[derive(Clone, Copy, PartialEq, Eq, Debug)]
+pub enum Term {
+    First,
+    Second,
+}
+
+/// Terms and constants, a place for each site and the last one for the entry.
+#[derive(Drop)]
+pub struct Plan {
+    firsts: Vec<Option<RankTerm>>,
+    seconds: Vec<Option<RankTerm>>,
+    constants: Vec<u64>,
+}
+
+/// Ranks; where a loop has none, which one and why.
+#[derive(Drop)]
+pub struct Ranking {
+    pub plan: Plan,
+    pub endless: Option<Endless>,
+}
+
+impl Plan {
+    /// Ranks that are 0.
+    pub fn new(alloc: Global, nodes: usize) -> Result<Plan, AllocError> {
+        Ok(Plan {
+            firsts: vec![in alloc; None; nodes]?,
+            seconds: vec![in alloc; None; nodes]?,
+            constants: vec![in alloc; 0; nodes]?,
+        })
+    }
+
+    /// The first term.
+    pub fn first_at(&self, node: usize) -> Option<RankTerm> {
+        self.firsts.get(node).copied().unwrap_or(None)
+    }
+
+    /// The second term.
+    pub fn second_at(&self, node: usize) -> Option<RankTerm> {
+        self.seconds.get(node).copied().unwrap_or(None)
+    }
+
+    pub fn constant_at(&self, node: usize) -> u64 {
+        self.constants.get(node).copied().unwrap_or(0)
+    }
+
+    /// The rank without its constant.
+    pub fn slope_at(&self, node: usize) -> Rank {
+        Rank {
+            constant: 0,
+            first: self.first_at(node),
+            second: self.second_at(node),
+        }
+    }
+
+    /// The rank.
+    pub fn rank_at(&self, node: usize) -> Rank {
+        Rank {
+            constant: self.constant_at(node).min(1_000_000) as u32,
+            first: self.first_at(node),
+            second: self.second_at(node),
+        }
+    }
+
+    /// Puts one of the terms.
+    pub fn set_term(&mut self, node: usize, which: Term, term: Option<RankTerm>) {
+        match which {
+            Term::First => put(&mut self.firsts, node, term),
+            Term::Second => put(&mut self.seconds, node, term),
+        }
+    }
+
+    /// Takes both terms away.
+    pub fn clear(&mut self, node: usize) {
+        put(&mut self.firsts, node, None);
+        put(&mut self.seconds, node, None);
+    }
+
+    /// Makes a constant this one.
+    pub fn set_constant(&mut self, node: usize, constant: u64) {
+        put(&mut self.constants, node, constant);
+    }
+
+    /// Makes all constants 0.
+    pub fn flatten(&mut self) {
+        for node in 0..self.constants.len() {
+            self.constants[node] = 0;
+        }
+    }
+}
