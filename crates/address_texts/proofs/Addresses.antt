@@ -86,6 +86,31 @@ free_dotted a =
     let t = free_append 47 _ _ s free_dot in
     free_append 47 _ _ t (free_octet 47 a low)
 
+-- a byte that is no digit, dot or slash isn't in a prefix's text
+high_octet : (byte n : ℕ) → 57 < byte → Free byte (decimal (n % 256))
+high_octet byte n high = not_in_digits own (decimal (n % 256)) byte (digits_decimal own (n % 256) (omega arith)) (λ r. absurd (omega (arith, r.1)))
+
+one_byte : (byte x : ℕ) → x < byte → Free byte (x ∷ [])
+one_byte byte x below zero lt e = absurd (omega (arith, e))
+one_byte byte x below (suc i) lt e = absurd (omega arith)
+
+high_dotted : (byte a : ℕ) → 57 < byte → Free byte (dotted a)
+high_dotted byte a high =
+    let dot : Free byte (46 ∷ []) = one_byte byte 46 (omega arith) in
+    let p = free_append byte _ _ (high_octet byte (a / 16777216) high) dot in
+    let q = free_append byte _ _ p (high_octet byte (a / 65536) high) in
+    let r = free_append byte _ _ q dot in
+    let s = free_append byte _ _ r (high_octet byte (a / 256) high) in
+    let t = free_append byte _ _ s dot in
+    free_append byte _ _ t (high_octet byte a high)
+
+pub high_in_prefix : (byte : ℕ) (n : Network) → 57 < byte → n.length ≤ 32 → (i : ℕ) → i < length (prefix_text n) → get_or (prefix_text n) i 0 ≢ byte
+high_in_prefix byte n high few =
+    let slash : Free byte (47 ∷ []) = one_byte byte 47 (omega arith) in
+    let size : Free byte (decimal n.length) =
+    not_in_digits own (decimal n.length) byte (digits_decimal own n.length (omega arith)) (λ r. absurd (omega (arith, r.1))) in
+    free_append byte _ _ (free_append byte _ _ (high_dotted byte n.address high) slash) size
+
 free_rest : (byte x : ℕ) (xs : List ℕ) → Free byte (x ∷ xs) → Free byte xs
 free_rest byte x xs f i lt e = f (suc i) (omega arith) e
 

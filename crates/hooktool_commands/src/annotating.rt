@@ -1,7 +1,8 @@
 //! `annotate`: an object that the verifier accepts, of code that has no statements.
 
-ghost use Rattle.std.specs.Prelude.{◌≡◌, List, ℕ, IfOk};
-ghost use Rattle.hooktool_commands.specs.Annotations.{IsAnnotated};
+ghost use Rattle.std.specs.Prelude.{◌≡◌, List, ℕ, false, true, IfOk, string_bytes};
+ghost use Rattle.object_verdicts.specs.Verdicts.{Accepts};
+ghost use Rattle.hooktool_commands.specs.Annotations.{IsAnnotated, accepted_line};
 
 use crate::fault::Fault;
 use crate::files;
@@ -28,7 +29,7 @@ fn push_endless(out: &mut String, endless: &Endless) -> Result<(), AllocError> {
         }
     }
     out.push_str(
-        "  either let a register fall with each turn (EACH of examples/c/leafrunt.h does)\n  or count the turns: --fuel N\n",
+        "  either let a register fall with each turn (DOWN and EACH of examples/c/leafrunt.h do)\n  or count the turns: --fuel N\n",
     )
 }
 
@@ -37,7 +38,9 @@ fn rejection(
     alloc: Global,
     rejected: &Rejected,
     endless: &Option<Endless>,
-) -> Result<Report, AllocError> {
+) -> Result<Report, AllocError>
+    ensures { IfOk result (λ report. report.is_refused ≡ true) }
+{
     let mut text = String::new(alloc);
     match explain(alloc, &rejected.bytes) {
         Ok(explanation) => {
@@ -56,7 +59,9 @@ fn rejection(
 }
 
 /// What is told where nothing was accepted.
-fn shortfall<'a>(alloc: Global, shortfall: &Shortfall) -> Result<Report, Fault<'a>> {
+fn shortfall<'a>(alloc: Global, shortfall: &Shortfall) -> Result<Report, Fault<'a>>
+    ensures { IfOk result (λ report. report.is_refused ≡ true) }
+{
     match shortfall {
         Shortfall::Refused(rejected, endless) => Ok(rejection(alloc, rejected, endless)?),
         Shortfall::Code(error) => Err(Fault::from(*error)),
@@ -67,19 +72,30 @@ fn shortfall<'a>(alloc: Global, shortfall: &Shortfall) -> Result<Report, Fault<'
     }
 }
 
+/// What is told of a program that is accepted with this bound.
+fn accepted(alloc: Global, bound: u64) -> Result<Report, AllocError>
+    ensures told { IfOk result (λ report. string_bytes report.text ≡ accepted_line bound) }
+    ensures done { IfOk result (λ report. report.is_refused ≡ false) }
+{
+    Ok(Report {
+        text: format!(in alloc; "accepted bound {bound}\n")?,
+        is_refused: false,
+    })
+}
+
 /// Writes the object, which the verifier accepted, and tells its bound.
 fn written<'a, R: Files + AllocGlobal>(
     rt: &R,
     path: &'a str,
     annotated: &Annotated,
-) -> Result<Report, Fault<'a>> {
-    let bound = annotated.accepted.bound();
-    let text = format!(in rt.alloc(); "accepted bound {bound}\n")?;
+) -> Result<Report, Fault<'a>>
+    requires { Accepts annotated.now.bytes.items annotated.now.accepted }
+    ensures told { IfOk result (λ report. string_bytes report.text ≡ accepted_line annotated.now.accepted.bound) }
+    ensures done { IfOk result (λ report. report.is_refused ≡ false) }
+{
+    let report = accepted(rt.alloc(), annotated.accepted.bound())?;
     files::write(rt, path, &annotated.bytes)?;
-    Ok(Report {
-        text,
-        is_refused: false,
-    })
+    Ok(report)
 }
 
 /// Finds statements for the code of the file at `code`, at the hook, and writes the object file `object`, if the verifier accepts it.

@@ -1,1 +1,5 @@
 pub mod Building
+pub mod Made
+pub mod OrElse
+pub mod Read
+pub mod Rows

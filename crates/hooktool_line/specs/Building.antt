@@ -20,6 +20,6 @@ pub record ExtendsBy (before : Command) (rules : List Rule) (after : Command) : 
   pub local : IsLocal before → IsLocal after
 
 -- a command of this shape
-pub record IsLeaf (shape : Shape) (c : Command) : Type 0 where
-  pub shape : shape_of c ≡ shape
+pub record IsLeaf (wanted : Shape) (c : Command) : Type 0 where
+  pub shape : shape_of c ≡ wanted
   pub local : IsLocal c

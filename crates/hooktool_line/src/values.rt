@@ -70,7 +70,7 @@ pub(crate) fn prefix_in(matches: &ArgMatches<'_>) -> Option<Prefix>
         (λ word. IsPrefix word prefix)) result }
 {
     match word_of(matches, "prefix") {
-        None => Prefix::new(Address::new(0), 0),
+        None => Prefix::under(Address::new(0), 0),
         Some(word) => read_prefix(word),
     }
 }

@@ -1,0 +1,17 @@
+use Rattle.std.proofs.Common.{◌≡◌, ◌∙◌, refl, sym, subst, ap, Some, Option}
+use Rattle.words.specs.Prefixes.{Network}
+use Rattle.hooktool_line.proofs.OrElse.{read_given, reads_prefix, usual}
+use Rattle.hooktool_line.proofs.values.prefix_in.Goals as goal
+use Rattle.hooktool_line.specs.Words.{IsPrefix, OrElse, Reads, everything}
+
+pub returns-in-None : goal.returns-in-None
+returns-in-None c =
+    let found = _ in
+    let P : Network → Type 0 = λ prefix. OrElse found (prefix ≡ everything) (λ word. IsPrefix word prefix) in
+    let is : c.under.result ≡ Some everything = c.under.ensures ∙ refl in
+    subst (λ (r : Option Network). Reads P r) (sym is) (usual found _ _ _ c.word_of.ensures c.in-None.is refl)
+
+pub returns-in-Some : goal.returns-in-Some
+returns-in-Some c =
+    read_given _ _ c.in-Some.word (λ prefix. prefix ≡ everything) (λ prefix word. IsPrefix word prefix) c.read_prefix.result c.word_of.ensures c.in-Some.is
+    (reads_prefix c.in-Some.word.now c.read_prefix.result c.read_prefix.ensures)
