@@ -1,7 +1,9 @@
 //! Why there is no object that the verifier accepts.
 
 use crate::verdict::Rejected;
-use isa::DecodeError;
+use counted_loops::CountError;
+use isa::{DecodeError, Hook};
+use object::ReadError;
 use ranking_functions::Endless;
 use std::alloc::{AllocError, AllocFailed};
 
@@ -10,6 +12,12 @@ use std::alloc::{AllocError, AllocFailed};
 pub enum Shortfall {
     /// The bytes are no code.
     Code(DecodeError),
+    /// The file begins as an object's does, and is none.
+    Object(ReadError),
+    /// The object is for this other hook.
+    OtherHook(Hook),
+    /// The turns of its loops can't be counted.
+    Uncounted(CountError),
     /// The verifier refuses the program with the best statements that were found; where that is for a
     /// loop, why the loop has no rank.
     Refused(Rejected, Option<Endless>),
@@ -49,5 +57,27 @@ impl From<DecodeError> for Shortfall {
 
     fn from(error: DecodeError) -> Shortfall {
         Shortfall::Code(error)
+    }
+}
+
+impl From<ReadError> for Shortfall {
+    ghost use Rattle.std.specs.Prelude.{◌≡◌};
+    ghost use Rattle.annotations.specs.declared.shortfall.Shortfall.TheVariants.{Object};
+
+    ghost from_gives = { λ error shortfall. shortfall ≡ Object error };
+
+    fn from(error: ReadError) -> Shortfall {
+        Shortfall::Object(error)
+    }
+}
+
+impl From<CountError> for Shortfall {
+    ghost use Rattle.std.specs.Prelude.{◌≡◌};
+    ghost use Rattle.annotations.specs.declared.shortfall.Shortfall.TheVariants.{Uncounted};
+
+    ghost from_gives = { λ error shortfall. shortfall ≡ Uncounted error };
+
+    fn from(error: CountError) -> Shortfall {
+        Shortfall::Uncounted(error)
     }
 }

@@ -32,6 +32,8 @@ pub struct Draft {
     waiting: Vec<bool>,
     /// How often the statements have changed.
     changes: Vec<u32>,
+    /// Which statements stay as they are.
+    kept: Vec<bool>,
     pub stated: Vec<Option<Statement>>,
     pub found: Vec<Option<Statement>>,
     pub edges: Vec<Edge>,
@@ -64,7 +66,7 @@ fn held(places: &[Option<Statement>], site: usize) -> Option<&Statement> {
     }
 }
 
-fn keep(places: &mut Vec<Option<Statement>>, site: usize, statement: Statement) {
+fn put_statement(places: &mut Vec<Option<Statement>>, site: usize, statement: Statement) {
     if site < places.len() {
         places[site] = Some(statement);
     }
@@ -94,6 +96,7 @@ impl Draft {
             is_new: true,
             waiting: vec![in alloc; false; size]?,
             changes: vec![in alloc; 0; size]?,
+            kept: vec![in alloc; false; size]?,
             stated: unstated(alloc, size)?,
             found: unstated(alloc, size)?,
             edges: Vec::new(alloc),
@@ -148,11 +151,22 @@ impl Draft {
 
     /// States this at the site.
     pub fn assume(&mut self, site: usize, statement: Statement) {
-        keep(&mut self.stated, site, statement);
+        put_statement(&mut self.stated, site, statement);
         put(&mut self.waiting, site, true);
         let changes = self.changes.get(site).copied().unwrap_or(0);
         put(&mut self.changes, site, changes.saturating_add(1));
         self.has_changed = true;
+    }
+
+    /// Keeps this at the site, whatever comes there.
+    pub fn keep(&mut self, site: usize, statement: Statement) {
+        self.assume(site, statement);
+        put(&mut self.kept, site, true);
+    }
+
+    /// Whether what is stated at the site stays as it is.
+    fn is_kept(&self, site: usize) -> bool {
+        self.kept.get(site).copied().unwrap_or(false)
     }
 
     /// How the bounds at the site grow.
@@ -170,6 +184,9 @@ impl Draft {
     }
 
     fn rise(&mut self, arrival: &Arrival<'_>, state: &State<Value>) {
+        if self.is_kept(arrival.site) {
+            return;
+        }
         let growth = self.growth_at(arrival);
         let old = held(&self.stated, arrival.site).copied();
         let next = match old {
@@ -184,6 +201,9 @@ impl Draft {
     }
 
     fn fall(&mut self, arrival: &Arrival<'_>, state: &State<Value>) {
+        if self.is_kept(arrival.site) {
+            return;
+        }
         let exact = Growth {
             widening: Widening::None,
             limits: arrival.limits,
@@ -193,7 +213,7 @@ impl Draft {
             None => first_statement(arrival.slot, arrival.live, state),
         };
         if let Some(next) = next {
-            keep(&mut self.found, arrival.site, next);
+            put_statement(&mut self.found, arrival.site, next);
         }
     }
 

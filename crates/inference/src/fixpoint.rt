@@ -56,9 +56,15 @@ fn fall(program: &Program<'_>, draft: &mut Draft) -> Result<(), AllocError> {
     Ok(())
 }
 
-/// The statements of the program without ranks, and the edges between them.
-fn drafted(program: &Program<'_>) -> Result<Draft, AllocError> {
+/// The statements of the program without ranks, and the edges between them. Those that are kept stay as
+/// they are.
+fn drafted(program: &Program<'_>, kept: &[Statement]) -> Result<Draft, AllocError> {
     let mut draft = Draft::new(program.alloc, program.sites.len())?;
+    for statement in kept {
+        if let Some(site) = program.sites.at(statement.slot() as usize) {
+            draft.keep(site, *statement);
+        }
+    }
     rise(program, &mut draft)?;
     fall(program, &mut draft)?;
     draft.is_lenient = true;
@@ -71,12 +77,14 @@ fn drafted(program: &Program<'_>) -> Result<Draft, AllocError> {
 }
 
 /// Finds statements for the code at the hook: at each slot that a jump goes to, and behind each
-/// instruction that never goes on. The statements that are given lend their slots and their numbers.
+/// instruction that never goes on, and where one is given. Those that are given stay as they are, or they
+/// lend their numbers alone.
 pub fn infer_statements(
     alloc: Global,
     code: &Code,
     hook: Hook,
     given: &[Statement],
+    are_kept: bool,
 ) -> Result<Inference, AllocError> {
     let sites = sites_of(alloc, code, given)?;
     let live = live_registers(alloc, code, hook)?;
@@ -89,7 +97,8 @@ pub fn infer_statements(
         live: &live,
         limits: &limits,
     };
-    let draft = drafted(&program)?;
+    let kept = if are_kept { given } else { &[] };
+    let draft = drafted(&program, kept)?;
     let Draft { stated, edges, .. } = draft;
     Ok(Inference {
         sites,

@@ -8,8 +8,9 @@ mod plan;
 mod planning;
 mod ranking;
 mod trouble;
+mod unranked;
 mod weights;
 
-pub use plan::{Plan, Ranking};
+pub use plan::{Plan, Ranking, Unranked};
 pub use planning::rank_statements;
 pub use trouble::{Endless, Trouble};

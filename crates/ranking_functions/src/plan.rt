@@ -18,6 +18,8 @@ pub struct Plan {
     firsts: Vec<Option<RankTerm>>,
     seconds: Vec<Option<RankTerm>>,
     constants: Vec<u64>,
+    /// What the constants begin with when they are raised.
+    least: Vec<u64>,
 }
 
 /// Ranks; where a loop has none, which one and why.
@@ -25,6 +27,16 @@ pub struct Plan {
 pub struct Ranking {
     pub plan: Plan,
     pub endless: Option<Endless>,
+    pub unranked: Unranked,
+}
+
+/// At which slots the loops begin that lack a rank.
+#[derive(Drop)]
+pub enum Unranked {
+    /// Each of these has none on its own, though the loops within it have one.
+    Alone(Vec<usize>),
+    /// Each of these has one on its own, and they have none together. The outermost comes first.
+    Together(Vec<usize>),
 }
 
 impl Plan {
@@ -34,6 +46,7 @@ impl Plan {
             firsts: vec![in alloc; None; nodes]?,
             seconds: vec![in alloc; None; nodes]?,
             constants: vec![in alloc; 0; nodes]?,
+            least: vec![in alloc; 0; nodes]?,
         })
     }
 
@@ -88,10 +101,15 @@ impl Plan {
         put(&mut self.constants, node, constant);
     }
 
-    /// Makes all constants 0.
+    /// Has the constant be raised from this one.
+    pub fn set_least(&mut self, node: usize, constant: u64) {
+        put(&mut self.least, node, constant);
+    }
+
+    /// Makes all constants what they begin with.
     pub fn flatten(&mut self) {
         for node in 0..self.constants.len() {
-            self.constants[node] = 0;
+            self.constants[node] = self.least.get(node).copied().unwrap_or(0);
         }
     }
 }

@@ -1,63 +1,82 @@
 //! Ranks for all statements of a program.
 
 use crate::circles::Graph;
-use crate::plan::{Plan, Ranking, Term};
+use crate::plan::{Plan, Ranking, Term, Unranked};
 use crate::trouble::unranked_loop;
 use crate::weights::{Ending, bounds_of, settle};
-use inference::{Inference, Sites};
+use inference::Inference;
 use object::Statement;
 use std::alloc::{AllocError, Global};
 
-/// The terms of the statements that the object had.
-fn hinted(
-    alloc: Global,
-    sites: &Sites,
-    nodes: usize,
-    given: &[Statement],
-) -> Result<Plan, AllocError> {
-    let mut plan = Plan::new(alloc, nodes)?;
+/// The ranks of the statements that are given.
+fn given_ranks(graph: &Graph<'_>, given: &[Statement]) -> Result<Plan, AllocError> {
+    let mut plan = Plan::new(graph.alloc, graph.nodes())?;
     for statement in given {
-        if let Some(site) = sites.at(statement.slot() as usize) {
+        if let Some(site) = graph.sites.at(statement.slot() as usize) {
             let rank = statement.rank();
             plan.set_term(site, Term::First, rank.first);
             plan.set_term(site, Term::Second, rank.second);
+            plan.set_least(site, u64::from(rank.constant));
         }
     }
     Ok(plan)
 }
 
-/// Ranks for the program; where there are none, a loop that has none.
-fn planned(graph: &Graph<'_>, given: &[Statement], all: &[bool]) -> Result<Ranking, AllocError> {
-    let mut plan = Plan::new(graph.alloc, graph.nodes())?;
-    let failed = graph.rank_loops(&mut plan)?;
-    if settle(&mut plan, graph.bounds, graph.edges, all, graph.most) == Ending::Settled {
-        return Ok(Ranking {
-            plan,
-            endless: None,
-        });
-    }
-    let mut hints = hinted(graph.alloc, graph.sites, graph.nodes(), given)?;
-    if settle(&mut hints, graph.bounds, graph.edges, all, graph.most) == Ending::Settled {
-        return Ok(Ranking {
-            plan: hints,
-            endless: None,
-        });
-    }
-    plan.flatten();
-    let endless = unranked_loop(graph, failed)?;
-    Ok(Ranking { plan, endless })
+/// Whether the plan's terms do for all of the program: then it has the constants that they need.
+fn is_settled(graph: &Graph<'_>, plan: &mut Plan) -> Result<bool, AllocError> {
+    let all = vec![in graph.alloc; true; graph.edges.len()]?;
+    let ending = settle(plan, graph.bounds, graph.edges, &all, graph.most);
+    Ok(ending == Ending::Settled)
 }
 
-/// Finds ranks for the statements. The terms of those that are given are tried where none are found.
-/// `most` is the greatest constant that leaves the code within its budget.
+/// The plan, which does for all of the program.
+fn settled(alloc: Global, plan: Plan) -> Ranking {
+    Ranking {
+        plan,
+        endless: None,
+        unranked: Unranked::Alone(Vec::new(alloc)),
+    }
+}
+
+/// What is wrong where no plan does.
+fn unsettled(graph: &Graph<'_>, plan: Plan, failed: Option<usize>) -> Result<Ranking, AllocError> {
+    let mut plan = plan;
+    plan.flatten();
+    let unranked = graph.unranked_loops(&mut plan, failed)?;
+    Ok(Ranking {
+        plan,
+        endless: unranked_loop(graph, failed)?,
+        unranked,
+    })
+}
+
+/// Ranks for the program, by the terms that are given or by its loops.
+fn planned(graph: &Graph<'_>, given: &[Statement], are_kept: bool) -> Result<Ranking, AllocError> {
+    let mut hints = given_ranks(graph, given)?;
+    if are_kept && is_settled(graph, &mut hints)? {
+        return Ok(settled(graph.alloc, hints));
+    }
+    let mut plan = Plan::new(graph.alloc, graph.nodes())?;
+    let failed = graph.rank_loops(&mut plan)?;
+    if is_settled(graph, &mut plan)? {
+        return Ok(settled(graph.alloc, plan));
+    }
+    if !are_kept && is_settled(graph, &mut hints)? {
+        return Ok(settled(graph.alloc, hints));
+    }
+    unsettled(graph, plan, failed)
+}
+
+/// Finds ranks for the statements. The ranks of those that are given come first where they are kept, else
+/// where none are found. `most` is the greatest constant that leaves the code within its budget.
 pub fn rank_statements(
     alloc: Global,
     found: &Inference,
     given: &[Statement],
+    are_kept: bool,
     most: u64,
 ) -> Result<Ranking, AllocError> {
     let bounds = bounds_of(alloc, &found.stated)?;
-    let all = vec![in alloc; true; found.edges.len()]?;
     let graph = Graph {
         alloc,
         sites: &found.sites,
@@ -65,5 +84,5 @@ pub fn rank_statements(
         bounds: &bounds,
         most,
     };
-    planned(&graph, given, &all)
+    planned(&graph, given, are_kept)
 }

@@ -1,0 +1,124 @@
+//! One search for statements and ranks, judged by the verifier.
+
+use crate::shortfall::Shortfall;
+use crate::verdict::{Annotated, Rejected, Verdict, judged};
+use inference::{Inference, infer_statements};
+use isa::{Code, Hook, decode};
+use object::{Kind, Statement};
+use ranking_functions::{Endless, Plan, Ranking, Unranked, rank_statements};
+use std::alloc::{AllocError, Global};
+use verifier::{BUDGET, Rule};
+
+/// Why the object isn't accepted that has what was found, and which loops lack a rank.
+#[derive(Drop)]
+pub struct Failure {
+    pub rejected: Rejected,
+    pub endless: Option<Endless>,
+    pub unranked: Unranked,
+}
+
+/// What a search came to.
+#[derive(Drop)]
+pub enum Attempt {
+    Accepted(Annotated),
+    Refused(Failure),
+}
+
+/// The greatest entry rank that leaves the code within its budget.
+fn most_for(code: &Code) -> u64 {
+    (BUDGET / code.len() as u64).saturating_sub(1)
+}
+
+fn kinds_of(statement: &Statement) -> [Kind; 10] {
+    let mut kinds = [Kind::Empty; 10];
+    for (register, kind) in statement.kinds().iter().enumerate() {
+        if register < 10 {
+            kinds[register] = *kind;
+        }
+    }
+    kinds
+}
+
+/// The statements with their ranks.
+fn statements_of(
+    alloc: Global,
+    found: &Inference,
+    plan: &Plan,
+) -> Result<Vec<Statement>, AllocError> {
+    let mut statements = Vec::new(alloc);
+    for site in 0..found.stated.len() {
+        if let Some(one) = &found.stated[site] {
+            let kinds = kinds_of(one);
+            let rank = plan.rank_at(site);
+            if let Some(ranked) = Statement::new(one.slot(), rank, kinds, *one.stack()) {
+                statements.push(ranked)?;
+            }
+        }
+    }
+    Ok(statements)
+}
+
+/// Why the object is refused: where a rank is what it lacks, which loop has none.
+fn refused(rejected: Rejected, ranking: Ranking) -> Failure {
+    let Ranking {
+        endless,
+        unranked,
+        ..
+    } = ranking;
+    let endless = if rejected.refusal.rule == Rule::Rank {
+        endless
+    } else {
+        None
+    };
+    Failure {
+        rejected,
+        endless,
+        unranked,
+    }
+}
+
+/// The statements and ranks that were found, judged by the verifier.
+fn outcome(
+    alloc: Global,
+    hook: Hook,
+    bytes: &[u8],
+    found: &Inference,
+    ranking: Ranking,
+) -> Result<Attempt, Shortfall> {
+    let statements = statements_of(alloc, found, &ranking.plan)?;
+    let entry_rank = ranking.plan.rank_at(found.stated.len()).constant;
+    match judged(alloc, hook, entry_rank, bytes, statements)? {
+        Verdict::Accepted(annotated) => Ok(Attempt::Accepted(annotated)),
+        Verdict::Refused(rejected) => Ok(Attempt::Refused(refused(rejected, ranking))),
+    }
+}
+
+/// Finds statements and ranks for the code at the hook, and has the verifier judge them. The statements
+/// that are given stay as they are, or they lend their slots, their numbers and their ranks' registers.
+pub fn try_statements(
+    alloc: Global,
+    hook: Hook,
+    bytes: &[u8],
+    given: &[Statement],
+    are_kept: bool,
+) -> Result<Attempt, Shortfall> {
+    let code = decode(alloc, bytes)?;
+    let found = infer_statements(alloc, &code, hook, given, are_kept)?;
+    let ranking = rank_statements(alloc, &found, given, are_kept, most_for(&code))?;
+    outcome(alloc, hook, bytes, &found, ranking)
+}
+
+/// The same, first with the statements that are given as they are, and then without.
+pub fn try_both(
+    alloc: Global,
+    hook: Hook,
+    bytes: &[u8],
+    given: &[Statement],
+) -> Result<Attempt, Shortfall> {
+    if !given.is_empty() {
+        if let Attempt::Accepted(annotated) = try_statements(alloc, hook, bytes, given, true)? {
+            return Ok(Attempt::Accepted(annotated));
+        }
+    }
+    try_statements(alloc, hook, bytes, given, false)
+}

@@ -1,0 +1,131 @@
+//! The same for code with loops that have no rank: their turns are counted.
+
+use crate::attempt::{Attempt, try_both};
+use crate::shortfall::Shortfall;
+use crate::verdict::Annotated;
+use counted_loops::counted;
+use isa::{Code, Hook, decode, encode};
+use object::{Kind, Statement};
+use ranking_functions::Unranked;
+use std::alloc::{AllocError, Global};
+
+/// How often more loops are counted at most.
+const MOST_ROUNDS: u32 = 8;
+
+/// The statement one slot later.
+fn moved(statement: &Statement) -> Option<Statement> {
+    let mut kinds = [Kind::Empty; 10];
+    for (register, kind) in statement.kinds().iter().enumerate() {
+        if register < 10 {
+            kinds[register] = *kind;
+        }
+    }
+    let slot = statement.slot().checked_add(1)?;
+    Statement::new(slot, statement.rank(), kinds, *statement.stack())
+}
+
+/// The statements one slot later, as counted code has them.
+fn all_moved(alloc: Global, given: &[Statement]) -> Result<Vec<Statement>, AllocError> {
+    let mut later = Vec::new(alloc);
+    for statement in given {
+        if let Some(statement) = moved(statement) {
+            later.push(statement)?;
+        }
+    }
+    Ok(later)
+}
+
+/// Adds those heads that aren't counted yet.
+fn add_all(heads: &mut Vec<usize>, more: &[usize]) -> Result<(), AllocError> {
+    for head in more {
+        if !heads.contains(head) {
+            heads.push(*head)?;
+        }
+    }
+    Ok(())
+}
+
+/// Adds the first head that isn't counted yet.
+fn add_first(heads: &mut Vec<usize>, more: &[usize]) -> Result<(), AllocError> {
+    for head in more {
+        if !heads.contains(head) {
+            heads.push(*head)?;
+            return Ok(());
+        }
+    }
+    Ok(())
+}
+
+/// The slots of the code that these are of the counted code.
+fn earlier(alloc: Global, slots: &[usize], is_counted: bool) -> Result<Vec<usize>, AllocError> {
+    let mut heads = Vec::new(alloc);
+    for slot in slots {
+        heads.push(if is_counted {
+            slot.saturating_sub(1)
+        } else {
+            *slot
+        })?;
+    }
+    Ok(heads)
+}
+
+/// Adds the loops that lack a rank. Whether there are any more.
+fn add(alloc: Global, heads: &mut Vec<usize>, unranked: &Unranked) -> Result<bool, AllocError> {
+    let before = heads.len();
+    match unranked {
+        Unranked::Alone(slots) => {
+            let more = earlier(alloc, slots, before > 0)?;
+            add_all(heads, &more)?;
+        }
+        Unranked::Together(slots) => {
+            let more = earlier(alloc, slots, before > 0)?;
+            add_first(heads, &more)?;
+        }
+    }
+    Ok(heads.len() > before)
+}
+
+/// The code and the statements for it, with the turns counted of the loops at these heads.
+fn attempt_counted(
+    alloc: Global,
+    hook: Hook,
+    code: &Code,
+    given: &[Statement],
+    heads: &[usize],
+    turns: u32,
+) -> Result<Attempt, Shortfall> {
+    let counted = counted(alloc, code, heads, turns)?;
+    let bytes = encode(alloc, &counted)?;
+    let given = all_moved(alloc, given)?;
+    try_both(alloc, hook, &bytes, &given)
+}
+
+/// Finds statements and ranks as `annotate` does. Where a loop has no rank, its turns are counted: the
+/// object has other code, which answers 0 instead of more than `turns` turns in all. Loops that have a rank
+/// stay as they are.
+pub fn annotate_counted(
+    alloc: Global,
+    hook: Hook,
+    bytes: &[u8],
+    given: &[Statement],
+    turns: u32,
+) -> Result<Annotated, Shortfall> {
+    let code = decode(alloc, bytes)?;
+    let mut heads = Vec::new(alloc);
+    let mut last = try_both(alloc, hook, bytes, given)?;
+    for _ in 0..MOST_ROUNDS {
+        match last {
+            Attempt::Accepted(annotated) => return Ok(annotated),
+            Attempt::Refused(failure) => {
+                if failure.endless.is_none() || !add(alloc, &mut heads, &failure.unranked)? {
+                    return Err(Shortfall::Refused(failure.rejected, failure.endless));
+                }
+            }
+        }
+        last = attempt_counted(alloc, hook, &code, given, &heads, turns)?;
+    }
+    match last {
+        Attempt::Accepted(annotated) => Ok(annotated),
+        Attempt::Refused(failure) => Err(Shortfall::Refused(failure.rejected, failure.endless)),
+    }
+}
