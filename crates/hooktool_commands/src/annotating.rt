@@ -7,7 +7,7 @@ ghost use Rattle.hooktool_commands.specs.Annotations.{IsAnnotated, accepted_line
 use crate::fault::Fault;
 use crate::files;
 use crate::report::Report;
-use annotations::{Annotated, Endless, Rejected, Shortfall, Trouble, annotate_file};
+use annotations::{Annotated, CountError, Endless, Rejected, Shortfall, Trouble, annotate_file};
 use explanations::explain;
 use isa::Hook;
 use std::alloc::{AllocError, Global};
@@ -58,6 +58,17 @@ fn rejection(
     })
 }
 
+/// Why turns can't be counted.
+fn uncounted<'a>(error: CountError) -> Fault<'a> {
+    let reason = match error {
+        CountError::NoRegister => "no turns can be counted: the program uses each of r6 to r9",
+        CountError::TooMany => "no turns can be counted: --fuel is 1000000 or more",
+        CountError::TooLong => "no turns can be counted: the code would have more than 4096 slots, or a jump would go too far",
+        CountError::Memory => return Fault::Memory,
+    };
+    Fault::Uncounted { reason }
+}
+
 /// What is told where nothing was accepted.
 fn shortfall<'a>(alloc: Global, shortfall: &Shortfall) -> Result<Report, Fault<'a>>
     ensures { IfOk result (λ report. report.is_refused ≡ true) }
@@ -67,7 +78,7 @@ fn shortfall<'a>(alloc: Global, shortfall: &Shortfall) -> Result<Report, Fault<'
         Shortfall::Code(error) => Err(Fault::from(*error)),
         Shortfall::Object(error) => Err(Fault::from(*error)),
         Shortfall::OtherHook(hook) => Err(Fault::OtherHook { hook: hook.name() }),
-        Shortfall::Uncounted(_) => Err(Fault::Uncounted),
+        Shortfall::Uncounted(error) => Err(uncounted(*error)),
         Shortfall::Statements | Shortfall::Memory => Err(Fault::Memory),
     }
 }

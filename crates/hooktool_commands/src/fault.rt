@@ -40,9 +40,9 @@ pub enum Fault<'a> {
     /// An object that is for another hook than the one that was named.
     #[error("the object is for {hook}")]
     OtherHook { hook: &'static str },
-    /// Code in which no turns can be counted.
-    #[error("no register of r6 to r9 is left to count the turns in")]
-    Uncounted,
+    /// Code in which turns can't be counted, and why.
+    #[error("{reason}")]
+    Uncounted { reason: &'static str },
     /// The words of the command line are wrong: the text says how.
     #[error("{0}")]
     Usage(clap::Error),
@@ -130,7 +130,7 @@ impl<'a> Fault<'a> {
             Fault::Code { .. }
             | Fault::Object { .. }
             | Fault::OtherHook { .. }
-            | Fault::Uncounted => REFUSED,
+            | Fault::Uncounted { .. } => REFUSED,
             Fault::Usage(error) if error.use_stderr() => USAGE,
             Fault::Usage(_) => DONE,
             Fault::Memory => MEMORY,

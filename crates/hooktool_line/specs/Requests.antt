@@ -26,7 +26,7 @@ HasWord rows name word = first_of name rows ≡ Some word
 
 -- how many turns a loop may take, where that is told
 abbrev pub IsFuel : Text → Option ℕ → Type 0
-IsFuel word (Some turns) = IsNumber 1 1000000 word turns
+IsFuel word (Some turns) = IsNumber 1 999999 word turns
 IsFuel word None = ⊥
 
 abbrev pub HasFuel : List Row → Option ℕ → Type 0

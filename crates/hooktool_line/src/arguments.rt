@@ -89,7 +89,7 @@ const CODE: &str = "Bare code, or an object whose statements lack";
 
 const TYPE: &str = "The type of the external destination";
 
-const FUEL: &str = "How many turns each loop without a rank may take, 1 to 1000000";
+const FUEL: &str = "How many turns each loop without a rank may take, 1 to 999999";
 
 const INTERFACE: &str =
     "The interface that the packet came on, or by which the route leaves, 0 to 63";

@@ -7,7 +7,7 @@ ghost use Rattle.clap.specs.Values.{kind_of};
 ghost use Rattle.clap.specs.Walk.{rows_of};
 ghost use Rattle.clap.specs.declared.error.kind.ErrorKind.TheVariants as kinds;
 ghost use Rattle.hooktool_line.specs.Questions.{HasQuestion, asked_of};
-ghost use Rattle.hooktool_line.specs.Requests.{HasFuel, IsWrong, IsWrongWord, MadeBy, Makes};
+ghost use Rattle.hooktool_line.specs.Requests.{HasFuel, IsFuel, IsWrong, IsWrongWord, MadeBy, Makes};
 ghost use Rattle.hooktool_line.specs.Words.{Reads};
 
 use crate::arguments::wrong_value;
@@ -86,14 +86,19 @@ fn question_of<'a>(
 ) -> Result<Option<Question<'a>>, AllocError>
     ensures { IfOk result (Reads (HasQuestion (rows_of (found_of matches.now)))) }
 {
-    let places = places_of(matches);
-    let numbers = numbers_of(matches);
-    let times = number_of(matches, "times", 1, 1, 1000);
-    let packet = packet_in(alloc, word_of(matches, "packet"))?;
-    let rows = rows_in(alloc, matches.get_strs("row"))?;
-    let (Some(places), Some(numbers), Some(times), Some(packet), Some(rows)) =
-        (places, numbers, times, packet, rows)
-    else {
+    let Some(places) = places_of(matches) else {
+        return Ok(None);
+    };
+    let Some(numbers) = numbers_of(matches) else {
+        return Ok(None);
+    };
+    let Some(times) = number_of(matches, "times", 1, 1, 1000) else {
+        return Ok(None);
+    };
+    let Some(packet) = packet_in(alloc, word_of(matches, "packet"))? else {
+        return Ok(None);
+    };
+    let Some(rows) = rows_in(alloc, matches.get_strs("row"))? else {
         return Ok(None);
     };
     Ok(Some(Question {
@@ -104,16 +109,23 @@ fn question_of<'a>(
     }))
 }
 
+/// The number of turns that a word gives.
+fn turns_of(word: &str) -> Option<Option<u32>>
+    ensures { Reads (IsFuel word.now) result }
+{
+    match read_within(word, 1, 999_999) {
+        Some(turns) => Some(Some(turns as u32)),
+        None => None,
+    }
+}
+
 /// How many turns a loop may take, where that is told. None where the word is no such number.
 fn fuel_of(matches: &ArgMatches<'_>) -> Option<Option<u32>>
     ensures { Reads (HasFuel (rows_of (found_of matches.now))) result }
 {
     match word_of(matches, "fuel") {
         None => Some(None),
-        Some(word) => match read_within(word, 1, 1_000_000) {
-            Some(turns) => Some(Some(turns as u32)),
-            None => None,
-        },
+        Some(word) => turns_of(word),
     }
 }
 
@@ -145,12 +157,13 @@ fn try_request<'a>(
 ) -> Result<Option<Request<'a>>, AllocError>
     ensures { IfOk result (MadeBy (codes "try") (rows_of (found_of matches.now))) }
 {
-    let question = question_of(alloc, matches)?;
-    let object = word_of(matches, "OBJECT");
-    let (Some(object), Some(question)) = (object, question) else {
+    let Some(object) = word_of(matches, "OBJECT") else {
         return Ok(None);
     };
-    Ok(Some(Request::Try { object, question }))
+    match question_of(alloc, matches)? {
+        Some(question) => Ok(Some(Request::Try { object, question })),
+        None => Ok(None),
+    }
 }
 
 // What a command makes of its words. None where it makes nothing of them, or there is no such command.
@@ -194,7 +207,7 @@ fn wrong_word(name: &str, matches: &ArgMatches<'_>) -> &'static str {
     match name {
         "annotate" => match fuel_of(matches) {
             Some(_) => "HOOK is none of count, tag, price and veto",
-            None => "--fuel is no number from 1 to 1000000",
+            None => "--fuel is no number from 1 to 999999",
         },
         _ => wrong_option(matches),
     }
