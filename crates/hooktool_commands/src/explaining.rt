@@ -1,6 +1,6 @@
 //! `explain`: what the verifier knows of a program, and its verdict.
 
-ghost use Rattle.std.specs.Prelude.{◌≡◌, ◌⊎◌, List, ℕ, IfOk, IfErr};
+ghost use Rattle.std.specs.Prelude.{◌≡◌, List, ℕ, true, false, IfOk, MatchResult};
 ghost use Rattle.hooktool_commands.specs.Explanations.{IsExplained};
 
 use crate::fault::Fault;
@@ -10,7 +10,7 @@ use explanations::{ExplainError, Explanation, explain as explained};
 use object_verdicts::VerifyError;
 use std::alloc::{AllocError, Global};
 use std::rt::Files;
-use verifier::Rule;
+use verifier::{Accepted, Rule};
 
 impl<'a> From<ExplainError> for Fault<'a> {
     fn from(error: ExplainError) -> Fault<'a> {
@@ -33,18 +33,23 @@ fn whole(explanation: Explanation) -> Result<String, AllocError> {
     Ok(text)
 }
 
+/// Whether the program is refused. A fault where no verdict was reached for want of memory.
+fn is_refusal<'a>(verdict: &Result<Accepted, VerifyError>) -> Result<bool, Fault<'a>>
+    ensures { IfOk result (λ refused. MatchResult verdict.now (λ _. refused ≡ false) (λ _. refused ≡ true)) }
+{
+    match verdict {
+        Ok(_) => Ok(false),
+        Err(VerifyError::Refused(refusal)) if refusal.rule == Rule::Memory => Err(Fault::Memory),
+        Err(_) => Ok(true),
+    }
+}
+
 /// What is told of the object file that these bytes are.
 fn explanation_of<'a>(alloc: Global, bytes: &[u8]) -> Result<Report, Fault<'a>>
     ensures { IfOk result (IsExplained bytes.now) }
 {
     let explanation = explained(alloc, bytes)?;
-    let is_refused = match &explanation.verdict {
-        Ok(_) => false,
-        Err(VerifyError::Refused(refusal)) if refusal.rule == Rule::Memory => {
-            return Err(Fault::Memory);
-        }
-        Err(_) => true,
-    };
+    let is_refused = is_refusal(&explanation.verdict)?;
     Ok(Report {
         text: whole(explanation)?,
         is_refused,

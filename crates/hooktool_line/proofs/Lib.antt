@@ -1,6 +1,6 @@
 pub mod Building
 pub mod Made
 pub mod OrElse
-pub mod Packets
+pub mod PacketWords
 pub mod Read
-pub mod Rows
+pub mod RowWords

@@ -15,7 +15,7 @@ use Rattle.hooktool_line.specs.declared.requests.Packet.TheVariants as packets
 
 -- What is read has this meaning; where nothing is, nothing has it.
 abbrev pub Reads : {A : Type 0} → (A → Type 0) → Option A → Type 0
-Reads Means (Some x) = Means x
+Reads {A} Means (Some x) = Means x
 Reads {A} Means None = (x : A) → Means x → ⊥
 
 -- what a word means, or what is so where there is none

@@ -4,7 +4,6 @@ use Rattle.machine.specs.Given.{Given}
 use Rattle.machine.specs.declared.state.State.{State}
 use Rattle.maps.specs.Access.{adds_to, last_stored}
 use Rattle.maps.specs.Words.{SeatView, fresh}
-use Rattle.atomic_table.specs.Seated.{TableId}
 use Rattle.object.specs.Objects.{ObjectParts}
 use Rattle.object.specs.Spelling.{Spells}
 use Rattle.object_runs.specs.ObjectRuns.{HaltsObject, Refuses, RunsObject}
@@ -35,15 +34,16 @@ RunsInARow bytes input seat (ending ∷ rest) last =
     (next : SeatView) × RunsOnce bytes input seat ending next
     × RunsInARow bytes input next rest last
 
--- A seat of a new table ran the program so many times in a row. The counters have what it added, and
--- the cells what it last stored there.
+-- A seat of a new table, that had done nothing, ran the program so many times in a row. The counters
+-- have what it added, and the cells what it last stored there.
 pub record IsTrial (bytes : List ℕ) (input : Given) (times : ℕ) (trial : Trial) : Type 0 where
-  pub table : TableId
   pub seat : SeatView
-  pub runs : RunsInARow bytes input (fresh table 0) trial.endings.items seat
+  pub unused : seat ≡ fresh seat.table 0
+  pub seat_after : SeatView
+  pub runs : RunsInARow bytes input seat trial.endings.items seat_after
   pub count : length trial.endings.items ≡ times
-  pub counters : (k : ℕ) → k < 256 → slice_index trial.counters k ≡ adds_to k seat.accesses
-  pub cells : (j : ℕ) → j < 64 → slice_index trial.cells j ≡ last_stored j seat.accesses
+  pub counters : (k : ℕ) → k < 256 → slice_index trial.counters k ≡ adds_to k seat_after.accesses
+  pub cells : (j : ℕ) → j < 64 → slice_index trial.cells j ≡ last_stored j seat_after.accesses
 
 -- The same on the question, as its object's hook is asked it, with this packet and these rows of the
 -- routing table.
@@ -51,11 +51,11 @@ pub record IsTrialOn (bytes : List ℕ) (asked : Asked) (packet : List ℕ) (row
     (times : ℕ) (trial : Trial) : Type 0 where
   pub object : ObjectParts
   pub spells : Spells bytes object
-  pub trial : IsTrial bytes (record {
-    context = asked_context object.hook asked packet;
-    packet = packet;
-    rows = rows;
-  }) times trial
+  pub input : Given
+  pub context : input.context ≡ asked_context object.hook asked packet
+  pub packet_is : input.packet ≡ packet
+  pub rows_are : input.rows ≡ rows
+  pub trial_is : IsTrial bytes input times trial
 
 -- The bytes have no program, for this reason; of want of memory nothing is claimed.
 abbrev pub IsRefusal : List ℕ → TrialError → Type 0

@@ -60,7 +60,8 @@ pub(crate) fn run_in_a_row(
 {
     let mut endings = Vec::new(alloc);
     for turn in 0..times {
-        endings.push(run_once(alloc, bytes, input, shared, seat)?)?;
+        let ending = run_once(alloc, bytes, input, shared, seat)?;
+        endings.push(ending)?;
     }
     Ok(endings)
 }

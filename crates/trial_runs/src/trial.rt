@@ -46,8 +46,9 @@ pub fn try_object(
     let mut seat = seats.remove(0);
     let endings = run_in_a_row(alloc, bytes, times, &input, &shared, &mut seat)?;
     let cells = cells_of(&shared, &mut seat);
-    seats.push(seat)?;
-    let totals = shared.close(seats);
+    let mut last = Vec::new(alloc);
+    last.push(seat)?;
+    let totals = shared.close(last);
     Ok(Trial {
         endings,
         counters: totals.sums,

@@ -1,5 +1,5 @@
 use Rattle.std.proofs.Common.{◌≡◌}
-use Rattle.hooktool_line.proofs.Rows.{HasRead}
+use Rattle.hooktool_line.proofs.RowWords.{HasRead}
 use Rattle.hooktool_line.proofs.rows.read_rows.Given as goal
 
 -- the rows of the words before the index are read

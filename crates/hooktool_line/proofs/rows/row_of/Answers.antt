@@ -1,5 +1,5 @@
 use Rattle.std.proofs.Common.{arith}
-use Rattle.hooktool_line.proofs.Rows.{no_row, row_parts, row_spelled}
+use Rattle.hooktool_line.proofs.RowWords.{no_row, row_parts, row_spelled}
 use Rattle.hooktool_line.proofs.rows.row_of.Goals as goal
 
 pub returns-in_default : goal.returns-in_default
