@@ -1,16 +1,13 @@
 /* hook: count
- * fuel: 300
- * Plain loops in one another: which of the packet's first 16 words of 16 bytes have a zero byte. */
+ * fuel: 1000
+ * Plain loops in one another: how many bits of the packet are set. */
 #include "leafrunt.h"
 
 u64 program(const struct datagram *packet)
 {
-	u64 words = 0;
-	for (u64 i = 0; i < 16; i++)
-		for (u64 j = 0; j < 16; j++)
-			if (packet_byte(i * 16 + j) == 0) {
-				words |= 1ull << i;
-				break;
-			}
-	return words;
+	u64 set = 0;
+	for (u64 i = 0; i < packet->length; i++)
+		for (u64 byte = packet_byte(i); byte; byte >>= 1)
+			set += byte & 1;
+	return set;
 }

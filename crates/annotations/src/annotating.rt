@@ -1,4 +1,7 @@
 //! From code to an object that the verifier accepts.
+ghost use Rattle.std.specs.Prelude.{IfOk, IfErr};
+ghost use Rattle.annotations.specs.Annotated.{IsAnnotated};
+ghost use Rattle.annotations.specs.Verdict.{IsShortfall};
 
 use crate::attempt::{Attempt, try_both};
 use crate::shortfall::Shortfall;
@@ -15,7 +18,10 @@ pub fn annotate(
     hook: Hook,
     bytes: &[u8],
     given: &[Statement],
-) -> Result<Annotated, Shortfall> {
+) -> Result<Annotated, Shortfall>
+    ensures accepted { IfOk result (λ a. IsAnnotated hook bytes.now a.object a.bytes.items a.accepted) }
+    ensures refused { IfErr result (IsShortfall hook bytes.now) }
+{
     match try_both(alloc, hook, bytes, given)? {
         Attempt::Accepted(annotated) => Ok(annotated),
         Attempt::Refused(failure) => Err(Shortfall::Refused(failure.rejected, failure.endless)),

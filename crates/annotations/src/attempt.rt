@@ -1,6 +1,9 @@
 //! One search for statements and ranks, judged by the verifier.
+ghost use Rattle.std.specs.Prelude.{◌≡◌, IfOk, IfErr};
+ghost use Rattle.annotations.specs.Verdict.{IsAttempt, IsNoVerdict};
 
 use crate::shortfall::Shortfall;
+use crate::trimming::without_idle_bits;
 use crate::verdict::{Annotated, Rejected, Verdict, judged};
 use inference::{Inference, infer_statements};
 use isa::{Code, Hook, decode};
@@ -59,7 +62,9 @@ fn statements_of(
 }
 
 /// Why the object is refused: where a rank is what it lacks, which loop has none.
-fn refused(rejected: Rejected, ranking: Ranking) -> Failure {
+fn refused(rejected: Rejected, ranking: Ranking) -> Failure
+    ensures { result.rejected ≡ rejected }
+{
     let Ranking {
         endless,
         unranked,
@@ -84,7 +89,10 @@ fn outcome(
     bytes: &[u8],
     found: &Inference,
     ranking: Ranking,
-) -> Result<Attempt, Shortfall> {
+) -> Result<Attempt, Shortfall>
+    ensures attempt { IfOk result (IsAttempt hook bytes.now) }
+    ensures fault { IfErr result IsNoVerdict }
+{
     let statements = statements_of(alloc, found, &ranking.plan)?;
     let entry_rank = ranking.plan.rank_at(found.stated.len()).constant;
     match judged(alloc, hook, entry_rank, bytes, statements)? {
@@ -101,11 +109,19 @@ pub fn try_statements(
     bytes: &[u8],
     given: &[Statement],
     are_kept: bool,
-) -> Result<Attempt, Shortfall> {
+) -> Result<Attempt, Shortfall>
+    ensures attempt { IfOk result (IsAttempt hook bytes.now) }
+    ensures fault { IfErr result IsNoVerdict }
+{
     let code = decode(alloc, bytes)?;
     let found = infer_statements(alloc, &code, hook, given, are_kept)?;
     let ranking = rank_statements(alloc, &found, given, are_kept, most_for(&code))?;
-    outcome(alloc, hook, bytes, &found, ranking)
+    match outcome(alloc, hook, bytes, &found, ranking)? {
+        Attempt::Accepted(annotated) if !are_kept => Ok(Attempt::Accepted(without_idle_bits(
+            alloc, hook, bytes, annotated,
+        )?)),
+        other => Ok(other),
+    }
 }
 
 /// The same, first with the statements that are given as they are, and then without.
@@ -114,7 +130,10 @@ pub fn try_both(
     hook: Hook,
     bytes: &[u8],
     given: &[Statement],
-) -> Result<Attempt, Shortfall> {
+) -> Result<Attempt, Shortfall>
+    ensures attempt { IfOk result (IsAttempt hook bytes.now) }
+    ensures fault { IfErr result IsNoVerdict }
+{
     if !given.is_empty() {
         if let Attempt::Accepted(annotated) = try_statements(alloc, hook, bytes, given, true)? {
             return Ok(Attempt::Accepted(annotated));

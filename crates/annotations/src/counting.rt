@@ -1,4 +1,8 @@
 //! The same for code with loops that have no rank: their turns are counted.
+ghost use Rattle.std.specs.Prelude.{IfOk, IfErr, Some};
+ghost use Rattle.isa.specs.Spelling.{Spells};
+ghost use Rattle.annotations.specs.Annotated.{IsCodeAnnotation};
+ghost use Rattle.annotations.specs.Verdict.{IsCountedAttempt, IsNoVerdict, IsTurnsShortfall};
 
 use crate::attempt::{Attempt, try_both};
 use crate::shortfall::Shortfall;
@@ -85,19 +89,45 @@ fn add(alloc: Global, heads: &mut Vec<usize>, unranked: &Unranked) -> Result<boo
     Ok(heads.len() > before)
 }
 
-/// The code and the statements for it, with the turns counted of the loops at these heads.
-fn attempt_counted(
+/// The same for the code that counts the turns of the loops at these heads.
+fn try_counted(
     alloc: Global,
     hook: Hook,
+    bytes: &[u8],
     code: &Code,
     given: &[Statement],
     heads: &[usize],
     turns: u32,
-) -> Result<Attempt, Shortfall> {
+) -> Result<Attempt, Shortfall>
+    requires { Spells bytes.now code.now }
+    ensures attempt { IfOk result (IsCountedAttempt hook turns bytes.now) }
+    ensures fault { IfErr result IsNoVerdict }
+{
     let counted = counted(alloc, code, heads, turns)?;
-    let bytes = encode(alloc, &counted)?;
+    let written = encode(alloc, &counted)?;
     let given = all_moved(alloc, given)?;
-    try_both(alloc, hook, &bytes, &given)
+    try_both(alloc, hook, &written, &given)
+}
+
+/// The same, where there may be no such head.
+fn try_heads(
+    alloc: Global,
+    hook: Hook,
+    bytes: &[u8],
+    code: &Code,
+    given: &[Statement],
+    heads: &[usize],
+    turns: u32,
+) -> Result<Attempt, Shortfall>
+    requires { Spells bytes.now code.now }
+    ensures attempt { IfOk result (IsCountedAttempt hook turns bytes.now) }
+    ensures fault { IfErr result IsNoVerdict }
+{
+    if heads.is_empty() {
+        try_both(alloc, hook, bytes, given)
+    } else {
+        try_counted(alloc, hook, bytes, code, given, heads, turns)
+    }
 }
 
 /// Finds statements and ranks as `annotate` does. Where a loop has no rank, its turns are counted: the
@@ -109,12 +139,14 @@ pub fn annotate_counted(
     bytes: &[u8],
     given: &[Statement],
     turns: u32,
-) -> Result<Annotated, Shortfall> {
+) -> Result<Annotated, Shortfall>
+    ensures accepted { IfOk result (λ a. IsCodeAnnotation hook (Some turns) bytes.now a.object a.bytes.items a.accepted) }
+    ensures refused { IfErr result (IsTurnsShortfall hook (Some turns) bytes.now) }
+{
     let code = decode(alloc, bytes)?;
     let mut heads = Vec::new(alloc);
-    let mut last = try_both(alloc, hook, bytes, given)?;
     for _ in 0..MOST_ROUNDS {
-        match last {
+        match try_heads(alloc, hook, bytes, &code, given, &heads, turns)? {
             Attempt::Accepted(annotated) => return Ok(annotated),
             Attempt::Refused(failure) => {
                 if failure.endless.is_none() || !add(alloc, &mut heads, &failure.unranked)? {
@@ -122,9 +154,8 @@ pub fn annotate_counted(
                 }
             }
         }
-        last = attempt_counted(alloc, hook, &code, given, &heads, turns)?;
     }
-    match last {
+    match try_heads(alloc, hook, bytes, &code, given, &heads, turns)? {
         Attempt::Accepted(annotated) => Ok(annotated),
         Attempt::Refused(failure) => Err(Shortfall::Refused(failure.rejected, failure.endless)),
     }

@@ -1,4 +1,8 @@
 //! From a file with code, bare or in an object, to an object that the verifier accepts.
+ghost use Rattle.std.specs.Prelude.{◌≡◌, ◌↔◌, IfOk, IfErr, IsTrue, take};
+ghost use Rattle.object.specs.Spelling.{magic};
+ghost use Rattle.annotations.specs.Annotated.{IsAnnotation, IsCodeAnnotation};
+ghost use Rattle.annotations.specs.Verdict.{IsFileShortfall, IsTurnsShortfall};
 
 use crate::annotating::annotate;
 use crate::counting::annotate_counted;
@@ -9,17 +13,23 @@ use object::{Object, Statement, read};
 use std::alloc::Global;
 
 /// Whether the bytes begin as an object's file does.
-fn is_object(bytes: &[u8]) -> bool {
-    bytes.starts_with(b"BPFH")
+fn is_object(bytes: &[u8]) -> bool
+    ensures { IsTrue result ↔ (take 4 bytes.now ≡ magic) }
+{
+    bytes.len() >= 4 && bytes[0] == 0x42 && bytes[1] == 0x50 && bytes[2] == 0x46 && bytes[3] == 0x48
 }
 
+/// Finds statements and ranks for the code.
 fn annotate_code(
     alloc: Global,
     hook: Hook,
     code: &[u8],
     given: &[Statement],
     turns: Option<u32>,
-) -> Result<Annotated, Shortfall> {
+) -> Result<Annotated, Shortfall>
+    ensures accepted { IfOk result (λ a. IsCodeAnnotation hook turns code.now a.object a.bytes.items a.accepted) }
+    ensures refused { IfErr result (IsTurnsShortfall hook turns code.now) }
+{
     match turns {
         Some(turns) => annotate_counted(alloc, hook, code, given, turns),
         None => annotate(alloc, hook, code, given),
@@ -39,7 +49,10 @@ pub fn annotate_file(
     hook: Hook,
     file: &[u8],
     turns: Option<u32>,
-) -> Result<Annotated, Shortfall> {
+) -> Result<Annotated, Shortfall>
+    ensures accepted { IfOk result (λ a. IsAnnotation hook turns file.now a.object a.bytes.items a.accepted) }
+    ensures refused { IfErr result (IsFileShortfall hook turns file.now) }
+{
     if !is_object(file) {
         return annotate_code(alloc, hook, file, &[], turns);
     }

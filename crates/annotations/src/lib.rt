@@ -6,6 +6,7 @@ mod attempt;
 mod counting;
 mod file;
 mod shortfall;
+mod trimming;
 mod verdict;
 
 pub use annotating::annotate;

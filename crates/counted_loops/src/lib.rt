@@ -2,9 +2,9 @@
 //! with each jump back that is counted, and where it comes to 0 the program answers 0.
 #![tactic(auto)]
 
-mod counted;
+mod counting;
 mod error;
 mod registers;
 
-pub use counted::counted;
+pub use counting::counted;
 pub use error::CountError;

@@ -1,0 +1,109 @@
+//! What is found.
+use crate::codes;
+use crate::trials::{file_of, is_accepted};
+use hex::FromHex;
+use isa::Hook;
+use std::test::Fail;
+
+/// A text without statements, and the bound that its code has with those of its own.
+const TEXTS: [(&str, Hook, u64); 10] = [
+    // the programs of examples/
+    (
+        "hook count\nrank 0\nr6 = *u64 r1 8\nr7 = *u32 r1 24\nr7 &= 31\nr8 = r7\nr8 <<= 4\nr9 = map 1 0\nr9 += r8\nr2 = *u64 r9 0\nif r2 == r6 goto SAME\n*u64 r9 0 = r6\n*u64 r9 8 = 0\nSAME:\nr2 = *u64 r9 8\nr2 += 1\n*u64 r9 8 = r2\nif r2 <= 100 goto END\nr1 = r7\nr1 += 128\nr2 = 1\ncall 1\nEND:\nr0 = 0\nexit\n",
+        Hook::Count,
+        22,
+    ),
+    (
+        "hook count\nrank 0\nr1 = *u32 r1 20\nif r1 <= 5 goto KNOWN\nr1 = 0\nKNOWN:\nr2 = 1\ncall 1\nexit\n",
+        Hook::Count,
+        6,
+    ),
+    (
+        "hook price\nrank 0\nr2 = *u64 r1 24\nr2 %= 86400\nr2 /= 3600\nr0 = *u32 r1 12\nr0 += 23\nr0 -= r2\nif r0 <= 16777214 goto END\nr0 = 16777214\nEND:\nexit\n",
+        Hook::Price,
+        9,
+    ),
+    (
+        "hook veto\nrank 0\nr2 = *u32 r1 8\nr0 = 0\nif r2 <= 24 goto END\nr0 = 1\nEND:\nexit\n",
+        Hook::Veto,
+        5,
+    ),
+    (
+        "hook veto\nrank 0\nr2 = *u32 r1 4\nr3 = *u32 r1 8\nr5 = 16\nr2 >>= 16\nif r2 == 49320 goto INSIDE\nr5 = 12\nr2 >>= 4\nif r2 == 2753 goto INSIDE\nr5 = 8\nr2 >>= 4\nif r2 == 10 goto INSIDE\nr0 = 0\nexit\nINSIDE:\nr0 = 1\nif r3 >= r5 goto END\nr0 = 0\nEND:\nexit\n",
+        Hook::Veto,
+        17,
+    ),
+    (
+        "hook tag\nrank 0\nr0 = *u32 r1 16\nif r0 != 0 goto END\nr0 = *u32 r1 8\nEND:\nexit\n",
+        Hook::Tag,
+        4,
+    ),
+    // those of docs/tutorial that are safe
+    (
+        "hook price\nrank 0\nr1 = 10\nr0 = 0\nL:\nr0 += r1\nr1 += -1\nif r1 != 0 goto L\nexit\n",
+        Hook::Price,
+        66,
+    ),
+    (
+        "hook count\nrank 0\nr1 = 1\ncall 3\nif r0 > 255 goto END\nr1 = r0\nr2 = 1\ncall 1\nEND:\nexit\n",
+        Hook::Count,
+        7,
+    ),
+    // a loop in a loop: ten turns of six
+    (
+        "hook price\nrank 0\nr6 = 10\nA:\nr7 = 6\nB:\nr7 += -1\nif r7 != 0 goto B\nr6 += -1\nif r6 != 0 goto A\nr0 = 0\nexit\n",
+        Hook::Price,
+        488,
+    ),
+    // a slot that no run reaches
+    (
+        "hook tag\nrank 0\nr0 = 1\ngoto END\nr0 = 2\nEND:\nexit\n",
+        Hook::Tag,
+        4,
+    ),
+];
+
+#[test]
+fn texts_without_statements_have_the_bounds_of_their_own(rt: HostRuntime) -> Result<(), Fail> {
+    for (text, hook, bound) in TEXTS {
+        let file = file_of(rt.alloc(), text)?;
+        is_accepted(&rt, rt.alloc(), hook, &file, None, bound);
+    }
+    Ok(())
+}
+
+/// Code of programs in C, how many turns their loops are given, and their bounds: a multiple of the slots.
+const CODES: [(&str, Hook, Option<u32>, u64); 13] = [
+    (codes::BOGONS, Hook::Veto, None, 44),
+    (codes::CHECKSUM, Hook::Count, None, 65 * 21),
+    (codes::COUNT_BURSTS, Hook::Count, None, 24),
+    (codes::LONGEST_MATCH, Hook::Price, None, 34 * 25),
+    (codes::NESTED, Hook::Count, None, 81 * 32),
+    (codes::PLAIN_FOR, Hook::Count, Some(64), 66 * 19),
+    (codes::PLAIN_NESTED, Hook::Count, Some(1000), 0),
+    (codes::RANKED_AND_PLAIN, Hook::Price, Some(100), 0),
+    (codes::RATE, Hook::Count, None, 35),
+    (codes::STACK_ARRAY, Hook::Count, None, 38),
+    (codes::WHILE_BITS, Hook::Veto, Some(32), 34 * 19),
+    (codes::COVERED, Hook::Veto, None, 33 * 27),
+    (codes::PER_NEIGHBOR, Hook::Count, None, 24),
+];
+
+#[test]
+fn programs_in_c_are_accepted(rt: HostRuntime) -> Result<(), Fail> {
+    for (digits, hook, turns, bound) in CODES {
+        let code = hex::decode(rt.alloc(), digits)?;
+        is_accepted(&rt, rt.alloc(), hook, &code, turns, bound);
+    }
+    Ok(())
+}
+
+#[test]
+fn statements_that_stand_are_kept(rt: HostRuntime) -> Result<(), Fail> {
+    // The range of r1 is wider than what is found, and the rank greater. The statement at END lacks.
+    let text =
+        "hook price\nrank 0\nr1 = 10\nr0 = 0\nL:\nr0 += r1\nr1 += -1\nif r1 != 0 goto L\ngoto END\nEND:\nexit\nstate L rank 3 r1 * 2\nwith r0 number 0 18446744073709551615 0 0\nwith r1 number 1 12 0 0\n";
+    let file = file_of(rt.alloc(), text)?;
+    is_accepted(&rt, rt.alloc(), Hook::Price, &file, None, 24 * 7);
+    Ok(())
+}

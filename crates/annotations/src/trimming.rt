@@ -1,0 +1,113 @@
+//! Statements without the known bits that the verifier does without.
+ghost use Rattle.std.specs.Prelude.{IfOk, IfErr};
+ghost use Rattle.annotations.specs.Annotated.{IsAnnotated};
+ghost use Rattle.annotations.specs.Verdict.{IsNoVerdict};
+
+use crate::shortfall::Shortfall;
+use crate::verdict::{Annotated, Verdict, judged};
+use isa::Hook;
+use object::{Kind, StatedNumber, Statement};
+use std::alloc::{AllocError, Global};
+
+/// So many statements are trimmed one by one at most.
+const MOST_TRIES: usize = 64;
+
+/// The numbers of the range, whatever their bits.
+fn any_bits(numbers: StatedNumber) -> StatedNumber {
+    match StatedNumber::new(numbers.low(), numbers.high(), 0, 0) {
+        Some(plain) => plain,
+        None => numbers,
+    }
+}
+
+/// The kind without known bits.
+fn without_bits(kind: Kind) -> Kind {
+    match kind {
+        Kind::Number(numbers) => Kind::Number(any_bits(numbers)),
+        Kind::MapValue(map, numbers) => Kind::MapValue(map, any_bits(numbers)),
+        Kind::Empty | Kind::Context(_) | Kind::Stack(_) => kind,
+    }
+}
+
+/// The statement without known bits.
+fn trimmed(statement: &Statement) -> Statement {
+    let mut kinds = [Kind::Empty; 10];
+    for (register, kind) in statement.kinds().iter().enumerate() {
+        if register < 10 {
+            kinds[register] = without_bits(*kind);
+        }
+    }
+    match Statement::new(
+        statement.slot(),
+        statement.rank(),
+        kinds,
+        *statement.stack(),
+    ) {
+        Some(trimmed) => trimmed,
+        None => *statement,
+    }
+}
+
+/// The statements, those from one on up to another without known bits.
+fn trimmed_within(
+    alloc: Global,
+    statements: &[Statement],
+    from: usize,
+    to: usize,
+) -> Result<Vec<Statement>, AllocError> {
+    let mut all = Vec::new(alloc);
+    for (place, statement) in statements.iter().enumerate() {
+        if from <= place && place < to {
+            all.push(trimmed(statement))?;
+        } else {
+            all.push(*statement)?;
+        }
+    }
+    Ok(all)
+}
+
+/// The object without the known bits of these statements, if the verifier accepts it so; else as it is.
+fn retried(
+    alloc: Global,
+    hook: Hook,
+    bytes: &[u8],
+    annotated: Annotated,
+    from: usize,
+    to: usize,
+) -> Result<Annotated, Shortfall>
+    requires { IsAnnotated hook bytes.now annotated.object annotated.bytes.items annotated.accepted }
+    ensures accepted { IfOk result (λ a. IsAnnotated hook bytes.now a.object a.bytes.items a.accepted) }
+    ensures fault { IfErr result IsNoVerdict }
+{
+    let statements = trimmed_within(alloc, annotated.object.statements(), from, to)?;
+    if statements.as_slice() == annotated.object.statements() {
+        return Ok(annotated);
+    }
+    let entry_rank = annotated.object.entry_rank();
+    match judged(alloc, hook, entry_rank, bytes, statements)? {
+        Verdict::Accepted(trimmed) => Ok(trimmed),
+        Verdict::Refused(_) => Ok(annotated),
+    }
+}
+
+/// The object without the known bits that the verifier does without: of all statements, or of one after
+/// the other.
+pub fn without_idle_bits(
+    alloc: Global,
+    hook: Hook,
+    bytes: &[u8],
+    annotated: Annotated,
+) -> Result<Annotated, Shortfall>
+    requires { IsAnnotated hook bytes.now annotated.object annotated.bytes.items annotated.accepted }
+    ensures accepted { IfOk result (λ a. IsAnnotated hook bytes.now a.object a.bytes.items a.accepted) }
+    ensures fault { IfErr result IsNoVerdict }
+{
+    let count = annotated.object.statements().len();
+    let mut annotated = retried(alloc, hook, bytes, annotated, 0, count)?;
+    if count <= MOST_TRIES {
+        for place in 0..count {
+            annotated = retried(alloc, hook, bytes, annotated, place, place + 1)?;
+        }
+    }
+    Ok(annotated)
+}
