@@ -1,7 +1,6 @@
 -- Rows of the routing table, read of words.
-use Rattle.std.proofs.Common.{◌≡◌, ◌∙◌, ◌<◌, ◌≤◌, ℕ, List, [], ◌∷◌, ◌++◌, Option, Some, None, ap, sym, subst, length, get_or, lit<, append_assoc, arith}
+use Rattle.std.proofs.Common.{◌≡◌, ◌∙◌, ◌<◌, ◌≤◌, ℕ, List, [], ◌∷◌, ◌++◌, Option, Some, None, ap, sym, subst, length, get_or, drop, lit<, append_assoc, arith}
 use Rattle.std.specs.Prelude.{MatchOption, decimal, map, slice_index_or}
-use Rattle.std.specs.List.{drop}
 use Rattle.std.proofs.lemmas.List.{at_drop_more}
 use Rattle.std.proofs.lemmas.Str.Pattern.{IsSplitOnceResult, split_after, split_parts}
 use Rattle.address_texts.proofs.Addresses.{high_in_prefix}

@@ -1,11 +1,23 @@
 //! The packet of a question.
 
-ghost use Rattle.std.specs.Prelude.{◌≡◌, option_map, IfOk};
+ghost use Rattle.std.specs.Prelude.{◌≡◌, ◌≢◌, option_map, IfOk, None};
+ghost use Rattle.hex.specs.declared.error.FromHexError.TheVariants.{OutOfMemory};
 ghost use Rattle.hooktool_line.specs.Words.{IsNoPacket, IsPacket, OrElse, Reads};
 
 use crate::requests::Packet;
 use hex::FromHexError;
 use std::alloc::{AllocError, Global};
+
+// No packet, for this error; or want of memory.
+fn without_packet<'a>(error: FromHexError) -> Result<Option<Packet<'a>>, AllocError>
+    ensures none { IfOk result (λ packet. packet ≡ None) }
+    ensures other { IfOk result (λ _. error ≢ OutOfMemory) }
+{
+    match error {
+        FromHexError::OutOfMemory => Err(AllocError),
+        _ => Ok(None),
+    }
+}
 
 /// The packet that a word is: a file's, or bytes in hex.
 fn packet_of<'a>(alloc: Global, word: &'a str) -> Result<Option<Packet<'a>>, AllocError>
@@ -16,8 +28,7 @@ fn packet_of<'a>(alloc: Global, word: &'a str) -> Result<Option<Packet<'a>>, All
     }
     match hex::decode(alloc, word) {
         Ok(bytes) => Ok(Some(Packet::Bytes(bytes))),
-        Err(FromHexError::OutOfMemory) => Err(AllocError),
-        Err(_) => Ok(None),
+        Err(error) => without_packet(error),
     }
 }
 

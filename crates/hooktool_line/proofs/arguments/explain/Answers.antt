@@ -5,4 +5,4 @@ use Rattle.hooktool_line.proofs.arguments.explain.Goals as goal
 
 pub returns : goal.returns
 returns c =
-    IfOk-weaker c.with_required.result _ _ (λ r more. leaf r _ _ (extended _ _ _ _ c.named.ensures.app more) refl (more.local c.named.ensures.local)) c.with_required.ensures
+    IfOk-weaker c.with_required.result _ _ (λ r more. leaf r _ _ (extended _ _ _ _ c.named-command.ensures.app more) refl (more.local c.named-command.ensures.local)) c.with_required.ensures

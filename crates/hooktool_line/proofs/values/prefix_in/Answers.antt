@@ -1,4 +1,6 @@
-use Rattle.std.proofs.Common.{◌≡◌, ◌∙◌, refl, sym, subst, ap, Some, Option}
+use Rattle.std.proofs.Common.{◌≡◌, ◌∙◌, refl, sym, subst, Some, Option, codes}
+use Rattle.clap.specs.Matches.{found_of}
+use Rattle.clap.specs.Walk.{first_of, rows_of}
 use Rattle.words.specs.Prefixes.{Network}
 use Rattle.hooktool_line.proofs.OrElse.{read_given, reads_prefix, usual}
 use Rattle.hooktool_line.proofs.values.prefix_in.Goals as goal
@@ -6,7 +8,7 @@ use Rattle.hooktool_line.specs.Words.{IsPrefix, OrElse, Reads, everything}
 
 pub returns-in-None : goal.returns-in-None
 returns-in-None c =
-    let found = _ in
+    let found = first_of (codes "prefix") (rows_of (found_of c.args.matches.now)) in
     let P : Network → Type 0 = λ prefix. OrElse found (prefix ≡ everything) (λ word. IsPrefix word prefix) in
     let is : c.under.result ≡ Some everything = c.under.ensures ∙ refl in
     subst (λ (r : Option Network). Reads P r) (sym is) (usual found _ _ _ c.word_of.ensures c.in-None.is refl)
