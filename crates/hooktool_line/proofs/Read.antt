@@ -1,9 +1,9 @@
 -- What is read of words.
-use Rattle.std.proofs.Common.{◌≡◌, ◌∙◌, refl, sym, subst, List, [], Option, Some, None, Ok, Err, MatchResult, inl, inr}
+use Rattle.std.proofs.Common.{◌≡◌, ◌∙◌, refl, sym, subst, List, [], Option, Some, None, Ok, Err, MatchResult, inl, inr, true}
 use Rattle.std.specs.Prelude.{Result, IfSome, IsErrAnd, ◌⊎◌}
-use Rattle.clap.specs.Faults.{fault_of}
+use Rattle.clap.specs.Faults.{fault_of, is_simple_and_free}
 use Rattle.clap.specs.Kinds.{HasKind}
-use Rattle.clap.specs.Simple.{HasMatchesOf, subcommand_of, subcommand_rows_of}
+use Rattle.clap.specs.Simple.{App, HasMatchesOf, subcommand_of, subcommand_rows_of}
 use Rattle.clap.specs.Values.{kind_of}
 use Rattle.clap.specs.Walk.{Row, Text}
 use Rattle.clap.specs.declared.error.Error.{Error}
@@ -16,6 +16,22 @@ use Rattle.hooktool_line.proofs.Made.{none_makes_none}
 
 abbrev pub Answers : List Text → Result Request Error → Type 0
 Answers words result = MatchResult result (Asks words) (IsRefusal words)
+
+-- ---- of a command that is the line
+
+pub free : (a : App) → a ≡ line → is_simple_and_free a ≡ true
+free a own = subst (λ (x : App). is_simple_and_free x ≡ true) (sym own) refl
+
+pub own_mistake : (a : App) (words : List Text) (e : Error) → a ≡ line → HasKind (fault_of a words) e → HasKind (fault_of line words) e
+own_mistake a words e own has = subst (λ (x : App). HasKind (fault_of x words) e) own has
+
+pub own_words : (a : App) (words : List Text) → a ≡ line → fault_of a words ≡ [] → fault_of line words ≡ []
+own_words a words own taken = subst (λ (x : App). fault_of x words ≡ []) own taken
+
+pub own_matches : (a : App) (words : List Text) (m : ArgMatches) → a ≡ line → HasMatchesOf a words m → HasMatchesOf line words m
+own_matches a words m own has = subst (λ (x : App). HasMatchesOf x words m) own has
+
+-- ---- answers
 
 -- an error of a kind that is a refusal
 pub refused : (words : List Text) (result : Result Request Error) (P : Error → Type 0) → IsErrAnd result P

@@ -1,5 +1,6 @@
 -- Rows of the routing table, read of words.
-use Rattle.std.proofs.Common.{◌≡◌, ◌∙◌, ◌<◌, ◌≤◌, ℕ, List, [], ◌∷◌, ◌++◌, Option, Some, None, ap, sym, subst, length, get_or, drop, lit<, append_assoc, arith}
+use Rattle.std.proofs.Common.{◌≡◌, ◌∙◌, ◌+◌, ◌<◌, ◌≤◌, ℕ, List, [], ◌∷◌, ◌++◌, Option, Some, None, ap, sym, subst, length, get_or, drop, lit<, append_assoc, arith}
+use Rattle.std.specs.Global.{Vec}
 use Rattle.std.specs.Prelude.{MatchOption, decimal, map, slice_index_or}
 use Rattle.std.proofs.lemmas.List.{at_drop_more}
 use Rattle.std.proofs.lemmas.Str.Pattern.{IsSplitOnceResult, split_after, split_parts}
@@ -8,7 +9,8 @@ use Rattle.clap.specs.Walk.{Text}
 use Rattle.words.specs.Prefixes.{Network}
 use Rattle.words.specs.Text.{prefix_text}
 use Rattle.words.specs.declared.route.TableRow.{TableRow}
-use Rattle.hooktool_line.specs.Words.{AreRows, IsRow}
+use Rattle.hooktool_line.specs.Questions.{HasRows}
+use Rattle.hooktool_line.specs.Words.{AreRows, IsRow, Reads}
 use denote.Ref.{Bor}
 
 abbrev Cut : Type 0
@@ -77,3 +79,17 @@ read_wrong words i w rows lt at none has whole are =
     subst (λ (X : Type 0). X) (at_drop_more (λ (xs : List (Bor Text)). AreRows (texts xs) rest) words i w lt) left in
     let (row, rest', is, more) = first_of_rows _ _ rest step in
     none row (subst (λ (x : Bor Text). IsRow x.now row) (sym at) is)
+
+-- ---- the rows of an option
+
+pub no_table : (found given : Option (List Text)) (r : Option (Vec TableRow)) → given ≡ found → Reads (λ rows. HasRows given rows.items) r → r ≡ None
+    → (rows : Vec TableRow) → HasRows found rows.items → ⊥
+no_table found given r same reads none rows has =
+    subst (λ (q : Option (Vec TableRow)). Reads (λ rows. HasRows given rows.items) q) none reads rows
+    (subst (λ (g : Option (List Text)). HasRows g rows.items) (sym same) has)
+
+pub table : (found given : Option (List Text)) (r : Option (Vec TableRow)) (rows : Vec TableRow) → given ≡ found → Reads (λ rows. HasRows given rows.items) r
+    → r ≡ Some rows → HasRows found rows.items
+table found given r rows same reads some =
+    subst (λ (g : Option (List Text)). HasRows g rows.items) same
+    (subst (λ (q : Option (Vec TableRow)). Reads (λ rows. HasRows given rows.items) q) some reads)

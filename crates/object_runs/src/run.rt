@@ -62,6 +62,6 @@ pub fn run_object_to_halt(
 {
     let object = object::read(alloc, bytes)?;
     let code = decode(alloc, object.code())?;
-    let most = limit.of(&object);
-    Ok(run_to_halt(&code, object.hook(), most, input, shared, seat))
+    let within = limit.of(&object);
+    Ok(run_to_halt(&code, object.hook(), within, input, shared, seat))
 }

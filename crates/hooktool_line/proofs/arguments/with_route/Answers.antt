@@ -11,4 +11,4 @@ returns c =
     let s3 = extended _ _ _ _ s2 c.in_ok-typed.ensures in
     let s4 = extended _ _ _ _ s3 c.in_ok-paid.ensures in
     let s5 = extended _ _ _ _ s4 c.in_ok-far.ensures in
-    IfOk-weaker c.with_option.result _ _ (λ r more. record { app = extended _ _ _ _ s5 more; local = λ own. more.local (c.in_ok-far.ensures.local (c.in_ok-paid.ensures.local (c.in_ok-typed.ensures.local (c.in_ok-tagged.ensures.local (c.in_ok-measured.ensures.local (c.in_ok-placed.ensures.local own)))))) }) c.with_option.ensures
+    IfOk-weaker c.with_option-7.result _ _ (λ r more. record { app = extended _ _ _ _ s5 more; local = λ own. more.local (c.in_ok-far.ensures.local (c.in_ok-paid.ensures.local (c.in_ok-typed.ensures.local (c.in_ok-tagged.ensures.local (c.in_ok-measured.ensures.local (c.in_ok-placed.ensures.local own)))))) }) c.with_option-7.ensures

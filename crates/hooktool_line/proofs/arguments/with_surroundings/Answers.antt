@@ -9,4 +9,4 @@ returns c =
     let s1 = extended _ _ _ _ s0 c.in_ok-placed.ensures in
     let s2 = extended _ _ _ _ s1 c.in_ok-sent.ensures in
     let s3 = extended _ _ _ _ s2 c.in_ok-routed.ensures in
-    IfOk-weaker c.with_option.result _ _ (λ r more. record { app = extended _ _ _ _ s3 more; local = λ own. more.local (c.in_ok-routed.ensures.local (c.in_ok-sent.ensures.local (c.in_ok-placed.ensures.local (c.in_ok-timed.ensures.local own)))) }) c.with_option.ensures
+    IfOk-weaker c.with_option-4.result _ _ (λ r more. record { app = extended _ _ _ _ s3 more; local = λ own. more.local (c.in_ok-routed.ensures.local (c.in_ok-sent.ensures.local (c.in_ok-placed.ensures.local (c.in_ok-timed.ensures.local own)))) }) c.with_option-4.ensures

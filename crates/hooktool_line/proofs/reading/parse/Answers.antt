@@ -1,13 +1,8 @@
-use Rattle.std.proofs.Common.{◌≡◌, sym, subst, inl, map, refl, true}
-use Rattle.clap.specs.Faults.{is_simple_and_free}
-use Rattle.clap.specs.Simple.{App, HasMatchesOf, app_of}
-use Rattle.hooktool_line.proofs.Read.{made, mistaken, no_command, refused, wrong_word}
+use Rattle.std.proofs.Common.{sym, subst, inl, map}
+use Rattle.clap.specs.Simple.{app_of}
+use Rattle.hooktool_line.proofs.Read.{free, made, mistaken, no_command, own_matches, own_mistake, own_words, refused, wrong_word}
 use Rattle.hooktool_line.proofs.reading.parse.Goals as goal
-use Rattle.hooktool_line.specs.CommandLine.{line}
 use Rattle.hooktool_line.specs.Requests.{IsRefusal}
-
-free : (a : App) → a ≡ line → is_simple_and_free a ≡ true
-free a own = subst (λ (x : App). is_simple_and_free x ≡ true) (sym own) refl
 
 pub returns-in_err-whole : goal.returns-in_err-whole
 returns-in_err-whole c =
@@ -18,15 +13,18 @@ pub returns-in_err-matches : goal.returns-in_err-matches
 returns-in_err-matches c =
     let words = map (λ w. w.now) c.args.words.now in
     let own = c.in_ok-whole.ensures in
-    let refusal = mistaken words c.in_err-matches.field-0.0 (rw own at (c.in_err-matches.ensures.kinds (free _ own))) in
-    refused words c.from_residual-in_err-matches.result _ c.from_residual-in_err-matches.ensures.1 (λ e same. subst (IsRefusal words) (sym same) refusal)
+    let app = app_of c.in_ok-whole.field-0 in
+    let has = own_mistake app words c.in_err-matches.field-0.0 own (c.in_err-matches.ensures.kinds (free app own)) in
+    refused words c.from_residual-in_err-matches.result _ c.from_residual-in_err-matches.ensures.1
+    (λ e same. subst (IsRefusal words) (sym same) (mistaken words c.in_err-matches.field-0.0 has))
 
 pub returns-in_err-request : goal.returns-in_err-request
 returns-in_err-request c =
     let words = map (λ w. w.now) c.args.words.now in
     let own = c.in_ok-whole.ensures in
-    let taken = rw own at (c.in_ok-matches.ensures.kinds (free _ own)) in
-    let matches = subst (λ (a : App). HasMatchesOf a words c.in_ok-matches.matches) own c.in_ok-matches.ensures.matches in
+    let app = app_of c.in_ok-whole.field-0 in
+    let taken = own_words app words own (c.in_ok-matches.ensures.kinds (free app own)) in
+    let matches = own_matches app words c.in_ok-matches.matches own c.in_ok-matches.ensures.matches in
     let refusal = wrong_word words c.in_ok-matches.matches c.in_err-request.field-0.0 matches taken c.in_err-request.ensures.err in
     refused words c.from_residual-in_err-request.result _ c.from_residual-in_err-request.ensures.1 (λ e same. subst (IsRefusal words) (sym same) refusal)
 
@@ -34,8 +32,9 @@ pub returns-in-Some : goal.returns-in-Some
 returns-in-Some c =
     let words = map (λ w. w.now) c.args.words.now in
     let own = c.in_ok-whole.ensures in
-    let taken = rw own at (c.in_ok-matches.ensures.kinds (free _ own)) in
-    let matches = subst (λ (a : App). HasMatchesOf a words c.in_ok-matches.matches) own c.in_ok-matches.ensures.matches in
+    let app = app_of c.in_ok-whole.field-0 in
+    let taken = own_words app words own (c.in_ok-matches.ensures.kinds (free app own)) in
+    let matches = own_matches app words c.in_ok-matches.matches own c.in_ok-matches.ensures.matches in
     (taken, made words c.in_ok-matches.matches c.in_ok-request.field-0 c.in-Some.request matches c.in-Some.is c.in_ok-request.ensures.some)
 
 pub returns-in_err-error-in-None : goal.returns-in_err-error-in-None
@@ -47,6 +46,7 @@ pub returns : goal.returns
 returns c =
     let words = map (λ w. w.now) c.args.words.now in
     let own = c.in_ok-whole.ensures in
-    let taken = rw own at (c.in_ok-matches.ensures.kinds (free _ own)) in
-    let matches = subst (λ (a : App). HasMatchesOf a words c.in_ok-matches.matches) own c.in_ok-matches.ensures.matches in
+    let app = app_of c.in_ok-whole.field-0 in
+    let taken = own_words app words own (c.in_ok-matches.ensures.kinds (free app own)) in
+    let matches = own_matches app words c.in_ok-matches.matches own c.in_ok-matches.ensures.matches in
     no_command words c.in_ok-matches.matches c.in_ok-error-in-None.field-0 matches taken (c.in_ok-request.ensures.none c.in-None.is) c.in_ok-error-in-None.ensures
