@@ -1,0 +1,3 @@
+pub mod Topologies
+pub mod Laws
+pub mod Worked

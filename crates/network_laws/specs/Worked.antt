@@ -1,0 +1,195 @@
+-- Worked topologies (RFC 2328, sections 11 and 16.1): three routers in a row, along which a packet
+-- is handed on; and two ways in which packets do come back: where two databases differ, and where
+-- a link leads elsewhere than the routers know.
+use Rattle.std.specs.Prelude.{ℕ, ◌&&◌, Bool, List, [], ◌∷◌, Option, Some, None, map, nat_eq}
+use Rattle.std.specs.Prelude.{if◌then◌else◌}
+use Rattle.std.specs.FinMap as finite
+use Rattle.std.specs.FinSet as set
+use Rattle.words.specs.Numbers.{RouterNumber}
+use Rattle.words.specs.Prefixes.{Network}
+use Rattle.words.specs.declared.key.Key.{Key}
+use Rattle.words.specs.declared.route.Route.{Route}
+use Rattle.words.specs.declared.route.RouteKind.TheVariants.{Intra}
+use Rattle.lsdb.specs.Copies.{DatabaseCopy}
+use Rattle.adjacency.specs.Neighbors.{Neighbor, fresh}
+use Rattle.adjacency.specs.declared.interface.Interface.{Interface}
+use Rattle.adjacency.specs.declared.state.State.TheVariants.{Full}
+use Rattle.events.specs.Originations.{router_body, router_key}
+use Rattle.received.specs.Links.{Link}
+use Rattle.route_laws.specs.Worked.{Entries, copy_of, database, dotted, network_24}
+use Rattle.network_laws.specs.Laws.{IsThere}
+use Rattle.network_laws.specs.Topologies.{AreJoined, AreUpToDate, Forwarder, HasConverged}
+use Rattle.network_laws.specs.Topologies.{IsHandedAlong, SayTheSame, Topology}
+
+-- ---- three routers in a row, on links of cost 5; the interface of the left one lies in
+-- 192.0.2.0/23, that of the right one in 192.0.2.0/24, and both of the middle one in 10.0.0.0/24
+
+abbrev pub interface_at : (address length : ℕ) → Interface
+interface_at address length = record {
+  address = address;
+  length = length;
+  cost = 5;
+  hello_interval = 10;
+  dead_interval = 40;
+  retransmit_interval = 5;
+  delay = 1;
+}
+
+-- a neighbor that is Full, with all lists empty
+abbrev pub full : RouterNumber → Neighbor
+full router = record (fresh router None 0) { state = Full }
+
+abbrev pub link_with : Interface → Option Neighbor → Link
+link_with interface neighbor = record {
+  interface = interface;
+  neighbor = neighbor;
+  acknowledgments = finite.empty;
+  last_hello_sent = None;
+}
+
+abbrev pub left_id : RouterNumber
+left_id = dotted 1 1 1 1
+
+abbrev pub middle_id : RouterNumber
+middle_id = dotted 2 2 2 2
+
+abbrev pub right_id : RouterNumber
+right_id = dotted 3 3 3 3
+
+abbrev pub left_links : List Link
+left_links = link_with (interface_at (dotted 192 0 3 1) 23) (Some (full middle_id)) ∷ []
+
+abbrev pub middle_links : List Link
+middle_links =
+    link_with (interface_at (dotted 10 0 0 1) 24) (Some (full left_id))
+    ∷ link_with (interface_at (dotted 10 0 0 2) 24) (Some (full right_id)) ∷ []
+
+abbrev pub right_links : List Link
+right_links = link_with (interface_at (dotted 192 0 2 1) 24) (Some (full middle_id)) ∷ []
+
+-- the copy of the router-LSA that these links make
+abbrev pub its_copy : RouterNumber → List Link → Key × DatabaseCopy
+its_copy router links = (router_key router, copy_of (router_key router) (router_body links))
+
+abbrev pub row : Entries
+row =
+    its_copy left_id left_links ∷ its_copy middle_id middle_links ∷ its_copy right_id right_links
+    ∷ []
+
+-- ---- their routes
+
+abbrev pub within : Network → ℕ → ℕ → Route
+within network cost hops =
+    record { prefix = network; kind = Intra; cost = cost; distance = 0; hops = hops; tag = 0 }
+
+abbrev pub wide_network : Network
+wide_network = record { address = dotted 192 0 2 0; length = 23 }
+
+abbrev pub between : ℕ → ℕ → Route
+between = within (network_24 10 0 0)
+
+abbrev pub wide : ℕ → ℕ → Route
+wide = within wide_network
+
+abbrev pub narrow : ℕ → ℕ → Route
+narrow = within (network_24 192 0 2)
+
+abbrev pub left_routes : List Route
+left_routes = between 10 2 ∷ wide 5 1 ∷ narrow 15 2 ∷ []
+
+abbrev pub middle_routes : List Route
+middle_routes = between 5 1 ∷ wide 10 2 ∷ narrow 10 4 ∷ []
+
+abbrev pub right_routes : List Route
+right_routes = between 10 2 ∷ wide 15 2 ∷ narrow 5 1 ∷ []
+
+-- ---- the routers
+
+-- a router with this database, whose program let in these routes
+abbrev pub forwarder : RouterNumber → List Link → Entries → List Route → Forwarder
+forwarder id links entries routes = record {
+  router = record {
+    id = id;
+    area = record { links = links; database = database entries };
+    announced = finite.empty;
+    waiting = set.empty;
+    originated = finite.empty;
+    answers = map (λ (route : Route). (route, 0)) routes;
+    moment = 0;
+  };
+  table = routes;
+}
+
+abbrev pub left : Forwarder
+left = forwarder left_id left_links row left_routes
+
+abbrev pub middle : Forwarder
+middle = forwarder middle_id middle_links row middle_routes
+
+abbrev pub right : Forwarder
+right = forwarder right_id right_links row right_routes
+
+abbrev pub is_at : ℕ → ℕ → ℕ → ℕ → Bool
+is_at place interface this that = nat_eq place this && nat_eq interface that
+
+-- interface 1 of the left and of the right router leads to the middle one, interface 1 of that to
+-- the left one, and interface 2 to the router at this place
+abbrev pub across_row : (second : ℕ) → (place interface : ℕ) → Option ℕ
+across_row second place interface =
+    if is_at place interface 0 1 then Some 1
+    else if is_at place interface 1 1 then Some 0
+    else if is_at place interface 1 2 then Some second
+    else if is_at place interface 2 1 then Some 1
+    else None
+
+abbrev pub in_a_row : Topology
+in_a_row = record { routers = left ∷ middle ∷ right ∷ []; across = across_row 2 }
+
+-- an address in both networks
+abbrev pub address : ℕ
+address = dotted 192 0 2 5
+
+pub record WorkedTopology : Type 0 where
+  pub converged : HasConverged in_a_row
+  pub handed_along : IsHandedAlong in_a_row address (0 ∷ 1 ∷ 2 ∷ [])
+  pub is_there : IsThere in_a_row address 2
+
+-- ---- the same routers, where the second interface of the middle one is joined to the left one
+
+abbrev pub crossed : Topology
+crossed = record in_a_row { across = across_row 0 }
+
+-- the middle router sends the packet by the interface on which it knows the right one, and it
+-- comes back to the left one
+pub record CrossedLinksMayLoop : Type 0 where
+  pub up_to_date : AreUpToDate crossed
+  pub agree : SayTheSame crossed
+  pub comes_back : IsHandedAlong crossed address (0 ∷ 1 ∷ 0 ∷ [])
+
+-- ---- the left and the middle router, where the middle one has begun anew, and hasn't met the
+-- right one yet
+
+abbrev pub anew_links : List Link
+anew_links =
+    link_with (interface_at (dotted 10 0 0 1) 24) (Some (full left_id))
+    ∷ link_with (interface_at (dotted 10 0 0 2) 24) None ∷ []
+
+-- the new router-LSA hasn't come to the left router yet, nor that of the right one to the middle
+abbrev pub anew : Entries
+anew = its_copy left_id left_links ∷ its_copy middle_id anew_links ∷ []
+
+abbrev pub anew_routes : List Route
+anew_routes = between 5 1 ∷ wide 10 2 ∷ []
+
+abbrev pub differing : Topology
+differing = record {
+  routers = left ∷ forwarder middle_id anew_links anew anew_routes ∷ [];
+  across = across_row 2;
+}
+
+-- the left router sends the packet to the middle one by the smaller network, and the middle one
+-- sends it back by the larger, the only one that it knows
+pub record DifferingDatabasesMayLoop : Type 0 where
+  pub up_to_date : AreUpToDate differing
+  pub joined : AreJoined differing
+  pub comes_back : IsHandedAlong differing address (0 ∷ 1 ∷ 0 ∷ [])

@@ -1,0 +1,70 @@
+//! Laws of networks of routers, each carried by a function that does nothing (RFC 2328, sections
+//! 11 and 16): where the databases of all routers say the same, no packet comes to a router twice,
+//! and it arrives. They speak of routers as the rules of events have them, with the routing tables
+//! that a router answers. Worked topologies show that the laws speak of something, and where they
+//! end.
+#![tactic(auto)]
+
+ghost use Rattle.network_laws.specs.Laws.{EachHopLeadsOn, PacketsArrive};
+ghost use Rattle.network_laws.specs.Laws.{RoutersForwardWithoutLoops};
+ghost use Rattle.network_laws.specs.Worked.{CrossedLinksMayLoop, DifferingDatabasesMayLoop};
+ghost use Rattle.network_laws.specs.Worked.{WorkedTopology};
+
+use candidate_laws::{candidates_are_cheapest_walks, every_offer_has_a_candidate};
+use forwarding_laws::{
+    each_hop_is_nearer, each_hop_leads_to_an_originator, routes_end_at_the_network,
+};
+use forwarding_premises::own_router_lsas_meet_the_premises;
+
+/// Each next hop of a router leads to a router with a better route of the same prefix, or to one
+/// that announces the address itself; or it is 0, and the router is attached to the network.
+pub fn each_hop_leads_on()
+    ensures { EachHopLeadsOn }
+{
+    candidates_are_cheapest_walks();
+    every_offer_has_a_candidate();
+    each_hop_is_nearer();
+    each_hop_leads_to_an_originator();
+    routes_end_at_the_network();
+    own_router_lsas_meet_the_premises();
+}
+
+/// A packet to an address comes to no router twice, until it comes to one that announces the
+/// address itself.
+pub fn routers_forward_without_loops()
+    ensures { RoutersForwardWithoutLoops }
+{
+    each_hop_leads_on();
+}
+
+/// A packet to an address is handed on until it comes to a router that is attached to its
+/// network, or that announces the address itself.
+pub fn packets_arrive()
+    ensures { PacketsArrive }
+{
+    candidates_are_cheapest_walks();
+    every_offer_has_a_candidate();
+    each_hop_is_nearer();
+    each_hop_leads_to_an_originator();
+    routes_end_at_the_network();
+    own_router_lsas_meet_the_premises();
+    each_hop_leads_on();
+}
+
+/// Three routers in a row, whose databases say the same: a packet to an address in the networks
+/// of both ends is handed along the row to the smaller one.
+pub fn worked_topology()
+    ensures { WorkedTopology }
+{}
+
+/// Links that lead elsewhere are outside of the laws: where an interface is joined to another
+/// router than the neighbor that is Full on it, a packet comes back.
+pub fn crossed_links_may_loop()
+    ensures { CrossedLinksMayLoop }
+{}
+
+/// Databases that differ are outside of the laws: where the middle router has begun anew, and
+/// doesn't know the right one yet, a packet goes back and forth between two routers.
+pub fn differing_databases_may_loop()
+    ensures { DifferingDatabasesMayLoop }
+{}
