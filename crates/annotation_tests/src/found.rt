@@ -49,11 +49,11 @@ const TEXTS: [(&str, Hook, u64); 10] = [
         Hook::Count,
         7,
     ),
-    // a loop in a loop: ten turns of six
+    // the loop in a loop of docs/VERIFIER.md, whose outer count weighs 5 there, where 4 does
     (
-        "hook price\nrank 0\nr6 = 10\nA:\nr7 = 6\nB:\nr7 += -1\nif r7 != 0 goto B\nr6 += -1\nif r6 != 0 goto A\nr0 = 0\nexit\n",
-        Hook::Price,
-        488,
+        "hook count\nrank 0\nr6 = 3\nr8 = 0\nOUTER:\nr7 = 4\nINNER:\nr1 = r6\nr1 += -1\nr1 <<= 2\nr1 += r7\nr1 += -1\ncall 3\nr8 += r0\nr7 += -1\nif r7 != 0 goto INNER\nr6 += -1\nif r6 != 0 goto OUTER\nr0 = r8\nexit\n",
+        Hook::Count,
+        272,
     ),
     // a slot that no run reaches
     (
@@ -78,11 +78,11 @@ const CODES: [(&str, Hook, Option<u32>, u64); 13] = [
     (codes::CHECKSUM, Hook::Count, None, 65 * 21),
     (codes::COUNT_BURSTS, Hook::Count, None, 24),
     (codes::LONGEST_MATCH, Hook::Price, None, 34 * 25),
-    (codes::NESTED, Hook::Count, None, 81 * 32),
+    (codes::NESTED, Hook::Count, None, 82 * 32),
     (codes::PLAIN_FOR, Hook::Count, Some(64), 66 * 19),
-    (codes::PLAIN_NESTED, Hook::Count, Some(1000), 0),
-    (codes::RANKED_AND_PLAIN, Hook::Price, Some(100), 0),
-    (codes::RATE, Hook::Count, None, 35),
+    (codes::PLAIN_NESTED, Hook::Count, Some(1000), 1002 * 34),
+    (codes::RANKED_AND_PLAIN, Hook::Price, Some(100), 134 * 40),
+    (codes::RATE, Hook::Count, None, 70),
     (codes::STACK_ARRAY, Hook::Count, None, 38),
     (codes::WHILE_BITS, Hook::Veto, Some(32), 34 * 19),
     (codes::COVERED, Hook::Veto, None, 33 * 27),

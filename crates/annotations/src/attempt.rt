@@ -1,5 +1,5 @@
 //! One search for statements and ranks, judged by the verifier.
-ghost use Rattle.std.specs.Prelude.{◌≡◌, IfOk, IfErr};
+ghost use Rattle.std.specs.Prelude.{IfOk, IfErr};
 ghost use Rattle.annotations.specs.Verdict.{IsAttempt, IsNoVerdict};
 
 use crate::shortfall::Shortfall;
@@ -61,24 +61,12 @@ fn statements_of(
     Ok(statements)
 }
 
-/// Why the object is refused: where a rank is what it lacks, which loop has none.
-fn refused(rejected: Rejected, ranking: Ranking) -> Failure
-    ensures { result.rejected ≡ rejected }
-{
-    let Ranking {
-        endless,
-        unranked,
-        ..
-    } = ranking;
-    let endless = if rejected.refusal.rule == Rule::Rank {
+/// Which loop has no rank, where a rank is what the object lacks.
+fn endless_for(rejected: &Rejected, endless: Option<Endless>) -> Option<Endless> {
+    if rejected.refusal.rule == Rule::Rank {
         endless
     } else {
         None
-    };
-    Failure {
-        rejected,
-        endless,
-        unranked,
     }
 }
 
@@ -97,7 +85,19 @@ fn outcome(
     let entry_rank = ranking.plan.rank_at(found.stated.len()).constant;
     match judged(alloc, hook, entry_rank, bytes, statements)? {
         Verdict::Accepted(annotated) => Ok(Attempt::Accepted(annotated)),
-        Verdict::Refused(rejected) => Ok(Attempt::Refused(refused(rejected, ranking))),
+        Verdict::Refused(rejected) => {
+            let Ranking {
+                endless,
+                unranked,
+                ..
+            } = ranking;
+            let endless = endless_for(&rejected, endless);
+            Ok(Attempt::Refused(Failure {
+                rejected,
+                endless,
+                unranked,
+            }))
+        }
     }
 }
 
@@ -116,11 +116,16 @@ pub fn try_statements(
     let code = decode(alloc, bytes)?;
     let found = infer_statements(alloc, &code, hook, given, are_kept)?;
     let ranking = rank_statements(alloc, &found, given, are_kept, most_for(&code))?;
-    match outcome(alloc, hook, bytes, &found, ranking)? {
-        Attempt::Accepted(annotated) if !are_kept => Ok(Attempt::Accepted(without_idle_bits(
-            alloc, hook, bytes, annotated,
-        )?)),
-        other => Ok(other),
+    let attempt = outcome(alloc, hook, bytes, &found, ranking)?;
+    if are_kept {
+        return Ok(attempt);
+    }
+    match attempt {
+        Attempt::Accepted(annotated) => {
+            let trimmed = without_idle_bits(alloc, hook, bytes, annotated)?;
+            Ok(Attempt::Accepted(trimmed))
+        }
+        Attempt::Refused(failure) => Ok(Attempt::Refused(failure)),
     }
 }
 
@@ -135,7 +140,8 @@ pub fn try_both(
     ensures fault { IfErr result IsNoVerdict }
 {
     if !given.is_empty() {
-        if let Attempt::Accepted(annotated) = try_statements(alloc, hook, bytes, given, true)? {
+        let attempt = try_statements(alloc, hook, bytes, given, true)?;
+        if let Attempt::Accepted(annotated) = attempt {
             return Ok(Attempt::Accepted(annotated));
         }
     }

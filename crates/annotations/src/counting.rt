@@ -1,7 +1,7 @@
 //! The same for code with loops that have no rank: their turns are counted.
 ghost use Rattle.std.specs.Prelude.{IfOk, IfErr, Some};
 ghost use Rattle.isa.specs.Spelling.{Spells};
-ghost use Rattle.annotations.specs.Annotated.{IsCodeAnnotation};
+ghost use Rattle.annotations.specs.Annotated.{CountsLoops, IsCodeAnnotation};
 ghost use Rattle.annotations.specs.Verdict.{IsCountedAttempt, IsNoVerdict, IsTurnsShortfall};
 
 use crate::attempt::{Attempt, try_both};
@@ -89,7 +89,25 @@ fn add(alloc: Global, heads: &mut Vec<usize>, unranked: &Unranked) -> Result<boo
     Ok(heads.len() > before)
 }
 
-/// The same for the code that counts the turns of the loops at these heads.
+/// The text of the code that counts the turns of the loops at these heads.
+fn counted_text(
+    alloc: Global,
+    bytes: &[u8],
+    code: &Code,
+    heads: &[usize],
+    turns: u32,
+) -> Result<Vec<u8>, Shortfall>
+    requires { Spells bytes.now code.now }
+    ensures counts { IfOk result (λ written. CountsLoops turns bytes.now written.items) }
+    ensures fault { IfErr result IsNoVerdict }
+{
+    let counted = counted(alloc, code, heads, turns)?;
+    let written = encode(alloc, &counted)?;
+    Ok(written)
+}
+
+/// Tries the code that counts the turns of the loops at these heads.
+#[tactic(auto, using(crate::proofs::Attempts::for_counted_code))]
 fn try_counted(
     alloc: Global,
     hook: Hook,
@@ -103,13 +121,14 @@ fn try_counted(
     ensures attempt { IfOk result (IsCountedAttempt hook turns bytes.now) }
     ensures fault { IfErr result IsNoVerdict }
 {
-    let counted = counted(alloc, code, heads, turns)?;
-    let written = encode(alloc, &counted)?;
+    let written = counted_text(alloc, bytes, code, heads, turns)?;
     let given = all_moved(alloc, given)?;
-    try_both(alloc, hook, &written, &given)
+    let attempt = try_both(alloc, hook, &written, &given)?;
+    Ok(attempt)
 }
 
 /// The same, where there may be no such head.
+#[tactic(auto, using(crate::proofs::Attempts::for_the_code))]
 fn try_heads(
     alloc: Global,
     hook: Hook,
@@ -124,7 +143,8 @@ fn try_heads(
     ensures fault { IfErr result IsNoVerdict }
 {
     if heads.is_empty() {
-        try_both(alloc, hook, bytes, given)
+        let attempt = try_both(alloc, hook, bytes, given)?;
+        Ok(attempt)
     } else {
         try_counted(alloc, hook, bytes, code, given, heads, turns)
     }
@@ -133,6 +153,7 @@ fn try_heads(
 /// Finds statements and ranks as `annotate` does. Where a loop has no rank, its turns are counted: the
 /// object has other code, which answers 0 instead of more than `turns` turns in all. Loops that have a rank
 /// stay as they are.
+#[tactic(auto, using(crate::proofs::Faults::no_verdict_with_turns))]
 pub fn annotate_counted(
     alloc: Global,
     hook: Hook,

@@ -1,5 +1,5 @@
 //! From a file with code, bare or in an object, to an object that the verifier accepts.
-ghost use Rattle.std.specs.Prelude.{◌≡◌, ◌↔◌, IfOk, IfErr, IsTrue, take};
+ghost use Rattle.std.specs.Prelude.{◌≡◌, ◌≢◌, ◌↔◌, IfOk, IfErr, IsTrue, take};
 ghost use Rattle.object.specs.Spelling.{magic};
 ghost use Rattle.annotations.specs.Annotated.{IsAnnotation, IsCodeAnnotation};
 ghost use Rattle.annotations.specs.Verdict.{IsFileShortfall, IsTurnsShortfall};
@@ -9,7 +9,7 @@ use crate::counting::annotate_counted;
 use crate::shortfall::Shortfall;
 use crate::verdict::Annotated;
 use isa::Hook;
-use object::{Object, Statement, read};
+use object::{Statement, read};
 use std::alloc::Global;
 
 /// Whether the bytes begin as an object's file does.
@@ -20,6 +20,7 @@ fn is_object(bytes: &[u8]) -> bool
 }
 
 /// Finds statements and ranks for the code.
+#[tactic(auto, using(crate::proofs::Faults::plain_annotation, crate::proofs::Faults::without_turns))]
 fn annotate_code(
     alloc: Global,
     hook: Hook,
@@ -32,8 +33,46 @@ fn annotate_code(
 {
     match turns {
         Some(turns) => annotate_counted(alloc, hook, code, given, turns),
-        None => annotate(alloc, hook, code, given),
+        None => {
+            let annotated = annotate(alloc, hook, code, given)?;
+            Ok(annotated)
+        }
     }
+}
+
+/// The same for a file that is bare code.
+#[tactic(auto, using(crate::proofs::Faults::file_annotation, crate::proofs::Faults::of_the_file))]
+fn annotate_bare(
+    alloc: Global,
+    hook: Hook,
+    file: &[u8],
+    turns: Option<u32>,
+) -> Result<Annotated, Shortfall>
+    requires { take 4 file.now ≢ magic }
+    ensures accepted { IfOk result (λ a. IsAnnotation hook turns file.now a.object a.bytes.items a.accepted) }
+    ensures refused { IfErr result (IsFileShortfall hook turns file.now) }
+{
+    let annotated = annotate_code(alloc, hook, file, &[], turns)?;
+    Ok(annotated)
+}
+
+/// The same for a file that has to be an object.
+#[tactic(auto, using(crate::proofs::Faults::file_annotation, crate::proofs::Faults::of_the_file))]
+fn annotate_object(
+    alloc: Global,
+    hook: Hook,
+    file: &[u8],
+    turns: Option<u32>,
+) -> Result<Annotated, Shortfall>
+    ensures accepted { IfOk result (λ a. IsAnnotation hook turns file.now a.object a.bytes.items a.accepted) }
+    ensures refused { IfErr result (IsFileShortfall hook turns file.now) }
+{
+    let object = read(alloc, file)?;
+    if object.hook() != hook {
+        return Err(Shortfall::OtherHook(object.hook()));
+    }
+    let annotated = annotate_code(alloc, hook, object.code(), object.statements(), turns)?;
+    Ok(annotated)
 }
 
 /// Finds statements and ranks for the code in the file: bare code, or an object with statements of its own,
@@ -53,12 +92,9 @@ pub fn annotate_file(
     ensures accepted { IfOk result (λ a. IsAnnotation hook turns file.now a.object a.bytes.items a.accepted) }
     ensures refused { IfErr result (IsFileShortfall hook turns file.now) }
 {
-    if !is_object(file) {
-        return annotate_code(alloc, hook, file, &[], turns);
+    if is_object(file) {
+        annotate_object(alloc, hook, file, turns)
+    } else {
+        annotate_bare(alloc, hook, file, turns)
     }
-    let object = read(alloc, file)?;
-    if object.hook() != hook {
-        return Err(Shortfall::OtherHook(object.hook()));
-    }
-    annotate_code(alloc, hook, object.code(), object.statements(), turns)
 }

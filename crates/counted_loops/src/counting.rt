@@ -1,7 +1,7 @@
 //! Counted code.
-ghost use Rattle.std.specs.Prelude.{◌≡◌, ◌+◌, ◌*◌, ◌<◌, ◌≤◌, ◌++◌, IfOk, OnOk, Some, length};
+ghost use Rattle.std.specs.Prelude.{◌≡◌, ◌==◌, ◌+◌, ◌*◌, ◌<◌, ◌≤◌, ◌++◌, IfOk, OnOk, length, position};
 ghost use Rattle.isa.specs.Flow.{jump_target};
-ghost use Rattle.counted_loops.specs.CountedCode.{IsCounted, detour, detour_at, detours, distance_between, place_of, redirected, redirected_from, with_distance, with_number};
+ghost use Rattle.counted_loops.specs.CountedCode.{IsCounted, detour, detour_at, detours, distance_between, place_of, redirected, redirected_from, slots_at, with_distance, with_number};
 
 use crate::error::CountError;
 use crate::registers::unnamed;
@@ -59,13 +59,26 @@ fn with_distance(instruction: Instruction, distance: i16) -> Instruction
     }
 }
 
+/// The place of this one among the heads.
+fn place_among(heads: &[usize], to: usize) -> Option<usize>
+    ensures { result ≡ position (λ head. head == to) heads.now }
+{
+    heads.iter().position(|head| *head == to)
+}
+
 /// The place among the heads of the one that a jump at this slot goes back to.
 fn place_of(heads: &[usize], slot: usize, target: Option<usize>) -> Option<usize>
     ensures { result ≡ place_of heads.now slot target }
 {
     match target {
-        Some(to) if to <= slot => heads.iter().position(|head| *head == to),
-        _ => None,
+        Some(to) => {
+            if to <= slot {
+                place_among(heads, to)
+            } else {
+                None
+            }
+        }
+        None => None,
     }
 }
 
@@ -99,15 +112,36 @@ fn redirected(
     }
 }
 
+/// Adds the instruction that begins at the slot, if one does.
+fn push_slot(
+    builder: &mut CodeBuilder,
+    slots: usize,
+    heads: &[usize],
+    slot: usize,
+    place: Slot,
+) -> Result<(), CountError>
+    requires slots { slots ≤ 4096 }
+    requires slot { slot < 4096 }
+    requires few { length heads.now ≤ 4096 }
+    ensures { OnOk result (builder.new ≡ builder.old ++ slots_at slots heads.now slot place) }
+{
+    match place {
+        Slot::Start(instruction) => {
+            builder.push(redirected(slots, heads, slot, instruction)?)?;
+            Ok(())
+        }
+        Slot::SecondHalf => Ok(()),
+    }
+}
+
 /// Adds the code, in which the jumps back to the heads go to their detours.
 fn push_code(builder: &mut CodeBuilder, code: &Code, heads: &[usize]) -> Result<(), CountError>
     requires { length heads.now ≤ 4096 }
     ensures { OnOk result (builder.new ≡ builder.old ++ redirected_from (length code.now) heads.now 0 code.now) }
 {
-    for slot in 0..code.len() {
-        if let Some(Slot::Start(instruction)) = code.at(slot as u64) {
-            builder.push(redirected(code.len(), heads, slot, instruction)?)?;
-        }
+    let slots = code.len();
+    for (slot, place) in code.slots().iter().enumerate() {
+        push_slot(builder, slots, heads, slot, *place)?;
     }
     Ok(())
 }

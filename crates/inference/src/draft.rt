@@ -9,7 +9,7 @@ use object::Statement;
 use std::alloc::{AllocError, Global};
 
 /// What a pass over the code does with what it finds at an edge.
-#[derive(Clone, Copy, PartialEq, Eq, Debug)]
+#[derive(Clone, Copy)]
 pub enum Purpose {
     /// It widens the statement there.
     Rise,
@@ -112,7 +112,7 @@ impl Draft {
     pub fn begin(&mut self, alloc: Global, purpose: Purpose) -> Result<(), AllocError> {
         self.purpose = purpose;
         self.has_changed = false;
-        if purpose == Purpose::Fall {
+        if matches!(purpose, Purpose::Fall) {
             self.found = unstated(alloc, self.stated.len())?;
         }
         Ok(())
@@ -141,7 +141,7 @@ impl Draft {
 
     /// Whether the segment that begins at the site is to be passed over now.
     pub fn is_due(&mut self, site: usize) -> bool {
-        if self.purpose != Purpose::Rise {
+        if !matches!(self.purpose, Purpose::Rise) {
             return true;
         }
         let is_waiting = self.waiting.get(site).copied().unwrap_or(false);

@@ -337,7 +337,7 @@ impl<'a> Program<'a> {
         let here = Here {
             begun: None,
             state: start(self.alloc)?,
-            is_live: draft.is_new || draft.purpose != Purpose::Rise,
+            is_live: draft.is_new || !matches!(draft.purpose, Purpose::Rise),
             is_idle: false,
         };
         draft.is_new = false;

@@ -108,7 +108,7 @@ fn widened_high(growth: Growth<'_>, old: u64, high: u64) -> u64 {
 
 /// The lowest of the bits that are all known. Higher ones would give the old bounds back.
 fn widened_mask(growth: Growth<'_>, has_grown: bool, mask: u64) -> u64 {
-    if has_grown && growth.widening != Widening::None {
+    if has_grown && !matches!(growth.widening, Widening::None) {
         mask & !mask.wrapping_add(1)
     } else {
         mask

@@ -6,7 +6,7 @@ use object::{Rank, RankTerm};
 use std::alloc::{AllocError, Global};
 
 /// Which of the two terms of a rank.
-#[derive(Clone, Copy, PartialEq, Eq, Debug)]
+#[derive(Clone, Copy)]
 pub enum Term {
     First,
     Second,

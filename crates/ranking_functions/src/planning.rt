@@ -26,7 +26,7 @@ fn given_ranks(graph: &Graph<'_>, given: &[Statement]) -> Result<Plan, AllocErro
 fn is_settled(graph: &Graph<'_>, plan: &mut Plan) -> Result<bool, AllocError> {
     let all = vec![in graph.alloc; true; graph.edges.len()]?;
     let ending = settle(plan, graph.bounds, graph.edges, &all, graph.most);
-    Ok(ending == Ending::Settled)
+    Ok(matches!(ending, Ending::Settled))
 }
 
 /// The plan, which does for all of the program.

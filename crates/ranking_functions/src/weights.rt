@@ -118,7 +118,7 @@ fn demand(plan: &Plan, bounds: &[Bounds], edge: &Edge) -> Option<u128> {
 }
 
 /// How raising the constants ended.
-#[derive(Clone, Copy, PartialEq, Eq, Debug)]
+#[derive(Clone, Copy)]
 pub enum Ending {
     /// Each edge has what it needs.
     Settled,
@@ -129,7 +129,7 @@ pub enum Ending {
 }
 
 /// What one round over the edges came to.
-#[derive(Clone, Copy, PartialEq, Eq, Debug)]
+#[derive(Clone, Copy)]
 enum Round {
     Still,
     Raised,
