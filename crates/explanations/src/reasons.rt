@@ -127,7 +127,8 @@ fn allowed_kinds(instruction: &Instruction) -> &'static str {
             ..
         } =>
             "two numbers, or a pointer on the left and a number on the right, a single one for the context and the stack",
-        Instruction::Arithmetic { .. } => "two numbers; a pointer is copied with all of its 64 bits",
+        Instruction::Arithmetic { .. } =>
+            "two numbers; a pointer is copied with all of its 64 bits",
         Instruction::Branch { .. } => "two numbers",
         _ => "a number",
     }
@@ -153,11 +154,7 @@ fn length_of(place: Place<Value>) -> u64 {
 }
 
 /// The bytes of an access, as `8 bytes at r6 + 4: map 1, offset 4`.
-fn push_access(
-    out: &mut String,
-    state: &State<Value>,
-    access: &Access,
-) -> Result<(), AllocError> {
+fn push_access(out: &mut String, state: &State<Value>, access: &Access) -> Result<(), AllocError> {
     let length = access.length;
     let base = access.base.index();
     let offset = access.offset;
@@ -221,10 +218,14 @@ fn push_argument(
     let Instruction::Call { helper } = *instruction else {
         return Ok(());
     };
-    if matches!(Helper::at(hook, helper), Some(Helper::CounterAdd)) && is_above(state, 2, MOST_ADDED)
+    if matches!(Helper::at(hook, helper), Some(Helper::CounterAdd))
+        && is_above(state, 2, MOST_ADDED)
     {
         push_register(out, state, 2)?;
-        writeln!(out, "  allowed: r2, the amount that is added, 0..{MOST_ADDED}")?;
+        writeln!(
+            out,
+            "  allowed: r2, the amount that is added, 0..{MOST_ADDED}"
+        )?;
     }
     Ok(())
 }
@@ -261,7 +262,9 @@ pub(crate) fn push_reason(
             push_register(out, state, 0)?;
             out.push_str("  allowed: r0 a number\n")
         }
-        Rule::Frame => out.push_str("  r10, the end of the stack, is written\n  allowed: a copy of it\n"),
+        Rule::Frame => out.push_str(
+            "  r10, the end of the stack, is written\n  allowed: a copy of it\n",
+        ),
         _ => Ok(()),
     }
 }

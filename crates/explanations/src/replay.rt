@@ -64,7 +64,10 @@ pub(crate) fn push_known(
     push_stack(out, &state.entries)
 }
 
-pub(crate) fn push_statement(out: &mut String, target: &Target<'_, Value>) -> Result<(), AllocError> {
+pub(crate) fn push_statement(
+    out: &mut String,
+    target: &Target<'_, Value>,
+) -> Result<(), AllocError> {
     out.push_str("    stated, rank ")?;
     push_rank(out, &target.statement.rank())?;
     out.push_str("\n")

@@ -29,7 +29,8 @@ pub fn rule_hint(rule: Rule) -> &'static str {
     match rule {
         Rule::Target => "name the slot by a label, and jump to the label",
         Rule::FallsOff => "end the code by exit, or by a goto",
-        Rule::Unreached => "state the slot that a jump comes to, or take out code that nothing comes to",
+        Rule::Unreached =>
+            "state the slot that a jump comes to, or take out code that nothing comes to",
         Rule::Unstated => "state the slot: hooktool annotate finds what to state",
         Rule::Empty =>
             "fill it on every way that leads here; if it is filled, state it; r1 to r5 are empty behind a call, so keep what you need in r6 to r9",
@@ -37,7 +38,8 @@ pub fn rule_hint(rule: Rule) -> &'static str {
             "counters grow by helper 1 alone, and cells (map 1) are stored into; into the context and the stack point by the distance in the load or store",
         Rule::Bounds =>
             "mask the index (&= 255 for counters, &= 63 for cells) before it is shifted by 3, or test it and use the register that was tested",
-        Rule::Align => "shift an index by 3, or mask an offset by a multiple of 8, and load or store u64",
+        Rule::Align =>
+            "shift an index by 3, or mask an offset by a multiple of 8, and load or store u64",
         Rule::Helper => "call a helper that the hook has",
         Rule::Argument =>
             "mask or test the register that is passed: a cell that was tested and is loaded again is any number again",

@@ -53,9 +53,12 @@ fn push_misplaced(
             out,
             "  it jumps to slot {to}, which has no statement\n  allowed: a slot that is stated"
         ),
-        (Rule::FallsOff, _) => out.push_str("  behind it the code ends\n  allowed: an exit or a goto as the last instruction\n"),
+        (Rule::FallsOff, _) => out.push_str(
+            "  behind it the code ends\n  allowed: an exit or a goto as the last instruction\n",
+        ),
         _ => writeln!(
-            out,            "  slot {slot} has no statement, and nothing comes from the slot before\n  allowed: a slot that is stated"
+            out,
+            "  slot {slot} has no statement, and nothing comes from the slot before\n  allowed: a slot that is stated"
         ),
     }
 }
@@ -184,7 +187,14 @@ fn go<'a>(
                 instruction,
                 rule,
             };
-            push_fault(&mut page.reasons, program.hook, targets, segment, before, &fault)?;
+            push_fault(
+                &mut page.reasons,
+                program.hook,
+                targets,
+                segment,
+                before,
+                &fault,
+            )?;
             Ok(None)
         }
     }

@@ -22,7 +22,10 @@ fn push_endless(out: &mut String, endless: &Endless) -> Result<(), AllocError> {
             writeln!(out, "r{register} rises with each turn, and none falls")?;
         }
         Trouble::TooHigh { register, from } => {
-            writeln!(out, "r{register} falls from up to {from}, which takes too long")?;
+            writeln!(
+                out,
+                "r{register} falls from up to {from}, which takes too long"
+            )?;
         }
         Trouble::NoneFalls => {
             out.push_str("no register falls by a single number on each way round\n")?;
@@ -63,7 +66,8 @@ fn uncounted<'a>(error: CountError) -> Fault<'a> {
     let reason = match error {
         CountError::NoRegister => "no turns can be counted: the program uses each of r6 to r9",
         CountError::TooMany => "no turns can be counted: --fuel is 1000000 or more",
-        CountError::TooLong => "no turns can be counted: the code would have more than 4096 slots, or a jump would go too far",
+        CountError::TooLong =>
+            "no turns can be counted: the code would have more than 4096 slots, or a jump would go too far",
         CountError::Memory => return Fault::Memory,
     };
     Fault::Uncounted { reason }

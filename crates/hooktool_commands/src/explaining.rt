@@ -25,7 +25,10 @@ impl<'a> From<ExplainError> for Fault<'a> {
 /// The three texts of an explanation, one behind the other.
 fn whole(explanation: Explanation) -> Result<String, AllocError> {
     let Explanation {
-        before, last, told, ..
+        before,
+        last,
+        told,
+        ..
     } = explanation;
     let mut text = before;
     text.push_str(last.as_str())?;
@@ -59,7 +62,10 @@ fn explanation_of<'a>(alloc: Global, bytes: &[u8]) -> Result<Report, Fault<'a>>
 /// Tells what the verifier knows at each slot of the program of the object file at `path`, up to the one that it refuses, and its verdict.
 ///
 /// A fault where the file can't be read, is no object file, holds no code, or memory is refused.
-pub(crate) fn explain<'a, R: Files + AllocGlobal>(rt: &R, path: &'a str) -> Result<Report, Fault<'a>>
+pub(crate) fn explain<'a, R: Files + AllocGlobal>(
+    rt: &R,
+    path: &'a str,
+) -> Result<Report, Fault<'a>>
     ensures { IfOk result (λ report. (bytes : List ℕ) × IsExplained bytes report) }
 {
     let bytes = files::read(rt, path)?;

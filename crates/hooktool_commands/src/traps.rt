@@ -67,7 +67,10 @@ pub(crate) fn push_trap(
             writeln!(out, "trap {number} {name} at slot {slot}: {line}")?;
         }
         Trap::Limit => {
-            writeln!(out, "trap {number}: all instructions were used, at slot {slot}: {line}")?;
+            writeln!(
+                out,
+                "trap {number}: all instructions were used, at slot {slot}: {line}"
+            )?;
         }
     }
     push_registers(out, &ending.registers)

@@ -67,11 +67,7 @@ fn push_ending(out: &mut String, program: &Program, ending: &Ending) -> Result<(
 }
 
 /// The same of each run, with its number where there are several.
-fn push_endings(
-    out: &mut String,
-    program: &Program,
-    endings: &[Ending],
-) -> Result<(), AllocError> {
+fn push_endings(out: &mut String, program: &Program, endings: &[Ending]) -> Result<(), AllocError> {
     for (index, ending) in endings.iter().enumerate() {
         if endings.len() > 1 {
             let number = index + 1;

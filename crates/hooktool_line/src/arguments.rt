@@ -176,12 +176,7 @@ fn with_repeated<'a>(
     command.arg(repeated(alloc, name, value, help))
 }
 
-fn named<'a>(
-    alloc: Global,
-    name: &'a str,
-    about: &'a str,
-    more: &'a str,
-) -> Command<'a>
+fn named<'a>(alloc: Global, name: &'a str, about: &'a str, more: &'a str) -> Command<'a>
     ensures app { app_of result ≡ new_app name.entry.now }
     ensures local { (fields_of result).has_globals ≡ false }
 {
@@ -211,11 +206,29 @@ fn with_route<'a>(alloc: Global, command: Command<'a>) -> Result<Command<'a>, Al
 {
     let placed = with_option(alloc, command, "prefix", "A.B.C.D/L", "The destination")?;
     let measured = with_option(alloc, placed, "metric", "N", "The configured metric")?;
-    let tagged = with_option(alloc, measured, "tag", "N", "The configured tag, or the route's")?;
+    let tagged = with_option(
+        alloc,
+        measured,
+        "tag",
+        "N",
+        "The configured tag, or the route's",
+    )?;
     let typed = with_option(alloc, tagged, "type", "1|2", TYPE)?;
     let paid = with_option(alloc, typed, "cost", "N", "The route's cost")?;
-    let far = with_option(alloc, paid, "distance", "N", "The distance of a type 2 route")?;
-    with_option(alloc, far, "kind", "KIND", "The route's kind: intra, inter, ext1 or ext2")
+    let far = with_option(
+        alloc,
+        paid,
+        "distance",
+        "N",
+        "The distance of a type 2 route",
+    )?;
+    with_option(
+        alloc,
+        far,
+        "kind",
+        "KIND",
+        "The route's kind: intra, inter, ext1 or ext2",
+    )
 }
 
 // The options on when and what a program is run on.

@@ -26,7 +26,13 @@ the loop at slot 1 has no rank: r6 rises with each turn, and none falls
 
 const LINES: &[Line] = &[
     Line {
-        words: &["hooktool", "annotate", "price", "annotated-sum.bin", "annotated-sum.o"],
+        words: &[
+            "hooktool",
+            "annotate",
+            "price",
+            "annotated-sum.bin",
+            "annotated-sum.o",
+        ],
         status: 0,
         told: "accepted bound 66\n",
     },
@@ -37,38 +43,82 @@ const LINES: &[Line] = &[
     },
     // The statements that stand are kept, and the hook has to be the object's.
     Line {
-        words: &["hooktool", "annotate", "price", "annotated-sum.o", "annotated-sum.o"],
+        words: &[
+            "hooktool",
+            "annotate",
+            "price",
+            "annotated-sum.o",
+            "annotated-sum.o",
+        ],
         status: 0,
         told: "accepted bound 66\n",
     },
     Line {
-        words: &["hooktool", "annotate", "veto", "annotated-sum.o", "annotated-kept.o"],
+        words: &[
+            "hooktool",
+            "annotate",
+            "veto",
+            "annotated-sum.o",
+            "annotated-kept.o",
+        ],
         status: 1,
         told: "the object is for price\n",
     },
     // A loop in which no register falls: it is told, with both ways out, and its turns can be counted.
     Line {
-        words: &["hooktool", "annotate", "price", "annotated-rising.bin", "annotated-kept.o"],
+        words: &[
+            "hooktool",
+            "annotate",
+            "price",
+            "annotated-rising.bin",
+            "annotated-kept.o",
+        ],
         status: 1,
         told: RISES,
     },
     Line {
-        words: &["hooktool", "annotate", "price", "annotated-rising.bin", "annotated-counted.o", "--fuel", "16"],
+        words: &[
+            "hooktool",
+            "annotate",
+            "price",
+            "annotated-rising.bin",
+            "annotated-counted.o",
+            "--fuel",
+            "16",
+        ],
         status: 0,
         told: "accepted bound 180\n",
     },
     Line {
-        words: &["hooktool", "annotate", "tag", "annotated-none.bin", "annotated-kept.o"],
+        words: &[
+            "hooktool",
+            "annotate",
+            "tag",
+            "annotated-none.bin",
+            "annotated-kept.o",
+        ],
         status: 1,
         told: "code refusal 2 slot 0\n",
     },
     Line {
-        words: &["hooktool", "annotate", "price", "annotated-sum.bin", "nowhere/a.o"],
+        words: &[
+            "hooktool",
+            "annotate",
+            "price",
+            "annotated-sum.bin",
+            "nowhere/a.o",
+        ],
         status: 3,
         told: "cannot write nowhere/a.o\n",
     },
     Line {
-        words: &["hooktool", "annotate", "input", "annotated-sum.bin", "annotated-kept.o"],
+        words: &[
+            "hooktool",
+            "annotate",
+            "input",
+            "annotated-sum.bin",
+            "annotated-kept.o",
+        ],
         status: 2,
         told: "",
     },
@@ -78,7 +128,11 @@ const LINES: &[Line] = &[
 fn code_is_annotated(rt: HostRuntime) -> Result<(), Fail> {
     fs::write(&rt, "annotated-sum.bin", SUM)?;
     fs::write(&rt, "annotated-rising.bin", RISING)?;
-    fs::write(&rt, "annotated-none.bin", b"\xff\x00\x00\x00\x00\x00\x00\x00")?;
+    fs::write(
+        &rt,
+        "annotated-none.bin",
+        b"\xff\x00\x00\x00\x00\x00\x00\x00",
+    )?;
     fs::write(&rt, "annotated-kept.o", "as it was")?;
     play(&rt, LINES)?;
     let kept = fs::read(&rt, "annotated-kept.o")?;

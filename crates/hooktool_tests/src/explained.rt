@@ -31,7 +31,10 @@ const ROWS: &[Row] = &[
     Row {
         text: "hook tag; rank 0; r0 = 0; exit; r0 = 1; exit",
         refusal: "refused slot 2 rule 3 Unreached\n",
-        words: &["slot 2 has no statement", "nothing comes from the slot before"],
+        words: &[
+            "slot 2 has no statement",
+            "nothing comes from the slot before",
+        ],
     },
     Row {
         text: "hook tag; rank 0; r0 = 0; if r0 == 0 goto +0; exit",
@@ -51,7 +54,11 @@ const ROWS: &[Row] = &[
     Row {
         text: "hook tag; rank 0; r6 = map 0 0; *u64 r6 0 = 1; r0 = 0; exit",
         refusal: "refused slot 2 rule 6 Kind\n",
-        words: &["r6: map 0, offset 0", "the stack or the cells (map 1)", "helper 1"],
+        words: &[
+            "r6: map 0, offset 0",
+            "the stack or the cells (map 1)",
+            "helper 1",
+        ],
     },
     Row {
         text: "hook tag; rank 0; if r1 == 0 goto L; L: r0 = 0; exit; state L rank 0",
@@ -66,17 +73,27 @@ const ROWS: &[Row] = &[
     Row {
         text: "hook tag; rank 0; r2 = *u8 r1 8; r6 = map 1 0; r6 += r2; r0 = *u64 r6 0; exit",
         refusal: "refused slot 4 rule 7 Bounds\n",
-        words: &["8 bytes at r6 + 0: map 1, offset 0..255", "allowed: 0..504", "&= 63"],
+        words: &[
+            "8 bytes at r6 + 0: map 1, offset 0..255",
+            "allowed: 0..504",
+            "&= 63",
+        ],
     },
     Row {
         text: "hook tag; rank 0; r6 = map 1 4; r0 = *u64 r6 0; exit",
         refusal: "refused slot 2 rule 8 Align\n",
-        words: &["8 bytes at r6 + 0: map 1, offset 4", "8 bytes at a multiple of 8"],
+        words: &[
+            "8 bytes at r6 + 0: map 1, offset 4",
+            "8 bytes at a multiple of 8",
+        ],
     },
     Row {
         text: "hook veto; rank 0; r1 = 0; call 3; exit",
         refusal: "refused slot 1 rule 9 Helper\n",
-        words: &["the hook veto has no helper 3", "allowed: 1 add, 2 read, 4 table cost"],
+        words: &[
+            "the hook veto has no helper 3",
+            "allowed: 1 add, 2 read, 4 table cost",
+        ],
     },
     Row {
         text: "hook count; rank 0; r1 = 1; call 3; r1 = r0; r2 = 1; call 1; exit",
@@ -86,34 +103,56 @@ const ROWS: &[Row] = &[
     Row {
         text: "hook count; rank 0; r1 = 1; r2 = 16777216; call 1; exit",
         refusal: "refused slot 2 rule 10 Argument\n",
-        words: &["r2: number 16777216", "the amount that is added, 0..16777215"],
+        words: &[
+            "r2: number 16777216",
+            "the amount that is added, 0..16777215",
+        ],
     },
     Row {
         text: "hook tag; rank 0; r0 = 10; L: exit; state L rank 0; with r0 number 1 9 0 0",
         refusal: "refused slot 0 rule 11 NotWithin\n",
-        words: &["from slot 0 to slot 1", "r0: number 10", "allowed: r0 number 1..9"],
+        words: &[
+            "from slot 0 to slot 1",
+            "r0: number 10",
+            "allowed: r0 number 1..9",
+        ],
     },
     Row {
         text: "hook tag; rank 0; L: r0 = 0; exit; state L rank 0; with r2 any",
         refusal: "refused slot 0 rule 11 NotWithin\n",
-        words: &["from the entry to slot 0", "r2: may be empty", "allowed: r2 any number"],
+        words: &[
+            "from the entry to slot 0",
+            "r2: may be empty",
+            "allowed: r2 any number",
+        ],
     },
     Row {
         text: "hook tag; rank 0; r0 = 0; L: exit; state L rank 0; with r0 any; bytes 504 512",
         refusal: "refused slot 0 rule 11 NotWithin\n",
-        words: &["stack 504: may be empty", "allowed: a byte, as is stated there"],
+        words: &[
+            "stack 504: may be empty",
+            "allowed: a byte, as is stated there",
+        ],
     },
     Row {
         text: "hook tag; rank 0; r0 = 3; L: r0 += -1; if r0 != 0 goto L; exit; \
             state L rank 0 r0 * 1; with r0 number 1 3 0 0",
         refusal: "refused slot 0 rule 12 Rank\n",
-        words: &["the rank there: 0 + r0 * 1", "r0: number 3", "allowed: at most 0, the rank"],
+        words: &[
+            "the rank there: 0 + r0 * 1",
+            "r0: number 3",
+            "allowed: at most 0, the rank",
+        ],
     },
     Row {
         text: "hook tag; rank 3; r6 = 3; r0 = 0; L: r0 += 1; if r6 != 0 goto L; exit; \
             state L rank 0 r6 * 1; with r0 any; with r6 number 1 3 0 0",
         refusal: "refused slot 3 rule 12 Rank\n",
-        words: &["r6: number 1..3", "allowed: less than 0 + r6 * 1, the rank", "fall with each turn"],
+        words: &[
+            "r6: number 1..3",
+            "allowed: less than 0 + r6 * 1, the rank",
+            "fall with each turn",
+        ],
     },
     Row {
         text: "hook tag; rank 500000; r0 = 0; exit",
@@ -148,7 +187,8 @@ fn each_refusal_names_register_value_and_limit(rt: HostRuntime) -> Result<(), Fa
     Ok(())
 }
 
-const SUM: &str = "hook price; rank 10; r1 = 10; r0 = 0; L: r0 += r1; r1 += -1; if r1 != 0 goto L; exit; \
+const SUM: &str =
+    "hook price; rank 10; r1 = 10; r0 = 0; L: r0 += r1; r1 += -1; if r1 != 0 goto L; exit; \
     state L rank 0 r1 * 1; with r0 any; with r1 number 1 10 0 0";
 
 // Each slot's instruction, and what is known there of the registers that may still be read.
@@ -175,7 +215,10 @@ fn what_is_known_is_told_slot_by_slot(rt: HostRuntime) -> Result<(), Fail> {
     let bytes = object_of(alloc, SUM)?;
     let explanation = explain(alloc, &bytes).map_err(|_| "no program")?;
     assert_eq!(&rt; explanation.before.as_str(), SUM_BEFORE);
-    assert_eq!(&rt; explanation.last.as_str(), "slot 5: exit\n    r0: any number\n");
+    assert_eq!(&rt;
+        explanation.last.as_str(),
+        "slot 5: exit\n    r0: any number\n"
+    );
     assert_eq!(&rt; explanation.told.as_str(), "accepted bound 66\n");
     Ok(())
 }

@@ -6,13 +6,15 @@ use std::test::Fail;
 const LESS: &str = "hook price; rank 0; r0 = *u32 r1 12; r0 += -30; exit";
 
 // A program that counts its runs in cell 1, and adds the moment's low byte to that counter.
-const RUNS: &str = "hook count; rank 0; r1 = *u8 r1 8; r2 = 1; call 1; r6 = map 1 8; r0 = *u64 r6 0; r0 += 1; *u64 r6 0 = r0; exit";
+const RUNS: &str =
+    "hook count; rank 0; r1 = *u8 r1 8; r2 = 1; call 1; r6 = map 1 8; r0 = *u64 r6 0; r0 += 1; *u64 r6 0 = r0; exit";
 
 // The cost of the row 10.0.0.0/8.
 const COST: &str = "hook tag; rank 0; r1 = wide 167772160; r2 = 8; call 4; exit";
 
 // Whether the route's prefix is longer than 24 bits.
-const LONG: &str = "hook veto; rank 0; r2 = *u32 r1 8; r0 = 0; if r2 <= 24 goto L; r0 = 1; L: exit; state L rank 0; with r0 any";
+const LONG: &str =
+    "hook veto; rank 0; r2 = *u32 r1 8; r0 = 0; if r2 <= 24 goto L; r0 = 1; L: exit; state L rank 0; with r0 any";
 
 // The packet's second byte as a counter: stuck where there is none.
 const TYPES: &str = "hook count; rank 0; r1 = 1; call 3; r1 = r0; r2 = 1; call 1; exit";
@@ -32,12 +34,28 @@ const LINES: &[Line] = &[
         told: "withheld, used 3 of 3\n",
     },
     Line {
-        words: &["hooktool", "try", "tried-runs.o", "--moment", "263", "--times", "3"],
+        words: &[
+            "hooktool",
+            "try",
+            "tried-runs.o",
+            "--moment",
+            "263",
+            "--times",
+            "3",
+        ],
         status: 0,
         told: "run 1: answer 1, which isn't used, used 9 of 10\nrun 2: answer 2, which isn't used, used 9 of 10\nrun 3: answer 3, which isn't used, used 9 of 10\ncounter 7 3\ncell 1 3\n",
     },
     Line {
-        words: &["hooktool", "try", "tried-cost.o", "--row", "10.0.0.0/8=15", "--row", "10.0.0.0/16=20"],
+        words: &[
+            "hooktool",
+            "try",
+            "tried-cost.o",
+            "--row",
+            "10.0.0.0/8=15",
+            "--row",
+            "10.0.0.0/16=20",
+        ],
         status: 0,
         told: "tag 15, used 4 of 5\n",
     },
@@ -52,7 +70,15 @@ const LINES: &[Line] = &[
         told: "not installed, used 5 of 5\n",
     },
     Line {
-        words: &["hooktool", "try", "tried-long.o", "--prefix", "10.0.0.0/24", "--kind", "inter"],
+        words: &[
+            "hooktool",
+            "try",
+            "tried-long.o",
+            "--prefix",
+            "10.0.0.0/24",
+            "--kind",
+            "inter",
+        ],
         status: 0,
         told: "installed, used 4 of 5\n",
     },

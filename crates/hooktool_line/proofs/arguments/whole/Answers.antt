@@ -15,4 +15,4 @@ returns c =
     let one = c.in_ok-subcommand.ensures.shape c.in_ok-annotate.ensures.local ∙ ap₂ with_subcommand start c.in_ok-annotate.ensures.shape in
     let two = c.in_ok-subcommand-2.ensures.shape c.in_ok-explain.ensures.local ∙ ap₂ with_subcommand one c.in_ok-explain.ensures.shape in
     IfOk-weaker c.subcommand-3.result _ _ (λ command adds.
-      adds.shape c.in_ok-try_command.ensures.local ∙ ap₂ with_subcommand two c.in_ok-try_command.ensures.shape) c.subcommand-3.ensures
+    adds.shape c.in_ok-try_command.ensures.local ∙ ap₂ with_subcommand two c.in_ok-try_command.ensures.shape) c.subcommand-3.ensures

@@ -32,10 +32,12 @@ returns-in_err-fuel c =
 
 pub returns : goal.returns
 returns c =
-    let rows = rows_of (found_of c.args.matches.now) in
-    (refl, (
-      sym c.in_ok-word_of.ensures ∙ ap Some c.in_ok-hook.ensures.found,
-      has_word rows (codes "CODE") c.in_ok-code.code c.in_ok-code.ensures,
-      has_word rows (codes "OBJECT") c.in_ok-object.object c.in_ok-object.ensures,
-      c.in_ok-fuel.ensures,
-    ))
+    let rows = rows_of (found_of c.args.matches.now) in (
+      refl,
+      (
+        sym c.in_ok-word_of.ensures ∙ ap Some c.in_ok-hook.ensures.found,
+        has_word rows (codes "CODE") c.in_ok-code.code c.in_ok-code.ensures,
+        has_word rows (codes "OBJECT") c.in_ok-object.object c.in_ok-object.ensures,
+        c.in_ok-fuel.ensures,
+      ),
+    )
