@@ -15,7 +15,7 @@ use Rattle.words.specs.Text.{prefix_text}
 use Rattle.console.specs.Configurations.{Line, SayInterfaces, SaysInterface, AreApart, IsFirstWrong, MayFollow, interface_of, without_last_feed}
 use Rattle.console.specs.Words.{Word}
 use Rattle.console.specs.Views.{views}
-use Rattle.console.proofs.Addresses.{one_place}
+use Rattle.address_texts.proofs.Addresses.{one_place}
 use Rattle.console.proofs.Seen.{view_at}
 use Rattle.console.specs.declared.configuration.ConfiguredInterface.{ConfiguredInterface}
 use Rattle.adjacency.specs.declared.interface.Interface.{Interface}

@@ -6,7 +6,8 @@ ghost use Rattle.console.specs.Words.{Word};
 ghost use Rattle.console.specs.declared.command.Command.{Command};
 ghost use Rattle.words.specs.declared.route.ExternalType.{ExternalType};
 
-use crate::reading::{is_text, read_prefix, read_within, words_of};
+use crate::reading::{is_text, words_of};
+use address_texts::{read_prefix, read_within};
 use isa::Hook;
 use std::alloc::{AllocError, Global};
 use words::{External, ExternalType, Prefix};

@@ -11,7 +11,8 @@ ghost use Rattle.words.specs.Prefixes.{Network};
 ghost use Rattle.words.specs.Text.{dotted, prefix_text};
 ghost use Rattle.console.specs.declared.configuration.ConfiguredInterface.{ConfiguredInterface};
 
-use crate::reading::{is_text, read_address, read_place, read_within, words_of};
+use crate::reading::{is_text, words_of};
+use address_texts::{read_address, read_place, read_within};
 use adjacency::Interface;
 use std::alloc::{AllocError, AllocFailed, Global};
 use thiserror::Error;

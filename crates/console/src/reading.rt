@@ -1,17 +1,9 @@
-//! Words to values. Each has one spelling: numbers are decimal without a leading zero or a sign,
-//! addresses are four such numbers below 256 with dots between them, and a prefix is an address, a
-//! slash and its length.
-ghost use Rattle.std.specs.Prelude.{◌≡◌, ◌≢◌, ◌↔◌, ◌<◌, ◌≤◌, ◌^◌, ◌==◌, ◌&&◌, ◌||◌, ℕ, List, IfOk};
-ghost use Rattle.std.specs.Prelude.{IsTrue, MatchOption, decimal, length, map, not, slice_index};
-ghost use Rattle.std.specs.Str.{all_ascii_digits};
+//! The words of a line. Numbers, addresses and prefixes are read by `address_texts`.
+ghost use Rattle.std.specs.Prelude.{◌≡◌, ◌↔◌, IfOk, IsTrue};
 ghost use Rattle.console.specs.Words.{words_in};
 ghost use Rattle.console.specs.Views.{views};
-ghost use Rattle.words.specs.Prefixes.{Network, IsNetwork};
-ghost use Rattle.words.specs.Text.{dotted, prefix_text};
 
 use std::alloc::{AllocError, Global};
-use std::net::Ipv4Addr;
-use words::{Address, Prefix};
 
 /// The words of a line, which stand between single spaces.
 pub fn words_of<'a>(alloc: Global, line: &'a str) -> Result<Vec<&'a str>, AllocError>
@@ -25,99 +17,4 @@ pub fn is_text(word: &str, text: &str) -> bool
     ensures { IsTrue result ↔ (word.now ≡ text.now) }
 {
     word == text
-}
-
-/// Whether the word is made of decimal digits alone.
-fn is_digits(word: &str) -> bool
-    ensures { result ≡ all_ascii_digits word.now }
-{
-    for byte in word.as_bytes() {
-        if !byte.is_ascii_digit() {
-            return false;
-        }
-    }
-    true
-}
-
-/// Whether a number of two digits or more begins with a zero.
-fn has_leading_zero(word: &str) -> bool
-    ensures { result ≡ ((slice_index word.now 0 == 48) && not (length word.now == 1)) }
-{
-    match word.as_bytes() {
-        [b'0'] => false,
-        [b'0', ..] => true,
-        _ => false,
-    }
-}
-
-/// The number that the word spells in decimal.
-fn read_decimal(word: &str) -> Option<u64>
-    ensures { MatchOption result
-        ((n : ℕ) → n < 2 ^ 64 → word.now ≢ decimal n)
-        (λ n. (word.now ≡ decimal n) × (n < 2 ^ 64)) }
-{
-    if !is_digits(word) {
-        return None;
-    }
-    if has_leading_zero(word) {
-        return None;
-    }
-    match word.parse::<u64>() {
-        Ok(number) => Some(number),
-        Err(_) => None,
-    }
-}
-
-/// The number from `least` to `most` that the word spells in decimal.
-pub fn read_within(word: &str, least: u64, most: u64) -> Option<u64>
-    ensures { MatchOption result
-        ((n : ℕ) → least ≤ n → n ≤ most → word.now ≢ decimal n)
-        (λ n. (word.now ≡ decimal n) × (least ≤ n) × (n ≤ most)) }
-{
-    match read_decimal(word) {
-        Some(number) if least <= number && number <= most => Some(number),
-        _ => None,
-    }
-}
-
-/// The address that the word spells.
-pub fn read_address(word: &str) -> Option<Address>
-    ensures { MatchOption result
-        ((a : ℕ) → a < 2 ^ 32 → word.now ≢ dotted a)
-        (λ a. (word.now ≡ dotted a) × (a < 2 ^ 32)) }
-{
-    match word.parse::<Ipv4Addr>() {
-        Ok(address) => Some(Address::new(address.to_bits())),
-        Err(_) => None,
-    }
-}
-
-/// The address and the length that the word spells, with a slash between them. Host bits may be
-/// set.
-pub fn read_place(word: &str) -> Option<(Address, u8)>
-    ensures { MatchOption result
-        ((n : Network) → n.address < 2 ^ 32 → n.length ≤ 32 → word.now ≢ prefix_text n)
-        (λ p. (word.now ≡ prefix_text (record { address = p.0; length = p.1 })) × (p.0 < 2 ^ 32)
-        × (p.1 ≤ 32)) }
-{
-    let Some((address, length)) = word.split_once('/') else {
-        return None;
-    };
-    let Some(address) = read_address(address) else {
-        return None;
-    };
-    match read_within(length, 0, 32) {
-        Some(length) => Some((address, length as u8)),
-        None => None,
-    }
-}
-
-/// The network that the word spells.
-pub fn read_prefix(word: &str) -> Option<Prefix>
-    ensures { MatchOption result
-        ((n : Network) → IsNetwork n → word.now ≢ prefix_text n)
-        (λ n. (word.now ≡ prefix_text n) × IsNetwork n) }
-{
-    let (address, length) = read_place(word)?;
-    Prefix::new(address, length)
 }

@@ -2,5 +2,6 @@
 pub use Rattle.word_machine.specs.declared.ending.Run
 pub use Rattle.word_machine.specs.Ends
 pub mod Classes
+pub mod Halts
 pub mod Outcome
 pub mod Performs

@@ -1,5 +1,5 @@
 //! Instructions that put a content into a register.
-ghost use Rattle.std.specs.Prelude.{◌≡◌, ◌≢◌, ◌<◌, ◌+◌, ℕ, OnOk, IfOk, IfErr, Some};
+ghost use Rattle.std.specs.Prelude.{◌≡◌, ◌≢◌, ◌<◌, ◌+◌, ℕ, OnOk, OnErr, IfOk, IfErr, Some};
 ghost use Rattle.isa.specs.Arithmetic.{negated, extended, reordered, widened};
 ghost use Rattle.isa.specs.declared.map.Map.{Map};
 ghost use Rattle.machine.specs.declared.state.Content.TheVariants.{Number, Address};
@@ -25,6 +25,7 @@ pub(crate) fn arithmetic(
     requires { state.old.slot < 4096 }
     ensures ok { OnOk result (Fills state.old target (result_of width operation (held state.old target) (operand state.old source)) Silent state.new) }
     ensures err { IfErr result (λ fault. fault_of_fill (operation_reads operation (held state.old target) (operand state.old source)) (result_of width operation (held state.old target) (operand state.old source)) target ≡ Some fault) }
+    ensures still { OnErr result (state.new ≡ state.old) }
 {
     let left = registers::held(state, target);
     let right = registers::operand(state, source);
@@ -58,6 +59,7 @@ pub(crate) fn negate(state: &mut State, width: Width, target: Register) -> Resul
     requires { state.old.slot < 4096 }
     ensures ok { OnOk result (Fills state.old target (on_number (negated width) (held state.old target)) Silent state.new) }
     ensures err { IfErr result (λ fault. fault_of_change (held state.old target) target ≡ Some fault) }
+    ensures still { OnErr result (state.new ≡ state.old) }
 {
     let number = number_in(state, target)?;
     if target.index() == 10 {
@@ -81,6 +83,7 @@ pub(crate) fn sign_extend(
     requires { state.old.slot < 4096 }
     ensures ok { OnOk result (Fills state.old target (on_number (extended extension) (held state.old source)) Silent state.new) }
     ensures err { IfErr result (λ fault. fault_of_change (held state.old source) target ≡ Some fault) }
+    ensures still { OnErr result (state.new ≡ state.old) }
 {
     let number = number_in(state, source)?;
     if target.index() == 10 {
@@ -104,6 +107,7 @@ pub(crate) fn reorder(
     requires { state.old.slot < 4096 }
     ensures ok { OnOk result (Fills state.old target (on_number (reordered order width) (held state.old target)) Silent state.new) }
     ensures err { IfErr result (λ fault. fault_of_change (held state.old target) target ≡ Some fault) }
+    ensures still { OnErr result (state.new ≡ state.old) }
 {
     let number = number_in(state, target)?;
     if target.index() == 10 {
@@ -122,6 +126,7 @@ pub(crate) fn load_number(state: &mut State, target: Register, number: u64) -> R
     requires { state.old.slot < 4096 }
     ensures ok { OnOk result ((target ≢ 10) × (state.new ≡ record (filled state.old target (Number number)) { slot = state.old.slot + 2 })) }
     ensures err { IfErr result (λ fault. fault_of_target target ≡ Some fault) }
+    ensures still { OnErr result (state.new ≡ state.old) }
 {
     if target.index() == 10 {
         return Err(Fault::Frame);
@@ -151,6 +156,7 @@ pub(crate) fn load_map(
     requires { state.old.slot < 4096 }
     ensures ok { OnOk result ((m : Map) × (map_of map ≡ Some m) × (target ≢ 10) × (state.new ≡ record (filled state.old target (Address (pointers.Map m (widened offset)))) { slot = state.old.slot + 2 })) }
     ensures err { IfErr result (λ fault. fault_of_map (map_of map) target ≡ Some fault) }
+    ensures still { OnErr result (state.new ≡ state.old) }
 {
     let Some(map) = map_of(map) else {
         return Err(Fault::Kind);

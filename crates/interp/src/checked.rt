@@ -2,12 +2,13 @@
 ghost use Rattle.machine.specs.Given.{given_by};
 ghost use Rattle.machine.specs.State.{setting_of};
 ghost use Rattle.maps.specs.Words.{IsOf};
+ghost use Rattle.interp.specs.Halts.{HaltsAt};
 ghost use Rattle.interp.specs.Outcome.{Outcome};
 
 use crate::steps;
 use crate::trap::Trap;
 use isa::Code;
-use machine::{Hook, Input};
+use machine::{Hook, Input, State};
 use maps::{Seat, Shared};
 use word_machine::Run;
 
@@ -32,5 +33,35 @@ pub fn run_checked(
     ensures outcome { Outcome (setting_of code.now hook (given_by input.now)) limit seat.old result seat.new }
     ensures table { IsOf shared.now seat.new }
 {
-    steps::run_steps(code.slots(), hook, limit, input, shared, seat)
+    let mut state = steps::start();
+    steps::run_steps(code.slots(), hook, limit, input, shared, seat, &mut state)
+}
+
+/// A checked run, and where the machine stands at its end.
+#[derive(Clone, Copy, Debug)]
+pub struct Halt {
+    /// The answer, or why there is none.
+    pub outcome: Result<Run, Trap>,
+    /// The state at EXIT, or that is stuck, or that the last instruction led to.
+    pub state: State,
+}
+
+/// Runs a program as `run_checked` does, and tells where the machine stands at the end: at EXIT, at the instruction
+/// by which it is stuck, or after `limit` instructions.
+pub fn run_to_halt(
+    code: &Code,
+    hook: Hook,
+    limit: u64,
+    input: &Input,
+    shared: &Shared,
+    seat: &mut Seat,
+) -> Halt
+    requires { IsOf shared.now seat.old }
+    ensures outcome { Outcome (setting_of code.now hook (given_by input.now)) limit seat.old result.outcome seat.new }
+    ensures halts { HaltsAt (setting_of code.now hook (given_by input.now)) limit seat.old result.outcome result.state seat.new }
+    ensures table { IsOf shared.now seat.new }
+{
+    let mut state = steps::start();
+    let outcome = steps::run_steps(code.slots(), hook, limit, input, shared, seat, &mut state);
+    Halt { outcome, state }
 }

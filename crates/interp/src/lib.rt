@@ -15,6 +15,6 @@ mod steps;
 mod stores;
 mod trap;
 
-pub use checked::run_checked;
+pub use checked::{Halt, run_checked, run_to_halt};
 pub use trap::Trap;
 pub use word_machine::{Run, run};

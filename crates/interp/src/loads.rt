@@ -27,6 +27,7 @@ fn load_context(
     requires { state.old.slot < 4096 }
     ensures ok { OnOk result (LoadsInto size (pointers.Context at) (given_by input.now) target state.old Silent state.new) }
     ensures err { IfErr result (λ fault. fault_of_load state.old size (pointers.Context at) target ≡ Some fault) }
+    ensures still { OnErr result (state.new ≡ state.old) }
 {
     let length = word_machine::load_length(size);
     if at > 64 - length as u64 {
@@ -72,6 +73,7 @@ fn load_stack(state: &mut State, size: LoadSize, target: Register, at: u64) -> R
     requires { state.old.slot < 4096 }
     ensures ok { OnOk result ((input : Given) → LoadsInto size (pointers.Stack at) input target state.old Silent state.new) }
     ensures err { IfErr result (λ fault. fault_of_load state.old size (pointers.Stack at) target ≡ Some fault) }
+    ensures still { OnErr result (state.new ≡ state.old) }
 {
     let content = stack_content(state, size, at)?;
     if target.index() == 10 {
@@ -106,6 +108,7 @@ fn load_map(
     requires table { IsOf shared.now seat.old }
     ensures ok { OnOk result ((label : Label) × ((input : Given) → LoadsInto size (pointers.Map map at) input target state.old label state.new) × Makes seat.old (label ∷ []) seat.new) }
     ensures err { IfErr result (λ fault. fault_of_load state.old size (pointers.Map map at) target ≡ Some fault) }
+    ensures still { OnErr result (state.new ≡ state.old) }
     ensures unchanged { OnErr result (seat.new ≡ seat.old) }
 {
     if at > map_length(map) - word_machine::load_length(size) as u64 {
@@ -140,6 +143,7 @@ fn load_at(
     requires table { IsOf shared.now seat.old }
     ensures ok { OnOk result ((label : Label) × LoadsInto size pointer (given_by input.now) target state.old label state.new × Makes seat.old (label ∷ []) seat.new) }
     ensures err { IfErr result (λ fault. fault_of_load state.old size pointer target ≡ Some fault) }
+    ensures still { OnErr result (state.new ≡ state.old) }
     ensures unchanged { OnErr result (seat.new ≡ seat.old) }
 {
     match pointer {
@@ -164,6 +168,7 @@ pub(crate) fn load(
     requires table { IsOf shared.now seat.old }
     ensures ok { OnOk result ((label : Label) × LoadsFrom size base offset (given_by input.now) target state.old label state.new × Makes seat.old (label ∷ []) seat.new) }
     ensures err { IfErr result (λ fault. fault_of_base_load state.old size (held state.old base) offset target ≡ Some fault) }
+    ensures still { OnErr result (state.new ≡ state.old) }
     ensures unchanged { OnErr result (seat.new ≡ seat.old) }
 {
     match registers::held(state, base) {

@@ -19,6 +19,7 @@ fn store_bytes(state: &mut State, size: StoreSize, at: u64, number: u64) -> Resu
     requires { state.old.slot < 4096 }
     ensures ok { OnOk result (StoresAt size (pointers.Stack at) (Number number) state.old Silent state.new) }
     ensures err { IfErr result (λ fault. fault_of_store size (pointers.Stack at) (Number number) ≡ Some fault) }
+    ensures still { OnErr result (state.new ≡ state.old) }
 {
     let length = word_machine::store_length(size);
     if at > 512 - length as u64 {
@@ -35,6 +36,7 @@ fn store_pointer(state: &mut State, size: StoreSize, at: u64, pointer: Pointer) 
     requires { state.old.slot < 4096 }
     ensures ok { OnOk result (StoresAt size (pointers.Stack at) (Address pointer) state.old Silent state.new) }
     ensures err { IfErr result (λ fault. fault_of_store size (pointers.Stack at) (Address pointer) ≡ Some fault) }
+    ensures still { OnErr result (state.new ≡ state.old) }
 {
     if !matches!(size, StoreSize::Bits64) {
         return Err(Fault::Kind);
@@ -61,6 +63,7 @@ fn store_cell(
     requires table { IsOf shared.now seat.old }
     ensures ok { OnOk result ((label : Label) × StoresAt size (pointers.Map Cells at) (Number number) state.old label state.new × Makes seat.old (label ∷ []) seat.new) }
     ensures err { IfErr result (λ fault. fault_of_store size (pointers.Map Cells at) (Number number) ≡ Some fault) }
+    ensures still { OnErr result (state.new ≡ state.old) }
     ensures unchanged { OnErr result (seat.new ≡ seat.old) }
 {
     if at > loads::map_length(Map::Cells) - word_machine::store_length(size) as u64 {
@@ -88,6 +91,7 @@ fn store_at(
     requires table { IsOf shared.now seat.old }
     ensures ok { OnOk result ((label : Label) × StoresAt size pointer content state.old label state.new × Makes seat.old (label ∷ []) seat.new) }
     ensures err { IfErr result (λ fault. fault_of_store size pointer content ≡ Some fault) }
+    ensures still { OnErr result (state.new ≡ state.old) }
     ensures unchanged { OnErr result (seat.new ≡ seat.old) }
 {
     match content {
@@ -119,6 +123,7 @@ pub(crate) fn store(
     requires table { IsOf shared.now seat.old }
     ensures ok { OnOk result ((label : Label) × StoresFrom size base offset source state.old label state.new × Makes seat.old (label ∷ []) seat.new) }
     ensures err { IfErr result (λ fault. fault_of_base_store size (held state.old base) offset (operand state.old source) ≡ Some fault) }
+    ensures still { OnErr result (state.new ≡ state.old) }
     ensures unchanged { OnErr result (seat.new ≡ seat.old) }
 {
     let content = registers::operand(state, source);

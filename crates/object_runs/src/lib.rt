@@ -7,4 +7,4 @@ mod run;
 
 pub use error::RunError;
 pub use limit::Limit;
-pub use run::run_object;
+pub use run::{run_object, run_object_to_halt};

@@ -1,0 +1,16 @@
+//! What the verifier knows at each slot of a program, in words, and why it refuses one.
+#![tactic(auto)]
+
+mod edges;
+mod explaining;
+mod lines;
+mod page;
+mod reasons;
+mod replay;
+mod rules;
+mod walk;
+mod words;
+
+pub use explaining::{ExplainError, Explanation, explain};
+pub use lines::{instruction_lines, line_at};
+pub use rules::{rule_hint, rule_name};

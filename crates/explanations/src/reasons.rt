@@ -1,0 +1,270 @@
+//! What breaks a rule at an instruction, and what is allowed.
+
+use crate::words::{Value, push_kind, push_place};
+use absdom::Domain;
+use isa::{Hook, Instruction, Operation, Register, Width};
+use kinds::{Entry, Kind, Place, State, kind_at};
+use liveness::{has, reads};
+use machine::Helper;
+use std::alloc::AllocError;
+use transfer::load::{load_length, map_length};
+use transfer::place::reached;
+use transfer::store::store_length;
+use verifier::Rule;
+
+/// A load or store: where its base points, at which distance, and of how many bytes.
+#[derive(Clone, Copy)]
+struct Access {
+    base: Register,
+    offset: i16,
+    length: u64,
+}
+
+fn access_of(instruction: &Instruction) -> Option<Access> {
+    match *instruction {
+        Instruction::Load {
+            size,
+            base,
+            offset,
+            ..
+        } => Some(Access {
+            base,
+            offset,
+            length: load_length(size),
+        }),
+        Instruction::Store {
+            size,
+            base,
+            offset,
+            ..
+        } => Some(Access {
+            base,
+            offset,
+            length: store_length(size),
+        }),
+        _ => None,
+    }
+}
+
+fn place_of(state: &State<Value>, access: &Access) -> Option<Place<Value>> {
+    reached(kind_at(state, access.base), access.offset).ok()
+}
+
+fn push_register(out: &mut String, state: &State<Value>, number: u8) -> Result<(), AllocError> {
+    let Some(register) = Register::new(number) else {
+        return Ok(());
+    };
+    write!(out, "  r{number}: ")?;
+    push_kind(out, kind_at(state, register))?;
+    out.push_str("\n")
+}
+
+/// Whether the register of this number may be empty.
+fn is_empty(state: &State<Value>, number: u8) -> bool {
+    match Register::new(number) {
+        Some(register) => matches!(kind_at(state, register), Kind::Empty),
+        None => false,
+    }
+}
+
+/// A line for each register that the instruction reads, or only for those that may be empty.
+fn push_read(
+    out: &mut String,
+    hook: Hook,
+    state: &State<Value>,
+    instruction: &Instruction,
+    is_all: bool,
+) -> Result<(), AllocError> {
+    let read = reads(hook, instruction);
+    for number in 0..10u8 {
+        if has(read, usize::from(number)) && (is_all || is_empty(state, number)) {
+            push_register(out, state, number)?;
+        }
+    }
+    Ok(())
+}
+
+/// The first byte from the place on that isn't known to be a byte.
+fn first_unknown(state: &State<Value>, start: u64, length: u64) -> Option<u64> {
+    for distance in 0..length {
+        let place = start.saturating_add(distance);
+        if place < 512 && !matches!(state.entries.get(place as usize), Some(Entry::Byte)) {
+            return Some(place);
+        }
+    }
+    None
+}
+
+fn push_empty(
+    out: &mut String,
+    hook: Hook,
+    state: &State<Value>,
+    instruction: &Instruction,
+) -> Result<(), AllocError> {
+    push_read(out, hook, state, instruction, false)?;
+    if let Some(access) = access_of(instruction) {
+        if let Some(Place::Stack(at)) = place_of(state, &access) {
+            if let Some(byte) = first_unknown(state, at, access.length) {
+                writeln!(out, "  stack {byte}: may be empty, or a part of a pointer")?;
+            }
+        }
+    }
+    out.push_str(
+        "  allowed: what is filled on each way that leads here, and is stated where a statement is on the way\n",
+    )
+}
+
+/// The operands that the instruction takes.
+fn allowed_kinds(instruction: &Instruction) -> &'static str {
+    match *instruction {
+        Instruction::Load { .. } =>
+            "a pointer as the base; of a stored pointer its eight bytes, as a u64",
+        Instruction::Store { .. } =>
+            "a pointer into the stack or the cells (map 1) as the base; a pointer is stored on the stack alone, as a u64",
+        Instruction::Arithmetic {
+            width: Width::Bits64,
+            operation: Operation::Add | Operation::Subtract,
+            ..
+        } =>
+            "two numbers, or a pointer on the left and a number on the right, a single one for the context and the stack",
+        Instruction::Arithmetic { .. } =>
+            "two numbers; a pointer is copied with all of its 64 bits",
+        Instruction::Branch { .. } => "two numbers",
+        _ => "a number",
+    }
+}
+
+fn push_kinds(
+    out: &mut String,
+    hook: Hook,
+    state: &State<Value>,
+    instruction: &Instruction,
+) -> Result<(), AllocError> {
+    push_read(out, hook, state, instruction, true)?;
+    let allowed = allowed_kinds(instruction);
+    writeln!(out, "  allowed: {allowed}")
+}
+
+fn length_of(place: Place<Value>) -> u64 {
+    match place {
+        Place::Context(_) => 64,
+        Place::Stack(_) => 512,
+        Place::Map(map, _) => map_length(map),
+    }
+}
+
+/// The bytes of an access, as `8 bytes at r6 + 4: map 1, offset 4`.
+fn push_access(out: &mut String, state: &State<Value>, access: &Access) -> Result<(), AllocError> {
+    let length = access.length;
+    let base = access.base.index();
+    let offset = access.offset;
+    write!(out, "  {length} bytes at r{base} + {offset}: ")?;
+    if let Some(place) = place_of(state, access) {
+        push_place(out, place)?;
+    }
+    out.push_str("\n")
+}
+
+fn push_bounds(
+    out: &mut String,
+    state: &State<Value>,
+    instruction: &Instruction,
+) -> Result<(), AllocError> {
+    let Some(access) = access_of(instruction) else {
+        return Ok(());
+    };
+    push_access(out, state, &access)?;
+    if let Some(place) = place_of(state, &access) {
+        let most = length_of(place).saturating_sub(access.length);
+        writeln!(out, "  allowed: 0..{most}")?;
+    }
+    Ok(())
+}
+
+fn push_align(
+    out: &mut String,
+    state: &State<Value>,
+    instruction: &Instruction,
+) -> Result<(), AllocError> {
+    if let Some(access) = access_of(instruction) {
+        push_access(out, state, &access)?;
+    }
+    out.push_str("  allowed: in a map 8 bytes at a multiple of 8\n")
+}
+
+/// Whether the number that a register is known to hold may be above this.
+fn is_above(state: &State<Value>, number: u8, most: u64) -> bool {
+    match Register::new(number) {
+        Some(register) => match kind_at(state, register) {
+            Kind::Number(value) => value.range().1 > most,
+            _ => false,
+        },
+        None => false,
+    }
+}
+
+const MOST_ADDED: u64 = 16_777_215;
+
+fn push_argument(
+    out: &mut String,
+    hook: Hook,
+    state: &State<Value>,
+    instruction: &Instruction,
+) -> Result<(), AllocError> {
+    if is_above(state, 1, 255) {
+        push_register(out, state, 1)?;
+        out.push_str("  allowed: r1, the counter, 0..255\n")?;
+    }
+    let Instruction::Call { helper } = *instruction else {
+        return Ok(());
+    };
+    if matches!(Helper::at(hook, helper), Some(Helper::CounterAdd))
+        && is_above(state, 2, MOST_ADDED)
+    {
+        push_register(out, state, 2)?;
+        writeln!(
+            out,
+            "  allowed: r2, the amount that is added, 0..{MOST_ADDED}"
+        )?;
+    }
+    Ok(())
+}
+
+fn push_helper(out: &mut String, hook: Hook, instruction: &Instruction) -> Result<(), AllocError> {
+    let name = hook.name();
+    if let Instruction::Call { helper } = *instruction {
+        writeln!(out, "  the hook {name} has no helper {helper}")?;
+    }
+    match hook {
+        Hook::Count => out.push_str("  allowed: 1 add, 2 read, 3 packet byte\n"),
+        Hook::Tag | Hook::Price | Hook::Veto => {
+            out.push_str("  allowed: 1 add, 2 read, 4 table cost\n")
+        }
+    }
+}
+
+/// What breaks the rule at the instruction.
+pub(crate) fn push_reason(
+    out: &mut String,
+    hook: Hook,
+    state: &State<Value>,
+    instruction: &Instruction,
+    rule: Rule,
+) -> Result<(), AllocError> {
+    match rule {
+        Rule::Empty => push_empty(out, hook, state, instruction),
+        Rule::Kind => push_kinds(out, hook, state, instruction),
+        Rule::Bounds => push_bounds(out, state, instruction),
+        Rule::Align => push_align(out, state, instruction),
+        Rule::Helper => push_helper(out, hook, instruction),
+        Rule::Argument => push_argument(out, hook, state, instruction),
+        Rule::ExitKind => {
+            push_register(out, state, 0)?;
+            out.push_str("  allowed: r0 a number\n")
+        }
+        Rule::Frame => out.push_str(
+            "  r10, the end of the stack, is written\n  allowed: a copy of it\n",
+        ),
+        _ => Ok(()),
+    }
+}

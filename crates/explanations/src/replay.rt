@@ -1,0 +1,74 @@
+//! What is known at a slot, in words.
+
+use crate::words::{Value, push_fact, push_kind, push_rank, push_stack};
+use kinds::{Entry, Fact, Kind, Place, State, Target};
+use liveness::{Registers, has};
+use object::{Kind as Stated, Rank, StackBytes, Statement};
+use std::alloc::{AllocError, Global};
+
+pub(crate) fn entry_statement(rank: u32) -> Option<Statement> {
+    let constant = Rank {
+        constant: rank,
+        first: None,
+        second: None,
+    };
+    Statement::new(0, constant, [Stated::Empty; 10], StackBytes::new())
+}
+
+pub(crate) fn entry_kinds(alloc: Global) -> Result<Vec<Kind<Value>>, AllocError> {
+    let mut kinds = vec![in alloc; Kind::Empty; 10]?;
+    kinds::put(&mut kinds, 1, Kind::Pointer(Place::Context(0)));
+    Ok(kinds)
+}
+
+pub(crate) fn start(alloc: Global) -> Result<State<Value>, AllocError> {
+    Ok(State {
+        kinds: entry_kinds(alloc)?,
+        facts: vec![in alloc; None; 10]?,
+        entries: vec![in alloc; Entry::Unknown; 512]?,
+    })
+}
+
+pub(crate) fn copy_of(alloc: Global, state: &State<Value>) -> Result<State<Value>, AllocError> {
+    Ok(State {
+        kinds: Vec::from_slice(alloc, &state.kinds)?,
+        facts: Vec::from_slice(alloc, &state.facts)?,
+        entries: Vec::from_slice(alloc, &state.entries)?,
+    })
+}
+
+/// Whether the register isn't as it was at the last statement.
+fn has_moved(register: usize, fact: Fact) -> bool {
+    usize::from(fact.origin) != register || fact.up != fact.down
+}
+
+/// A line for each live register, and for what is known of the stack.
+pub(crate) fn push_known(
+    out: &mut String,
+    live: Registers,
+    begun: Option<usize>,
+    state: &State<Value>,
+) -> Result<(), AllocError> {
+    for (register, kind) in state.kinds.iter().enumerate() {
+        if has(live, register) {
+            write!(out, "    r{register}: ")?;
+            push_kind(out, *kind)?;
+            if let (Some(begun), Some(Some(fact))) = (begun, state.facts.get(register)) {
+                if has_moved(register, *fact) {
+                    push_fact(out, *fact, begun)?;
+                }
+            }
+            out.push_str("\n")?;
+        }
+    }
+    push_stack(out, &state.entries)
+}
+
+pub(crate) fn push_statement(
+    out: &mut String,
+    target: &Target<'_, Value>,
+) -> Result<(), AllocError> {
+    out.push_str("    stated, rank ")?;
+    push_rank(out, &target.statement.rank())?;
+    out.push_str("\n")
+}

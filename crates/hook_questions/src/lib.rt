@@ -1,0 +1,6 @@
+//! What hooks are asked, in named fields.
+#![tactic(auto)]
+
+mod asked;
+
+pub use asked::{Asked, context_of};

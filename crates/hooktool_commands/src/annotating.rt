@@ -1,0 +1,134 @@
+//! `annotate`: an object that the verifier accepts, of code that has no statements.
+
+ghost use Rattle.std.specs.Prelude.{◌≡◌, List, ℕ, false, true, IfOk, string_bytes};
+ghost use Rattle.object_verdicts.specs.Verdicts.{Accepts};
+ghost use Rattle.hooktool_commands.specs.Annotations.{IsAnnotated, accepted_line};
+
+use crate::fault::Fault;
+use crate::files;
+use crate::report::Report;
+use annotations::{Annotated, CountError, Endless, Rejected, Shortfall, Trouble, annotate_file};
+use explanations::explain;
+use isa::Hook;
+use std::alloc::{AllocError, Global};
+use std::rt::Files;
+
+/// Why a loop has no rank, and what an author can do.
+fn push_endless(out: &mut String, endless: &Endless) -> Result<(), AllocError> {
+    let slot = endless.slot;
+    write!(out, "the loop at slot {slot} has no rank: ")?;
+    match endless.trouble {
+        Trouble::Rises { register } => {
+            writeln!(out, "r{register} rises with each turn, and none falls")?;
+        }
+        Trouble::TooHigh { register, from } => {
+            writeln!(
+                out,
+                "r{register} falls from up to {from}, which takes too long"
+            )?;
+        }
+        Trouble::NoneFalls => {
+            out.push_str("no register falls by a single number on each way round\n")?;
+        }
+    }
+    out.push_str(
+        "  either let a register fall with each turn (DOWN and EACH of examples/c/leafrunt.h do)\n  or count the turns: --fuel N\n",
+    )
+}
+
+/// What is told of a program that the verifier refuses.
+fn rejection(
+    alloc: Global,
+    rejected: &Rejected,
+    endless: &Option<Endless>,
+) -> Result<Report, AllocError>
+    ensures { IfOk result (λ report. report.is_refused ≡ true) }
+{
+    let mut text = String::new(alloc);
+    match explain(alloc, &rejected.bytes) {
+        Ok(explanation) => {
+            text.push_str(explanation.last.as_str())?;
+            text.push_str(explanation.told.as_str())?;
+        }
+        Err(_) => return Err(AllocError),
+    }
+    if let Some(endless) = endless {
+        push_endless(&mut text, endless)?;
+    }
+    Ok(Report {
+        text,
+        is_refused: true,
+    })
+}
+
+/// Why turns can't be counted.
+fn uncounted<'a>(error: CountError) -> Fault<'a> {
+    let reason = match error {
+        CountError::NoRegister => "no turns can be counted: the program uses each of r6 to r9",
+        CountError::TooMany => "no turns can be counted: --fuel is 1000000 or more",
+        CountError::TooLong =>
+            "no turns can be counted: the code would have more than 4096 slots, or a jump would go too far",
+        CountError::Memory => return Fault::Memory,
+    };
+    Fault::Uncounted { reason }
+}
+
+/// What is told where nothing was accepted.
+fn shortfall<'a>(alloc: Global, shortfall: &Shortfall) -> Result<Report, Fault<'a>>
+    ensures { IfOk result (λ report. report.is_refused ≡ true) }
+{
+    match shortfall {
+        Shortfall::Refused(rejected, endless) => Ok(rejection(alloc, rejected, endless)?),
+        Shortfall::Code(error) => Err(Fault::from(*error)),
+        Shortfall::Object(error) => Err(Fault::from(*error)),
+        Shortfall::OtherHook(hook) => Err(Fault::OtherHook { hook: hook.name() }),
+        Shortfall::Uncounted(error) => Err(uncounted(*error)),
+        Shortfall::Statements | Shortfall::Memory => Err(Fault::Memory),
+    }
+}
+
+/// What is told of a program that is accepted with this bound.
+fn accepted(alloc: Global, bound: u64) -> Result<Report, AllocError>
+    ensures told { IfOk result (λ report. string_bytes report.text ≡ accepted_line bound) }
+    ensures done { IfOk result (λ report. report.is_refused ≡ false) }
+{
+    Ok(Report {
+        text: format!(in alloc; "accepted bound {bound}\n")?,
+        is_refused: false,
+    })
+}
+
+/// Writes the object, which the verifier accepted, and tells its bound.
+fn written<'a, R: Files + AllocGlobal>(
+    rt: &R,
+    path: &'a str,
+    annotated: &Annotated,
+) -> Result<Report, Fault<'a>>
+    requires { Accepts annotated.now.bytes.items annotated.now.accepted }
+    ensures told { IfOk result (λ report. string_bytes report.text ≡ accepted_line annotated.now.accepted.bound) }
+    ensures done { IfOk result (λ report. report.is_refused ≡ false) }
+{
+    let report = accepted(rt.alloc(), annotated.accepted.bound())?;
+    files::write(rt, path, &annotated.bytes)?;
+    Ok(report)
+}
+
+/// Finds statements for the code of the file at `code`, at the hook, and writes the object file `object`, if the verifier accepts it.
+/// Where it doesn't, `object` is as it was.
+///
+/// A fault where a file can't be read or written, the first one is no code and no object for the hook, or memory is refused.
+pub(crate) fn annotate<'a, R: Files + AllocGlobal>(
+    rt: &R,
+    hook: Hook,
+    code: &'a str,
+    object: &'a str,
+    fuel: Option<u32>,
+) -> Result<Report, Fault<'a>>
+    ensures { IfOk result (λ report. (file : List ℕ) × IsAnnotated hook fuel file report) }
+{
+    let file = files::read(rt, code)?;
+    match annotate_file(rt.alloc(), hook, &file, fuel) {
+        Ok(annotated) => written(rt, object, &annotated),
+        Err(error) => shortfall(rt.alloc(), &error),
+    }
+}

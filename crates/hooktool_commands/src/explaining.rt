@@ -1,0 +1,73 @@
+//! `explain`: what the verifier knows of a program, and its verdict.
+
+ghost use Rattle.std.specs.Prelude.{◌≡◌, List, ℕ, true, false, IfOk, MatchResult};
+ghost use Rattle.hooktool_commands.specs.Explanations.{IsExplained};
+
+use crate::fault::Fault;
+use crate::files;
+use crate::report::Report;
+use explanations::{ExplainError, Explanation, explain as explained};
+use object_verdicts::VerifyError;
+use std::alloc::{AllocError, Global};
+use std::rt::Files;
+use verifier::{Accepted, Rule};
+
+impl<'a> From<ExplainError> for Fault<'a> {
+    fn from(error: ExplainError) -> Fault<'a> {
+        match error {
+            ExplainError::Object(error) => Fault::from(error),
+            ExplainError::Code(error) => Fault::from(error),
+            ExplainError::Memory => Fault::Memory,
+        }
+    }
+}
+
+/// The three texts of an explanation, one behind the other.
+fn whole(explanation: Explanation) -> Result<String, AllocError> {
+    let Explanation {
+        before,
+        last,
+        told,
+        ..
+    } = explanation;
+    let mut text = before;
+    text.push_str(last.as_str())?;
+    text.push_str(told.as_str())?;
+    Ok(text)
+}
+
+/// Whether the program is refused. A fault where no verdict was reached for want of memory.
+fn is_refusal<'a>(verdict: &Result<Accepted, VerifyError>) -> Result<bool, Fault<'a>>
+    ensures { IfOk result (λ refused. MatchResult verdict.now (λ _. refused ≡ false) (λ _. refused ≡ true)) }
+{
+    match verdict {
+        Ok(_) => Ok(false),
+        Err(VerifyError::Refused(refusal)) if refusal.rule == Rule::Memory => Err(Fault::Memory),
+        Err(_) => Ok(true),
+    }
+}
+
+/// What is told of the object file that these bytes are.
+fn explanation_of<'a>(alloc: Global, bytes: &[u8]) -> Result<Report, Fault<'a>>
+    ensures { IfOk result (IsExplained bytes.now) }
+{
+    let explanation = explained(alloc, bytes)?;
+    let is_refused = is_refusal(&explanation.verdict)?;
+    Ok(Report {
+        text: whole(explanation)?,
+        is_refused,
+    })
+}
+
+/// Tells what the verifier knows at each slot of the program of the object file at `path`, up to the one that it refuses, and its verdict.
+///
+/// A fault where the file can't be read, is no object file, holds no code, or memory is refused.
+pub(crate) fn explain<'a, R: Files + AllocGlobal>(
+    rt: &R,
+    path: &'a str,
+) -> Result<Report, Fault<'a>>
+    ensures { IfOk result (λ report. (bytes : List ℕ) × IsExplained bytes report) }
+{
+    let bytes = files::read(rt, path)?;
+    explanation_of(rt.alloc(), bytes.as_slice())
+}

@@ -1,0 +1,139 @@
+//! Why a command didn't do what it was asked, and the statuses.
+
+ghost use Rattle.std.specs.Prelude.{◌≡◌, ◌≤◌};
+ghost use Rattle.hooktool_commands.specs.Statuses.{fault_of_object, fault_of_refusal, fault_of_run, fault_of_words, status_of};
+ghost use Rattle.hooktool_commands.specs.declared.fault.Fault.TheVariants.{Memory};
+
+use clap::error::ErrorKind;
+use isa::DecodeError;
+use object::ReadError;
+use object_runs::RunError;
+use std::alloc::{AllocError, AllocFailed};
+use thiserror::Error;
+
+/// The statuses that the program ends with.
+pub const DONE: u8 = 0;
+/// A program was refused, or a run gave no answer.
+pub const REFUSED: u8 = 1;
+/// The words of the command line are wrong.
+pub const USAGE: u8 = 2;
+/// A file or a stream can't be used.
+pub const OUTSIDE: u8 = 3;
+/// Memory was refused.
+pub const MEMORY: u8 = 4;
+
+/// Why a command didn't do what it was asked. The text is the line that is printed.
+#[derive(Debug, Drop, Error)]
+pub enum Fault<'a> {
+    /// A file can't be opened or read.
+    #[error("cannot read {path}")]
+    Read { path: &'a str },
+    /// A file can't be written.
+    #[error("cannot write {path}")]
+    Write { path: &'a str },
+    /// Bytes that are no code: the number of the refusal, and the slot of the first bad instruction.
+    #[error("code refusal {number} slot {slot}")]
+    Code { number: u8, slot: u64 },
+    /// Bytes that are no object file: the number of the refusal.
+    #[error("object refusal {number}")]
+    Object { number: u8 },
+    /// An object that is for another hook than the one that was named.
+    #[error("the object is for {hook}")]
+    OtherHook { hook: &'static str },
+    /// Code in which turns can't be counted, and why.
+    #[error("{reason}")]
+    Uncounted { reason: &'static str },
+    /// The words of the command line are wrong: the text says how.
+    #[error("{0}")]
+    Usage(clap::Error),
+    /// The output can't be written.
+    #[error("cannot write the output")]
+    Output,
+    /// An allocation was refused.
+    #[error("out of memory")]
+    Memory,
+}
+
+impl<'a> From<AllocError> for Fault<'a> {
+    ghost from_gives = { λ _ fault. fault ≡ Memory };
+
+    fn from(_error: AllocError) -> Fault<'a> {
+        Fault::Memory
+    }
+}
+
+impl<'a, T: Drop> From<AllocFailed<T>> for Fault<'a> {
+    ghost from_gives = { λ _ fault. fault ≡ Memory };
+
+    fn from(_error: AllocFailed<T>) -> Fault<'a> {
+        Fault::Memory
+    }
+}
+
+impl<'a> From<DecodeError> for Fault<'a> {
+    ghost from_gives = { λ error fault. fault ≡ fault_of_refusal error };
+
+    fn from(error: DecodeError) -> Fault<'a> {
+        match error.kind {
+            isa::DecodeFault::Memory => Fault::Memory,
+            kind => Fault::Code {
+                number: kind.number(),
+                slot: error.slot as u64,
+            },
+        }
+    }
+}
+
+impl<'a> From<ReadError> for Fault<'a> {
+    ghost from_gives = { λ error fault. fault ≡ fault_of_object error };
+
+    fn from(error: ReadError) -> Fault<'a> {
+        match error {
+            ReadError::Memory => Fault::Memory,
+            error => Fault::Object {
+                number: error.number(),
+            },
+        }
+    }
+}
+
+impl<'a> From<RunError> for Fault<'a> {
+    ghost from_gives = { λ error fault. fault ≡ fault_of_run error };
+
+    fn from(error: RunError) -> Fault<'a> {
+        match error {
+            RunError::Object(error) => Fault::from(error),
+            RunError::Code(error) => Fault::from(error),
+        }
+    }
+}
+
+impl<'a> From<clap::Error> for Fault<'a> {
+    ghost from_gives = { λ error fault. fault ≡ fault_of_words error };
+
+    fn from(error: clap::Error) -> Fault<'a> {
+        match error.kind() {
+            ErrorKind::OutOfMemory => Fault::Memory,
+            _ => Fault::Usage(error),
+        }
+    }
+}
+
+impl<'a> Fault<'a> {
+    /// The status that the program ends with.
+    pub fn status(&self) -> u8
+        ensures value { result ≡ status_of self.now }
+        ensures within { result ≤ 4 }
+    {
+        match self {
+            Fault::Read { .. } | Fault::Write { .. } | Fault::Output => OUTSIDE,
+            Fault::Code { .. }
+            | Fault::Object { .. }
+            | Fault::OtherHook { .. }
+            | Fault::Uncounted { .. } => REFUSED,
+            Fault::Usage(error) if error.use_stderr() => USAGE,
+            Fault::Usage(_) => DONE,
+            Fault::Memory => MEMORY,
+        }
+    }
+}

@@ -1,0 +1,34 @@
+//! Files, read and written whole.
+
+ghost use Rattle.std.specs.Prelude.{◌≡◌, ◌⊎◌, IfErr};
+
+use crate::fault::Fault;
+use std::alloc::Global;
+use std::rt::Files;
+use whole_files::{ReadFault, WriteFault};
+
+/// The bytes of the file at `path`. `Fault::Read` where it can't be opened or read, is no regular file, or is too long.
+pub(crate) fn read<'a, R: Files + AllocGlobal>(rt: &R, path: &'a str) -> Result<Vec<u8>, Fault<'a>>
+    ensures { IfErr result (λ fault. (fault ≡ Fault.Read path.entry) ⊎ (fault ≡ Fault.Memory)) }
+{
+    match whole_files::read(rt, path) {
+        Ok(bytes) => Ok(bytes),
+        Err(ReadFault::Unreadable) => Err(Fault::Read { path }),
+        Err(ReadFault::Memory) => Err(Fault::Memory),
+    }
+}
+
+/// Makes the file at `path` one of these bytes, written beside it first, so that after a fault it is as before.
+pub(crate) fn write<'a, R: Files + AllocGlobal>(
+    rt: &R,
+    path: &'a str,
+    bytes: &[u8],
+) -> Result<(), Fault<'a>>
+    ensures { IfErr result (λ fault. (fault ≡ Fault.Write path.entry) ⊎ (fault ≡ Fault.Memory)) }
+{
+    match whole_files::write(rt, path, bytes) {
+        Ok(()) => Ok(()),
+        Err(WriteFault::Unwritable) => Err(Fault::Write { path }),
+        Err(WriteFault::Memory) => Err(Fault::Memory),
+    }
+}

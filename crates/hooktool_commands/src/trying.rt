@@ -1,0 +1,155 @@
+//! `try`: runs of a program on a question.
+
+ghost use Rattle.std.specs.Prelude.{◌≡◌, List, ℕ, IfOk, is_err};
+ghost use Rattle.std.specs.List.{list_any};
+ghost use Rattle.hooktool_commands.specs.Trials.{IsTried, PacketIs};
+
+use crate::answers::push_answer;
+use crate::fault::Fault;
+use crate::files;
+use crate::report::Report;
+use crate::traps::push_trap;
+use explanations::instruction_lines;
+use hooktool_line::{Packet, Question};
+use isa::{Code, Hook, decode};
+use object::Object;
+use std::alloc::{AllocError, Global};
+use std::rt::Files;
+use trial_runs::{Ending, Trial, TrialError, try_object};
+use verifier::BUDGET;
+
+impl<'a> From<TrialError> for Fault<'a> {
+    fn from(error: TrialError) -> Fault<'a> {
+        match error {
+            TrialError::Program(error) => Fault::from(error),
+            TrialError::Memory => Fault::Memory,
+        }
+    }
+}
+
+/// The program that was run, and as many instructions as it may take.
+#[derive(Drop)]
+struct Program {
+    hook: Hook,
+    bound: u64,
+    code: Code,
+    lines: String,
+}
+
+fn program_of<'a>(alloc: Global, bytes: &[u8]) -> Result<Program, Fault<'a>> {
+    let object = object::read(alloc, bytes)?;
+    let code = decode(alloc, object.code())?;
+    Ok(Program {
+        hook: object.hook(),
+        bound: bound_of(&object),
+        code,
+        lines: instruction_lines(alloc, &object)?,
+    })
+}
+
+/// How many instructions the object allows.
+fn bound_of(object: &Object) -> u64 {
+    let passes = u64::from(object.entry_rank()) + 1;
+    passes.saturating_mul(object.slots() as u64).min(BUDGET)
+}
+
+/// How a run ended: its answer and how many instructions it took, or its trap.
+fn push_ending(out: &mut String, program: &Program, ending: &Ending) -> Result<(), AllocError> {
+    match ending.outcome {
+        Ok(run) => {
+            push_answer(out, program.hook, run.answer)?;
+            let used = run.used;
+            let bound = program.bound;
+            writeln!(out, ", used {used} of {bound}")
+        }
+        Err(trap) => push_trap(out, trap, ending, &program.code, program.lines.as_str()),
+    }
+}
+
+/// The same of each run, with its number where there are several.
+fn push_endings(out: &mut String, program: &Program, endings: &[Ending]) -> Result<(), AllocError> {
+    for (index, ending) in endings.iter().enumerate() {
+        if endings.len() > 1 {
+            let number = index + 1;
+            write!(out, "run {number}: ")?;
+        }
+        push_ending(out, program, ending)?;
+    }
+    Ok(())
+}
+
+/// A line for each number that isn't 0.
+fn push_numbers(out: &mut String, name: &str, numbers: &[u64]) -> Result<(), AllocError> {
+    for (index, number) in numbers.iter().enumerate() {
+        if *number > 0 {
+            writeln!(out, "{name} {index} {number}")?;
+        }
+    }
+    Ok(())
+}
+
+fn text_of(alloc: Global, program: &Program, trial: &Trial) -> Result<String, AllocError> {
+    let mut text = String::new(alloc);
+    push_endings(&mut text, program, &trial.endings)?;
+    push_numbers(&mut text, "counter", &trial.counters)?;
+    push_numbers(&mut text, "cell", &trial.cells)?;
+    Ok(text)
+}
+
+fn is_any_stuck(endings: &[Ending]) -> bool
+    ensures { result ≡ list_any (λ ending. is_err ending.outcome) endings.now }
+{
+    endings.iter().any(|ending| ending.outcome.is_err())
+}
+
+/// The bytes of the packet.
+fn packet_bytes<'a, R: Files + AllocGlobal>(
+    rt: &R,
+    packet: &Packet<'a>,
+) -> Result<Vec<u8>, Fault<'a>>
+    ensures { IfOk result (λ bytes. PacketIs packet.now bytes.items) }
+{
+    match packet {
+        Packet::Bytes(bytes) => Ok(Vec::from_slice(rt.alloc(), bytes)?),
+        Packet::File(path) => files::read(rt, path),
+    }
+}
+
+/// Runs the program of the object file that these bytes are on the question, with this packet, and says what is to be told of it.
+fn trial_of<'a>(
+    alloc: Global,
+    bytes: &[u8],
+    packet: &[u8],
+    question: &Question<'_>,
+) -> Result<Report, Fault<'a>>
+    ensures { IfOk result (IsTried bytes.now packet.now question.now) }
+{
+    let program = program_of(alloc, bytes)?;
+    let trial = try_object(
+        alloc,
+        bytes,
+        &question.asked,
+        packet,
+        &question.rows,
+        question.times,
+    )?;
+    Ok(Report {
+        text: text_of(alloc, &program, &trial)?,
+        is_refused: is_any_stuck(&trial.endings),
+    })
+}
+
+/// Runs the program of the object file at `path` on the question, and tells each run's end and what was left in counters and cells.
+///
+/// A fault where a file can't be read, is no object file, holds no code, or memory is refused.
+pub(crate) fn try_question<'a, R: Files + AllocGlobal>(
+    rt: &R,
+    path: &'a str,
+    question: &Question<'a>,
+) -> Result<Report, Fault<'a>>
+    ensures { IfOk result (λ report. (bytes packet : List ℕ) × PacketIs question.now.packet packet × IsTried bytes packet question.now report) }
+{
+    let bytes = files::read(rt, path)?;
+    let packet = packet_bytes(rt, &question.packet)?;
+    trial_of(rt.alloc(), bytes.as_slice(), packet.as_slice(), question)
+}

@@ -1,0 +1,6 @@
+pub mod Building
+pub mod Made
+pub mod OrElse
+pub mod PacketWords
+pub mod Read
+pub mod RowWords

@@ -1,0 +1,73 @@
+-- Which requests a command makes of its words.
+use Rattle.std.proofs.Common.{◌≡◌, ◌≢◌, ◌∙◌, ap, sym, arith, ℕ, List, Option, Some, None, codes, slice_index}
+use Rattle.std.specs.Borrow.{Bor}
+use Rattle.clap.specs.Walk.{Row, Text, first_of}
+use Rattle.isa.specs.Hooks.{hook_name}
+use Rattle.isa.specs.declared.hook.Hook.{Hook}
+use Rattle.hooktool_line.specs.Questions.{HasQuestion}
+use Rattle.hooktool_line.specs.Requests.{HasFuel, HasWord, MadeBy, Makes, MakesNone, command_of}
+use Rattle.hooktool_line.specs.declared.requests.Question.{Question}
+use Rattle.hooktool_line.specs.declared.requests.Request.{Request}
+use Rattle.hooktool_line.specs.declared.requests.Request.TheVariants as requests
+
+pub some≢none : {X : Type 0} (x : X) → Some x ≡ None → ⊥
+some≢none x e = cc
+
+pub some_is : {X : Type 0} {x y : X} → Some x ≡ Some y → x ≡ y
+some_is e = cc
+
+annotate≢explain : codes "explain" ≡ codes "annotate" → ⊥
+annotate≢explain e = let bad : ◌≡◌ {A = ℕ} 101 97 = ap (λ (t : List ℕ). slice_index t 0) e in absurd (omega arith)
+
+annotate≢try : codes "try" ≡ codes "annotate" → ⊥
+annotate≢try e = let bad : ◌≡◌ {A = ℕ} 116 97 = ap (λ (t : List ℕ). slice_index t 0) e in absurd (omega arith)
+
+explain≢try : codes "try" ≡ codes "explain" → ⊥
+explain≢try e = let bad : ◌≡◌ {A = ℕ} 116 101 = ap (λ (t : List ℕ). slice_index t 0) e in absurd (omega arith)
+
+pub no_annotate : (rows : List Row)
+    → ((hook : Hook) (code object : Text) (fuel : Option ℕ) → HasWord rows (codes "HOOK") (hook_name hook) → HasWord rows (codes "CODE") code
+    → HasWord rows (codes "OBJECT") object → HasFuel rows fuel → ⊥)
+    → MadeBy (codes "annotate") rows None
+no_annotate rows none (requests.Annotate hook code object fuel) named has = none hook code.now object.now fuel has.0 has.1 has.2 has.3
+no_annotate rows none (requests.Explain object) named has = absurd (annotate≢explain named)
+no_annotate rows none (requests.Try object question) named has = absurd (annotate≢try named)
+
+pub no_explain : (rows : List Row) → ((object : Text) → HasWord rows (codes "OBJECT") object → ⊥) → MadeBy (codes "explain") rows None
+no_explain rows none (requests.Annotate hook code object fuel) named has = absurd (annotate≢explain (sym named))
+no_explain rows none (requests.Explain object) named has = none object.now has
+no_explain rows none (requests.Try object question) named has = absurd (explain≢try named)
+
+pub no_try : (rows : List Row) → ((object : Text) (question : Question) → HasWord rows (codes "OBJECT") object → HasQuestion rows question → ⊥)
+    → MadeBy (codes "try") rows None
+no_try rows none (requests.Annotate hook code object fuel) named has = absurd (annotate≢try (sym named))
+no_try rows none (requests.Explain object) named has = absurd (explain≢try (sym named))
+no_try rows none (requests.Try object question) named has = none object.now question has.0 has.1
+
+-- a command of another name makes nothing
+pub no_other : (rows : List Row) (name : Text) → name ≢ codes "annotate" → name ≢ codes "explain" → name ≢ codes "try" → MadeBy name rows None
+no_other rows name annotate explain try (requests.Annotate hook code object fuel) named has = annotate (sym named)
+no_other rows name annotate explain try (requests.Explain object) named has = explain (sym named)
+no_other rows name annotate explain try (requests.Try object question) named has = try (sym named)
+
+-- what the command makes that was named
+pub named_makes : (name : Text) (rows : List Row) (request : Request) → MadeBy name rows (Some request) → Makes (Some (name, rows)) request
+named_makes name rows request made = (rows, ap (λ (t : Text). Some (t, rows)) (sym made.0), made.1)
+
+pub named_makes_none : (name : Text) (rows : List Row) → MadeBy name rows None → MakesNone (Some (name, rows))
+named_makes_none name rows none request makes =
+    let both = some_is makes.1 in
+    let names : name ≡ command_of request = ap (λ (p : Text × List Row). p.0) both in
+    let same : rows ≡ makes.0 = ap (λ (p : Text × List Row). p.1) both in
+    none request (sym names) (rw same makes.2)
+
+pub none_makes_none : MakesNone None
+none_makes_none request makes = some≢none _ (sym makes.1)
+
+-- what there is under a name, read as a reference
+pub has_word : (rows : List Row) (name : Text) (word : Bor Text) → Rattle.std.specs.Option.option_map (λ (w : Bor Text). w.now) (Some word) ≡ first_of name rows
+    → HasWord rows name word.now
+has_word rows name word e = sym e
+
+pub has_none : (rows : List Row) (name : Text) → None ≡ first_of name rows → (word : Text) → HasWord rows name word → ⊥
+has_none rows name none word has = some≢none word (sym has ∙ sym none)

@@ -1,0 +1,47 @@
+-- Packets that are read of words.
+use Rattle.std.proofs.Common.{◌≡◌, ◌≢◌, ◌∙◌, ◌+◌, ℕ, List, ◌∷◌, Option, Some, None, Ok, Err, sym, subst, lit<, length, drop, inl, inr}
+use Rattle.std.specs.Prelude.{◌⊎◌, IfOk, MatchOption, Result}
+use Rattle.std.specs.Str.Pattern.{FindsCharPrefix}
+use Rattle.std.proofs.lemmas.Str.Pattern.{strip_prefix_char}
+use Rattle.hex.specs.Hex.{decode_of}
+use Rattle.hex.specs.declared.error.FromHexError.{FromHexError}
+use Rattle.hex.specs.declared.error.FromHexError.TheVariants.{OutOfMemory}
+use Rattle.hooktool_line.specs.Words.{IsNoPacket, IsPacket, OrElse, Reads}
+use Rattle.clap.specs.Walk.{Text}
+use Rattle.hooktool_line.specs.declared.requests.Packet.{Packet}
+use Rattle.hooktool_line.specs.declared.requests.Packet.TheVariants as packets
+use denote.Ref.{Bor}
+
+abbrev pub Strips : List ℕ → Option (Bor (List ℕ)) → Type 0
+Strips w r = MatchOption r (FindsCharPrefix 64 w None) (λ x. (n : ℕ) × FindsCharPrefix 64 w (Some n) × (x.now ≡ drop n w) × (length x.now + n ≡ length w))
+
+pub of_file : (w : List ℕ) (r : Option (Bor (List ℕ))) (path : Bor (List ℕ)) → Strips w r → r ≡ Some path → w ≡ 64 ∷ path.now
+of_file w r path strips some =
+    subst (λ (q : Option (Bor (List ℕ))). MatchOption q ((rest : List ℕ) → w ≢ 64 ∷ rest) (λ x. w ≡ 64 ∷ x.now)) some (strip_prefix_char 64 w r strips (lit< tt))
+
+pub of_no_file : (w : List ℕ) (r : Option (Bor (List ℕ))) → Strips w r → r ≡ None → (rest : List ℕ) → w ≢ 64 ∷ rest
+of_no_file w r strips none =
+    subst (λ (q : Option (Bor (List ℕ))). MatchOption q ((rest : List ℕ) → w ≢ 64 ∷ rest) (λ x. w ≡ 64 ∷ x.now)) none (strip_prefix_char 64 w r strips (lit< tt))
+
+err≢ok : {X E : Type 0} (x : X) (e : E) → ◌≡◌ {A = Result X E} (Err e) (Ok x) → ⊥
+err≢ok x e h = cc
+
+pub no_packet : (w : List ℕ) (e : FromHexError) → ((rest : List ℕ) → w ≢ 64 ∷ rest) → decode_of w ≡ Err e → (packet : Packet) → IsPacket w packet → ⊥
+no_packet w e plain bad (packets.Bytes bytes) has = err≢ok bytes.items e (sym bad ∙ has.1)
+no_packet w e plain bad (packets.File path) has = plain path.now has
+
+pub lacks : {E : Type 0} (w : List ℕ) (e : FromHexError) (r : Result (Option Packet) E) → ((rest : List ℕ) → w ≢ 64 ∷ rest)
+    → (e ≡ OutOfMemory) ⊎ (decode_of w ≡ Err e) → IfOk r (λ packet. packet ≡ None) → IfOk r (λ _. e ≢ OutOfMemory) → IfOk r (Reads (IsPacket w))
+lacks {E} w e (Ok packet) plain bad none other =
+    subst (λ (p : Option Packet). Reads (IsPacket w) p) (sym none) (elim bad [
+      | inl memory ↦ absurd (other memory)
+      | inr refused ↦ no_packet w e plain refused
+    ])
+lacks {E} w e (Err x) plain bad none other = tt
+
+-- the packet of an option
+pub packet_has : (found given : Option Text) (r : Option Packet) (packet : Packet) → given ≡ found
+    → Reads (λ p. OrElse given (IsNoPacket p) (λ w. IsPacket w p)) r → r ≡ Some packet → OrElse found (IsNoPacket packet) (λ w. IsPacket w packet)
+packet_has found given r packet same reads some =
+    subst (λ (g : Option Text). OrElse g (IsNoPacket packet) (λ w. IsPacket w packet)) same
+    (subst (λ (q : Option Packet). Reads (λ p. OrElse given (IsNoPacket p) (λ w. IsPacket w p)) q) some reads)

@@ -1,0 +1,72 @@
+-- What is read of words.
+use Rattle.std.proofs.Common.{◌≡◌, ◌∙◌, refl, sym, subst, List, [], Option, Some, None, Ok, Err, MatchResult, inl, inr, true}
+use Rattle.std.specs.Prelude.{Result, IfSome, IsErrAnd, ◌⊎◌}
+use Rattle.clap.specs.Faults.{fault_of, is_simple_and_free}
+use Rattle.clap.specs.Kinds.{HasKind}
+use Rattle.clap.specs.Simple.{App, HasMatchesOf, subcommand_of, subcommand_rows_of}
+use Rattle.clap.specs.Values.{kind_of}
+use Rattle.clap.specs.Walk.{Row, Text}
+use Rattle.clap.specs.declared.error.Error.{Error}
+use Rattle.clap.specs.declared.error.kind.ErrorKind.TheVariants as kinds
+use Rattle.clap.specs.declared.parser.matches.ArgMatches.{ArgMatches}
+use Rattle.hooktool_line.specs.CommandLine.{line}
+use Rattle.hooktool_line.specs.Requests.{Asks, IsRefusal, IsWrongWord, Makes}
+use Rattle.hooktool_line.specs.declared.requests.Request.{Request}
+use Rattle.hooktool_line.proofs.Made.{none_makes_none}
+
+abbrev pub Answers : List Text → Result Request Error → Type 0
+Answers words result = MatchResult result (Asks words) (IsRefusal words)
+
+-- ---- of a command that is the line
+
+pub free : (a : App) → a ≡ line → is_simple_and_free a ≡ true
+free a own = subst (λ (x : App). is_simple_and_free x ≡ true) (sym own) refl
+
+pub own_mistake : (a : App) (words : List Text) (e : Error) → a ≡ line → HasKind (fault_of a words) e → HasKind (fault_of line words) e
+own_mistake a words e own has = subst (λ (x : App). HasKind (fault_of x words) e) own has
+
+pub own_words : (a : App) (words : List Text) → a ≡ line → fault_of a words ≡ [] → fault_of line words ≡ []
+own_words a words own taken = subst (λ (x : App). fault_of x words ≡ []) own taken
+
+pub own_matches : (a : App) (words : List Text) (m : ArgMatches) → a ≡ line → HasMatchesOf a words m → HasMatchesOf line words m
+own_matches a words m own has = subst (λ (x : App). HasMatchesOf x words m) own has
+
+-- ---- answers
+
+-- an error of a kind that is a refusal
+pub refused : (words : List Text) (result : Result Request Error) (P : Error → Type 0) → IsErrAnd result P
+    → ((e : Error) → P e → IsRefusal words e) → Answers words result
+refused words (Ok x) P is f = absurd is
+refused words (Err e) P is f = f e is
+
+-- a mistake by the rules of command lines
+pub mistaken : (words : List Text) (e : Error) → HasKind (fault_of line words) e → IsRefusal words e
+mistaken words e has = elim has [
+  | inl memory ↦ inl memory
+  | inr among ↦ inr (inl among)
+]
+
+-- what was entered is the subcommand of the words
+entered : (words : List Text) (m : ArgMatches) → HasMatchesOf line words m → subcommand_rows_of m ≡ subcommand_of line words
+entered words m has = (has refl).1
+
+-- what is made of the words of what was entered
+pub made : (words : List Text) (m : ArgMatches) (o : Option Request) (request : Request) → HasMatchesOf line words m → o ≡ Some request
+    → IfSome o (Makes (subcommand_rows_of m)) → Makes (subcommand_of line words) request
+made words m o request has is makes =
+    subst (λ (named : Option (Text × List Row)). Makes named request) (entered words m has) (rw is at makes)
+
+-- a wrong word of the command that is named, or want of memory
+pub wrong_word : (words : List Text) (m : ArgMatches) (e : Error) → HasMatchesOf line words m → fault_of line words ≡ []
+    → (kind_of e ≡ kinds.OutOfMemory) ⊎ IsWrongWord (subcommand_rows_of m) e → IsRefusal words e
+wrong_word words m e has taken given = elim given [
+  | inl memory ↦ inl memory
+  | inr wrong ↦ inr (inr (taken, subst (λ (named : Option (Text × List Row)). IsWrongWord named e) (entered words m has) wrong))
+]
+
+-- no command is named
+pub no_command : (words : List Text) (m : ArgMatches) (e : Error) → HasMatchesOf line words m → fault_of line words ≡ []
+    → subcommand_rows_of m ≡ None → kind_of e ≡ kinds.MissingSubcommand → IsRefusal words e
+no_command words m e has taken none kind =
+    let unnamed : None ≡ subcommand_of line words = sym none ∙ entered words m has in
+    inr (inr (taken, subst (λ (named : Option (Text × List Row)). IsWrongWord named e) unnamed (kind, none_makes_none)))

@@ -1,0 +1,95 @@
+-- Rows of the routing table, read of words.
+use Rattle.std.proofs.Common.{◌≡◌, ◌∙◌, ◌+◌, ◌<◌, ◌≤◌, ℕ, List, [], ◌∷◌, ◌++◌, Option, Some, None, ap, sym, subst, length, get_or, drop, lit<, append_assoc, arith}
+use Rattle.std.specs.Global.{Vec}
+use Rattle.std.specs.Prelude.{MatchOption, decimal, map, slice_index_or}
+use Rattle.std.proofs.lemmas.List.{at_drop_more}
+use Rattle.std.proofs.lemmas.Str.Pattern.{IsSplitOnceResult, split_after, split_parts}
+use Rattle.address_texts.proofs.Addresses.{high_in_prefix}
+use Rattle.clap.specs.Walk.{Text}
+use Rattle.words.specs.Prefixes.{Network}
+use Rattle.words.specs.Text.{prefix_text}
+use Rattle.words.specs.declared.route.TableRow.{TableRow}
+use Rattle.hooktool_line.specs.Questions.{HasRows}
+use Rattle.hooktool_line.specs.Words.{AreRows, IsRow, Reads}
+use denote.Ref.{Bor}
+
+abbrev Cut : Type 0
+Cut = Option (Bor (List ℕ) × Bor (List ℕ))
+
+cut : (w : List ℕ) (r : Cut) → IsSplitOnceResult 61 w r → (row : TableRow) → IsRow w row
+    → MatchOption r ⊥ (λ x. (x.0.now ≡ prefix_text row.prefix) × (x.1.now ≡ decimal row.cost))
+cut w r h row is = split_after 61 w (prefix_text row.prefix) (decimal row.cost) r h (lit< tt) is.0 (high_in_prefix 61 row.prefix (lit< tt) is.1.1)
+
+pub no_row : (w : List ℕ) (r : Cut) → IsSplitOnceResult 61 w r → r ≡ None → (row : TableRow) → IsRow w row → ⊥
+no_row w r h none row is =
+    subst (λ (q : Cut). MatchOption q ⊥ (λ x. (x.0.now ≡ prefix_text row.prefix) × (x.1.now ≡ decimal row.cost))) none (cut w r h row is)
+
+pub row_parts : (w : List ℕ) (r : Cut) (x : Bor (List ℕ) × Bor (List ℕ)) → IsSplitOnceResult 61 w r → r ≡ Some x → (row : TableRow) → IsRow w row
+    → (x.0.now ≡ prefix_text row.prefix) × (x.1.now ≡ decimal row.cost)
+row_parts w r x h some row is =
+    subst (λ (q : Cut). MatchOption q ⊥ (λ x. (x.0.now ≡ prefix_text row.prefix) × (x.1.now ≡ decimal row.cost))) some (cut w r h row is)
+
+pub row_spelled : (w : List ℕ) (r : Cut) (x : Bor (List ℕ) × Bor (List ℕ)) → IsSplitOnceResult 61 w r → r ≡ Some x → (n : Network) (cost : ℕ)
+    → x.0.now ≡ prefix_text n → x.1.now ≡ decimal cost → w ≡ prefix_text n ++ 61 ∷ decimal cost
+row_spelled w r x h some n cost e f =
+    let parts : (w ≡ x.0.now ++ (61 ∷ x.1.now)) × ((i : ℕ) → i < length x.0.now → get_or x.0.now i 0 ≡ 61 → ⊥) =
+    subst (λ (q : Cut). MatchOption q ((i : ℕ) → i < length w → get_or w i 0 ≡ 61 → ⊥) (λ x. (w ≡ x.0.now ++ (61 ∷ x.1.now)) × ((i : ℕ) → i < length x.0.now → get_or x.0.now i 0 ≡ 61 → ⊥))) some (split_parts 61 w r h (lit< tt)) in
+    parts.0 ∙ ap (λ (t : List ℕ). t ++ (61 ∷ x.1.now)) e ∙ ap (λ (t : List ℕ). prefix_text n ++ (61 ∷ t)) f
+
+-- ---- several words
+
+abbrev pub texts : List (Bor Text) → List Text
+texts words = map (λ w. w.now) words
+
+-- What is read so far and what is still to be read are the rows of the words.
+pub record HasRead (words : List (Bor Text)) (index : ℕ) (rows : List TableRow) : Type 0 where
+  pub ahead : (rest : List TableRow) → AreRows (texts (drop index words)) rest → AreRows (texts words) (rows ++ rest)
+  pub back : (whole : List TableRow) → AreRows (texts words) whole → (rest : List TableRow) × AreRows (texts (drop index words)) rest
+
+pub read_none : (words : List (Bor Text)) → HasRead words 0 []
+read_none words = record { ahead = λ rest are. are; back = λ whole are. (whole, are) }
+
+first_of_rows : (word : Text) (words : List Text) (rows : List TableRow) → AreRows (word ∷ words) rows
+    → (row : TableRow) × (rest : List TableRow) × IsRow word row × AreRows words rest
+first_of_rows word words [] are = absurd are
+first_of_rows word words (row ∷ rest) are = (row, rest, are.0, are.1)
+
+pub read_more : (words : List (Bor Text)) (i : ℕ) (w : Bor Text) (rows : List TableRow) (row : TableRow) → i < length words → w ≡ slice_index_or words i w
+    → IsRow w.now row → HasRead words i rows → HasRead words (i + 1) (rows ++ row ∷ [])
+read_more words i w rows row lt at is has = record {
+  ahead = λ rest are.
+      let here : IsRow (slice_index_or words i w).now row = subst (λ (x : Bor Text). IsRow x.now row) at is in
+      let step : AreRows (texts (slice_index_or words i w ∷ drop (i + 1) words)) (row ∷ rest) = (here, are) in
+      let more : AreRows (texts (drop i words)) (row ∷ rest) =
+      subst (λ (X : Type 0). X) (sym (at_drop_more (λ (xs : List (Bor Text)). AreRows (texts xs) (row ∷ rest)) words i w lt)) step in
+      subst (λ (xs : List TableRow). AreRows (texts words) xs) (sym (append_assoc rows (row ∷ []) rest)) (has.ahead (row ∷ rest) more);
+  back = λ whole are.
+      let (rest, left) = has.back whole are in
+      let step : AreRows (texts (slice_index_or words i w ∷ drop (i + 1) words)) rest =
+      subst (λ (X : Type 0). X) (at_drop_more (λ (xs : List (Bor Text)). AreRows (texts xs) rest) words i w lt) left in
+      let (row', rest', is', more) = first_of_rows _ _ rest step in
+      (rest', more);
+}
+
+pub read_wrong : (words : List (Bor Text)) (i : ℕ) (w : Bor Text) (rows : List TableRow) → i < length words → w ≡ slice_index_or words i w
+    → ((row : TableRow) → IsRow w.now row → ⊥) → HasRead words i rows → (whole : List TableRow) → AreRows (texts words) whole → ⊥
+read_wrong words i w rows lt at none has whole are =
+    let (rest, left) = has.back whole are in
+    let step : AreRows (texts (slice_index_or words i w ∷ drop (i + 1) words)) rest =
+    subst (λ (X : Type 0). X) (at_drop_more (λ (xs : List (Bor Text)). AreRows (texts xs) rest) words i w lt) left in
+    let (row, rest', is, more) = first_of_rows _ _ rest step in
+    none row (subst (λ (x : Bor Text). IsRow x.now row) (sym at) is)
+
+-- ---- the rows of an option
+
+pub no_table : (found given : Option (List Text)) (r : Option (Vec TableRow)) → given ≡ found → Reads (λ rows. HasRows given rows.items) r → r ≡ None
+    → (rows : Vec TableRow) → HasRows found rows.items → ⊥
+no_table found given r same reads none rows has =
+    subst (λ (q : Option (Vec TableRow)). Reads (λ rows. HasRows given rows.items) q) none reads rows
+    (subst (λ (g : Option (List Text)). HasRows g rows.items) (sym same) has)
+
+pub table : (found given : Option (List Text)) (r : Option (Vec TableRow)) (rows : Vec TableRow) → given ≡ found → Reads (λ rows. HasRows given rows.items) r
+    → r ≡ Some rows → HasRows found rows.items
+table found given r rows same reads some =
+    subst (λ (g : Option (List Text)). HasRows g rows.items) same
+    (subst (λ (q : Option (Vec TableRow)). Reads (λ rows. HasRows given rows.items) q) some reads)

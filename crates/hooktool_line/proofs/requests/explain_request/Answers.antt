@@ -1,0 +1,15 @@
+use Rattle.std.proofs.Common.{refl, codes}
+use Rattle.clap.specs.Matches.{found_of}
+use Rattle.clap.specs.Walk.{rows_of}
+use Rattle.hooktool_line.proofs.Made.{has_none, has_word, no_explain}
+use Rattle.hooktool_line.proofs.requests.explain_request.Goals as goal
+
+pub returns-in_err-object : goal.returns-in_err-object
+returns-in_err-object c =
+    let rows = rows_of (found_of c.args.matches.now) in
+    rw c.from_residual.ensures (no_explain rows (has_none rows (codes "OBJECT") c.in_err-object.ensures))
+
+pub returns : goal.returns
+returns c =
+    let rows = rows_of (found_of c.args.matches.now) in
+    (refl, has_word rows (codes "OBJECT") c.in_ok-object.object c.in_ok-object.ensures)

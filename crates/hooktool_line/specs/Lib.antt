@@ -1,0 +1,5 @@
+pub mod Building
+pub mod CommandLine
+pub mod Questions
+pub mod Requests
+pub mod Words

@@ -1,0 +1,68 @@
+-- The question that the options of a command ask.
+use Rattle.std.specs.Prelude.{◌≡◌, ◌^◌, ℕ, List, [], Option, Some, None, codes}
+use Rattle.clap.specs.Walk.{Row, Text, all_of, first_of}
+use Rattle.words.specs.declared.route.TableRow.{TableRow}
+use Rattle.hook_questions.specs.declared.asked.Asked.{Asked}
+use Rattle.hooktool_line.specs.Words.{AreRows, IsNoPacket, IsNumber, IsPacket, IsPrefix, OrElse}
+use Rattle.hooktool_line.specs.Words.{everything, kind_word, type_word}
+use Rattle.hooktool_line.specs.declared.numbers.Numbers.{Numbers}
+use Rattle.hooktool_line.specs.declared.places.Places.{Places}
+use Rattle.hooktool_line.specs.declared.requests.Question.{Question}
+use Rattle.words.specs.declared.route.ExternalType.TheVariants.{Type2}
+use Rattle.words.specs.declared.route.RouteKind.TheVariants.{Intra}
+
+-- the number of an option: this one where it isn't given
+abbrev pub HasNumber : List Row → (name : Text) → (usual least most : ℕ) → ℕ → Type 0
+HasNumber rows name usual least most n =
+    OrElse (first_of name rows) (n ≡ usual) (λ word. IsNumber least most word n)
+
+-- one of 32 bits, or 0
+abbrev pub HasWide : List Row → (name : Text) → ℕ → Type 0
+HasWide rows name n = HasNumber rows name 0 0 4294967295 n
+
+-- A moment of the router's lies below 2^62, and an interface below 64.
+pub record HasNumbers (rows : List Row) (numbers : Numbers) : Type 0 where
+  pub metric : HasWide rows (codes "metric") numbers.metric
+  pub tag : HasWide rows (codes "tag") numbers.tag
+  pub cost : HasWide rows (codes "cost") numbers.cost
+  pub distance : HasWide rows (codes "distance") numbers.distance
+  pub moment : HasNumber rows (codes "moment") 0 0 4611686018427387903 numbers.moment
+  pub interface : HasNumber rows (codes "interface") 0 0 63 numbers.interface
+
+pub record HasPlaces (rows : List Row) (places : Places) : Type 0 where
+  pub prefix : OrElse (first_of (codes "prefix") rows) (places.prefix ≡ everything)
+      (λ word. IsPrefix word places.prefix)
+  pub external : OrElse (first_of (codes "type") rows) (places.external ≡ Type2)
+      (λ word. word ≡ type_word places.external)
+  pub kind : OrElse (first_of (codes "kind") rows) (places.kind ≡ Intra)
+      (λ word. word ≡ kind_word places.kind)
+
+-- the question of both: the route leaves by the one interface
+abbrev pub asked_of : Places → Numbers → Asked
+asked_of places numbers = record {
+  prefix = places.prefix;
+  metric = numbers.metric;
+  tag = numbers.tag;
+  external = places.external;
+  kind = places.kind;
+  cost = numbers.cost;
+  distance = numbers.distance;
+  hops = 2 ^ numbers.interface;
+  interface = numbers.interface;
+  moment = numbers.moment;
+}
+
+abbrev pub HasRows : Option (List Text) → List TableRow → Type 0
+HasRows None rows = rows ≡ []
+HasRows (Some words) rows = AreRows words rows
+
+pub record HasQuestion (rows : List Row) (question : Question) : Type 0 where
+  pub places : Places
+  pub numbers : Numbers
+  pub named : HasPlaces rows places
+  pub counted : HasNumbers rows numbers
+  pub asked : question.asked ≡ asked_of places numbers
+  pub packet : OrElse (first_of (codes "packet") rows) (IsNoPacket question.packet)
+      (λ word. IsPacket word question.packet)
+  pub table : HasRows (all_of (codes "row") rows) question.rows.items
+  pub times : HasNumber rows (codes "times") 1 1 1000 question.times

@@ -1,0 +1,85 @@
+-- What the words of a command line ask for.
+use Rattle.std.specs.Prelude.{◌≡◌, ◌⊎◌, ℕ, List, [], Option, Some, None, codes}
+use Rattle.clap.specs.Faults.{fault_of}
+use Rattle.clap.specs.Kinds.{IsAmong}
+use Rattle.clap.specs.Simple.{subcommand_of}
+use Rattle.clap.specs.Values.{kind_of}
+use Rattle.clap.specs.Walk.{Row, Text, first_of}
+use Rattle.clap.specs.declared.error.Error.{Error}
+use Rattle.clap.specs.declared.error.kind.ErrorKind.TheVariants as kinds
+use Rattle.isa.specs.Hooks.{hook_name}
+use Rattle.hooktool_line.specs.CommandLine.{line}
+use Rattle.hooktool_line.specs.Questions.{HasQuestion}
+use Rattle.hooktool_line.specs.Words.{IsNumber, OrElse}
+use Rattle.hooktool_line.specs.declared.requests.Request.{Request}
+use Rattle.hooktool_line.specs.declared.requests.Request.TheVariants as requests
+
+-- the command that makes the request
+abbrev pub command_of : Request → Text
+command_of (requests.Annotate hook code object fuel) = codes "annotate"
+command_of (requests.Explain object) = codes "explain"
+command_of (requests.Try object question) = codes "try"
+
+-- the word under this name
+abbrev pub HasWord : List Row → Text → Text → Type 0
+HasWord rows name word = first_of name rows ≡ Some word
+
+-- how many turns a loop may take, where that is told
+abbrev pub IsFuel : Text → Option ℕ → Type 0
+IsFuel word (Some turns) = IsNumber 1 999999 word turns
+IsFuel word None = ⊥
+
+abbrev pub HasFuel : List Row → Option ℕ → Type 0
+HasFuel rows fuel = OrElse (first_of (codes "fuel") rows) (fuel ≡ None) (λ word. IsFuel word fuel)
+
+-- The words of the request's command are those of the request.
+abbrev pub HasWordsOf : List Row → Request → Type 0
+HasWordsOf rows (requests.Annotate hook code object fuel) =
+    HasWord rows (codes "HOOK") (hook_name hook) × HasWord rows (codes "CODE") code.now
+    × HasWord rows (codes "OBJECT") object.now × HasFuel rows fuel
+HasWordsOf rows (requests.Explain object) = HasWord rows (codes "OBJECT") object.now
+HasWordsOf rows (requests.Try object question) =
+    HasWord rows (codes "OBJECT") object.now × HasQuestion rows question
+
+-- what the command of this name makes of its words, if it makes a request of them
+abbrev pub MadeBy : Text → List Row → Option Request → Type 0
+MadeBy name rows (Some request) = (command_of request ≡ name) × HasWordsOf rows request
+MadeBy name rows None = (request : Request) → command_of request ≡ name → HasWordsOf rows request
+    → ⊥
+
+-- A word of this command is wrong, so that it makes no request; or memory was refused.
+abbrev pub IsWrong : Text → List Row → Error → Type 0
+IsWrong name rows error = (kind_of error ≡ kinds.OutOfMemory)
+    ⊎ ((kind_of error ≡ kinds.InvalidValue) × MadeBy name rows None)
+
+-- A command that was named, with its words, makes the request.
+abbrev pub Makes : Option (Text × List Row) → Request → Type 0
+Makes named request = (rows : List Row) × (named ≡ Some (command_of request, rows))
+    × HasWordsOf rows request
+
+abbrev pub MakesNone : Option (Text × List Row) → Type 0
+MakesNone named = (request : Request) → Makes named request → ⊥
+
+-- The command line takes the words, and the command that they name makes the request of the words
+-- under its names.
+abbrev pub Asks : List Text → Request → Type 0
+Asks words request = (fault_of line words ≡ []) × Makes (subcommand_of line words) request
+
+-- What is wrong with words that the command line takes: that no command is named, or a value where
+-- one is.
+abbrev pub IsWrongKind : Option (Text × List Row) → Error → Type 0
+IsWrongKind None error = kind_of error ≡ kinds.MissingSubcommand
+IsWrongKind (Some named) error = kind_of error ≡ kinds.InvalidValue
+
+abbrev pub IsWrongWord : Option (Text × List Row) → Error → Type 0
+IsWrongWord named error = IsWrongKind named error × MakesNone named
+
+-- The command line doesn't take the words, for a reason of this kind (help is one); or no request
+-- is made of them.
+abbrev pub IsMistake : List Text → Error → Type 0
+IsMistake words error = IsAmong (kind_of error) (fault_of line words)
+    ⊎ ((fault_of line words ≡ []) × IsWrongWord (subcommand_of line words) error)
+
+-- Want of memory is one more reason.
+abbrev pub IsRefusal : List Text → Error → Type 0
+IsRefusal words error = (kind_of error ≡ kinds.OutOfMemory) ⊎ IsMistake words error

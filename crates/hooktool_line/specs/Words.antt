@@ -1,0 +1,67 @@
+-- What words stand for.
+use Rattle.std.specs.Prelude.{◌≡◌, ◌≢◌, ◌<◌, ◌≤◌, ◌^◌, ℕ, List, [], ◌∷◌, ◌++◌, Option, Some, None, Ok}
+use Rattle.std.specs.Prelude.{codes, decimal, slice_get}
+use Rattle.clap.specs.Walk.{Text}
+use Rattle.hex.specs.Hex.{decode_of}
+use Rattle.words.specs.Prefixes.{IsNetwork, Network}
+use Rattle.words.specs.Text.{prefix_text}
+use Rattle.words.specs.declared.route.ExternalType.{ExternalType}
+use Rattle.words.specs.declared.route.ExternalType.TheVariants.{Type1, Type2}
+use Rattle.words.specs.declared.route.RouteKind.{RouteKind}
+use Rattle.words.specs.declared.route.RouteKind.TheVariants.{Intra, Inter, External1, External2}
+use Rattle.words.specs.declared.route.TableRow.{TableRow}
+use Rattle.hooktool_line.specs.declared.requests.Packet.{Packet}
+use Rattle.hooktool_line.specs.declared.requests.Packet.TheVariants as packets
+
+-- What is read has this meaning; where nothing is, nothing has it.
+abbrev pub Reads : {A : Type 0} → (A → Type 0) → Option A → Type 0
+Reads {A} Means (Some x) = Means x
+Reads {A} Means None = (x : A) → Means x → ⊥
+
+-- what a word means, or what is so where there is none
+abbrev pub OrElse : Option Text → Type 0 → (Text → Type 0) → Type 0
+OrElse None Usual Means = Usual
+OrElse (Some word) Usual Means = Means word
+
+-- a number in decimal, within these
+abbrev pub IsNumber : (least most : ℕ) → Text → ℕ → Type 0
+IsNumber least most word n = (word ≡ decimal n) × (least ≤ n) × (n ≤ most)
+
+-- a network: its address, a slash and its length
+abbrev pub IsPrefix : Text → Network → Type 0
+IsPrefix word network = (word ≡ prefix_text network) × IsNetwork network
+
+-- 0.0.0.0/0
+abbrev pub everything : Network
+everything = record { address = 0; length = 0 }
+
+abbrev pub type_word : ExternalType → Text
+type_word Type1 = codes "1"
+type_word Type2 = codes "2"
+
+abbrev pub kind_word : RouteKind → Text
+kind_word Intra = codes "intra"
+kind_word Inter = codes "inter"
+kind_word External1 = codes "ext1"
+kind_word External2 = codes "ext2"
+
+-- a row of the table: a network, an equals sign (61) and its cost
+abbrev pub IsRow : Text → TableRow → Type 0
+IsRow word row = (word ≡ prefix_text row.prefix ++ 61 ∷ decimal row.cost) × IsNetwork row.prefix
+    × (row.cost < 2 ^ 32)
+
+abbrev pub AreRows : List Text → List TableRow → Type 0
+AreRows [] [] = Unit {0}
+AreRows (word ∷ words) (row ∷ rows) = IsRow word row × AreRows words rows
+AreRows _ _ = ⊥
+
+-- no packet
+abbrev pub IsNoPacket : Packet → Type 0
+IsNoPacket (packets.Bytes bytes) = bytes.items ≡ []
+IsNoPacket (packets.File path) = ⊥
+
+-- the bytes of a file, which is named behind an at sign (64), or bytes in hex
+abbrev pub IsPacket : Text → Packet → Type 0
+IsPacket word (packets.Bytes bytes) =
+    ((rest : Text) → word ≢ 64 ∷ rest) × (decode_of word ≡ Ok bytes.items)
+IsPacket word (packets.File path) = word ≡ 64 ∷ path.now

@@ -1,0 +1,14 @@
+//! The command line of `hooktool`: the words that it takes, and what they ask for.
+#![tactic(auto)]
+
+mod arguments;
+mod numbers;
+mod packets;
+mod places;
+mod reading;
+mod requests;
+mod rows;
+mod values;
+
+pub use reading::{parse, unread};
+pub use requests::{Packet, Question, Request};

@@ -1,0 +1,32 @@
+//! The destination and the kinds of a question.
+
+ghost use Rattle.clap.specs.Matches.{found_of};
+ghost use Rattle.clap.specs.Walk.{rows_of};
+ghost use Rattle.hooktool_line.specs.Questions.{HasPlaces};
+ghost use Rattle.hooktool_line.specs.Words.{Reads};
+
+use crate::values::{kind_in, prefix_in, type_in};
+use clap::ArgMatches;
+use words::{ExternalType, Prefix, RouteKind};
+
+/// The destination of a question, the type of the external one, and the route's kind.
+#[derive(Clone, Copy, Debug)]
+pub(crate) struct Places {
+    pub prefix: Prefix,
+    pub external: ExternalType,
+    pub kind: RouteKind,
+}
+
+/// What the options give of them.
+pub(crate) fn places_of(matches: &ArgMatches<'_>) -> Option<Places>
+    ensures { Reads (HasPlaces (rows_of (found_of matches.now))) result }
+{
+    let prefix = prefix_in(matches)?;
+    let external = type_in(matches)?;
+    let kind = kind_in(matches)?;
+    Some(Places {
+        prefix,
+        external,
+        kind,
+    })
+}

@@ -1,0 +1,40 @@
+//! The words of a command line, read.
+
+ghost use Rattle.std.specs.Prelude.{◌≡◌, ◌⊎◌, map, MatchResult};
+ghost use Rattle.std.specs.IoError.{error_kind};
+ghost use Rattle.clap.specs.Values.{kind_of};
+ghost use Rattle.hooktool_line.specs.Requests.{Asks, IsRefusal};
+
+use crate::arguments;
+use crate::requests::{self, Request};
+use clap::Error;
+use clap::error::ErrorKind;
+use std::alloc::{AllocError, Global};
+use std::io::{self, ErrorKind as IoKind};
+
+/// The text for words that can't be read: memory was refused, or a word isn't UTF-8.
+pub fn unread(alloc: Global, error: &io::Error) -> Error
+    ensures memory { error_kind error.now ≡ IoKind.OutOfMemory → kind_of result ≡ ErrorKind.OutOfMemory }
+    ensures value { (kind_of result ≡ ErrorKind.OutOfMemory) ⊎ (kind_of result ≡ ErrorKind.InvalidValue) }
+{
+    match error.kind() {
+        IoKind::OutOfMemory => Error::from(AllocError),
+        _ => arguments::wrong_value(alloc, "a word isn't UTF-8"),
+    }
+}
+
+/// Reads the words of a command line, of which the first is the program's name.
+///
+/// `Ok` is just what the words ask for. `Err` has the text for the user: a mistake in the words, where
+/// they ask for nothing, or the help that they ask for; its kind is `OutOfMemory` where an allocation was
+/// refused.
+pub fn parse<'a>(alloc: Global, words: &'a [&'a str]) -> Result<Request<'a>, Error>
+    ensures { MatchResult result (Asks (map (λ w. w.now) words.entry.now))
+        (IsRefusal (map (λ w. w.now) words.entry.now)) }
+{
+    let matches = arguments::whole(alloc)?.try_get_matches_from(words)?;
+    match requests::request_of(alloc, &matches)? {
+        Some(request) => Ok(request),
+        None => Err(arguments::error(alloc, ErrorKind::MissingSubcommand, "no command is given")?),
+    }
+}

@@ -1,0 +1,245 @@
+//! What a command and its words ask for.
+
+ghost use Rattle.std.specs.Prelude.{◌≡◌, ◌<◌, ◌⊎◌, codes, IfOk, IfErr, IfSome, Some, None};
+ghost use Rattle.clap.specs.Matches.{found_of};
+ghost use Rattle.clap.specs.Simple.{subcommand_rows_of};
+ghost use Rattle.clap.specs.Values.{kind_of};
+ghost use Rattle.clap.specs.Walk.{rows_of};
+ghost use Rattle.clap.specs.declared.error.kind.ErrorKind.TheVariants as kinds;
+ghost use Rattle.hooktool_line.specs.Questions.{HasQuestion, asked_of};
+ghost use Rattle.hooktool_line.specs.Requests.{HasFuel, IsFuel, IsWrong, IsWrongWord, MadeBy, Makes};
+ghost use Rattle.hooktool_line.specs.Words.{Reads};
+
+use crate::arguments::wrong_value;
+use crate::numbers::{Numbers, numbers_of};
+use crate::packets::packet_in;
+use crate::places::{Places, places_of};
+use crate::rows::rows_in;
+use crate::values::{kind_in, number_of, prefix_in, type_in, word_of};
+use address_texts::read_within;
+use clap::{ArgMatches, Error};
+use hook_questions::Asked;
+use isa::Hook;
+use std::alloc::{AllocError, Global};
+use words::{Hops, Second, TableRow};
+
+/// The packet of a question: its bytes, or the path of the file that has them.
+#[derive(Debug, Drop)]
+pub enum Packet<'a> {
+    Bytes(Vec<u8>),
+    File(&'a str),
+}
+
+/// What a program is to be run on, and how many times in a row, 1 to 1,000.
+#[derive(Debug, Drop)]
+pub struct Question<'a> {
+    pub asked: Asked,
+    pub packet: Packet<'a>,
+    pub rows: Vec<TableRow>,
+    pub times: u32,
+}
+
+/// What the words of a command line ask for.
+#[derive(Debug, Drop)]
+pub enum Request<'a> {
+    /// Find statements for code at a hook, and write the object. Where `fuel` is told, loops without a rank may take so many turns.
+    Annotate {
+        hook: Hook,
+        code: &'a str,
+        object: &'a str,
+        fuel: Option<u32>,
+    },
+    /// Tell what the verifier knows of an object's program.
+    Explain {
+        object: &'a str,
+    },
+    /// Run an object's program on a question.
+    Try {
+        object: &'a str,
+        question: Question<'a>,
+    },
+}
+
+/// What a place and numbers ask.
+fn asked_of(places: Places, numbers: Numbers) -> Asked
+    requires { numbers.interface < 64 }
+    ensures { result ≡ asked_of places numbers }
+{
+    Asked {
+        prefix: places.prefix,
+        metric: numbers.metric,
+        tag: numbers.tag,
+        external: places.external,
+        kind: places.kind,
+        cost: numbers.cost,
+        distance: numbers.distance,
+        hops: Hops::only(numbers.interface),
+        interface: u16::from(numbers.interface),
+        moment: Second::new(numbers.moment),
+    }
+}
+
+/// The question that the options ask. None where one of their words has no meaning.
+fn question_of<'a>(
+    alloc: Global,
+    matches: &ArgMatches<'a>,
+) -> Result<Option<Question<'a>>, AllocError>
+    ensures { IfOk result (Reads (HasQuestion (rows_of (found_of matches.now)))) }
+{
+    let Some(places) = places_of(matches) else {
+        return Ok(None);
+    };
+    let Some(numbers) = numbers_of(matches) else {
+        return Ok(None);
+    };
+    let Some(times) = number_of(matches, "times", 1, 1, 1000) else {
+        return Ok(None);
+    };
+    let Some(packet) = packet_in(alloc, word_of(matches, "packet"))? else {
+        return Ok(None);
+    };
+    let Some(rows) = rows_in(alloc, matches.get_strs("row"))? else {
+        return Ok(None);
+    };
+    Ok(Some(Question {
+        asked: asked_of(places, numbers),
+        packet,
+        rows,
+        times: times as u32,
+    }))
+}
+
+/// The number of turns that a word gives.
+fn turns_of(word: &str) -> Option<Option<u32>>
+    ensures { Reads (IsFuel word.now) result }
+{
+    match read_within(word, 1, 999_999) {
+        Some(turns) => Some(Some(turns as u32)),
+        None => None,
+    }
+}
+
+/// How many turns a loop may take, where that is told. None where the word is no such number.
+fn fuel_of(matches: &ArgMatches<'_>) -> Option<Option<u32>>
+    ensures { Reads (HasFuel (rows_of (found_of matches.now))) result }
+{
+    match word_of(matches, "fuel") {
+        None => Some(None),
+        Some(word) => turns_of(word),
+    }
+}
+
+fn annotate_request<'a>(matches: &ArgMatches<'a>) -> Option<Request<'a>>
+    ensures { MadeBy (codes "annotate") (rows_of (found_of matches.now)) result }
+{
+    let hook = Hook::from_name(word_of(matches, "HOOK")?)?;
+    let code = word_of(matches, "CODE")?;
+    let object = word_of(matches, "OBJECT")?;
+    let fuel = fuel_of(matches)?;
+    Some(Request::Annotate {
+        hook,
+        code,
+        object,
+        fuel,
+    })
+}
+
+fn explain_request<'a>(matches: &ArgMatches<'a>) -> Option<Request<'a>>
+    ensures { MadeBy (codes "explain") (rows_of (found_of matches.now)) result }
+{
+    let object = word_of(matches, "OBJECT")?;
+    Some(Request::Explain { object })
+}
+
+fn try_request<'a>(
+    alloc: Global,
+    matches: &ArgMatches<'a>,
+) -> Result<Option<Request<'a>>, AllocError>
+    ensures { IfOk result (MadeBy (codes "try") (rows_of (found_of matches.now))) }
+{
+    let Some(object) = word_of(matches, "OBJECT") else {
+        return Ok(None);
+    };
+    match question_of(alloc, matches)? {
+        Some(question) => Ok(Some(Request::Try { object, question })),
+        None => Ok(None),
+    }
+}
+
+// What a command makes of its words. None where it makes nothing of them, or there is no such command.
+fn made_by<'a>(
+    alloc: Global,
+    name: &str,
+    matches: &ArgMatches<'a>,
+) -> Result<Option<Request<'a>>, AllocError>
+    ensures { IfOk result (MadeBy name.now (rows_of (found_of matches.now))) }
+{
+    match name {
+        "annotate" => Ok(annotate_request(matches)),
+        "explain" => Ok(explain_request(matches)),
+        "try" => try_request(alloc, matches),
+        _ => Ok(None),
+    }
+}
+
+// Which word of `try` has no meaning, where it is one but the packet and the rows.
+fn wrong_option(matches: &ArgMatches<'_>) -> &'static str {
+    if prefix_in(matches).is_none() {
+        return "--prefix is no network A.B.C.D/L whose other bits are 0";
+    }
+    if type_in(matches).is_none() {
+        return "--type is neither 1 nor 2";
+    }
+    if kind_in(matches).is_none() {
+        return "--kind is none of intra, inter, ext1 and ext2";
+    }
+    if numbers_of(matches).is_none() {
+        return "--metric, --tag, --cost and --distance are numbers up to 4294967295, --interface up to 63, --moment below 2^62";
+    }
+    if number_of(matches, "times", 1, 1, 1000).is_none() {
+        return "--times is no number from 1 to 1000";
+    }
+    "--packet is neither hex digits, two a byte, nor @FILE, or --row isn't A.B.C.D/L=COST"
+}
+
+// What is wrong with the words of a command that makes nothing of them.
+fn wrong_word(name: &str, matches: &ArgMatches<'_>) -> &'static str {
+    match name {
+        "annotate" => match fuel_of(matches) {
+            Some(_) => "HOOK is none of count, tag, price and veto",
+            None => "--fuel is no number from 1 to 999999",
+        },
+        _ => wrong_option(matches),
+    }
+}
+
+// The request that a command makes of its words. A wrong value where it makes none.
+fn request_by<'a>(alloc: Global, name: &str, matches: &ArgMatches<'a>) -> Result<Request<'a>, Error>
+    ensures ok { IfOk result (λ request. MadeBy name.now (rows_of (found_of matches.now)) (Some request)) }
+    ensures err { IfErr result (IsWrong name.now (rows_of (found_of matches.now))) }
+{
+    match made_by(alloc, name, matches) {
+        Ok(Some(request)) => Ok(request),
+        Ok(None) => Err(wrong_value(alloc, wrong_word(name, matches))),
+        Err(error) => Err(Error::from(error)),
+    }
+}
+
+/// What the command that the words name makes of its words. None where they name no command.
+pub(crate) fn request_of<'a>(
+    alloc: Global,
+    matches: &ArgMatches<'a>,
+) -> Result<Option<Request<'a>>, Error>
+    ensures some { IfOk result (λ o. IfSome o (Makes (subcommand_rows_of matches.now))) }
+    ensures none { IfOk result (λ o. o ≡ None → subcommand_rows_of matches.now ≡ None) }
+    ensures err { IfErr result (λ e. (kind_of e ≡ kinds.OutOfMemory)
+        ⊎ IsWrongWord (subcommand_rows_of matches.now) e) }
+{
+    match matches.subcommand() {
+        Some((name, matches)) => match request_by(alloc, name, matches) {
+            Ok(request) => Ok(Some(request)),
+            Err(error) => Err(error),
+        },
+        None => Ok(None),
+    }
+}

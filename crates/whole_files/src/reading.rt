@@ -1,0 +1,51 @@
+//! Files that are read whole.
+ghost use Rattle.std.specs.Prelude.{◌≤◌, IfOk, vec_len};
+
+use std::fs;
+use std::io::{ErrorKind, Read};
+use std::rt::Files;
+
+/// A file that is longer than this many bytes can't be read: no code, object or text is.
+const MOST_BYTES: u64 = 16_777_216;
+
+/// Why a file wasn't read.
+#[derive(Clone, Copy, Debug, PartialEq, Eq)]
+pub enum ReadFault {
+    /// It can't be opened or read, is no regular file, or is longer than 16 MiB.
+    Unreadable,
+    /// An allocation was refused.
+    Memory,
+}
+
+// Whether a regular file is there. Of what is none it is known before it is opened: to open a pipe
+// may wait for its other end.
+fn is_regular<R: Files>(rt: &R, path: &str) -> bool {
+    match fs::metadata(rt, path) {
+        Ok(found) => found.is_file(),
+        Err(_) => false,
+    }
+}
+
+/// The bytes of the regular file at `path`.
+///
+/// # Errors
+///
+/// `Unreadable` where it can't be opened or read, is no regular file (a directory, a pipe or a device),
+/// or has more than 16,777,216 bytes; `Memory` where an allocation was refused.
+pub fn read<R: Files + AllocGlobal>(rt: &R, path: &str) -> Result<Vec<u8>, ReadFault>
+    ensures within { IfOk result (λ bytes. vec_len bytes ≤ 16777216) }
+{
+    if !is_regular(rt, path) {
+        return Err(ReadFault::Unreadable);
+    }
+    let Ok(file) = fs::open(rt, path) else {
+        return Err(ReadFault::Unreadable);
+    };
+    let mut bytes = Vec::new(rt.alloc());
+    match file.take(MOST_BYTES + 1).read_to_end(&mut bytes) {
+        Ok(_) if bytes.len() as u64 <= MOST_BYTES => Ok(bytes),
+        Ok(_) => Err(ReadFault::Unreadable),
+        Err(error) if matches!(error.kind(), ErrorKind::OutOfMemory) => Err(ReadFault::Memory),
+        Err(_) => Err(ReadFault::Unreadable),
+    }
+}
