@@ -21,6 +21,7 @@ invariant_of-self-2 g c =
       replays =
           (let P : List Entry → Type 0 = λ l. Replays c.self.inside.start l after in
           subst P (sym grown) (replays_on _ journal _ _ (entry c.args.moment copy) _ kept.replays happened));
+      weighed = search rules;
       room = search rules;
       few = search rules;
       counted = ap (λ n. n + 1) kept.counted ∙ sym c.add.ensures.total;
