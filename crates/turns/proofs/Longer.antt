@@ -1,5 +1,5 @@
 -- What begins with a longer list begins with a shorter one.
-use Rattle.std.proofs.Common.{◌≡◌, ℕ, List, Option, None, Some}
+use Rattle.std.proofs.Common.{◌≡◌, ◌∙◌, ℕ, ◌+◌, List, Option, None, Some, arith}
 use Rattle.std.specs.Prelude.{MatchOption}
 use Rattle.std.specs.List.{All}
 use mathlib.Core.List.{IsPrefix}
@@ -74,3 +74,12 @@ module _ (known more : List Operation) (longer : IsPrefix known more) where
     outs = takes_longer offers took moment w turned.outs.items h.outs;
     refreshed = refreshed_longer (λ outs. outs.items) offers took moment _ _ turned.refreshed h.refreshed;
   }
+
+  -- what follows an event that counts once
+  pub follows : {X : Type 0} (items : X → List Out) (offers : Offers) (took : Took) (moment : Moment) (before between after : ℕ) (o : Option X)
+      → between ≡ before + 1
+      → MatchOption o (after ≡ between) (λ x. TakesFor offers took more moment work.Refresh (items x) × (after ≡ between + 1))
+      → MatchOption o (after ≡ before + 1) (λ x. TakesFor offers took known moment work.Refresh (items x) × (after ≡ before + 2))
+  follows items offers took moment before between after None one h = h ∙ one
+  follows items offers took moment before between after (Some x) one h =
+      (takes_longer offers took moment work.Refresh (items x) h.0, omega (arith, h.1, one))

@@ -1,5 +1,5 @@
 //! A turn of a worker.
-ghost use Rattle.std.specs.Prelude.{◌≡◌, ◌+◌, ◌≤◌, Err, IfOk, OnOk, OnErr, max};
+ghost use Rattle.std.specs.Prelude.{◌≡◌, ◌+◌, ◌≤◌, Err, IfOk, MatchOption, OnOk, OnErr, max};
 ghost use mathlib.Core.List.{IsPrefix};
 ghost use Rattle.words.specs.Constants.{clock_end};
 ghost use Rattle.hooks.specs.Known.{known_to};
@@ -55,15 +55,35 @@ pub fn turn<L: Site, B: Taker<L>, G: Gate, R: Wait>(
     let event = asked(rt, hub, &mut port.asker, &mut port.seat, moment, work)?;
     gate.pass(port.number);
     let taken = hub.take(rt, &mut port.share, moment, &event)?;
-    let refreshed = if taken.stale {
-        refresh(rt, hub, port, moment, changes).ok()
-    } else {
-        None
-    };
+    let refreshed = follow(rt, hub, port, moment, changes, taken.stale);
     Ok(Turned {
         outs: taken.outs,
         refreshed,
     })
+}
+
+// The refresh that follows a turn which left the router stale; None where it didn't, or the refresh
+// is refused.
+fn follow<L: Site, B: Taker<L>, R: Wait>(
+    rt: &R,
+    hub: &Hub<L, B>,
+    port: &mut Port<L>,
+    moment: Second,
+    changes: u64,
+    stale: bool,
+) -> Option<Vec<Out>>
+    ensures refreshed { MatchOption result
+        (port.new.share.amount ≡ port.old.share.amount)
+        (λ outs. TakesFor B.offers B.took (known_to port.old.asker) moment Work.Refresh outs.items
+        × (port.new.share.amount ≡ port.old.share.amount + 1)) }
+    ensures number { port.new.number ≡ port.old.number }
+    ensures known { IsPrefix (known_to port.old.asker) (known_to port.new.asker) }
+{
+    if stale {
+        refresh(rt, hub, port, moment, changes).ok()
+    } else {
+        None
+    }
 }
 
 // A refresh that passes no gate, unless the programs were changed since they had been so often.
