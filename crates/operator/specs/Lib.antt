@@ -1,4 +1,3 @@
 pub mod Texts
 pub mod Shown
-pub mod Reasons
 pub mod Answers

@@ -5,7 +5,6 @@
 #![tactic(auto)]
 
 mod desk;
-pub mod laws;
 mod lists;
 mod outlet;
 mod programs;
@@ -13,5 +12,4 @@ mod told;
 
 pub use desk::Desk;
 pub use outlet::Outlet;
-pub use programs::{AttachError, ReadsFiles, SystemFiles};
 pub use told::Told;

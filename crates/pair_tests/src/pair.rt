@@ -63,7 +63,8 @@ fn converse<L: Site, M: Site, R: Wait>(
     taken && !one.is_waiting() && !other.is_waiting()
 }
 
-// A round at each of these moments: both tick, and converse. Whether all was taken.
+// At each of these moments the one ticks, the other does this work, and both converse. Whether all
+// was taken.
 fn live<L: Site, M: Site, R: Wait>(
     rt: &R,
     one_hub: &Hub<L, Book<L>>,
@@ -71,40 +72,30 @@ fn live<L: Site, M: Site, R: Wait>(
     other_hub: &Hub<M, Book<M>>,
     other: &mut Member<M>,
     moments: (u64, u64),
+    work: &Work,
 ) -> bool {
     let mut taken = true;
     for moment in moments.0..moments.1 {
         let moment = Second::new(moment);
         taken = works(rt, one_hub, one, other, moment, &Work::Tick) && taken;
-        taken = works(rt, other_hub, other, one, moment, &Work::Tick) && taken;
+        taken = works(rt, other_hub, other, one, moment, work) && taken;
         taken = converse(rt, one_hub, one, other_hub, other, moment) && taken;
     }
     taken
 }
 
-// Thirty rounds and a refresh. Where the other has some work to do, it does it then, and ten more
-// rounds and a refresh follow. Whether all was taken.
+// Both live for 41 seconds; in second 30 the other does this work, and in each other one it ticks.
 fn live_on<L: Site, M: Site, R: Wait>(
     rt: &R,
     one_hub: &Hub<L, Book<L>>,
     one: &mut Member<L>,
     other_hub: &Hub<M, Book<M>>,
     other: &mut Member<M>,
-    work: Option<&Work>,
+    work: &Work,
 ) -> bool {
-    let (last, end) = (Second::new(29), Second::new(39));
-    let taken = live(rt, one_hub, one, other_hub, other, (0, 30))
-        && works(rt, one_hub, one, other, last, &Work::Refresh);
-    match work {
-        None => taken,
-        Some(work) => {
-            taken
-                && works(rt, other_hub, other, one, last, work)
-                && converse(rt, one_hub, one, other_hub, other, last)
-                && live(rt, one_hub, one, other_hub, other, (30, 40))
-                && works(rt, one_hub, one, other, end, &Work::Refresh)
-        }
-    }
+    live(rt, one_hub, one, other_hub, other, (0, 30), &Work::Tick)
+        && live(rt, one_hub, one, other_hub, other, (30, 31), work)
+        && live(rt, one_hub, one, other_hub, other, (31, 41), &Work::Tick)
 }
 
 // 1.1.1.1 at its worker's port.
@@ -123,14 +114,14 @@ fn other_at<L: Site>(alloc: Global, setup: Setup) -> Result<(Hub<L, Book<L>>, Me
     Ok(opened::<L>(alloc, setup, core)?)
 }
 
-// The table of 1.1.1.1 after its life beside the other, whose work after thirty rounds this is.
+// The table of 1.1.1.1 after its life beside the other, whose work in second 30 this is.
 fn table_beside<L: Site, M: Site, R: Wait>(
     rt: &R,
     alloc: Global,
     setup: Setup,
     other_hub: &Hub<M, Book<M>>,
     other: &mut Member<M>,
-    work: Option<&Work>,
+    work: &Work,
 ) -> Result<String, Fail>
     requires { IsSetUpFor L.name L.parts L.words L.history setup }
 {
@@ -146,7 +137,7 @@ fn table<L: Site, M: Site, R: Wait, Q: Wait + Drop>(
     alloc: Global,
     one: Setup,
     other: Setup,
-    work: Option<&Work>,
+    work: &Work,
     _one: &Loader<Q>,
     _other: &Loader<Q>,
 ) -> Result<String, Fail>
@@ -161,7 +152,7 @@ fn table<L: Site, M: Site, R: Wait, Q: Wait + Drop>(
 }
 
 #[tactic(auto, using(crate::proofs::Fresh::all_ask))]
-fn found<R: Wait>(rt: &R, alloc: Global, work: Option<&Work>) -> Result<String, Fail> {
+fn found<R: Wait>(rt: &R, alloc: Global, work: &Work) -> Result<String, Fail> {
     let (one_loader, one) = Setup::new(alloc, rt, 1)?;
     let (other_loader, other) = Setup::new(alloc, rt, 1)?;
     table::<Brand, Brand, R, &R>(rt, alloc, one, other, work, &one_loader, &other_loader)
@@ -169,7 +160,7 @@ fn found<R: Wait>(rt: &R, alloc: Global, work: Option<&Work>) -> Result<String, 
 
 #[test]
 fn a_router_has_the_routes_of_its_neighbor(rt: HostRuntime) -> Result<(), Fail> {
-    let lines = found(&rt, rt.alloc(), None)?;
+    let lines = found(&rt, rt.alloc(), &Work::Tick)?;
     assert_eq!(rt;
         lines.as_str(),
         "10.0.1.0/24 intra 10 via 0\n10.0.2.0/24 intra 15 via 1\nend\n"
@@ -185,7 +176,7 @@ fn comes<R: Wait + Abort>(
     line: &str,
 ) -> Result<(), Fail> {
     let work = Work::Add(destination(kind)?);
-    let lines = found(rt, alloc, Some(&work))?;
+    let lines = found(rt, alloc, &work)?;
     let wanted = format!(in alloc;
         "10.0.1.0/24 intra 10 via 0\n10.0.2.0/24 intra 15 via 1\n{line}end\n"
     )?;

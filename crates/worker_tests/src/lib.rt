@@ -18,5 +18,3 @@ mod side_by_side;
 mod stage;
 #[cfg(test)]
 mod steps;
-#[cfg(test)]
-mod watching;

@@ -5,9 +5,8 @@ ghost use Rattle.worker.specs.Opening.{IsSetUpFor};
 
 use crate::failing_links::serve;
 use crate::samples::{destination, first};
-use crate::side_by_side::{Holds, hold, tick};
+use crate::side_by_side::{hold, tick};
 use crate::stage::{Stage, Step};
-use crate::watching::watch;
 use hooks::{HookError, Loader};
 use std::alloc::Global;
 use std::marker::Brand;
@@ -28,11 +27,9 @@ pub enum Scene<'a> {
     FailingLink(usize),
     /// Port 1 makes a Tick's turn at each moment below this.
     Ticks(u64),
-    /// A turn of port 1 at moment 5 is held at its gate, until port 2 has ticked at each moment from
-    /// 5 to below this.
-    Held(Holds, u64),
-    /// A datagram at interface 1 is counted before its turn passes the gate.
-    Watched,
+    /// A Hello at moment 5 is held at the gate of port 1, until port 2 has ticked at each moment
+    /// from 5 to below this.
+    Held(u64),
 }
 
 /// What is seen in the end.
@@ -77,8 +74,7 @@ fn act<L: Site + Send + Sync, R: Threads + Wait + Clock + Abort + Sync, Q: Wait 
         }
         Scene::FailingLink(fails) => Ok(serve(rt, alloc, hub, &mut stage.first, fails)?),
         Scene::Ticks(until) => Ok((tick(rt, hub, &mut stage.first, 0, until), 0)),
-        Scene::Held(held, until) => Ok((hold(rt, alloc, hub, stage, held, until)?, 0)),
-        Scene::Watched => Ok((0, 0)),
+        Scene::Held(until) => Ok((hold(rt, alloc, hub, stage, until)?, 0)),
     }
 }
 
@@ -123,9 +119,6 @@ fn play_on<L: Site + Send + Sync, R: Threads + Wait + Clock + Abort + Sync, Q: W
     requires { history_of loader ≡ L.history }
 {
     let (console, first, second) = three(ports).ok_or("three ports")?;
-    if let Scene::Watched = scene {
-        return Ok((watch(rt, alloc, hub, first, second, loader)?, 0));
-    }
     let mut stage = Stage {
         console,
         first,
@@ -169,25 +162,22 @@ pub fn play<R: Threads + Wait + Clock + Abort + Sync>(
 }
 
 /// Plays the scene, which ends so. An allocation may be refused once, as a run of the tests with a
-/// refusal makes it: where the scene doesn't end so, it is played twice more, from its start, and
-/// ends so both times; one of two threads only where a turn was refused memory.
+/// refusal makes it: where the scene doesn't end so, it is played once more, from its start; one of
+/// two threads only where a turn was refused memory.
 pub fn ends<R: Threads + Wait + Clock + Abort + Sync>(
     rt: &R,
     alloc: Global,
     scene: Scene<'_>,
     wanted: End,
 ) -> Result<(), Fail> {
-    let end = play(rt, alloc, scene)?;
+    let mut end = play(rt, alloc, scene)?;
     let again = match scene {
-        Scene::Held(_, _) => end.status == 6,
+        Scene::Held(_) => end.status == 6,
         _ => end != wanted,
     };
-    if !again {
-        assert_eq!(rt; end, wanted, "{scene:?}");
-        return Ok(());
+    if again {
+        end = play(rt, alloc, scene)?;
     }
-    for _time in 0..2u32 {
-        assert_eq!(rt; play(rt, alloc, scene)?, wanted, "{scene:?}");
-    }
+    assert_eq!(rt; end, wanted, "{scene:?}");
     Ok(())
 }
