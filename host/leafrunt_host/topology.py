@@ -1,0 +1,184 @@
+"""The link-state database as the packets that passed through the bridge show it.
+
+Each LSA that a neighbor is given or gives passes through the bridge whole, so once a neighbor is Full nothing is missing here. What comes
+from the wire counts once `routerd` acknowledged it (RFC 2328, 13.5), and what `routerd` sends counts at once: so this is its database, and
+nothing that it refused.
+"""
+from __future__ import annotations
+
+import threading
+import time
+from collections import OrderedDict
+from collections.abc import Callable
+from dataclasses import dataclass, replace
+from ipaddress import IPv4Address
+
+from leafrunt_host.exchange import Side
+from leafrunt_host.lsas import (
+    MAX_AGE,
+    Body,
+    ExternalBody,
+    LinkType,
+    LsHeader,
+    LsKey,
+    LsType,
+    NetworkBody,
+    RouterBody,
+    RouterFlags,
+    RouterLink,
+    SummaryBody,
+    body_of,
+    header_of,
+    is_newer,
+    is_whole,
+)
+from leafrunt_host.packets import LSA_HEADER_LENGTH, Malformed, Packet, PacketType, chunks, lsas_of
+
+MOST_WAITING = 50_000
+SECONDS_WAITING = 60
+SECONDS_UNSETTLED = 0.5
+"""Packets of two interfaces may be read here in another order than `routerd` sent them in, this long at most."""
+
+
+@dataclass(frozen=True)
+class Entry:
+    """An LSA, and when it was seen."""
+
+    header: LsHeader
+    data: bytes
+    moment: float
+
+    def header_at(self, now: float) -> LsHeader:
+        """The header with the age that the LSA has by now."""
+        return replace(self.header, age=min(MAX_AGE, self.header.age + int(now - self.moment)))
+
+    @property
+    def body(self) -> Body | None:
+        return body_of(self.data)
+
+
+class Topology:
+    """The database. The bridge tells it each packet, and others ask, in threads of their own."""
+
+    def __init__(self, clock: Callable[[], float] = time.monotonic) -> None:
+        self._clock = clock
+        self._one_at_a_time = threading.Lock()
+        self._entries: dict[LsKey, Entry] = {}
+        self._waiting: OrderedDict[tuple[LsKey, int, int], Entry] = OrderedDict()
+
+    def watch(self, side: Side, packet: Packet, now: float) -> None:
+        """Takes note of a packet that the bridge took: from the wire, or from `routerd`."""
+        if packet.type == PacketType.LINK_STATE_UPDATE:
+            with self._one_at_a_time:
+                self._updated(side, packet, now)
+        if packet.type == PacketType.LINK_STATE_ACKNOWLEDGMENT and side is Side.ROUTER:
+            with self._one_at_a_time:
+                for data in chunks(packet.body, LSA_HEADER_LENGTH):
+                    self._acknowledged(data, now)
+
+    def _updated(self, side: Side, packet: Packet, now: float) -> None:
+        try:
+            lsas = lsas_of(packet.body)
+        except Malformed:
+            return
+        for data in lsas:
+            header = header_of(data)
+            if header is None or not is_whole(data):
+                continue
+            entry = Entry(header, data, now)
+            if side is Side.ROUTER:
+                self._put(entry, now)
+            else:
+                self._wait(entry, now)
+
+    def _wait(self, entry: Entry, now: float) -> None:
+        """An LSA from the wire waits until `routerd` acknowledges it, which takes it a second, or refuses it in silence."""
+        self._waiting[entry.header.instance] = entry
+        self._waiting.move_to_end(entry.header.instance)
+        while self._waiting:
+            oldest = next(iter(self._waiting.values()))
+            if len(self._waiting) <= MOST_WAITING and now - oldest.moment < SECONDS_WAITING:
+                break
+            self._waiting.popitem(last=False)
+
+    def _acknowledged(self, data: bytes, now: float) -> None:
+        """An acknowledgment of `routerd` has the header that it received, age and all (13.5)."""
+        header = header_of(data)
+        entry = self._waiting.pop(header.instance, None) if header else None
+        if header and entry:
+            self._put(replace(entry, header=replace(entry.header, age=header.age)), now)
+
+    def _put(self, entry: Entry, now: float) -> None:
+        """An older instance than the one here comes late, or, where that one was flushed, begins anew (12.1.6, 14.1)."""
+        before = self._entries.get(entry.header.key)
+        if before and is_newer(before.header_at(now), entry.header_at(now)):
+            is_flushed = before.header_at(now).age == MAX_AGE
+            if not is_flushed or now - before.moment < SECONDS_UNSETTLED:
+                return
+        self._entries[entry.header.key] = entry
+
+    def entries(self) -> list[tuple[LsHeader, Entry]]:
+        """The LSAs with their headers of now, in the order of their keys; those that are flushed or ran out aren't in it."""
+        now = self._clock()
+        with self._one_at_a_time:
+            found = [(entry.header_at(now), entry) for entry in self._entries.values()]
+            for header, entry in found:
+                if header.age == MAX_AGE and now - entry.moment > MAX_AGE:
+                    del self._entries[header.key]
+        return sorted(
+            ((header, entry) for header, entry in found if header.age < MAX_AGE), key=lambda each: each[0].key
+        )
+
+
+HEADING = f"{'Type':<12} {'Link State ID':<15} {'Router':<15} {'Sequence':<8} {'Age':>4} {'Checksum':>8}"
+
+
+def database_line(header: LsHeader) -> str:
+    """A line of `leafrunt database`, with the columns that BIRD's `show ospf lsadb` has."""
+    key, sequence = header.key, header.sequence & 0xFFFFFFFF
+    title = LsType(key.type).title
+    return f"{title:<12} {key.id!s:<15} {key.router!s:<15} {sequence:08x} {header.age:>4} {header.checksum:>8x}"
+
+
+def database_lines(topology: Topology) -> list[str]:
+    """All LSAs, a line each, below a heading."""
+    return [HEADING, *(database_line(header) for header, _ in topology.entries())]
+
+
+def whole_lines(topology: Topology, identity: IPv4Address) -> list[str]:
+    """The LSAs with this Link State ID, each with what its body says."""
+    found = [(header, entry) for header, entry in topology.entries() if header.key.id == identity]
+    lines = [HEADING] if found else []
+    for header, entry in found:
+        lines += [database_line(header), *(f"  {each}" for each in body_lines(header, entry.body))]
+    return lines
+
+
+def body_lines(header: LsHeader, body: Body | None) -> list[str]:
+    """What an LSA's body says, in words."""
+    match body:
+        case RouterBody(flags, links):
+            titles = {RouterFlags.B: "area border router", RouterFlags.E: "AS boundary router", RouterFlags.V: "virtual link"}
+            said = [title for flag, title in titles.items() if flags & flag]
+            return [f"flags: {', '.join(said) or 'none'}", *map(link_line, links)]
+        case NetworkBody(mask, routers):
+            return [f"mask {mask}", *(f"attached router {each}" for each in routers)]
+        case SummaryBody(mask, metric):
+            return [f"mask {mask}, metric {metric}"]
+        case ExternalBody(mask, kind, metric, forwarding, tag):
+            return [f"mask {mask}, type {kind}, metric {metric}, forwarding address {forwarding}, tag {tag}"]
+    return [f"a body of {header.length - LSA_HEADER_LENGTH} bytes that can't be read"]
+
+
+def link_line(link: RouterLink) -> str:
+    """A link of a router-LSA in words."""
+    match link.type:
+        case LinkType.POINT_TO_POINT:
+            return f"link to the router {link.id}, own address {link.data}, metric {link.metric}"
+        case LinkType.TRANSIT:
+            return f"link to the network of {link.id}, own address {link.data}, metric {link.metric}"
+        case LinkType.STUB:
+            return f"stub network {link.id}, mask {link.data}, metric {link.metric}"
+        case LinkType.VIRTUAL:
+            return f"virtual link to the router {link.id}, own address {link.data}, metric {link.metric}"
+    return f"link of type {link.type} to {link.id}, data {link.data}, metric {link.metric}"
