@@ -16,6 +16,7 @@ import tempfile
 import time
 from collections.abc import Callable, Iterable
 from dataclasses import dataclass, field
+from datetime import datetime
 from ipaddress import IPv4Address, IPv4Interface
 from pathlib import Path
 
@@ -85,6 +86,27 @@ class Secret:
     id: int
     algorithm: str
     secret: str
+    begins: datetime | None = None
+    ends: datetime | None = None
+
+    def of_bird(self) -> str:
+        """As BIRD's configuration has it: its clock is the local time."""
+        said = f"id {self.id}; algorithm {self.algorithm};"
+        for verb, moment in (("from", self.begins), ("to", self.ends)):
+            if moment:
+                text = moment.astimezone().strftime("%Y-%m-%d %H:%M:%S")
+                said += f' generate {verb} "{text}";'
+        return f'password "{self.secret}" {{ {said} }};'
+
+    def of_box(self, name: str) -> str:
+        """As a box's file of keys has it."""
+        said = (
+            f'[{name}]\nid = {self.id}\nalgorithm = "{self.algorithm}"\nsecret = "{self.secret}"\n'
+        )
+        for verb, moment in (("from", self.begins), ("to", self.ends)):
+            if moment:
+                said += f"generate_{verb} = {moment.isoformat(timespec='seconds')}\n"
+        return said
 
 
 @dataclass(frozen=True)
@@ -288,10 +310,7 @@ class Bird:
             return f'interface "{side.name}" {{ stub; }};'
         said = f"hello {side.hello}; dead {side.dead}; retransmit {RETRANSMIT_INTERVAL};"
         if side.keys:
-            keys = " ".join(
-                f'password "{key.secret}" {{ id {key.id}; algorithm {key.algorithm}; }};'
-                for key in side.keys
-            )
+            keys = " ".join(key.of_bird() for key in side.keys)
             said += f" authentication cryptographic; {keys}"
         return f'interface "{side.name}" {{ type pointopoint; {said} }};'
 
@@ -469,10 +488,7 @@ class Box:
             lines += ["", "[[announce]]", f'prefix = "{each.prefix}"', f"metric = {each.metric}"]
             lines += [f"type = {each.type}", f"tag = {each.tag}"]
         (self.folder / f"{self.name}.toml").write_text("\n".join(lines) + "\n")
-        secrets = [
-            f'[{name}]\nid = {key.id}\nalgorithm = "{key.algorithm}"\nsecret = "{key.secret}"\n'
-            for key, name in keys.items()
-        ]
+        secrets = [key.of_box(name) for key, name in keys.items()]
         path = self.folder / "keys.toml"
         path.touch(mode=0o600)
         path.write_text("\n".join(secrets))
