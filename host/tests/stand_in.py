@@ -3,8 +3,8 @@
 `attach /end/N` ends it with status N, `attach /silent` answers nothing any more, `attach /long` answers many bytes. A configuration whose
 Router ID is 9.9.9.N isn't started: 1 says that a port is taken (the first time), 2 ends at once, 3 is no `routerd`.
 """
+import os
 import sys
-from pathlib import Path
 
 LISTS = {
     "table": ["10.0.1.0/24 intra 10 via 0", "192.0.2.0/24 ext2 20 via 1"],
@@ -17,11 +17,12 @@ def say(*lines: str) -> None:
     print(*lines, sep="\n", flush=True)
 
 
-def start(configuration: Path) -> None:
-    router_id = configuration.read_text().split()[1]
-    again = configuration.with_name("tried")
-    if router_id == "9.9.9.1" and not again.exists():
-        again.write_text("")
+def start(configuration: str) -> None:
+    with open(configuration, encoding="ascii") as it:
+        router_id = it.read().split()[1]
+    again = f"{configuration}.tried"
+    if router_id == "9.9.9.1" and not os.path.exists(again):
+        os.mkdir(again)
         say("cannot bind 7001")
         sys.exit(3)
     if router_id == "9.9.9.2":
@@ -59,7 +60,7 @@ def main() -> int:
     if sys.argv[1] == "verify":
         say("accepted bound 7")
         return 0
-    start(Path(sys.argv[2]))
+    start(sys.argv[2])
     for line in sys.stdin:
         if line == "quit\n":
             break

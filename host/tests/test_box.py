@@ -15,10 +15,14 @@ import unittest
 from collections.abc import Callable
 from pathlib import Path
 
+from leafrunt_host.box import SIGNALS, Box
 from leafrunt_host.client import Client
 from leafrunt_host.commands import main
-from leafrunt_host.rooms import running, socket_path
+from leafrunt_host.configuration import read_configuration
+from leafrunt_host.journal import Kept as KeptLog
+from leafrunt_host.rooms import Room, running, socket_path
 from leafrunt_host.statuses import Status, Stopped
+from tests.run_box import KERNEL
 
 HERE = Path(__file__).parent
 LEAFRUNT = HERE.parent / "leafrunt"
@@ -51,7 +55,7 @@ class Boxes(unittest.TestCase):
         self.addCleanup(shutil.rmtree, self.folder)
         self.run_folder, self.state = self.folder / "run", self.folder / "state"
         program = self.folder / "routerd"
-        program.write_text(f"#!{sys.executable} -S\n" + (HERE / "stand_in.py").read_text())
+        program.write_text(f"#!{sys.executable} -IS\n" + (HERE / "stand_in.py").read_text())
         program.chmod(0o755)
         self.boxes: list[subprocess.Popen[str]] = []
 
@@ -327,11 +331,11 @@ class Ends(Boxes):
         self.assertEqual(self.leafrunt("console", given="down\ntable\n")[1], "ending\nended, status 0\n")
 
     def test_signals(self) -> None:
-        boxes = [self.up(name=name) for name in ("one", "two", "three")]
-        pids = [self.routerd_of(self.client(name)) for name in ("one", "two", "three")]
-        for box, number in zip(boxes, (signal.SIGTERM, signal.SIGINT, signal.SIGHUP), strict=True):
+        boxes = [self.up(name=name) for name in ("one", "two")]
+        pids = [self.routerd_of(self.client(name)) for name in ("one", "two")]
+        for box, number in zip(boxes, (signal.SIGTERM, signal.SIGINT), strict=True):
             box.send_signal(number)
-        for box, pid, name in zip(boxes, pids, ("SIGTERM", "SIGINT", "SIGHUP"), strict=True):
+        for box, pid, name in zip(boxes, pids, ("SIGTERM", "SIGINT"), strict=True):
             status, log = self.ended(box)
             self.assertEqual(status, 0)
             self.assertIn(f"{name}: the box ends", log)
@@ -385,16 +389,30 @@ class Starts(Boxes):
         self.up("9.9.9.1")
         self.assertIn("other ports are tried", " ".join(self.client().ask("log")))
 
+    def refused(self, router_id: str = "1.1.1.1") -> tuple[Status, str]:
+        """Status and log of a box that can't be started, in this process."""
+        path = self.folder / "one.toml"
+        path.write_text(TEXT.format(router_id))
+        room = Room("one", self.run_folder / "one", self.state / "one")
+        handlers = {number: signal.getsignal(number) for number in SIGNALS}
+        try:
+            with self.assertLogs("leafrunt") as logged:
+                status = Box(read_configuration(path, KERNEL), room, KeptLog()).run()
+        finally:
+            for number, handler in handlers.items():
+                signal.signal(number, handler)
+        return status, "\n".join(logged.output)
+
     def test_what_does_not_start(self) -> None:
         for router_id, words in (
             ("9.9.9.2", "didn't start (routerd has ended, status 1): config refusal line 1"),
             ("9.9.9.3", "didn't start (routerd has ended, status 0): hello"),
         ):
             with self.subTest(router_id):
-                status, log = self.ended(self.begin(router_id))
+                status, log = self.refused(router_id)
                 self.assertEqual(status, 3)
                 self.assertIn(words, log)
-                self.assertNotIn("Traceback", log)
+                self.assertEqual(os.listdir(self.run_folder / "one"), ["lock"])
 
     def test_a_mistake_starts_nothing(self) -> None:
         status, log = self.ended(self.begin(more="cost = 0\n"))
@@ -405,17 +423,16 @@ class Starts(Boxes):
     def test_a_folder_of_another_kind(self) -> None:
         self.run_folder.mkdir()
         (self.run_folder / "one").symlink_to(self.folder)
-        status, log = self.ended(self.begin())
+        status, log = self.refused()
         self.assertEqual(status, 1)
         self.assertIn("is no folder of this user's", log)
 
     def test_numbers_that_are_none(self) -> None:
         (self.state / "one").mkdir(parents=True)
         (self.state / "one" / "numbers").write_text("many\n")
-        status, log = self.ended(self.begin())
+        status, log = self.refused()
         self.assertEqual(status, 3)
-        self.assertIn("numbers", log)
-        self.assertNotIn("Traceback", log)
+        self.assertIn("'many' is no sequence number", log)
 
     def test_check(self) -> None:
         path = self.folder / "x.toml"
