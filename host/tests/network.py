@@ -35,10 +35,11 @@ def within(seconds: float, succeeds: Callable[[], object], each: float = 0.2) ->
     """After how many seconds it succeeded; None where it didn't within that time."""
     start = time.monotonic()
     while True:
-        if succeeds():
-            return time.monotonic() - start
-        if time.monotonic() - start >= seconds:
+        is_so, took = succeeds(), time.monotonic() - start
+        if took > seconds:
             return None
+        if is_so:
+            return took
         time.sleep(each)
 
 
@@ -513,6 +514,11 @@ class Box:
         status = self.network.stop(self.process, by) if self.process else 0
         self.process = None
         return status
+
+    def wait(self, seconds: float = 30) -> int | None:
+        """Its status, once it ended by itself; None where it doesn't within that time."""
+        ended = within(seconds, lambda: self.process.poll() is not None)
+        return None if ended is None else self.stop()
 
     def command(self, *words: str, lines: str | None = None) -> str:
         """What `leafrunt WORDS` prints."""
