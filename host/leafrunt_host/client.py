@@ -34,15 +34,7 @@ class Client:
         path = socket_path(run, self.box)
         if len(str(path).encode()) > LONGEST_SOCKET_PATH:
             raise Stopped(f"{path}: a socket's path has at most {LONGEST_SOCKET_PATH} bytes", Status.USAGE)
-        self._socket = socket.socket(socket.AF_UNIX, socket.SOCK_STREAM)
-        try:
-            self._socket.connect(str(path))
-        except (FileNotFoundError, ConnectionRefusedError) as error:
-            raise Stopped(f"the box {self.box} doesn't run: `leafrunt up` starts it") from error
-        except PermissionError as error:
-            raise Stopped(f"{path}: a box's console is its owner's alone", Status.REFUSED) from error
-        except OSError as error:
-            raise Stopped(f"cannot connect to {path}: {error.strerror}") from error
+        self._socket = connected(path, self.box)
         self._reader = self._socket.makefile("r", encoding="utf-8", newline="\n")
 
     def ask(self, line: str, descriptor: int | None = None) -> list[str]:
@@ -72,6 +64,21 @@ class Client:
     def close(self) -> None:
         self._reader.close()
         self._socket.close()
+
+
+def connected(path: Path, box: str) -> socket.socket:
+    """A connection to the socket of a box."""
+    one = socket.socket(socket.AF_UNIX, socket.SOCK_STREAM)
+    try:
+        one.connect(str(path))
+    except OSError as error:
+        one.close()
+        if isinstance(error, (FileNotFoundError, ConnectionRefusedError)):
+            raise Stopped(f"the box {box} doesn't run: `leafrunt up` starts it") from error
+        if isinstance(error, PermissionError):
+            raise Stopped(f"{path}: a box's console is its owner's alone", Status.REFUSED) from error
+        raise Stopped(f"cannot connect to {path}: {error.strerror}") from error
+    return one
 
 
 def own_answer(answer: list[str]) -> list[str]:

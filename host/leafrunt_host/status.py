@@ -138,7 +138,7 @@ def kernel_line(kernel: dict) -> str:
         return "kernel: its table is left alone (kernel = false)"
     if kernel["error"]:
         return f"kernel: its table isn't kept: {kernel['error']}"
-    said = f"kernel: {kernel['routes']} routes"
+    said = f"kernel: {kernel['routes']} route{'' if kernel['routes'] == 1 else 's'}"
     if kernel["refused"]:
         said += f", {len(kernel['refused'])} refused: {kernel['refused'][0]}"
     if kernel["without_next_hop"]:

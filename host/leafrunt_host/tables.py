@@ -48,12 +48,12 @@ def shown(value: object) -> str:
 def mistake_of_toml(file: str, error: Exception) -> Mistake:
     """What is told of a text that is no TOML. What stands there isn't shown: it may be a secret."""
     if isinstance(error, RecursionError):
-        return Mistake(file, "the file", "lists or tables too deep within each other", "what --help shows")
-    text = str(error)
-    place = PLACE.match(text)
-    if place:
-        return Mistake(file, place[2], f"no TOML ({place[1]})", "TOML 1.0, as toml.io describes it")
-    return Mistake(file, "the file", f"no TOML ({text})", "TOML 1.0, as toml.io describes it")
+        return Mistake(file, "the file", "lists or tables too deep within each other", "at most some hundred levels")
+    if not isinstance(error, tomllib.TOMLDecodeError):
+        return Mistake(file, "the file", "a value that is too long", "numbers of at most 4300 digits")
+    place = PLACE.match(str(error))
+    where, what = (place[2], place[1]) if place else ("the file", str(error))
+    return Mistake(file, where, f"no TOML ({what})", "TOML 1.0, as toml.io describes it")
 
 
 def toml_of(file: str, data: bytes, mistakes: list[Mistake]) -> dict[str, object]:
@@ -179,6 +179,6 @@ class Table:
         """Notes the keys that were never asked for."""
         for key in self._items:
             if key not in self._asked:
-                close = difflib.get_close_matches(key, self._asked, 1)
+                close = difflib.get_close_matches(key, self._asked, 1, 0.7)
                 meant = f" ({close[0]}, maybe)" if close else ""
                 self.note(key if key.isidentifier() else shown(key), "an unknown key", f"{', '.join(self._asked)}{meant}")
