@@ -171,9 +171,9 @@ HEADING = f"{'Type':<12} {'Link State ID':<15} {'Router':<15} {'Sequence':<8} {'
 
 def database_line(header: LsHeader) -> str:
     """A line of `leafrunt database`, with the columns that BIRD's `show ospf lsadb` has."""
-    key, sequence = header.key, header.sequence & 0xFFFFFFFF
+    key, sequence, checksum = header.key, header.sequence & 0xFFFFFFFF, f"{header.checksum:04x}"
     title = LsType(key.type).title
-    return f"{title:<12} {key.id!s:<15} {key.router!s:<15} {sequence:08x} {header.age:>4} {header.checksum:>8x}"
+    return f"{title:<12} {key.id!s:<15} {key.router!s:<15} {sequence:08x} {header.age:>4} {checksum:>8}"
 
 
 def database_lines(topology: Topology) -> list[str]:

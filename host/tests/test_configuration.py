@@ -331,7 +331,8 @@ class Reading(Files):
             import toml  # Debian's python3-toml
         except ImportError:
             self.skipTest("no other reader of TOML here")
-        self.assertEqual(toml.loads(WHOLE), tomllib.loads(WHOLE))
+        for text in (WHOLE, KEYS):
+            self.assertEqual(toml.loads(text), tomllib.loads(text))
 
 
     def test_the_examples(self) -> None:
