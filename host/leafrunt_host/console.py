@@ -76,7 +76,7 @@ def typed_lines(prompt: str) -> Iterable[str]:
     try:
         while True:
             try:
-                yield input(prompt)
+                yield input(prompt).strip()
             except KeyboardInterrupt:
                 print()
             except EOFError:
@@ -107,7 +107,7 @@ def completion(text: str, state: int) -> str | None:
 def completions(before: list[str], text: str) -> list[str]:
     """What the last word of a line, of which `text` is typed, may become."""
     if not before:
-        return [f"{each} " for each in first_words() if each.startswith(text)]
+        return [each for each in first_words() if each.startswith(text)]
     if len(before) > 1:
         return []
     if before[0] == "detach":

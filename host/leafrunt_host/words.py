@@ -28,8 +28,9 @@ CLIENT_WORDS = {
 
 
 def first_words() -> list[str]:
-    """What a line may begin with, for completion."""
-    return sorted(each.split()[0] for each in [*ROUTERD_WORDS, *BOX_WORDS, *CLIENT_WORDS])
+    """What a line may begin with, for completion: with a space where more has to come."""
+    words = (each.partition(" ") for each in [*ROUTERD_WORDS, *BOX_WORDS, *CLIENT_WORDS])
+    return sorted(first + space for first, space, _ in words)
 
 
 def help_lines() -> list[str]:

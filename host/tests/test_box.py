@@ -19,9 +19,11 @@ from leafrunt_host.box import SIGNALS, Box
 from leafrunt_host.client import Client
 from leafrunt_host.commands import main
 from leafrunt_host.configuration import read_configuration
+from leafrunt_host.console import completions
 from leafrunt_host.journal import Kept as KeptLog
 from leafrunt_host.rooms import Room, running, socket_path
 from leafrunt_host.statuses import Status, Stopped
+from leafrunt_host.words import help_lines
 from tests.run_box import KERNEL
 
 HERE = Path(__file__).parent
@@ -385,6 +387,34 @@ class Ends(Boxes):
 
 
 class Starts(Boxes):
+    def test_systemd_is_told(self) -> None:
+        """sd_notify(3): ready once the console takes connections, stopping at the end."""
+        with socket.socket(socket.AF_UNIX, socket.SOCK_DGRAM) as told:
+            told.bind(str(self.folder / "notify"))
+            told.settimeout(10)
+            os.environ["NOTIFY_SOCKET"] = str(self.folder / "notify")
+            try:
+                box = self.begin()
+            finally:
+                del os.environ["NOTIFY_SOCKET"]
+            self.assertEqual(told.recv(100), b"READY=1")
+            self.assertEqual(running(self.run_folder), ["one"])
+            box.terminate()
+            self.assertEqual(told.recv(100), b"STOPPING=1")
+            self.assertEqual(self.ended(box)[0], 0)
+
+    def test_an_interface_of_another_box(self) -> None:
+        """In one network namespace an interface and the kernel's table are one box's."""
+        rooms = [Room(name, self.run_folder / name, self.state / name) for name in ("one", "two")]
+        name = f"interface of process {os.getpid()}"
+        rooms[0].claim([name])
+        with self.assertRaises(Stopped) as raised:
+            rooms[1].claim([name])
+        self.assertEqual(str(raised.exception), f"another box has the {name} in this network namespace")
+        rooms[0].leave()
+        rooms[1].claim([name])
+        rooms[1].leave()
+
     def test_a_port_that_is_taken(self) -> None:
         self.up("9.9.9.1")
         self.assertIn("other ports are tried", " ".join(self.client().ask("log")))
@@ -454,6 +484,25 @@ class Starts(Boxes):
         """Status and errors of the command as a process of its own."""
         ran = subprocess.run([sys.executable, "-S", str(LEAFRUNT), *words], capture_output=True, text=True, timeout=30, check=False)
         return ran.returncode, ran.stderr
+
+
+class Typing(unittest.TestCase):
+    def test_completion(self) -> None:
+        self.assertEqual(completions([], "de"), ["detach "])
+        self.assertEqual(completions([], "ne"), ["neighbors"])
+        self.assertEqual(completions(["detach"], "p"), ["price"])
+        self.assertEqual(completions(["table"], ""), [])
+        self.assertEqual(completions(["attach", "x"], ""), [])
+        folder = str(HERE)
+        self.assertEqual(completions(["attach"], f"{folder}/stand"), [f"{folder}/stand_in.py"])
+        self.assertEqual(completions(["attach"], str(HERE.parent / "leafrunt_h")), [f"{HERE.parent}/leafrunt_host/"])
+        self.assertEqual(completions(["capture"], "of"), ["off"])
+
+    def test_help(self) -> None:
+        """Each word that the console knows has its line."""
+        lines = help_lines()
+        for each in ("attach PATH", "table", "status", "capture FILE", "quit"):
+            self.assertTrue(any(line.startswith(f"{each} ") for line in lines), each)
 
 
 if __name__ == "__main__":
