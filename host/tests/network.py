@@ -182,13 +182,23 @@ class Network:
         self._wires = self.start(
             self.name("wires"), words, self.work / "wires.log", stdin=-1, stdout=-1
         )
-        self._wires.stdout.readline()
+        self._answer()
 
     def wire(self, *words: object) -> str:
         """Gives the wires a line, and their answer."""
+        if self._wires is None or self._wires.stdin is None:
+            raise CannotTry("no wires were started")
         self._wires.stdin.write(" ".join(str(each) for each in words) + "\n")
         self._wires.stdin.flush()
-        return self._wires.stdout.readline().strip()
+        return self._answer()
+
+    def _answer(self) -> str:
+        if self._wires is None or self._wires.stdout is None:
+            raise CannotTry("no wires were started")
+        line = self._wires.stdout.readline()
+        if not line:
+            raise CannotTry("the wires have ended")
+        return line.strip()
 
     def carrier(self, number: int, is_up: bool) -> None:
         """Takes the carrier of both ends of a wire away, or gives it back."""
@@ -322,7 +332,7 @@ class Bird:
         routes = "\n".join(f"route {each} blackhole;" for each in self.externals)
         (self.folder / "conf").write_text(
             f'log "{self.folder}/log" all; router id {self.router_id}; protocol device {{ scan time 1; }}\n'
-            "protocol kernel { ipv4 { export all; import none; }; }\n"
+            "protocol kernel { ipv4 { export where source != RTS_STATIC; import none; }; }\n"
             f"protocol static {{ ipv4; {routes} }}\n"
             "protocol ospf v2 { ipv4 { import all; export where source = RTS_STATIC; };\n"
             f"{self.area} {{ {stubs} {interfaces} }}; }}\n"
@@ -402,7 +412,7 @@ class Frr:
         shutil.chown(self.folder, "frr", "frr")
         for daemon in ("zebra", "ospfd"):
             self._start(daemon)
-            within(10, lambda daemon=daemon: (self.folder / f"{daemon}.vty").exists())
+            within(10, (self.folder / f"{daemon}.vty").exists)
 
     def _start(self, daemon: str) -> None:
         script = 'mount --bind "$1" /run/frr; exec "$2" -f "$3" -P 0 --log "file:$1/$4.log"'
@@ -431,12 +441,13 @@ class Frr:
         """The LSAs of `show ip ospf database`, those of age 3600 apart."""
         found, kind = set(), 0
         for line in self.says("show ip ospf database").splitlines():
-            words = line.split()
             if line.strip().startswith("Router Link States"):
                 kind = 1
             elif line.strip().startswith("AS External Link States"):
                 kind = 5
-            elif len(words) >= 5 and words[3].startswith("0x") and words[2].isdigit():
+            # the first column has 15 characters, and nothing separates a longest ID from the next
+            words = [line[:15].strip(), *line[15:].split()]
+            if len(words) >= 5 and words[3].startswith("0x") and words[2].isdigit():
                 if int(words[2]) < 3600:
                     found.add(Lsa(kind, words[0], words[1], words[3][2:]))
         return found
@@ -517,8 +528,10 @@ class Box:
 
     def wait(self, seconds: float = 30) -> int | None:
         """Its status, once it ended by itself; None where it doesn't within that time."""
-        ended = within(seconds, lambda: self.process.poll() is not None)
-        return None if ended is None else self.stop()
+        process = self.process
+        if process is None or within(seconds, lambda: process.poll() is not None) is None:
+            return None
+        return self.stop()
 
     def command(self, *words: str, lines: str | None = None) -> str:
         """What `leafrunt WORDS` prints."""
