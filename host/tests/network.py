@@ -25,6 +25,8 @@ FRR_DAEMONS = Path("/usr/lib/frr")
 PREFIX = "lfnet"
 HELLO_INTERVAL, DEAD_INTERVAL, RETRANSMIT_INTERVAL = 2, 8, 2
 TOTAL_SECONDS = 60
+COMES_UP = 40
+"""Seconds within which a router comes to Full here: two router-LSAs are five seconds apart."""
 
 
 class CannotTry(Exception):
@@ -119,6 +121,11 @@ class Side:
     hello: int = HELLO_INTERVAL
     dead: int = DEAD_INTERVAL
     is_passive: bool = False
+
+
+SHA = Secret(5, "hmac sha256", "a secret for BIRD")
+MD5 = Secret(1, "keyed md5", "secret-for-FRR")
+NOT_FULL = (None, "Init", "Down", "ExStart", "Exchange", "2-Way")
 
 
 class Network:
@@ -526,6 +533,10 @@ class Box:
         self.process = None
         return status
 
+    def signal(self, number: int) -> None:
+        if self.process:
+            self.process.send_signal(number)
+
     def wait(self, seconds: float = 30) -> int | None:
         """Its status, once it ended by itself; None where it doesn't within that time."""
         process = self.process
@@ -615,3 +626,33 @@ class Looks:
         took = within(seconds, succeeds, each)
         measured = f"not within {seconds:g} s" if took is None else f"after {took:.1f} s"
         return self.look(what, took is not None, measured)
+
+
+@dataclass
+class Try:
+    """What each part is given."""
+
+    looks: Looks
+    routerd: Path
+    network: Network
+
+
+def prefixes(first: int, count: int) -> list[str]:
+    """So many prefixes of length 24 below FIRST.0.0.0."""
+    return [f"{first}.{64 + at // 256}.{at % 256}.0/24" for at in range(count)]
+
+
+def is_full(router: Box | Bird | Frr, *neighbors: str) -> bool:
+    states = router.neighbors()
+    return all(states.get(each) == "Full" for each in neighbors)
+
+
+def is_said(box: Box, *texts: str) -> bool:
+    """Whether `leafrunt status` says all of that."""
+    status = box.status()
+    return all(each in status for each in texts)
+
+
+def line_of(box: Box, text: str) -> str:
+    """The line of `leafrunt status` that says it."""
+    return next((each.strip() for each in box.status().splitlines() if text in each), "not said")
