@@ -26,6 +26,8 @@ from leafrunt_host.lsas import (
 )
 
 NOBODY = IPv4Address(0)
+Rank = tuple[int, ...]
+"""What offers of ways to a prefix are compared by: the less, the better."""
 
 
 class Kind(Enum):
@@ -186,17 +188,17 @@ class Ways:
         """Where ways to a prefix leave the area's routers: intra-area before inter-area, then external of type 1, of type 2 (RFC 2328, 11)."""
         return self._intra(prefix)[1] or self._outside(prefix)
 
-    def _intra(self, prefix: IPv4Network) -> tuple[int, list[Vertex]]:
-        offers = []
+    def _intra(self, prefix: IPv4Network) -> tuple[Rank, list[Vertex]]:
+        offers: list[tuple[Rank, Vertex]] = []
         for vertex, cost in self.cost.items():
             if vertex.kind == Kind.ROUTER.value:
-                offers += [(cost + metric, vertex) for stub, metric in self._area.stubs(vertex.id) if stub == prefix]
+                offers += [((cost + metric,), vertex) for stub, metric in self._area.stubs(vertex.id) if stub == prefix]
             elif network_of(vertex.id, self._area.networks[vertex.id].mask) == prefix:
-                offers.append((cost, vertex))
+                offers.append(((cost,), vertex))
         return _least(offers)
 
     def _outside(self, prefix: IPv4Network) -> list[Vertex]:
-        offers = []
+        offers: list[tuple[Rank, Vertex]] = []
         for vertex, cost in self.cost.items():
             if vertex.kind != Kind.ROUTER.value:
                 continue
@@ -206,26 +208,26 @@ class Ways:
                     offers += self._offers(one, vertex, cost)
         return _least(offers)[1]
 
-    def _offers(self, one: Announced, originator: Vertex, cost: int) -> Iterator[tuple[tuple[int, ...], Vertex]]:
+    def _offers(self, one: Announced, originator: Vertex, cost: int) -> Iterator[tuple[Rank, Vertex]]:
         ends = [originator]
         if one.forwarding != NOBODY:
-            cost, ends = self._toward(one.forwarding)
+            way, ends = self._toward(one.forwarding)
+            cost = sum(way)
         rank = (one.type, one.metric, cost) if one.type == 2 else (one.type, cost + one.metric)
         return ((rank, end) for end in ends)
 
-    def _toward(self, address: IPv4Address) -> tuple[int, list[Vertex]]:
+    def _toward(self, address: IPv4Address) -> tuple[Rank, list[Vertex]]:
         """The way to a forwarding address, by the longest network of the area that has it (RFC 2328, 16.4)."""
         known = {stub for vertex in self.cost if vertex.kind == Kind.ROUTER.value for stub, _ in self._area.stubs(vertex.id)}
         for vertex in self.cost:
             if vertex.kind == Kind.NETWORK.value:
                 known.add(network_of(vertex.id, self._area.networks[vertex.id].mask) or IPv4Network("0.0.0.0/32"))
         holding = [each for each in known if address in each]
-        return self._intra(max(holding, key=lambda each: each.prefixlen)) if holding else (0, [])
+        return self._intra(max(holding, key=lambda each: each.prefixlen)) if holding else ((), [])
 
 
-def _least(offers: list) -> tuple:
-    """The least of the offers' first parts, and all that have it."""
-    if not offers:
-        return 0, []
-    least = min(offer[0] for offer in offers)
-    return least, [vertex for cost, vertex in offers if cost == least]
+def _least(offers: Iterable[tuple[Rank, Vertex]]) -> tuple[Rank, list[Vertex]]:
+    """The least rank of all offers, and those that have it."""
+    offers = list(offers)
+    least = min((rank for rank, _ in offers), default=())
+    return least, [vertex for rank, vertex in offers if rank == least]

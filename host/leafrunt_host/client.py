@@ -51,7 +51,7 @@ class Client:
 
     def answer(self) -> list[str]:
         """The lines up to the empty one."""
-        lines = []
+        lines: list[str] = []
         try:
             for line in self._reader:
                 if line == "\n":

@@ -188,7 +188,7 @@ class _Reader:
         announcements = self._announcements()
         programs = self._programs(routerd)
         self._top.end()
-        if self._mistakes:
+        if self._mistakes or router_id is None or routerd is None:
             return None
         return Configuration(
             self._path.stem,
@@ -246,7 +246,11 @@ class _Reader:
             return None
         before = len(self._mistakes)
         items = toml_of(path.name, data, self._mistakes)
-        keys = {name: self._key(path, name, each) for name, each in items.items()}
+        keys = {}
+        for name, each in items.items():
+            key = self._key(path, name, each)
+            if key:
+                keys[name] = key
         return keys if len(self._mistakes) == before else None
 
     def _key(self, path: Path, name: str, items: object) -> Key | None:
@@ -264,7 +268,7 @@ class _Reader:
         secret = table.secret("secret", most, f"a text of 1 to {most} bytes")
         lifetime = self._lifetime(table)
         table.end()
-        if not table.is_sound:
+        if not table.is_sound or algorithm is None or secret is None:
             return None
         try:
             key = Key(number, algorithm, secret, lifetime)
@@ -313,13 +317,13 @@ class _Reader:
         address = self._address(table, inside)
         cost = table.whole("cost", 1, 65535, 10)
         hello = table.whole("hello_interval", 1, 65535, 10)
-        dead = table.whole("dead_interval", 1, 4294967295, 4 * (hello or 1))
+        dead = table.whole("dead_interval", 1, 4294967295, 4 * hello)
         retransmit = table.whole("retransmit_interval", 1, 65535, 5)
         delay = table.whole("transmit_delay", 1, 3600, 1)
         chosen = self._chosen_keys(table, keys, passive)
-        if hello and dead and dead <= hello:
+        if dead <= hello and not table.is_wrong("hello_interval"):
             table.note("dead_interval", str(dead), f"more than hello_interval, which is {hello}")
-        if inside and passive is False and not LEAST_MTU <= inside.mtu <= MOST_MTU:
+        if inside and not passive and not LEAST_MTU <= inside.mtu <= MOST_MTU:
             found = f"{shown(inside.name)}, whose MTU is {inside.mtu}"
             table.note("name", found, f"an interface with an MTU of {LEAST_MTU} to {MOST_MTU}, or passive = true")
         if not table.is_sound or inside is None or address is None or chosen is None:
@@ -362,7 +366,7 @@ class _Reader:
             return None
         return inside.addresses[0]
 
-    def _chosen_keys(self, table: Table, keys: dict[str, Key] | None, passive: bool | None) -> tuple[Key, ...] | None:
+    def _chosen_keys(self, table: Table, keys: dict[str, Key] | None, passive: bool) -> tuple[Key, ...] | None:
         """The keys of an interface, of which the first signs."""
         known = f"names of keys: {', '.join(keys) or 'none, as there is no file of keys'}" if keys is not None else "names of keys"
         names = table.texts("keys", known)
@@ -404,7 +408,7 @@ class _Reader:
                 table.note("prefix", found, "one destination for each address (their Link State ID would be the same)")
             elif prefix is not None:
                 prefixes[prefix.network_address] = prefix
-            if table.is_sound:
+            if table.is_sound and prefix is not None:
                 read.append(Announcement(prefix, metric, kind, tag))
         return read
 

@@ -63,7 +63,8 @@ def ip_says(*words: str) -> list[dict]:
 
 def interface_of(said: dict) -> KernelInterface:
     """An interface from what `ip -json address show` says of it."""
-    main, secondary = [], []
+    main: list[IPv4Interface] = []
+    secondary: list[IPv4Interface] = []
     for each in said.get("addr_info", []):
         if each.get("family") != "inet":
             continue

@@ -66,11 +66,6 @@ class LsHeader:
     checksum: int
     length: int
 
-    @property
-    def instance(self) -> tuple[LsKey, int, int]:
-        """What an acknowledgment names, the age aside."""
-        return self.key, self.sequence, self.checksum
-
 
 def header_of(data: bytes) -> LsHeader | None:
     """The header of an LSA of a kind that `routerd` keeps; None for others, and for fewer than 20 bytes."""
@@ -86,8 +81,7 @@ def header_of(data: bytes) -> LsHeader | None:
 def is_whole(data: bytes) -> bool:
     """Whether an LSA's length field is its length, and its checksum holds: over all but the age the sum of the bytes and that of its partial
     sums are 0 modulo 255 (RFC 2328, 12.1.7; RFC 905, annex B)."""
-    header = header_of(data)
-    if header is None or header.length != len(data) or not header.checksum:
+    if len(data) < HEADER.size or data[18:20] != len(data).to_bytes(2, "big") or data[16:18] == b"\0\0":
         return False
     covered = data[2:]
     return sum(covered) % 255 == 0 and sum(accumulate(covered)) % 255 == 0

@@ -48,7 +48,7 @@ class Router:
         self._one_at_a_time = threading.Lock()
         self._is_gone = False
         self._said = ""
-        self._ran = subprocess.Popen(
+        self._ran: subprocess.Popen[bytes] = subprocess.Popen(
             [str(program), "route", str(configuration)],
             stdin=subprocess.PIPE,
             stdout=subprocess.PIPE,
@@ -57,6 +57,8 @@ class Router:
             env=ENVIRONMENT,
             start_new_session=True,
         )
+        assert self._ran.stdin and self._ran.stdout and self._ran.stderr  # each is a pipe
+        self._input, self._output, self._errors = self._ran.stdin, self._ran.stdout, self._ran.stderr
         self._readers = [
             threading.Thread(target=self._read_answers, daemon=True),
             threading.Thread(target=self._read_errors, daemon=True),
@@ -69,13 +71,13 @@ class Router:
         return self._ran.pid
 
     def _read_answers(self) -> None:
-        for line in self._ran.stdout:
+        for line in self._output:
             self._said = line.decode("utf-8", "replace").rstrip("\n")
             self._lines.put(self._said)
         self._lines.put(None)
 
     def _read_errors(self) -> None:
-        for line in self._ran.stderr:
+        for line in self._errors:
             text = line.decode("utf-8", "replace").rstrip()
             log.warning("routerd: %s", text)
             self._told(text)
@@ -116,8 +118,8 @@ class Router:
 
     def _write(self, data: bytes) -> None:
         try:
-            self._ran.stdin.write(data)
-            self._ran.stdin.flush()
+            self._input.write(data)
+            self._input.flush()
         except (OSError, ValueError) as error:
             self._is_gone = True
             raise RouterGone("routerd has ended") from error
@@ -133,8 +135,8 @@ class Router:
             was_gone, self._is_gone = self._is_gone, True
             try:
                 if not was_gone:
-                    self._ran.stdin.write(b"quit\n")
-                self._ran.stdin.close()
+                    self._input.write(b"quit\n")
+                self._input.close()
             except (OSError, ValueError):
                 pass  # it has ended already
             try:
@@ -149,6 +151,6 @@ class Router:
         while not self._lines.empty():
             lines.append(self._lines.get())
         counters = tuple(each for each in lines if each and each.startswith("counter "))
-        self._ran.stdout.close()
-        self._ran.stderr.close()
+        self._output.close()
+        self._errors.close()
         return Ended(status, counters, self._said)

@@ -143,11 +143,11 @@ class Server:
         self._ending.set()
         with self._changing:
             staying, clients = list(self._staying), list(self._clients)
-        for each in staying:
-            each.join(2)
-        for each in [self._listener, *clients]:
+        for thread in staying:
+            thread.join(2)
+        for one in [self._listener, *clients]:
             try:
-                each.shutdown(socket.SHUT_RDWR)
+                one.shutdown(socket.SHUT_RDWR)
             except OSError:
                 pass  # it has left
         self._listener.close()

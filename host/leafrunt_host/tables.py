@@ -8,7 +8,7 @@ import tomllib
 from collections.abc import Callable, Iterable
 from dataclasses import dataclass
 from datetime import datetime
-from typing import TypeVar
+from typing import Any, TypeGuard, TypeVar
 
 T = TypeVar("T")
 LONGEST_SHOWN = 60
@@ -27,6 +27,11 @@ class Mistake:
 
     def __str__(self) -> str:
         return f"{self.file}: {self.where}: found {self.found}; allowed: {self.allowed}"
+
+
+def is_whole(value: object) -> TypeGuard[int]:
+    """Whether it is a whole number: to Python true and false are some too."""
+    return type(value) is int
 
 
 def shown(value: object) -> str:
@@ -71,29 +76,34 @@ def toml_of(file: str, data: bytes, mistakes: list[Mistake]) -> dict[str, object
 class Table:
     """One table of a file.
 
-    Each read of a key gives its value, or None where it is a mistake, which is then noted. `end` notes the keys that nobody asked for.
+    Each read of a key gives its value. Where it is a mistake that is noted, and reading goes on with the default, or with None where the
+    kind of value has none. `end` notes the keys that nobody asked for.
     """
 
     def __init__(self, file: str, where: str, items: dict[str, object], mistakes: list[Mistake]) -> None:
         self._file, self._where, self._items, self._mistakes = file, where, items, mistakes
         self._asked: list[str] = []
-        self._noted = 0
+        self._wrong: set[str] = set()
 
     @property
     def is_sound(self) -> bool:
         """Whether no mistake has been noted in this table."""
-        return not self._noted
+        return not self._wrong
+
+    def is_wrong(self, key: str) -> bool:
+        """Whether a mistake has been noted at this key."""
+        return key in self._wrong
 
     def note(self, key: str, found: str, allowed: str) -> None:
         """Notes a mistake at a key."""
         where = ", ".join(each for each in (self._where, key) if each)
         self._mistakes.append(Mistake(self._file, where, found, allowed))
-        self._noted += 1
+        self._wrong.add(key)
 
     def has(self, key: str) -> bool:
         return key in self._items
 
-    def _value(self, key: str, allowed: str, default: T | None, is_right: Callable[[object], bool]) -> T | None:
+    def _value(self, key: str, allowed: str, default: object, is_right: Callable[[Any], bool]) -> object:
         self._asked.append(key)
         if key not in self._items:
             if default is None:
@@ -105,21 +115,25 @@ class Table:
             return None
         return value
 
-    def whole(self, key: str, least: int, most: int, default: int | None = None) -> int | None:
+    def whole(self, key: str, least: int, most: int, default: int | None = None) -> int:
         """A whole number in a range."""
         allowed = f"a whole number from {least} to {most}"
-        return self._value(key, allowed, default, lambda each: type(each) is int and least <= each <= most)
+        value = self._value(key, allowed, default, lambda each: is_whole(each) and least <= each <= most)
+        return value if is_whole(value) else least if default is None else default
 
-    def truth(self, key: str, default: bool) -> bool | None:
-        return self._value(key, "true or false", default, lambda each: isinstance(each, bool))
+    def truth(self, key: str, default: bool) -> bool:
+        value = self._value(key, "true or false", default, lambda each: isinstance(each, bool))
+        return value if isinstance(value, bool) else default
 
     def text(self, key: str, allowed: str, default: str | None = None) -> str | None:
         """A text that isn't empty."""
-        return self._value(key, allowed, default, lambda each: isinstance(each, str) and each != "")
+        value = self._value(key, allowed, default, lambda each: isinstance(each, str) and each != "")
+        return value if isinstance(value, str) else None
 
     def one_of(self, key: str, words: Iterable[str]) -> str | None:
         words = list(words)
-        return self._value(key, f"one of {', '.join(map(shown, words))}", None, lambda each: each in words)
+        value = self._value(key, f"one of {', '.join(map(shown, words))}", None, lambda each: each in words)
+        return value if isinstance(value, str) else None
 
     def secret(self, key: str, most: int, allowed: str) -> bytes | None:
         """A text of 1 to `most` bytes that isn't shown."""
@@ -157,22 +171,25 @@ class Table:
     def texts(self, key: str, allowed: str) -> list[str] | None:
         """A list of different texts, empty where the key isn't there."""
         value = self._value(key, allowed, [], lambda each: isinstance(each, list))
-        for each in value or []:
-            if not isinstance(each, str) or value.count(each) > 1:
+        texts: list[str] = []
+        for each in value if isinstance(value, list) else []:
+            if not isinstance(each, str) or each in texts:
                 again = " twice" if isinstance(each, str) else ""
                 self.note(key, f"{shown(each)}{again}", allowed)
                 return None
-        return value
+            texts.append(each)
+        return None if value is None else texts
 
     def tables(self, key: str, title: Callable[[int, dict], str]) -> list[Table] | None:
         """The tables of a list, `[[key]]` in the file, empty where there is none; `title` says where one of them stands."""
-        value = self._value(key, f"tables, each begun with [[{key}]]", [], lambda each: isinstance(each, list))
-        for each in value or []:
-            if not isinstance(each, dict):
-                self.note(key, shown(each), f"tables, each begun with [[{key}]]")
-                return None
-        if value is None:
+        allowed = f"tables, each begun with [[{key}]]"
+        value = self._value(key, allowed, [], lambda each: isinstance(each, list))
+        if not isinstance(value, list):
             return None
+        for each in value:
+            if not isinstance(each, dict):
+                self.note(key, shown(each), allowed)
+                return None
         return [Table(self._file, title(at, each), each, self._mistakes) for at, each in enumerate(value, 1)]
 
     def end(self) -> None:

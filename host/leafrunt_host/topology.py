@@ -6,6 +6,7 @@ nothing that it refused.
 """
 from __future__ import annotations
 
+import queue
 import threading
 import time
 from collections import OrderedDict
@@ -20,7 +21,6 @@ from leafrunt_host.lsas import (
     ExternalBody,
     LinkType,
     LsHeader,
-    LsKey,
     LsType,
     NetworkBody,
     RouterBody,
@@ -34,47 +34,80 @@ from leafrunt_host.lsas import (
 )
 from leafrunt_host.packets import LSA_HEADER_LENGTH, Malformed, Packet, PacketType, chunks, lsas_of
 
+KINDS = frozenset(LsType)
 MOST_WAITING = 50_000
 SECONDS_WAITING = 60
+MOST_UNREAD = 8_192
+"""Packets that may wait to be read. Beyond that they are left out and counted, since the bridge may not wait for this."""
+SECONDS_TO_READ = 5
 SECONDS_UNSETTLED = 0.5
 """Packets of two interfaces may be read here in another order than `routerd` sent them in, this long at most."""
+KEY, INSTANCE = slice(3, 12), slice(3, 18)
+"""Of an LSA's header: type, Link State ID and advertising router; and sequence number and checksum after them (RFC 2328, A.4.1)."""
 
 
 @dataclass(frozen=True)
 class Entry:
-    """An LSA, and when it was seen."""
+    """An LSA, the age that it had when it was seen, and when that was."""
 
-    header: LsHeader
     data: bytes
+    age: int
     moment: float
+
+    def age_at(self, now: float) -> int:
+        return min(MAX_AGE, self.age + int(now - self.moment))
 
     def header_at(self, now: float) -> LsHeader:
         """The header with the age that the LSA has by now."""
-        return replace(self.header, age=min(MAX_AGE, self.header.age + int(now - self.moment)))
+        header = header_of(self.data)
+        assert header is not None  # it was looked at before it was kept
+        return replace(header, age=self.age_at(now))
 
     @property
     def body(self) -> Body | None:
         return body_of(self.data)
 
 
+def age_of(data: bytes) -> int:
+    return min(MAX_AGE, int.from_bytes(data[:2], "big"))
+
+
 class Topology:
-    """The database. The bridge tells it each packet, and others ask, in threads of their own."""
+    """The database. The bridge hands it packets, a thread of its own reads them, and others ask, in threads of theirs."""
 
     def __init__(self, clock: Callable[[], float] = time.monotonic) -> None:
         self._clock = clock
         self._one_at_a_time = threading.Lock()
-        self._entries: dict[LsKey, Entry] = {}
-        self._waiting: OrderedDict[tuple[LsKey, int, int], Entry] = OrderedDict()
+        self._entries: dict[bytes, Entry] = {}
+        self._waiting: OrderedDict[bytes, Entry] = OrderedDict()
+        self._unread: queue.SimpleQueue[tuple[Side, Packet, float] | threading.Event] = queue.SimpleQueue()
+        self.left_out = 0
+        threading.Thread(target=self._read, name="topology", daemon=True).start()
 
     def watch(self, side: Side, packet: Packet, now: float) -> None:
         """Takes note of a packet that the bridge took: from the wire, or from `routerd`."""
-        if packet.type == PacketType.LINK_STATE_UPDATE:
+        is_update = packet.type == PacketType.LINK_STATE_UPDATE
+        if not is_update and (side is Side.WIRE or packet.type != PacketType.LINK_STATE_ACKNOWLEDGMENT):
+            return
+        if self._unread.qsize() >= MOST_UNREAD:
+            self.left_out += 1
+        else:
+            self._unread.put((side, packet, now))
+
+    def _read(self) -> None:
+        """Reads the packets, in their order."""
+        while True:
+            given = self._unread.get()
+            if isinstance(given, threading.Event):
+                given.set()
+                continue
+            side, packet, now = given
             with self._one_at_a_time:
-                self._updated(side, packet, now)
-        if packet.type == PacketType.LINK_STATE_ACKNOWLEDGMENT and side is Side.ROUTER:
-            with self._one_at_a_time:
-                for data in chunks(packet.body, LSA_HEADER_LENGTH):
-                    self._acknowledged(data, now)
+                if packet.type == PacketType.LINK_STATE_UPDATE:
+                    self._updated(side, packet, now)
+                else:
+                    for header in chunks(packet.body, LSA_HEADER_LENGTH):
+                        self._acknowledged(header, now)
 
     def _updated(self, side: Side, packet: Packet, now: float) -> None:
         try:
@@ -82,10 +115,9 @@ class Topology:
         except Malformed:
             return
         for data in lsas:
-            header = header_of(data)
-            if header is None or not is_whole(data):
+            entry = Entry(data, age_of(data), now)
+            if data[3] not in KINDS:
                 continue
-            entry = Entry(header, data, now)
             if side is Side.ROUTER:
                 self._put(entry, now)
             else:
@@ -93,41 +125,45 @@ class Topology:
 
     def _wait(self, entry: Entry, now: float) -> None:
         """An LSA from the wire waits until `routerd` acknowledges it, which takes it a second, or refuses it in silence."""
-        self._waiting[entry.header.instance] = entry
-        self._waiting.move_to_end(entry.header.instance)
+        instance = entry.data[INSTANCE]
+        self._waiting[instance] = entry
+        self._waiting.move_to_end(instance)
         while self._waiting:
             oldest = next(iter(self._waiting.values()))
             if len(self._waiting) <= MOST_WAITING and now - oldest.moment < SECONDS_WAITING:
                 break
             self._waiting.popitem(last=False)
 
-    def _acknowledged(self, data: bytes, now: float) -> None:
+    def _acknowledged(self, header: bytes, now: float) -> None:
         """An acknowledgment of `routerd` has the header that it received, age and all (13.5)."""
-        header = header_of(data)
-        entry = self._waiting.pop(header.instance, None) if header else None
-        if header and entry:
-            self._put(replace(entry, header=replace(entry.header, age=header.age)), now)
+        entry = self._waiting.pop(header[INSTANCE], None)
+        if entry:
+            self._put(replace(entry, age=age_of(header)), now)
 
     def _put(self, entry: Entry, now: float) -> None:
         """An older instance than the one here comes late, or, where that one was flushed, begins anew (12.1.6, 14.1)."""
-        before = self._entries.get(entry.header.key)
+        if not is_whole(entry.data):
+            return
+        before = self._entries.get(entry.data[KEY])
         if before and is_newer(before.header_at(now), entry.header_at(now)):
-            is_flushed = before.header_at(now).age == MAX_AGE
+            is_flushed = before.age_at(now) == MAX_AGE
             if not is_flushed or now - before.moment < SECONDS_UNSETTLED:
                 return
-        self._entries[entry.header.key] = entry
+        self._entries[entry.data[KEY]] = entry
 
     def entries(self) -> list[tuple[LsHeader, Entry]]:
-        """The LSAs with their headers of now, in the order of their keys; those that are flushed or ran out aren't in it."""
+        """The LSAs with their headers of now, in the order of their keys; those that are flushed or ran out aren't in it. What the bridge
+        has handed over by now is read first."""
+        is_read = threading.Event()
+        self._unread.put(is_read)
+        is_read.wait(SECONDS_TO_READ)
         now = self._clock()
         with self._one_at_a_time:
-            found = [(entry.header_at(now), entry) for entry in self._entries.values()]
-            for header, entry in found:
-                if header.age == MAX_AGE and now - entry.moment > MAX_AGE:
-                    del self._entries[header.key]
-        return sorted(
-            ((header, entry) for header, entry in found if header.age < MAX_AGE), key=lambda each: each[0].key
-        )
+            for key, entry in list(self._entries.items()):
+                if entry.age_at(now) == MAX_AGE and now - entry.moment > MAX_AGE:
+                    del self._entries[key]
+            found = sorted(self._entries.items())
+        return [(entry.header_at(now), entry) for _, entry in found if entry.age_at(now) < MAX_AGE]
 
 
 HEADING = f"{'Type':<12} {'Link State ID':<15} {'Router':<15} {'Sequence':<8} {'Age':>4} {'Checksum':>8}"
@@ -135,14 +171,17 @@ HEADING = f"{'Type':<12} {'Link State ID':<15} {'Router':<15} {'Sequence':<8} {'
 
 def database_line(header: LsHeader) -> str:
     """A line of `leafrunt database`, with the columns that BIRD's `show ospf lsadb` has."""
-    key, sequence = header.key, header.sequence & 0xFFFFFFFF
+    key, sequence, checksum = header.key, header.sequence & 0xFFFFFFFF, f"{header.checksum:04x}"
     title = LsType(key.type).title
-    return f"{title:<12} {key.id!s:<15} {key.router!s:<15} {sequence:08x} {header.age:>4} {header.checksum:>8x}"
+    return f"{title:<12} {key.id!s:<15} {key.router!s:<15} {sequence:08x} {header.age:>4} {checksum:>8}"
 
 
 def database_lines(topology: Topology) -> list[str]:
     """All LSAs, a line each, below a heading."""
-    return [HEADING, *(database_line(header) for header, _ in topology.entries())]
+    lines = [HEADING, *(database_line(header) for header, _ in topology.entries())]
+    if topology.left_out:
+        lines.append(f"({topology.left_out} packets came too fast to be read here: what they had is missing until it is sent again)")
+    return lines
 
 
 def whole_lines(topology: Topology, identity: IPv4Address) -> list[str]:
