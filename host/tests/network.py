@@ -25,6 +25,8 @@ FRR_DAEMONS = Path("/usr/lib/frr")
 PREFIX = "lfnet"
 HELLO_INTERVAL, DEAD_INTERVAL, RETRANSMIT_INTERVAL = 2, 8, 2
 TOTAL_SECONDS = 60
+COMES_UP = 40
+"""Seconds within which a router comes to Full here: two router-LSAs are five seconds apart."""
 
 
 class CannotTry(Exception):
@@ -121,6 +123,11 @@ class Side:
     is_passive: bool = False
 
 
+SHA = Secret(5, "hmac sha256", "a secret for BIRD")
+MD5 = Secret(1, "keyed md5", "secret-for-FRR")
+NOT_FULL = (None, "Init", "Down", "ExStart", "Exchange", "2-Way")
+
+
 class Network:
     """Namespaces, links and programs, ended and removed by `close`."""
 
@@ -182,13 +189,23 @@ class Network:
         self._wires = self.start(
             self.name("wires"), words, self.work / "wires.log", stdin=-1, stdout=-1
         )
-        self._wires.stdout.readline()
+        self._answer()
 
     def wire(self, *words: object) -> str:
         """Gives the wires a line, and their answer."""
+        if self._wires is None or self._wires.stdin is None:
+            raise CannotTry("no wires were started")
         self._wires.stdin.write(" ".join(str(each) for each in words) + "\n")
         self._wires.stdin.flush()
-        return self._wires.stdout.readline().strip()
+        return self._answer()
+
+    def _answer(self) -> str:
+        if self._wires is None or self._wires.stdout is None:
+            raise CannotTry("no wires were started")
+        line = self._wires.stdout.readline()
+        if not line:
+            raise CannotTry("the wires have ended")
+        return line.strip()
 
     def carrier(self, number: int, is_up: bool) -> None:
         """Takes the carrier of both ends of a wire away, or gives it back."""
@@ -322,7 +339,7 @@ class Bird:
         routes = "\n".join(f"route {each} blackhole;" for each in self.externals)
         (self.folder / "conf").write_text(
             f'log "{self.folder}/log" all; router id {self.router_id}; protocol device {{ scan time 1; }}\n'
-            "protocol kernel { ipv4 { export all; import none; }; }\n"
+            "protocol kernel { ipv4 { export where source != RTS_STATIC; import none; }; }\n"
             f"protocol static {{ ipv4; {routes} }}\n"
             "protocol ospf v2 { ipv4 { import all; export where source = RTS_STATIC; };\n"
             f"{self.area} {{ {stubs} {interfaces} }}; }}\n"
@@ -402,7 +419,7 @@ class Frr:
         shutil.chown(self.folder, "frr", "frr")
         for daemon in ("zebra", "ospfd"):
             self._start(daemon)
-            within(10, lambda daemon=daemon: (self.folder / f"{daemon}.vty").exists())
+            within(10, (self.folder / f"{daemon}.vty").exists)
 
     def _start(self, daemon: str) -> None:
         script = 'mount --bind "$1" /run/frr; exec "$2" -f "$3" -P 0 --log "file:$1/$4.log"'
@@ -431,12 +448,13 @@ class Frr:
         """The LSAs of `show ip ospf database`, those of age 3600 apart."""
         found, kind = set(), 0
         for line in self.says("show ip ospf database").splitlines():
-            words = line.split()
             if line.strip().startswith("Router Link States"):
                 kind = 1
             elif line.strip().startswith("AS External Link States"):
                 kind = 5
-            elif len(words) >= 5 and words[3].startswith("0x") and words[2].isdigit():
+            # the first column has 15 characters, and nothing separates a longest ID from the next
+            words = [line[:15].strip(), *line[15:].split()]
+            if len(words) >= 5 and words[3].startswith("0x") and words[2].isdigit():
                 if int(words[2]) < 3600:
                     found.add(Lsa(kind, words[0], words[1], words[3][2:]))
         return found
@@ -515,10 +533,16 @@ class Box:
         self.process = None
         return status
 
+    def signal(self, number: int) -> None:
+        if self.process:
+            self.process.send_signal(number)
+
     def wait(self, seconds: float = 30) -> int | None:
         """Its status, once it ended by itself; None where it doesn't within that time."""
-        ended = within(seconds, lambda: self.process.poll() is not None)
-        return None if ended is None else self.stop()
+        process = self.process
+        if process is None or within(seconds, lambda: process.poll() is not None) is None:
+            return None
+        return self.stop()
 
     def command(self, *words: str, lines: str | None = None) -> str:
         """What `leafrunt WORDS` prints."""
@@ -602,3 +626,33 @@ class Looks:
         took = within(seconds, succeeds, each)
         measured = f"not within {seconds:g} s" if took is None else f"after {took:.1f} s"
         return self.look(what, took is not None, measured)
+
+
+@dataclass
+class Try:
+    """What each part is given."""
+
+    looks: Looks
+    routerd: Path
+    network: Network
+
+
+def prefixes(first: int, count: int) -> list[str]:
+    """So many prefixes of length 24 below FIRST.0.0.0."""
+    return [f"{first}.{64 + at // 256}.{at % 256}.0/24" for at in range(count)]
+
+
+def is_full(router: Box | Bird | Frr, *neighbors: str) -> bool:
+    states = router.neighbors()
+    return all(states.get(each) == "Full" for each in neighbors)
+
+
+def is_said(box: Box, *texts: str) -> bool:
+    """Whether `leafrunt status` says all of that."""
+    status = box.status()
+    return all(each in status for each in texts)
+
+
+def line_of(box: Box, text: str) -> str:
+    """The line of `leafrunt status` that says it."""
+    return next((each.strip() for each in box.status().splitlines() if text in each), "not said")

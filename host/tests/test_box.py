@@ -68,12 +68,26 @@ class Boxes(unittest.TestCase):
             box.wait()
             box.stderr.close()
 
-    def begin(self, router_id: str = "1.1.1.1", more: str = "", name: str = "one") -> subprocess.Popen[str]:
+    def begin(
+        self, router_id: str = "1.1.1.1", more: str = "", name: str = "one"
+    ) -> subprocess.Popen[str]:
         """Starts a box, and doesn't wait for it."""
         path = self.folder / f"{name}.toml"
         path.write_text(TEXT.format(router_id) + more)
-        words = [sys.executable, "-S", str(HERE / "run_box.py"), str(path), str(self.run_folder), str(self.state)]
-        box = subprocess.Popen(words, stderr=subprocess.PIPE, text=True, env={**os.environ, "PYTHONDONTWRITEBYTECODE": "1"})
+        words = [
+            sys.executable,
+            "-S",
+            str(HERE / "run_box.py"),
+            str(path),
+            str(self.run_folder),
+            str(self.state),
+        ]
+        box = subprocess.Popen(
+            words,
+            stderr=subprocess.PIPE,
+            text=True,
+            env={**os.environ, "PYTHONDONTWRITEBYTECODE": "1"},
+        )
         self.boxes.append(box)
         return box
 
@@ -81,7 +95,9 @@ class Boxes(unittest.TestCase):
         """Starts a box, and waits until it takes connections."""
         box = self.begin(*words, **named)
         name = named.get("name", "one")
-        self.assertTrue(within(10, lambda: name in running(self.run_folder) or box.poll() is not None))
+        self.assertTrue(
+            within(10, lambda: name in running(self.run_folder) or box.poll() is not None)
+        )
         self.assertIsNone(box.poll(), box.stderr.read() if box.poll() is not None else "")
         return box
 
@@ -136,7 +152,10 @@ class Consoles(Boxes):
     def lines(self) -> None:
         """`routerd`'s answers come as they are, each to its line."""
         client = self.client()
-        self.assertEqual(client.ask("table"), ["10.0.1.0/24 intra 10 via 0", "192.0.2.0/24 ext2 20 via 1", "end"])
+        self.assertEqual(
+            client.ask("table"),
+            ["10.0.1.0/24 intra 10 via 0", "192.0.2.0/24 ext2 20 via 1", "end"],
+        )
         self.assertEqual(client.ask("counters"), ["counter 5 6", "end"])
         for line in ("hello", "table ", " table", "", "quitt", "add", "detach all"):
             self.assertEqual(client.ask(line), ["unknown"], line)
@@ -156,7 +175,9 @@ class Consoles(Boxes):
                     (f"hello {number}", ["unknown"]),
                     (f"withdraw {prefix}", ["withdrawn"]),
                 ]
-                wrong.extend((line, said) for line, wanted in asked if (said := client.ask(line)) != wanted)
+                wrong.extend(
+                    (line, said) for line, wanted in asked if (said := client.ask(line)) != wanted
+                )
             client.close()
 
         threads = [threading.Thread(target=asks, args=(number,)) for number in range(MANY)]
@@ -171,7 +192,10 @@ class Consoles(Boxes):
         client, other = self.client(), self.client()
         self.assertEqual(client.ask("add 10.0.0.0/8 7 1 9"), ["originated"])
         self.assertEqual(client.ask("add 10.5.0.0/16 1 1 1"), ["refused 5"])
-        self.assertEqual(other.ask("announced"), ["10.0.0.0/8 7 1 9 originated", "203.0.113.0/24 20 2 0 originated", "end"])
+        self.assertEqual(
+            other.ask("announced"),
+            ["10.0.0.0/8 7 1 9 originated", "203.0.113.0/24 20 2 0 originated", "end"],
+        )
         self.assertEqual(other.ask("withdraw 10.0.0.0/8"), ["withdrawn"])
         self.assertEqual(client.ask("announced"), ["203.0.113.0/24 20 2 0 originated", "end"])
         self.assertEqual(client.ask("attach /x/veto.o"), ["attached veto bound 7"])
@@ -187,13 +211,26 @@ class Consoles(Boxes):
         self.assertEqual(status[-2:], ["lan0: 10.0.1.1/24, MTU 1500: passive", "end"])
         self.assertEqual(
             client.ask("interfaces"),
-            ["interface 1 lan0 10.0.1.1/24 mtu 1500 cost 10 hello 10 dead 40 rxmt 5 delay 1 passive", "end"],
+            [
+                "interface 1 lan0 10.0.1.1/24 mtu 1500 cost 10 hello 10 dead 40 rxmt 5 delay 1 passive",
+                "end",
+            ],
         )
         self.assertIn("info: box one: router 1.1.1.1 at lan0", client.ask("log")[0])
         self.assertEqual(len(client.ask("log 1")), 2)
         self.assertEqual(len(client.ask("database")), 2)
         self.assertEqual(client.ask("map")[0], "digraph area {")
-        for line in ("status all", "log x", "log -1", "database here", "database 1.2.3.4", "map 1.2.3.4/8", "programs x", "capture", "capture x"):
+        for line in (
+            "status all",
+            "log x",
+            "log -1",
+            "database here",
+            "database 1.2.3.4",
+            "map 1.2.3.4/8",
+            "programs x",
+            "capture",
+            "capture x",
+        ):
             with self.subTest(line):
                 self.assertTrue(client.ask(line)[0].startswith("refused: "))
 
@@ -228,7 +265,17 @@ class Consoles(Boxes):
 
     def captures(self) -> None:
         path = self.folder / "it.pcap"
-        said = self.leafrunt("console", "-c", f"capture {path}", "-c", f"capture {path}", "-c", f"capture {path}2", "-c", "capture off")
+        said = self.leafrunt(
+            "console",
+            "-c",
+            f"capture {path}",
+            "-c",
+            f"capture {path}",
+            "-c",
+            f"capture {path}2",
+            "-c",
+            "capture off",
+        )
         self.assertEqual(
             said[1].splitlines(),
             [
@@ -242,7 +289,9 @@ class Consoles(Boxes):
         self.assertEqual(stat.S_IMODE(path.stat().st_mode), 0o600)
         self.assertFalse(path.with_name("it.pcap2").exists())
         reader, writer = os.pipe()
-        self.assertEqual(self.client().ask("capture /pipe", writer), ["refused: /pipe: no regular file"])
+        self.assertEqual(
+            self.client().ask("capture /pipe", writer), ["refused: /pipe: no regular file"]
+        )
         os.close(reader)
         os.close(writer)
 
@@ -289,21 +338,38 @@ class Consoles(Boxes):
     def commands(self) -> None:
         said = self.leafrunt("console", given="table\n\nhelp\nquit\nhello\n")
         self.assertEqual((said[0], said[2]), (0, ""))
-        self.assertEqual(said[1].splitlines()[:3], ["10.0.1.0/24 intra 10 via 0", "192.0.2.0/24 ext2 20 via 1", "end"])
+        self.assertEqual(
+            said[1].splitlines()[:3],
+            ["10.0.1.0/24 intra 10 via 0", "192.0.2.0/24 ext2 20 via 1", "end"],
+        )
         self.assertNotIn("unknown", said[1])
         self.assertEqual(self.leafrunt("status")[0], 0)
         status, text, _ = self.leafrunt("status", "--json")
         self.assertIn('"router_id": "1.1.1.1"', text)
         self.assertEqual(self.leafrunt("database")[0], 0)
-        self.assertEqual(self.leafrunt("database", "1.2.3.4"), (1, "", "leafrunt: no LSA has the Link State ID 1.2.3.4\n"))
+        self.assertEqual(
+            self.leafrunt("database", "1.2.3.4"),
+            (1, "", "leafrunt: no LSA has the Link State ID 1.2.3.4\n"),
+        )
         self.assertTrue(self.leafrunt("map")[1].endswith("}\n"))
         self.assertEqual(self.leafrunt("map", "--to", "1.2.3.4/8")[0], 2)
-        self.assertEqual(self.leafrunt("status", "--box", "two"), (3, "", "leafrunt: the box two doesn't run: `leafrunt up` starts it\n"))
+        self.assertEqual(
+            self.leafrunt("status", "--box", "two"),
+            (3, "", "leafrunt: the box two doesn't run: `leafrunt up` starts it\n"),
+        )
         self.assertEqual(self.leafrunt("status", "--box", "../one")[0], 2)
-        closed = [sys.executable, str(LEAFRUNT), "database", "--run-directory", str(self.run_folder)]
+        closed = [
+            sys.executable,
+            str(LEAFRUNT),
+            "database",
+            "--run-directory",
+            str(self.run_folder),
+        ]
         reader, writer = os.pipe()
         os.close(reader)
-        ran = subprocess.run(closed, stdout=writer, stderr=subprocess.PIPE, text=True, timeout=30, check=False)
+        ran = subprocess.run(
+            closed, stdout=writer, stderr=subprocess.PIPE, text=True, timeout=30, check=False
+        )
         os.close(writer)
         self.assertEqual((ran.returncode, ran.stderr), (3, ""))
 
@@ -324,13 +390,27 @@ class Ends(Boxes):
         self.assertEqual(self.leafrunt("down"), (0, "the box one has ended, status 0\n", ""))
         status, log = self.ended(box)
         self.assertEqual(status, 0)
-        for words in ("routerd: counter 5 7", "routerd: counter 6 1", "routerd ended: status 0", "the neighbors were told"):
+        for words in (
+            "routerd: counter 5 7",
+            "routerd: counter 6 1",
+            "routerd ended: status 0",
+            "the neighbors were told",
+        ):
             self.assertIn(words, log)
         self.assertFalse(is_running(routerd))
         self.assertEqual(sorted(os.listdir(self.run_folder / "one")), ["lock"])
-        self.assertEqual(self.leafrunt("down"), (3, "", f"leafrunt: no box of this user's runs (in {self.run_folder}): `leafrunt up CONFIG` starts one\n"))
+        self.assertEqual(
+            self.leafrunt("down"),
+            (
+                3,
+                "",
+                f"leafrunt: no box of this user's runs (in {self.run_folder}): `leafrunt up CONFIG` starts one\n",
+            ),
+        )
         self.up()
-        self.assertEqual(self.leafrunt("console", given="down\ntable\n")[1], "ending\nended, status 0\n")
+        self.assertEqual(
+            self.leafrunt("console", given="down\ntable\n")[1], "ending\nended, status 0\n"
+        )
 
     def test_signals(self) -> None:
         boxes = [self.up(name=name) for name in ("one", "two")]
@@ -347,7 +427,10 @@ class Ends(Boxes):
         self.up(name="one")
         self.up(name="two")
         status, _, words = self.leafrunt("status")
-        self.assertEqual((status, words), (2, "leafrunt: several boxes run: one, two; choose one by `--box NAME`\n"))
+        self.assertEqual(
+            (status, words),
+            (2, "leafrunt: several boxes run: one, two; choose one by `--box NAME`\n"),
+        )
         again = self.begin(name="two")
         status, log = self.ended(again)
         self.assertEqual(status, 1)
@@ -380,7 +463,10 @@ class Ends(Boxes):
         box.wait()
         self.assertTrue(within(5, lambda: not is_running(routerd)))
         self.assertTrue(socket_path(self.run_folder, "one").exists())
-        self.assertEqual(self.leafrunt("status", "--box", "one")[::2], (3, "leafrunt: the box one doesn't run: `leafrunt up` starts it\n"))
+        self.assertEqual(
+            self.leafrunt("status", "--box", "one")[::2],
+            (3, "leafrunt: the box one doesn't run: `leafrunt up` starts it\n"),
+        )
         self.assertEqual(running(self.run_folder), [])
         self.up()
         self.assertEqual(self.leafrunt("status")[0], 0)
@@ -447,7 +533,10 @@ class Starts(Boxes):
     def test_a_mistake_starts_nothing(self) -> None:
         status, log = self.ended(self.begin(more="cost = 0\n"))
         self.assertEqual(status, 1)
-        self.assertEqual(log, "one.toml: interface 1 (lan0), cost: found 0; allowed: a whole number from 1 to 65535\n")
+        self.assertEqual(
+            log,
+            "one.toml: interface 1 (lan0), cost: found 0; allowed: a whole number from 1 to 65535\n",
+        )
         self.assertFalse(self.run_folder.exists())
 
     def test_a_folder_of_another_kind(self) -> None:
@@ -473,7 +562,9 @@ class Starts(Boxes):
             self.assertIn("leafrunt: x.toml: router_id: found 1; allowed: an address", said)
         self.assertEqual(self.leafrunt("check", "/none.toml")[0], 2)
         for words, status in ((["/none.toml"], 3), ([], 2), (["--help"], 0)):
-            with contextlib.redirect_stdout(io.StringIO()), contextlib.redirect_stderr(io.StringIO()) as said:
+            with contextlib.redirect_stdout(io.StringIO()), contextlib.redirect_stderr(
+                io.StringIO()
+            ) as said:
                 try:
                     self.assertEqual(main(["check", *words]), status)
                 except SystemExit as ended:
@@ -482,7 +573,13 @@ class Starts(Boxes):
 
     def script(self, *words: str) -> tuple[int, str]:
         """Status and errors of the command as a process of its own."""
-        ran = subprocess.run([sys.executable, "-S", str(LEAFRUNT), *words], capture_output=True, text=True, timeout=30, check=False)
+        ran = subprocess.run(
+            [sys.executable, "-S", str(LEAFRUNT), *words],
+            capture_output=True,
+            text=True,
+            timeout=30,
+            check=False,
+        )
         return ran.returncode, ran.stderr
 
 

@@ -8,14 +8,22 @@ import unittest
 from ipaddress import IPv4Interface
 from pathlib import Path
 
-from leafrunt_host.configuration import Configuration, Mistaken, object_hook, read_configuration, verdict_of
+from leafrunt_host.configuration import (
+    Configuration,
+    Mistaken,
+    object_hook,
+    read_configuration,
+    verdict_of,
+)
 from leafrunt_host.kernel import KernelInterface, interface_of
 from leafrunt_host.statuses import Status, Stopped
 
 ONE = IPv4Interface("10.0.1.1/24")
 KERNEL = {
     "eth1": KernelInterface("eth1", 1500, (ONE,)),
-    "eth2": KernelInterface("eth2", 9000, (IPv4Interface("10.0.2.1/24"), IPv4Interface("10.0.9.1/30"))),
+    "eth2": KernelInterface(
+        "eth2", 9000, (IPv4Interface("10.0.2.1/24"), IPv4Interface("10.0.9.1/30"))
+    ),
     "bare": KernelInterface("bare", 1500, ()),
     "thin": KernelInterface("thin", 500, (IPv4Interface("10.0.3.1/24"),)),
     "same": KernelInterface("same", 1500, (IPv4Interface("10.0.1.1/30"),)),
@@ -66,9 +74,7 @@ OBJECT = "the path of an object file that `routerd verify` accepts, without a sp
 TABLES = "tables, each begun with [[{}]]"
 TOML = "TOML 1.0, as toml.io describes it"
 TOP_KEYS = "router_id, routerd, kernel, interface, announce, program"
-INTERFACE_KEYS = (
-    "name, passive, address, cost, hello_interval, dead_interval, retransmit_interval, transmit_delay, keys"
-)
+INTERFACE_KEYS = "name, passive, address, cost, hello_interval, dead_interval, retransmit_interval, transmit_delay, keys"
 OF_ETH1 = "interface 1 (eth1), "
 KERNEL_NAMES = f"the name of an interface of the kernel: {NAMES}"
 KNOWN_KEYS = "names of keys: new, old"
@@ -76,16 +82,35 @@ PRIVATE = "a file of keys that only its owner can read"
 
 MISTAKES = [
     # the text, and of each mistake where it is, what is found, what is allowed
-    ("router_id", (("end of document", "no TOML (Expected '=' after a key in a key/value pair)", TOML),)),
+    (
+        "router_id",
+        (("end of document", "no TOML (Expected '=' after a key in a key/value pair)", TOML),),
+    ),
     (TOP + TOP, (("line 3, column 22", "no TOML (Cannot overwrite a value)", TOML),)),
-    (f"{TOP}x = {'9' * 5000}\n", (("the file", "a value that is too long", "numbers of at most 4300 digits"),)),
-    (f"{TOP}x = {'[' * 4000}\n", (("the file", "lists or tables too deep within each other", "at most some hundred levels"),)),
+    (
+        f"{TOP}x = {'9' * 5000}\n",
+        (("the file", "a value that is too long", "numbers of at most 4300 digits"),),
+    ),
+    (
+        f"{TOP}x = {'[' * 4000}\n",
+        (
+            (
+                "the file",
+                "lists or tables too deep within each other",
+                "at most some hundred levels",
+            ),
+        ),
+    ),
     ("\n\n\udcff", (("line 3", "the byte 0xff", "text in UTF-8"),)),
     (
         "",
         (
             ("router_id", "nothing", DOTTED),
-            ("routerd", '"/usr/local/bin/routerd", which can\'t be had: No such file or directory', "the path of the program `routerd`"),
+            (
+                "routerd",
+                '"/usr/local/bin/routerd", which can\'t be had: No such file or directory',
+                "the path of the program `routerd`",
+            ),
             ("interface", "nothing", "1 to 63 tables [[interface]]"),
         ),
     ),
@@ -94,82 +119,336 @@ MISTAKES = [
     (TOP.replace("1.1.1.1", "1.1.1.256") + INTERFACE, (("router_id", '"1.1.1.256"', DOTTED),)),
     (TOP.replace("1.1.1.1", "1.1.1") + INTERFACE, (("router_id", '"1.1.1"', DOTTED),)),
     (TOP.replace("1.1.1.1", "") + INTERFACE, (("router_id", '""', DOTTED),)),
-    (TOP.replace('"routerd"', '"keys.toml"') + INTERFACE, (("routerd", '"keys.toml", which is no program that can be run', "the path of the program `routerd`"),)),
-    (TOP.replace('"routerd"', '"."') + INTERFACE, (("routerd", '".", which is no program that can be run', "the path of the program `routerd`"),)),
-    (TOP.replace('"routerd"', '"open"') + INTERFACE, (("routerd", '"open", which others can change (mode 0777)', "the path of the program `routerd`"),)),
-    (TOP.replace('"routerd"', '"a\\u0000b"') + INTERFACE, (("routerd", '"a\\u0000b", which can\'t be had: embedded null byte', "the path of the program `routerd`"),)),
+    (
+        TOP.replace('"routerd"', '"keys.toml"') + INTERFACE,
+        (
+            (
+                "routerd",
+                '"keys.toml", which is no program that can be run',
+                "the path of the program `routerd`",
+            ),
+        ),
+    ),
+    (
+        TOP.replace('"routerd"', '"."') + INTERFACE,
+        (
+            (
+                "routerd",
+                '".", which is no program that can be run',
+                "the path of the program `routerd`",
+            ),
+        ),
+    ),
+    (
+        TOP.replace('"routerd"', '"open"') + INTERFACE,
+        (
+            (
+                "routerd",
+                '"open", which others can change (mode 0777)',
+                "the path of the program `routerd`",
+            ),
+        ),
+    ),
+    (
+        TOP.replace('"routerd"', '"a\\u0000b"') + INTERFACE,
+        (
+            (
+                "routerd",
+                '"a\\u0000b", which can\'t be had: embedded null byte',
+                "the path of the program `routerd`",
+            ),
+        ),
+    ),
     (TOP + 'kernel = "yes"\n' + INTERFACE, (("kernel", '"yes"', "true or false"),)),
-    (TOP + "kernal = true\n" + INTERFACE, (("kernal", "an unknown key", f"{TOP_KEYS} (kernel, maybe)"),)),
+    (
+        TOP + "kernal = true\n" + INTERFACE,
+        (("kernal", "an unknown key", f"{TOP_KEYS} (kernel, maybe)"),),
+    ),
     (TOP + '"\\u001b[2J" = 1\n' + INTERFACE, (('"\\u001b[2J"', "an unknown key", TOP_KEYS),)),
     (TOP + "keys = 1\n" + INTERFACE, (("keys", "1", PRIVATE),)),
-    (TOP + 'keys = "none.toml"\n' + INTERFACE, (("keys", '"none.toml": No such file or directory', PRIVATE),)),
-    (TOP + 'keys = "a\\u0000"\n' + INTERFACE, (("keys", '"a\\u0000": embedded null byte', PRIVATE),)),
+    (
+        TOP + 'keys = "none.toml"\n' + INTERFACE,
+        (("keys", '"none.toml": No such file or directory', PRIVATE),),
+    ),
+    (
+        TOP + 'keys = "a\\u0000"\n' + INTERFACE,
+        (("keys", '"a\\u0000": embedded null byte', PRIVATE),),
+    ),
     (TOP + 'keys = "."\n' + INTERFACE, (("keys", '".": Is a directory', PRIVATE),)),
-    (TOP + 'keys = "read.toml"\n' + INTERFACE, (("keys", '"read.toml": others can use it (mode 0640): chmod 600 it', PRIVATE),)),
+    (
+        TOP + 'keys = "read.toml"\n' + INTERFACE,
+        (("keys", '"read.toml": others can use it (mode 0640): chmod 600 it', PRIVATE),),
+    ),
     (TOP + 'interface = "eth1"\n', (("interface", '"eth1"', TABLES.format("interface")),)),
     (TOP + 'interface = ["eth1"]\n', (("interface", '"eth1"', TABLES.format("interface")),)),
     (TOP + "[interface]\n", (("interface", "a table", TABLES.format("interface")),)),
     (TOP + "interface = []\n", (("interface", "nothing", "1 to 63 tables [[interface]]"),)),
     (TOP + "[[interface]]\n", (("interface 1, name", "nothing", KERNEL_NAMES),)),
     (TOP + "[[interface]]\nname = 1\n", (("interface 1, name", "1", KERNEL_NAMES),)),
-    (TOP + '[[interface]]\nname = "eth9"\n', (("interface 1 (eth9), name", '"eth9", which the kernel doesn\'t have', KERNEL_NAMES),)),
-    (TOP + '[[interface]]\nname = "a b; reboot"\n', (("interface 1, name", '"a b; reboot", which the kernel doesn\'t have', KERNEL_NAMES),)),
-    (TOP + INTERFACE + INTERFACE, ((OF_ETH1.replace("1 (", "2 (") + "name", '"eth1", as in an earlier [[interface]]', "each interface once"),)),
-    (TOP + INTERFACE + '[[interface]]\nname = "same"\n', (("interface 2 (same), address", "10.0.1.1/30, which eth1 has too", "an address of each interface's own"),)),
-    (TOP + '[[interface]]\nname = "bare"\n', (("interface 1 (bare), name", '"bare", which has no IPv4 address', "an interface that has one"),)),
-    (TOP + '[[interface]]\nname = "thin"\n', (("interface 1 (thin), name", '"thin", whose MTU is 500', "an interface with an MTU of 576 to 65535, or passive = true"),)),
-    (TOP + '[[interface]]\nname = "lo"\n', (("interface 1 (lo), name", '"lo", whose MTU is 65536', "an interface with an MTU of 576 to 65535, or passive = true"),)),
-    (TOP + '[[interface]]\nname = "eth2"\n', (("interface 1 (eth2), address", "nothing, and the interface has 10.0.2.1/24, 10.0.9.1/30", "one of these: 10.0.2.1/24, 10.0.9.1/30"),)),
-    (TOP + INTERFACE + 'address = "10.0.1.2/24"\n', ((OF_ETH1 + "address", '"10.0.1.2/24"', "an address of the interface with its prefix length: 10.0.1.1/24"),)),
-    (TOP + INTERFACE + 'address = "here"\n', ((OF_ETH1 + "address", '"here"', "an address of the interface with its prefix length: 10.0.1.1/24"),)),
-    (TOP + INTERFACE + "address = 10\n", ((OF_ETH1 + "address", "10", "an address of the interface with its prefix length: 10.0.1.1/24"),)),
+    (
+        TOP + '[[interface]]\nname = "eth9"\n',
+        (("interface 1 (eth9), name", '"eth9", which the kernel doesn\'t have', KERNEL_NAMES),),
+    ),
+    (
+        TOP + '[[interface]]\nname = "a b; reboot"\n',
+        (("interface 1, name", '"a b; reboot", which the kernel doesn\'t have', KERNEL_NAMES),),
+    ),
+    (
+        TOP + INTERFACE + INTERFACE,
+        (
+            (
+                OF_ETH1.replace("1 (", "2 (") + "name",
+                '"eth1", as in an earlier [[interface]]',
+                "each interface once",
+            ),
+        ),
+    ),
+    (
+        TOP + INTERFACE + '[[interface]]\nname = "same"\n',
+        (
+            (
+                "interface 2 (same), address",
+                "10.0.1.1/30, which eth1 has too",
+                "an address of each interface's own",
+            ),
+        ),
+    ),
+    (
+        TOP + '[[interface]]\nname = "bare"\n',
+        (
+            (
+                "interface 1 (bare), name",
+                '"bare", which has no IPv4 address',
+                "an interface that has one",
+            ),
+        ),
+    ),
+    (
+        TOP + '[[interface]]\nname = "thin"\n',
+        (
+            (
+                "interface 1 (thin), name",
+                '"thin", whose MTU is 500',
+                "an interface with an MTU of 576 to 65535, or passive = true",
+            ),
+        ),
+    ),
+    (
+        TOP + '[[interface]]\nname = "lo"\n',
+        (
+            (
+                "interface 1 (lo), name",
+                '"lo", whose MTU is 65536',
+                "an interface with an MTU of 576 to 65535, or passive = true",
+            ),
+        ),
+    ),
+    (
+        TOP + '[[interface]]\nname = "eth2"\n',
+        (
+            (
+                "interface 1 (eth2), address",
+                "nothing, and the interface has 10.0.2.1/24, 10.0.9.1/30",
+                "one of these: 10.0.2.1/24, 10.0.9.1/30",
+            ),
+        ),
+    ),
+    (
+        TOP + INTERFACE + 'address = "10.0.1.2/24"\n',
+        (
+            (
+                OF_ETH1 + "address",
+                '"10.0.1.2/24"',
+                "an address of the interface with its prefix length: 10.0.1.1/24",
+            ),
+        ),
+    ),
+    (
+        TOP + INTERFACE + 'address = "here"\n',
+        (
+            (
+                OF_ETH1 + "address",
+                '"here"',
+                "an address of the interface with its prefix length: 10.0.1.1/24",
+            ),
+        ),
+    ),
+    (
+        TOP + INTERFACE + "address = 10\n",
+        (
+            (
+                OF_ETH1 + "address",
+                "10",
+                "an address of the interface with its prefix length: 10.0.1.1/24",
+            ),
+        ),
+    ),
     (TOP + INTERFACE + "passive = 1\n", ((OF_ETH1 + "passive", "1", "true or false"),)),
     (TOP + INTERFACE + "cost = 0\n", ((OF_ETH1 + "cost", "0", NUMBERS.format(1, 65535)),)),
     (TOP + INTERFACE + "cost = 65536\n", ((OF_ETH1 + "cost", "65536", NUMBERS.format(1, 65535)),)),
     (TOP + INTERFACE + "cost = true\n", ((OF_ETH1 + "cost", "true", NUMBERS.format(1, 65535)),)),
     (TOP + INTERFACE + "cost = 1.5\n", ((OF_ETH1 + "cost", "1.5", NUMBERS.format(1, 65535)),)),
     (TOP + INTERFACE + 'cost = "10"\n', ((OF_ETH1 + "cost", '"10"', NUMBERS.format(1, 65535)),)),
-    (TOP + INTERFACE + f"cost = 0x{'f' * 6000}\n", ((OF_ETH1 + "cost", "a number of more than 20 digits", NUMBERS.format(1, 65535)),)),
-    (TOP + INTERFACE + "cost = [1, 2]\n", ((OF_ETH1 + "cost", "a list of 2", NUMBERS.format(1, 65535)),)),
-    (TOP + INTERFACE + "hello_interval = 0\n", ((OF_ETH1 + "hello_interval", "0", NUMBERS.format(1, 65535)),)),
-    (TOP + INTERFACE + "hello_interval = 65536\n", ((OF_ETH1 + "hello_interval", "65536", NUMBERS.format(1, 65535)),)),
-    (TOP + INTERFACE + "dead_interval = 4294967296\n", ((OF_ETH1 + "dead_interval", "4294967296", NUMBERS.format(1, 4294967295)),)),
-    (TOP + INTERFACE + "dead_interval = 10\n", ((OF_ETH1 + "dead_interval", "10", "more than hello_interval, which is 10"),)),
-    (TOP + INTERFACE + "retransmit_interval = 0\n", ((OF_ETH1 + "retransmit_interval", "0", NUMBERS.format(1, 65535)),)),
-    (TOP + INTERFACE + "transmit_delay = 3601\n", ((OF_ETH1 + "transmit_delay", "3601", NUMBERS.format(1, 3600)),)),
+    (
+        TOP + INTERFACE + f"cost = 0x{'f' * 6000}\n",
+        ((OF_ETH1 + "cost", "a number of more than 20 digits", NUMBERS.format(1, 65535)),),
+    ),
+    (
+        TOP + INTERFACE + "cost = [1, 2]\n",
+        ((OF_ETH1 + "cost", "a list of 2", NUMBERS.format(1, 65535)),),
+    ),
+    (
+        TOP + INTERFACE + "hello_interval = 0\n",
+        ((OF_ETH1 + "hello_interval", "0", NUMBERS.format(1, 65535)),),
+    ),
+    (
+        TOP + INTERFACE + "hello_interval = 65536\n",
+        ((OF_ETH1 + "hello_interval", "65536", NUMBERS.format(1, 65535)),),
+    ),
+    (
+        TOP + INTERFACE + "dead_interval = 4294967296\n",
+        ((OF_ETH1 + "dead_interval", "4294967296", NUMBERS.format(1, 4294967295)),),
+    ),
+    (
+        TOP + INTERFACE + "dead_interval = 10\n",
+        ((OF_ETH1 + "dead_interval", "10", "more than hello_interval, which is 10"),),
+    ),
+    (
+        TOP + INTERFACE + "retransmit_interval = 0\n",
+        ((OF_ETH1 + "retransmit_interval", "0", NUMBERS.format(1, 65535)),),
+    ),
+    (
+        TOP + INTERFACE + "transmit_delay = 3601\n",
+        ((OF_ETH1 + "transmit_delay", "3601", NUMBERS.format(1, 3600)),),
+    ),
     (TOP + INTERFACE + "hello = 10\n", ((OF_ETH1 + "hello", "an unknown key", INTERFACE_KEYS),)),
-    (TOP + INTERFACE + 'keys = "new"\n', ((OF_ETH1 + "keys", '"new"', "names of keys: none, as there is no file of keys"),)),
-    (TOP + INTERFACE + 'keys = ["new"]\n', ((OF_ETH1 + "keys", '"new"', "names of keys: none, as there is no file of keys"),)),
-    (TOP + 'keys = "keys.toml"\n' + INTERFACE + 'keys = ["older"]\n', ((OF_ETH1 + "keys", '"older"', KNOWN_KEYS),)),
-    (TOP + 'keys = "keys.toml"\n' + INTERFACE + "keys = [1]\n", ((OF_ETH1 + "keys", "1", KNOWN_KEYS),)),
-    (TOP + 'keys = "keys.toml"\n' + INTERFACE + 'keys = ["new", "new"]\n', ((OF_ETH1 + "keys", '"new" twice', KNOWN_KEYS),)),
-    (TOP + 'keys = "keys.toml"\n' + INTERFACE + 'passive = true\nkeys = ["new"]\n', ((OF_ETH1 + "keys", "a list of 1", "none where passive = true, as no packet is sent there"),)),
-    (TOP + INTERFACE + "announce = 1\n", ((OF_ETH1 + "announce", "an unknown key", INTERFACE_KEYS),)),
+    (
+        TOP + INTERFACE + 'keys = "new"\n',
+        ((OF_ETH1 + "keys", '"new"', "names of keys: none, as there is no file of keys"),),
+    ),
+    (
+        TOP + INTERFACE + 'keys = ["new"]\n',
+        ((OF_ETH1 + "keys", '"new"', "names of keys: none, as there is no file of keys"),),
+    ),
+    (
+        TOP + 'keys = "keys.toml"\n' + INTERFACE + 'keys = ["older"]\n',
+        ((OF_ETH1 + "keys", '"older"', KNOWN_KEYS),),
+    ),
+    (
+        TOP + 'keys = "keys.toml"\n' + INTERFACE + "keys = [1]\n",
+        ((OF_ETH1 + "keys", "1", KNOWN_KEYS),),
+    ),
+    (
+        TOP + 'keys = "keys.toml"\n' + INTERFACE + 'keys = ["new", "new"]\n',
+        ((OF_ETH1 + "keys", '"new" twice', KNOWN_KEYS),),
+    ),
+    (
+        TOP + 'keys = "keys.toml"\n' + INTERFACE + 'passive = true\nkeys = ["new"]\n',
+        (
+            (
+                OF_ETH1 + "keys",
+                "a list of 1",
+                "none where passive = true, as no packet is sent there",
+            ),
+        ),
+    ),
+    (
+        TOP + INTERFACE + "announce = 1\n",
+        ((OF_ETH1 + "announce", "an unknown key", INTERFACE_KEYS),),
+    ),
     (TOP + "announce = 1\n" + INTERFACE, (("announce", "1", TABLES.format("announce")),)),
     (TOP + INTERFACE + "[[announce]]\n", (("announce 1, prefix", "nothing", PREFIX),)),
-    (TOP + INTERFACE + '[[announce]]\nprefix = "203.0.113.1/24"\n', (("announce 1, prefix", '"203.0.113.1/24"', PREFIX),)),
-    (TOP + INTERFACE + '[[announce]]\nprefix = "203.0.113.0"\n', (("announce 1, prefix", '"203.0.113.0"', PREFIX),)),
-    (TOP + INTERFACE + '[[announce]]\nprefix = "203.0.113.0/33"\n', (("announce 1, prefix", '"203.0.113.0/33"', PREFIX),)),
-    (TOP + INTERFACE + '[[announce]]\nprefix = "203.0.113.0/255.255.255.0"\n', (("announce 1, prefix", '"203.0.113.0/255.255.255.0"', PREFIX),)),
-    (TOP + INTERFACE + '[[announce]]\nprefix = "10.0.0.0/8"\nmetric = 16777215\n', (("announce 1, metric", "16777215", NUMBERS.format(0, 16777214)),)),
-    (TOP + INTERFACE + '[[announce]]\nprefix = "10.0.0.0/8"\ntype = 3\n', (("announce 1, type", "3", NUMBERS.format(1, 2)),)),
-    (TOP + INTERFACE + '[[announce]]\nprefix = "10.0.0.0/8"\ntag = -1\n', (("announce 1, tag", "-1", NUMBERS.format(0, 4294967295)),)),
-    (TOP + INTERFACE + '[[announce]]\nprefix = "10.0.0.0/8"\ncost = 1\n', (("announce 1, cost", "an unknown key", "prefix, metric, type, tag"),)),
     (
-        TOP + INTERFACE + '[[announce]]\nprefix = "10.0.0.0/8"\n[[announce]]\nprefix = "10.0.0.0/16"\n',
-        (("announce 2, prefix", "10.0.0.0/16, and 10.0.0.0/8 in an earlier [[announce]]", "one destination for each address (their Link State ID would be the same)"),),
+        TOP + INTERFACE + '[[announce]]\nprefix = "203.0.113.1/24"\n',
+        (("announce 1, prefix", '"203.0.113.1/24"', PREFIX),),
+    ),
+    (
+        TOP + INTERFACE + '[[announce]]\nprefix = "203.0.113.0"\n',
+        (("announce 1, prefix", '"203.0.113.0"', PREFIX),),
+    ),
+    (
+        TOP + INTERFACE + '[[announce]]\nprefix = "203.0.113.0/33"\n',
+        (("announce 1, prefix", '"203.0.113.0/33"', PREFIX),),
+    ),
+    (
+        TOP + INTERFACE + '[[announce]]\nprefix = "203.0.113.0/255.255.255.0"\n',
+        (("announce 1, prefix", '"203.0.113.0/255.255.255.0"', PREFIX),),
+    ),
+    (
+        TOP + INTERFACE + '[[announce]]\nprefix = "10.0.0.0/8"\nmetric = 16777215\n',
+        (("announce 1, metric", "16777215", NUMBERS.format(0, 16777214)),),
+    ),
+    (
+        TOP + INTERFACE + '[[announce]]\nprefix = "10.0.0.0/8"\ntype = 3\n',
+        (("announce 1, type", "3", NUMBERS.format(1, 2)),),
+    ),
+    (
+        TOP + INTERFACE + '[[announce]]\nprefix = "10.0.0.0/8"\ntag = -1\n',
+        (("announce 1, tag", "-1", NUMBERS.format(0, 4294967295)),),
+    ),
+    (
+        TOP + INTERFACE + '[[announce]]\nprefix = "10.0.0.0/8"\ncost = 1\n',
+        (("announce 1, cost", "an unknown key", "prefix, metric, type, tag"),),
+    ),
+    (
+        TOP
+        + INTERFACE
+        + '[[announce]]\nprefix = "10.0.0.0/8"\n[[announce]]\nprefix = "10.0.0.0/16"\n',
+        (
+            (
+                "announce 2, prefix",
+                "10.0.0.0/16, and 10.0.0.0/8 in an earlier [[announce]]",
+                "one destination for each address (their Link State ID would be the same)",
+            ),
+        ),
     ),
     (TOP + "program = 1\n" + INTERFACE, (("program", "1", TABLES.format("program")),)),
     (TOP + INTERFACE + "[[program]]\n", (("program 1, object", "nothing", OBJECT),)),
-    (TOP + INTERFACE + '[[program]]\nobject = "none.o"\n', (("program 1, object", '"none.o": No such file or directory', OBJECT),)),
-    (TOP + INTERFACE + '[[program]]\nobject = "a\\u0000.o"\n', (("program 1, object", '"a\\u0000.o": a path with spaces, which `routerd`\'s console can\'t be given', OBJECT),)),
-    (TOP + INTERFACE + '[[program]]\nobject = "routerd"\n', (("program 1, object", '"routerd": no object file', OBJECT),)),
-    (TOP + INTERFACE + '[[program]]\nobject = "a b.o"\n', (("program 1, object", '"a b.o": a path with spaces, which `routerd`\'s console can\'t be given', OBJECT),)),
-    (TOP + INTERFACE + '[[program]]\nobject = "refused.o"\n', (("program 1, object", '"refused.o": refused slot 3 rule 7', OBJECT),)),
-    (TOP + INTERFACE + '[[program]]\nobject = "open.o"\n', (("program 1, object", '"open.o": others can change it (mode 0666)', OBJECT),)),
+    (
+        TOP + INTERFACE + '[[program]]\nobject = "none.o"\n',
+        (("program 1, object", '"none.o": No such file or directory', OBJECT),),
+    ),
+    (
+        TOP + INTERFACE + '[[program]]\nobject = "a\\u0000.o"\n',
+        (
+            (
+                "program 1, object",
+                "\"a\\u0000.o\": a path with spaces, which `routerd`'s console can't be given",
+                OBJECT,
+            ),
+        ),
+    ),
+    (
+        TOP + INTERFACE + '[[program]]\nobject = "routerd"\n',
+        (("program 1, object", '"routerd": no object file', OBJECT),),
+    ),
+    (
+        TOP + INTERFACE + '[[program]]\nobject = "a b.o"\n',
+        (
+            (
+                "program 1, object",
+                "\"a b.o\": a path with spaces, which `routerd`'s console can't be given",
+                OBJECT,
+            ),
+        ),
+    ),
+    (
+        TOP + INTERFACE + '[[program]]\nobject = "refused.o"\n',
+        (("program 1, object", '"refused.o": refused slot 3 rule 7', OBJECT),),
+    ),
+    (
+        TOP + INTERFACE + '[[program]]\nobject = "open.o"\n',
+        (("program 1, object", '"open.o": others can change it (mode 0666)', OBJECT),),
+    ),
     (
         TOP + INTERFACE + '[[program]]\nobject = "veto.o"\n[[program]]\nobject = "veto2.o"\n',
-        (("program 2, object", '"veto2.o", for the hook veto, as an earlier one', "one program for each hook"),),
+        (
+            (
+                "program 2, object",
+                '"veto2.o", for the hook veto, as an earlier one',
+                "one program for each hook",
+            ),
+        ),
     ),
     (
         TOP + '[[interface]]\nname = "eth1"\ncost = 0\ncolor = 1\n[[interface]]\nname = "eth7"\n',
@@ -186,23 +465,48 @@ MOMENT = "a date and time with its offset, such as 2027-01-01T00:00:00Z"
 KEY_FIELDS = "id, algorithm, secret, generate_from, generate_to, accept_from, accept_to"
 KEY_TABLE = "a table for each key, begun with its name: [letters, digits, `_`, `-`]"
 KEY_MISTAKES = [
-    ("secret is here", (("line 1, column 8", "no TOML (Expected '=' after a key in a key/value pair)", TOML),)),
+    (
+        "secret is here",
+        (("line 1, column 8", "no TOML (Expected '=' after a key in a key/value pair)", TOML),),
+    ),
     ('a = "secret"\n', (("a", "no table", KEY_TABLE),)),
     (ONE_KEY.replace("[a]", '["a b"]'), (('"a b"', "this name", KEY_TABLE),)),
-    ("[a]\n", (("a, id", "nothing", NUMBERS.format(0, 255)), ("a, algorithm", "nothing", ALGORITHMS), ("a, secret", "nothing", "a text of 1 to 256 bytes"))),
+    (
+        "[a]\n",
+        (
+            ("a, id", "nothing", NUMBERS.format(0, 255)),
+            ("a, algorithm", "nothing", ALGORITHMS),
+            ("a, secret", "nothing", "a text of 1 to 256 bytes"),
+        ),
+    ),
     (ONE_KEY.replace("1", "256"), (("a, id", "256", NUMBERS.format(0, 255)),)),
     (ONE_KEY.replace("sha256", "md5"), (("a, algorithm", '"hmac md5"', ALGORITHMS),)),
     (ONE_KEY.replace('"hmac sha256"', '["hmac"]'), (("a, algorithm", "a list of 1", ALGORITHMS),)),
     (ONE_KEY.replace('"s"', '""'), (("a, secret", "0 bytes", "a text of 1 to 256 bytes"),)),
     (ONE_KEY.replace('"s"', "12345"), (("a, secret", "no text", "a text of 1 to 256 bytes"),)),
-    (ONE_KEY.replace('"s"', f'"{"s" * 257}"'), (("a, secret", "257 bytes", "a text of 1 to 256 bytes"),)),
-    (ONE_KEY.replace("hmac sha256", "keyed md5").replace('"s"', '"12345678901234567"'), (("a, secret", "17 bytes", "a text of 1 to 16 bytes"),)),
-    (ONE_KEY + "accept_to = 2027-01-01T00:00:00\n", (("a, accept_to", "2027-01-01 00:00:00", MOMENT),)),
+    (
+        ONE_KEY.replace('"s"', f'"{"s" * 257}"'),
+        (("a, secret", "257 bytes", "a text of 1 to 256 bytes"),),
+    ),
+    (
+        ONE_KEY.replace("hmac sha256", "keyed md5").replace('"s"', '"12345678901234567"'),
+        (("a, secret", "17 bytes", "a text of 1 to 16 bytes"),),
+    ),
+    (
+        ONE_KEY + "accept_to = 2027-01-01T00:00:00\n",
+        (("a, accept_to", "2027-01-01 00:00:00", MOMENT),),
+    ),
     (ONE_KEY + "accept_from = 2027-01-01\n", (("a, accept_from", "2027-01-01", MOMENT),)),
     (ONE_KEY + "generate_to = 7\n", (("a, generate_to", "7", MOMENT),)),
     (
         ONE_KEY + "generate_from = 2027-01-01T00:00:00Z\ngenerate_to = 2027-01-01T00:00:00Z\n",
-        (("a, generate_to", "a moment that isn't after generate_from", "a moment after generate_from"),),
+        (
+            (
+                "a, generate_to",
+                "a moment that isn't after generate_from",
+                "a moment after generate_from",
+            ),
+        ),
     ),
     (ONE_KEY + "lifetime = 1\n", (("a, lifetime", "an unknown key", KEY_FIELDS),)),
 ]
@@ -225,7 +529,12 @@ class Files(unittest.TestCase):
         self.write("open", b"", 0o777)
         self.write("keys.toml", KEYS.encode(), 0o600)
         self.write("read.toml", KEYS.encode(), 0o640)
-        for name, hook, mode in (("veto", 4, 0o644), ("veto2", 4, 0o644), ("refused", 1, 0o644), ("open", 1, 0o666)):
+        for name, hook, mode in (
+            ("veto", 4, 0o644),
+            ("veto2", 4, 0o644),
+            ("refused", 1, 0o644),
+            ("open", 1, 0o666),
+        ):
             self.write(f"{name}.o", object_of(hook), mode)
 
     def write(self, name: str, data: bytes, mode: int = 0o644) -> Path:
@@ -235,7 +544,9 @@ class Files(unittest.TestCase):
         return path
 
     def read(self, text: str, name: str = "one.toml") -> Configuration:
-        return read_configuration(self.write(name, text.encode("utf-8", "surrogateescape")), KERNEL, judge)
+        return read_configuration(
+            self.write(name, text.encode("utf-8", "surrogateescape")), KERNEL, judge
+        )
 
     def mistakes_of(self, text: str) -> tuple[tuple[str, str, str], ...]:
         with self.assertRaises(Mistaken) as raised:
@@ -248,18 +559,37 @@ class Files(unittest.TestCase):
 class Reading(Files):
     def test_a_whole_file(self) -> None:
         read = self.read(WHOLE)
-        self.assertEqual((read.name, str(read.router_id), read.routerd, read.kernel), ("one", "1.1.1.1", self.folder / "routerd", False))
+        self.assertEqual(
+            (read.name, str(read.router_id), read.routerd, read.kernel),
+            ("one", "1.1.1.1", self.folder / "routerd", False),
+        )
         one, two, loopback = read.interfaces
         self.assertEqual((one.name, one.address, one.mtu, one.cost), ("eth1", ONE, 1500, 7))
-        self.assertEqual((one.hello_interval, one.dead_interval, one.retransmit_interval, one.transmit_delay), (2, 9, 3, 4))
-        self.assertEqual([(key.id, key.secret) for key in one.keys], [(2, b"secret"), (1, b"sixteen bytes ok")])
+        self.assertEqual(
+            (one.hello_interval, one.dead_interval, one.retransmit_interval, one.transmit_delay),
+            (2, 9, 3, 4),
+        )
+        self.assertEqual(
+            [(key.id, key.secret) for key in one.keys], [(2, b"secret"), (1, b"sixteen bytes ok")]
+        )
         self.assertEqual(one.keys[0].lifetime.generate_from, 1798761600.0)
         self.assertEqual(one.keys[0].lifetime.accept_to, 1830294000.0)
-        self.assertEqual((str(two.address), two.cost, two.hello_interval, two.dead_interval), ("10.0.9.1/30", 10, 10, 40))
-        self.assertEqual((two.retransmit_interval, two.transmit_delay, two.passive, two.keys), (5, 1, False, ()))
+        self.assertEqual(
+            (str(two.address), two.cost, two.hello_interval, two.dead_interval),
+            ("10.0.9.1/30", 10, 10, 40),
+        )
+        self.assertEqual(
+            (two.retransmit_interval, two.transmit_delay, two.passive, two.keys), (5, 1, False, ())
+        )
         self.assertTrue(loopback.passive)
-        self.assertEqual([each.line() for each in read.announcements], ["add 203.0.113.0/24 5 1 6", "add 0.0.0.0/0 20 2 0"])
-        self.assertEqual([(each.object, each.hook) for each in read.programs], [(self.folder / "veto.o", "veto")])
+        self.assertEqual(
+            [each.line() for each in read.announcements],
+            ["add 203.0.113.0/24 5 1 6", "add 0.0.0.0/0 20 2 0"],
+        )
+        self.assertEqual(
+            [(each.object, each.hook) for each in read.programs],
+            [(self.folder / "veto.o", "veto")],
+        )
 
     def test_the_least_file(self) -> None:
         read = self.read(TOP + INTERFACE)
@@ -279,12 +609,17 @@ class Reading(Files):
         for text, wanted in KEY_MISTAKES:
             self.write("keys.toml", text.encode(), 0o600)
             with self.subTest(text[-60:]):
-                self.assertEqual(self.mistakes_of(TOP + 'keys = "keys.toml"\n' + INTERFACE), wanted)
+                self.assertEqual(
+                    self.mistakes_of(TOP + 'keys = "keys.toml"\n' + INTERFACE), wanted
+                )
 
     def test_two_keys_with_one_id(self) -> None:
         self.write("keys.toml", (ONE_KEY + ONE_KEY.replace("[a]", "[b]")).encode(), 0o600)
         found = self.mistakes_of(TOP + 'keys = "keys.toml"\n' + INTERFACE + 'keys = ["a", "b"]\n')
-        self.assertEqual(found, ((OF_ETH1 + "keys", '"b", whose ID 1 an earlier one has', "keys with different IDs"),))
+        self.assertEqual(
+            found,
+            ((OF_ETH1 + "keys", '"b", whose ID 1 an earlier one has', "keys with different IDs"),),
+        )
 
     def test_a_secret_is_never_told(self) -> None:
         for text, _ in KEY_MISTAKES:
@@ -294,9 +629,17 @@ class Reading(Files):
             self.assertNotIn("swordfish", str(raised.exception))
 
     def test_too_many(self) -> None:
-        many = "".join(f'[[announce]]\nprefix = "10.{n >> 8}.{n & 255}.0/24"\n' for n in range(4097))
-        self.assertEqual(self.mistakes_of(TOP + INTERFACE + many), (("announce", "4097", "at most 4096 tables [[announce]]"),))
-        kernel = {f"e{n}": KernelInterface(f"e{n}", 1500, (IPv4Interface(f"10.1.{n}.1/24"),)) for n in range(64)}
+        many = "".join(
+            f'[[announce]]\nprefix = "10.{n >> 8}.{n & 255}.0/24"\n' for n in range(4097)
+        )
+        self.assertEqual(
+            self.mistakes_of(TOP + INTERFACE + many),
+            (("announce", "4097", "at most 4096 tables [[announce]]"),),
+        )
+        kernel = {
+            f"e{n}": KernelInterface(f"e{n}", 1500, (IPv4Interface(f"10.1.{n}.1/24"),))
+            for n in range(64)
+        }
         text = TOP + "".join(f'[[interface]]\nname = "e{n}"\n' for n in range(64))
         with self.assertRaises(Mistaken) as raised:
             read_configuration(self.write("one.toml", text.encode()), kernel, judge)
@@ -360,14 +703,23 @@ class Objects(Files):
     def test_hooks(self) -> None:
         for number, name in enumerate(("count", "tag", "price", "veto"), 1):
             self.assertEqual(object_hook(self.write("it.o", object_of(number))), ("", name))
-        for data in (b"", b"BPFH\x01\x01", object_of(0), object_of(5), b"BPFH\x02" + object_of(1)[5:]):
+        for data in (
+            b"",
+            b"BPFH\x01\x01",
+            object_of(0),
+            object_of(5),
+            b"BPFH\x02" + object_of(1)[5:],
+        ):
             with self.subTest(data):
                 self.assertEqual(object_hook(self.write("it.o", data)), ("no object file", ""))
 
     def test_verdicts(self) -> None:
         says = self.write("says", b'#!/bin/sh\necho "$1 $2"\n', 0o755)
         self.assertEqual(verdict_of(says, Path("/x.o")), "verify /x.o")
-        self.assertEqual(verdict_of(self.write("mute", b"#!/bin/sh\nexit 7\n", 0o755), Path("/x.o")), f"status 7 of {self.folder}/mute, and no word")
+        self.assertEqual(
+            verdict_of(self.write("mute", b"#!/bin/sh\nexit 7\n", 0o755), Path("/x.o")),
+            f"status 7 of {self.folder}/mute, and no word",
+        )
         self.assertIn("can't be run", verdict_of(self.folder / "none", Path("/x.o")))
 
 
@@ -378,7 +730,10 @@ class Kernel(unittest.TestCase):
             '{"family": "inet", "local": "10.0.1.1", "prefixlen": 24}, {"family": "inet6", "local": "::1", "prefixlen": 128},'
             '{"family": "inet", "local": "10.0.1.9", "prefixlen": 24, "secondary": true}]}'
         )
-        self.assertEqual(interface_of(said), KernelInterface("eth1", 1500, (ONE,), (IPv4Interface("10.0.1.9/24"),)))
+        self.assertEqual(
+            interface_of(said),
+            KernelInterface("eth1", 1500, (ONE,), (IPv4Interface("10.0.1.9/24"),)),
+        )
 
 
 class Unit(unittest.TestCase):
@@ -387,7 +742,9 @@ class Unit(unittest.TestCase):
         if not program or not os.path.exists("/usr/bin/python3"):
             self.skipTest("no systemd here")
         unit = Path(__file__).parents[1] / "leafrunt@.service"
-        ran = subprocess.run([program, "verify", str(unit)], capture_output=True, text=True, timeout=60, check=False)
+        ran = subprocess.run(
+            [program, "verify", str(unit)], capture_output=True, text=True, timeout=60, check=False
+        )
         self.assertEqual((ran.returncode, ran.stdout, ran.stderr), (0, "", ""))
 
 

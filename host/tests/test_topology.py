@@ -7,11 +7,22 @@ from leafrunt_host.area import Area, Ways, area_of, network, router
 from leafrunt_host.area_map import Destination, map_lines
 from leafrunt_host.exchange import Side
 from leafrunt_host.kernel import KernelRoute, Way, route_of
-from leafrunt_host.lsas import MAX_AGE, LsHeader, LsKey, body_of, header_of, is_newer, is_whole, network_of
+from leafrunt_host.lsas import (
+    MAX_AGE,
+    LsHeader,
+    LsKey,
+    body_of,
+    header_of,
+    is_newer,
+    is_whole,
+    network_of,
+)
 from leafrunt_host.packets import Packet, PacketType
 from leafrunt_host.topology import Topology, database_lines, whole_lines
 
-EXTERNAL = bytes.fromhex("00000205cb0071000101010180000001542900 24ffffff00800000140000000000000000")
+EXTERNAL = bytes.fromhex(
+    "00000205cb0071000101010180000001542900 24ffffff00800000140000000000000000"
+)
 """203.0.113.0/24 of 1.1.1.1, type 2, metric 20: its checksum is one that other routers take."""
 SUMMARY = bytes.fromhex("00000203c633640002020202 80000001925f001cffffff0000000005")
 """198.51.100.0/24 of 2.2.2.2, metric 5."""
@@ -30,9 +41,19 @@ def sealed(data: bytes) -> bytes:
     return blank[:16] + bytes([one, two]) + blank[18:]
 
 
-def lsa(kind: int, identity: str, of: str, body: bytes, sequence: int = FIRST, age: int = 0) -> bytes:
+def lsa(
+    kind: int, identity: str, of: str, body: bytes, sequence: int = FIRST, age: int = 0
+) -> bytes:
     head = struct.pack(
-        ">HBB4s4siHH", age, 2, kind, IPv4Address(identity).packed, IPv4Address(of).packed, sequence, 0, 20 + len(body)
+        ">HBB4s4siHH",
+        age,
+        2,
+        kind,
+        IPv4Address(identity).packed,
+        IPv4Address(of).packed,
+        sequence,
+        0,
+        20 + len(body),
     )
     return sealed(head + body)
 
@@ -40,14 +61,27 @@ def lsa(kind: int, identity: str, of: str, body: bytes, sequence: int = FIRST, a
 def router_lsa(of: str, *links: tuple[int, str, str, int], flags: int = 0, **fields: int) -> bytes:
     body = struct.pack(">BBH", flags, 0, len(links))
     for kind, identity, data, metric in links:
-        body += IPv4Address(identity).packed + IPv4Address(data).packed + struct.pack(">BBH", kind, 0, metric)
+        body += (
+            IPv4Address(identity).packed
+            + IPv4Address(data).packed
+            + struct.pack(">BBH", kind, 0, metric)
+        )
     return lsa(1, of, of, body, **fields)
 
 
-def external(prefix: str, of: str, metric: int = 20, kind: int = 2, forwarding: str = "0.0.0.0", **fields: int) -> bytes:
+def external(
+    prefix: str,
+    of: str,
+    metric: int = 20,
+    kind: int = 2,
+    forwarding: str = "0.0.0.0",
+    **fields: int,
+) -> bytes:
     net = IPv4Network(prefix)
     body = net.netmask.packed + struct.pack(">I", (0x80000000 if kind == 2 else 0) | metric)
-    return lsa(5, str(net.network_address), of, body + IPv4Address(forwarding).packed + bytes(4), **fields)
+    return lsa(
+        5, str(net.network_address), of, body + IPv4Address(forwarding).packed + bytes(4), **fields
+    )
 
 
 def update(*lsas: bytes) -> Packet:
@@ -57,7 +91,9 @@ def update(*lsas: bytes) -> Packet:
 
 def acknowledgment(*lsas: bytes) -> Packet:
     body = b"".join(each[:20] for each in lsas)
-    return Packet(PacketType.LINK_STATE_ACKNOWLEDGMENT, IPv4Address("1.1.1.1"), IPv4Address(0), body)
+    return Packet(
+        PacketType.LINK_STATE_ACKNOWLEDGMENT, IPv4Address("1.1.1.1"), IPv4Address(0), body
+    )
 
 
 class Lsas(unittest.TestCase):
@@ -95,13 +131,22 @@ class Lsas(unittest.TestCase):
 
     def test_bodies_that_are_too_short(self) -> None:
         whole = router_lsa("1.1.1.1", (1, "2.2.2.2", "10.0.1.1", 10))
-        for data in (whole[:-1], EXTERNAL[:30], SUMMARY[:22], lsa(2, "10.0.1.1", "1.1.1.1", b"\xff\xff")):
+        for data in (
+            whole[:-1],
+            EXTERNAL[:30],
+            SUMMARY[:22],
+            lsa(2, "10.0.1.1", "1.1.1.1", b"\xff\xff"),
+        ):
             with self.subTest(data):
                 self.assertIsNone(body_of(data))
 
     def test_networks(self) -> None:
         address = IPv4Address("10.1.2.3")
-        for mask, net in (("255.255.255.0", "10.1.2.0/24"), ("0.0.0.0", "0.0.0.0/0"), ("255.255.255.255", "10.1.2.3/32")):
+        for mask, net in (
+            ("255.255.255.0", "10.1.2.0/24"),
+            ("0.0.0.0", "0.0.0.0/0"),
+            ("255.255.255.255", "10.1.2.3/32"),
+        ):
             self.assertEqual(network_of(address, IPv4Address(mask)), IPv4Network(net))
         for mask in ("0.0.0.255", "255.0.255.0", "127.255.255.255"):
             self.assertIsNone(network_of(address, IPv4Address(mask)))
@@ -113,7 +158,10 @@ class Databases(unittest.TestCase):
         self.topology = Topology(lambda: self.now)
 
     def instances(self) -> list[tuple[str, int, int]]:
-        return [(str(header.key.id), header.sequence - FIRST + 1, header.age) for header, _ in self.topology.entries()]
+        return [
+            (str(header.key.id), header.sequence - FIRST + 1, header.age)
+            for header, _ in self.topology.entries()
+        ]
 
     def wire(self, *lsas: bytes, is_acknowledged: bool = True) -> None:
         self.topology.watch(Side.WIRE, update(*lsas), self.now)
@@ -137,7 +185,11 @@ class Databases(unittest.TestCase):
 
     def test_damaged_lsas_and_unknown_kinds_do_not(self) -> None:
         self.sent(EXTERNAL[:-1] + b"\1", EXTERNAL[:3] + b"\x0b" + EXTERNAL[4:])
-        self.topology.watch(Side.ROUTER, Packet(PacketType.LINK_STATE_UPDATE, IPv4Address(1), IPv4Address(0), b"\0\0\0\1"), 0)
+        self.topology.watch(
+            Side.ROUTER,
+            Packet(PacketType.LINK_STATE_UPDATE, IPv4Address(1), IPv4Address(0), b"\0\0\0\1"),
+            0,
+        )
         self.assertEqual(self.instances(), [])
 
     def test_ages(self) -> None:
@@ -174,10 +226,20 @@ class Databases(unittest.TestCase):
         self.assertEqual(self.instances(), [("11.0.0.0", 1, 0)])
 
     def test_lines(self) -> None:
-        self.sent(EXTERNAL, router_lsa("1.1.1.1", (1, "2.2.2.2", "10.0.1.1", 10), (3, "10.0.1.0", "255.255.255.0", 10), flags=2))
+        self.sent(
+            EXTERNAL,
+            router_lsa(
+                "1.1.1.1",
+                (1, "2.2.2.2", "10.0.1.1", 10),
+                (3, "10.0.1.0", "255.255.255.0", 10),
+                flags=2,
+            ),
+        )
         lines = database_lines(self.topology)
         self.assertEqual(len(lines), 3)
-        self.assertEqual(lines[2].split(), ["external", "203.0.113.0", "1.1.1.1", "80000001", "0", "5429"])
+        self.assertEqual(
+            lines[2].split(), ["external", "203.0.113.0", "1.1.1.1", "80000001", "0", "5429"]
+        )
         self.assertEqual(
             whole_lines(self.topology, IPv4Address("203.0.113.0"))[2:],
             ["  mask 255.255.255.0, type 2, metric 20, forwarding address 0.0.0.0, tag 0"],
@@ -203,10 +265,27 @@ def area(*lsas: bytes) -> Area:
 
 SQUARE = [
     # 1 to 2 and 1 to 3, both of them to 4, which has 192.0.2.0/24 and announces 203.0.113.0/24
-    router_lsa("1.1.1.1", (1, "2.2.2.2", "10.0.12.1", 5), (3, "10.0.12.0", MASK, 5), (1, "3.3.3.3", "10.0.13.1", 5), (3, "10.0.13.0", MASK, 5)),
-    router_lsa("2.2.2.2", (1, "1.1.1.1", "10.0.12.2", 7), (1, "4.4.4.4", "10.0.24.2", 5), (3, "10.0.24.0", MASK, 5)),
+    router_lsa(
+        "1.1.1.1",
+        (1, "2.2.2.2", "10.0.12.1", 5),
+        (3, "10.0.12.0", MASK, 5),
+        (1, "3.3.3.3", "10.0.13.1", 5),
+        (3, "10.0.13.0", MASK, 5),
+    ),
+    router_lsa(
+        "2.2.2.2",
+        (1, "1.1.1.1", "10.0.12.2", 7),
+        (1, "4.4.4.4", "10.0.24.2", 5),
+        (3, "10.0.24.0", MASK, 5),
+    ),
     router_lsa("3.3.3.3", (1, "1.1.1.1", "10.0.13.3", 5), (1, "4.4.4.4", "10.0.34.3", 5)),
-    router_lsa("4.4.4.4", (1, "2.2.2.2", "10.0.24.4", 5), (1, "3.3.3.3", "10.0.34.4", 5), (3, "192.0.2.0", MASK, 10), flags=2),
+    router_lsa(
+        "4.4.4.4",
+        (1, "2.2.2.2", "10.0.24.4", 5),
+        (1, "3.3.3.3", "10.0.34.4", 5),
+        (3, "192.0.2.0", MASK, 10),
+        flags=2,
+    ),
     external("203.0.113.0/24", "4.4.4.4"),
 ]
 
@@ -214,7 +293,10 @@ SQUARE = [
 class WaysTest(unittest.TestCase):
     def test_equal_ways(self) -> None:
         ways = Ways(area(*SQUARE), ONE)
-        self.assertEqual({str(vertex.id): cost for vertex, cost in ways.cost.items()}, {"1.1.1.1": 0, "2.2.2.2": 5, "3.3.3.3": 5, "4.4.4.4": 10})
+        self.assertEqual(
+            {str(vertex.id): cost for vertex, cost in ways.cost.items()},
+            {"1.1.1.1": 0, "2.2.2.2": 5, "3.3.3.3": 5, "4.4.4.4": 10},
+        )
         self.assertEqual(len(ways.steps_to([router(FOUR)])), 4)
         self.assertEqual(ways.ends_for(IPv4Network("192.0.2.0/24")), [router(FOUR)])
         self.assertEqual(ways.ends_for(IPv4Network("203.0.113.0/24")), [router(FOUR)])
@@ -228,10 +310,19 @@ class WaysTest(unittest.TestCase):
         one = router_lsa("1.1.1.1", (2, "10.0.0.2", "10.0.0.1", 3))
         two = router_lsa("2.2.2.2", (2, "10.0.0.2", "10.0.0.2", 3))
         three = router_lsa("3.3.3.3")
-        net = lsa(2, "10.0.0.2", "2.2.2.2", IPv4Address(MASK).packed + ONE.packed + TWO.packed + THREE.packed)
+        net = lsa(
+            2,
+            "10.0.0.2",
+            "2.2.2.2",
+            IPv4Address(MASK).packed + ONE.packed + TWO.packed + THREE.packed,
+        )
         ways = Ways(area(one, two, three, net), ONE)
-        self.assertEqual(ways.cost, {router(ONE): 0, network(IPv4Address("10.0.0.2")): 3, router(TWO): 3})
-        self.assertEqual(ways.ends_for(IPv4Network("10.0.0.0/24")), [network(IPv4Address("10.0.0.2"))])
+        self.assertEqual(
+            ways.cost, {router(ONE): 0, network(IPv4Address("10.0.0.2")): 3, router(TWO): 3}
+        )
+        self.assertEqual(
+            ways.ends_for(IPv4Network("10.0.0.0/24")), [network(IPv4Address("10.0.0.2"))]
+        )
 
     def test_externals_by_kind_metric_and_distance(self) -> None:
         prefix = "203.0.113.0/24"
@@ -256,9 +347,13 @@ class Maps(unittest.TestCase):
         self.assertEqual(lines[0], "digraph area {")
         self.assertEqual(lines[-1], "}")
         self.assertIn('  "1.1.1.1" -> "3.3.3.3" [label="10.0.13.0/24\\ncost 5"];', lines)
-        self.assertIn('  "1.1.1.1" -> "2.2.2.2" [label="10.0.12.0/24", taillabel="5", headlabel="7"];', lines)
+        self.assertIn(
+            '  "1.1.1.1" -> "2.2.2.2" [label="10.0.12.0/24", taillabel="5", headlabel="7"];', lines
+        )
         self.assertIn('  "3.3.3.3" -> "4.4.4.4" [label="cost 5"];', lines)
-        self.assertIn('  "announced by 4.4.4.4" [shape=note, label="203.0.113.0/24 E2 metric 20\\l"];', lines)
+        self.assertIn(
+            '  "announced by 4.4.4.4" [shape=note, label="203.0.113.0/24 E2 metric 20\\l"];', lines
+        )
         self.assertFalse([line for line in lines if "#c00000" in line])
 
     def test_the_way_that_the_kernel_takes(self) -> None:
@@ -276,18 +371,27 @@ class Maps(unittest.TestCase):
     def test_against_the_order_of_the_routers(self) -> None:
         to = Destination(IPv4Network("10.0.12.0/24"), (IPv4Address("10.0.24.4"),), "")
         lines = map_lines(area(*SQUARE), FOUR, to)
-        self.assertTrue(any(line.startswith('  "2.2.2.2" -> "4.4.4.4"') and "dir=back" in line for line in lines))
+        self.assertTrue(
+            any(
+                line.startswith('  "2.2.2.2" -> "4.4.4.4"') and "dir=back" in line
+                for line in lines
+            )
+        )
 
     def test_many_externals(self) -> None:
         many = [external(f"10.{n}.0.0/16", "4.4.4.4") for n in range(30)]
-        (line,) = [line for line in map_lines(area(*SQUARE[:4], *many), ONE) if "shape=note" in line]
+        (line,) = [
+            line for line in map_lines(area(*SQUARE[:4], *many), ONE) if "shape=note" in line
+        ]
         self.assertIn("10.5.0.0/16 E2 metric 20\\land 24 more\\l", line)
 
     def test_one_without_links_and_one_that_nothing_is_known_of(self) -> None:
         self.assertEqual(len(map_lines(area(), ONE)), 6)
         to = Destination(IPv4Network("10.0.0.0/8"), (IPv4Address("10.0.12.1"),), "")
         self.assertEqual(len(map_lines(area(), ONE, to)), 6)
-        lines = map_lines(area(router_lsa("1.1.1.1", (1, "2.2.2.2", "10.0.12.1", 5)), router_lsa("2.2.2.2")), ONE)
+        lines = map_lines(
+            area(router_lsa("1.1.1.1", (1, "2.2.2.2", "10.0.12.1", 5)), router_lsa("2.2.2.2")), ONE
+        )
         self.assertTrue(any("style=dashed, dir=forward" in line for line in lines))
 
 
@@ -300,8 +404,19 @@ class KernelRoutes(unittest.TestCase):
         ]
         way = Way("eth2", IPv4Address("10.0.2.2"))
         self.assertEqual(route_of(said), KernelRoute(IPv4Network("10.0.0.0/8"), (way,)))
-        self.assertEqual(route_of([{"dst": "10.0.1.0/24", "dev": "eth1"}]), KernelRoute(IPv4Network("10.0.1.0/24"), (Way("eth1", None),)))
-        several = [{"dst": "192.0.2.1", "nexthops": [{"gateway": "10.0.1.2", "dev": "eth1"}, {"gateway": "10.0.2.2", "dev": "eth2"}]}]
+        self.assertEqual(
+            route_of([{"dst": "10.0.1.0/24", "dev": "eth1"}]),
+            KernelRoute(IPv4Network("10.0.1.0/24"), (Way("eth1", None),)),
+        )
+        several = [
+            {
+                "dst": "192.0.2.1",
+                "nexthops": [
+                    {"gateway": "10.0.1.2", "dev": "eth1"},
+                    {"gateway": "10.0.2.2", "dev": "eth2"},
+                ],
+            }
+        ]
         self.assertEqual(len(route_of(several).ways), 2)
         self.assertIsNone(route_of([]))
         self.assertEqual(route_of([{"type": "blackhole", "dst": "10.0.0.0/8"}]).ways, ())
