@@ -1,6 +1,8 @@
-"""The area as a graph: routers and networks, the links that count, and least ways through it (RFC 2328, 16.1), for a picture.
+"""The area as a graph: routers and networks, the links that count, and least ways through it (RFC
+2328, 16.1), for a picture.
 
-This isn't what the router forwards by: that is `routerd`'s table. It tells a reader of the picture where the next routers send a packet on.
+This isn't what the router forwards by: that is `routerd`'s table. It tells a reader of the picture
+where the next routers send a packet on.
 """
 from __future__ import annotations
 
@@ -134,7 +136,9 @@ def area_of(lsas: Iterable[tuple[LsKey, Body | None]]) -> Area:
     return area
 
 
-def _announce(area: Area, key: LsKey, mask: IPv4Address, kind: int, metric: int, forwarding: IPv4Address) -> None:
+def _announce(
+    area: Area, key: LsKey, mask: IPv4Address, kind: int, metric: int, forwarding: IPv4Address
+) -> None:
     prefix = network_of(key.id, mask)
     if prefix is not None and metric < LS_INFINITY:
         one = Announced(prefix, LsType(key.type), kind, metric, forwarding)
@@ -185,14 +189,19 @@ class Ways:
         return found
 
     def ends_for(self, prefix: IPv4Network) -> list[Vertex]:
-        """Where ways to a prefix leave the area's routers: intra-area before inter-area, then external of type 1, of type 2 (RFC 2328, 11)."""
+        """Where ways to a prefix leave the area's routers: intra-area before inter-area, then
+        external of type 1, of type 2 (RFC 2328, 11)."""
         return self._intra(prefix)[1] or self._outside(prefix)
 
     def _intra(self, prefix: IPv4Network) -> tuple[Rank, list[Vertex]]:
         offers: list[tuple[Rank, Vertex]] = []
         for vertex, cost in self.cost.items():
             if vertex.kind == Kind.ROUTER.value:
-                offers += [((cost + metric,), vertex) for stub, metric in self._area.stubs(vertex.id) if stub == prefix]
+                offers += [
+                    ((cost + metric,), vertex)
+                    for stub, metric in self._area.stubs(vertex.id)
+                    if stub == prefix
+                ]
             elif network_of(vertex.id, self._area.networks[vertex.id].mask) == prefix:
                 offers.append(((cost,), vertex))
         return _least(offers)
@@ -208,7 +217,9 @@ class Ways:
                     offers += self._offers(one, vertex, cost)
         return _least(offers)[1]
 
-    def _offers(self, one: Announced, originator: Vertex, cost: int) -> Iterator[tuple[Rank, Vertex]]:
+    def _offers(
+        self, one: Announced, originator: Vertex, cost: int
+    ) -> Iterator[tuple[Rank, Vertex]]:
         ends = [originator]
         if one.forwarding != NOBODY:
             way, ends = self._toward(one.forwarding)
@@ -217,11 +228,20 @@ class Ways:
         return ((rank, end) for end in ends)
 
     def _toward(self, address: IPv4Address) -> tuple[Rank, list[Vertex]]:
-        """The way to a forwarding address, by the longest network of the area that has it (RFC 2328, 16.4)."""
-        known = {stub for vertex in self.cost if vertex.kind == Kind.ROUTER.value for stub, _ in self._area.stubs(vertex.id)}
+        """The way to a forwarding address, by the longest network of the area that has it (RFC
+        2328, 16.4)."""
+        known = {
+            stub
+            for vertex in self.cost
+            if vertex.kind == Kind.ROUTER.value
+            for stub, _ in self._area.stubs(vertex.id)
+        }
         for vertex in self.cost:
             if vertex.kind == Kind.NETWORK.value:
-                known.add(network_of(vertex.id, self._area.networks[vertex.id].mask) or IPv4Network("0.0.0.0/32"))
+                known.add(
+                    network_of(vertex.id, self._area.networks[vertex.id].mask)
+                    or IPv4Network("0.0.0.0/32")
+                )
         holding = [each for each in known if address in each]
         return self._intra(max(holding, key=lambda each: each.prefixlen)) if holding else ((), [])
 

@@ -42,7 +42,8 @@ class Marked:
 
 
 def marked_way(area: Area, own: IPv4Address, to: Destination) -> Marked:
-    """The way that a packet takes: the first step as the kernel's route says, then as each next router's least ways go."""
+    """The way that a packet takes: the first step as the kernel's route says, then as each next
+    router's least ways go."""
     marked = Marked(prefix=to.prefix)
     for step in area.steps(router(own)) if own in area.routers else ():
         if step.link is None or step.link.data not in to.own_addresses:
@@ -53,12 +54,15 @@ def marked_way(area: Area, own: IPv4Address, to: Destination) -> Marked:
         marked.ends.update(ends)
         marked.steps.update(beyond.steps_to(ends))
     if not marked.steps and own in area.routers:
-        marked.ends.update(each for each in Ways(area, own).ends_for(to.prefix) if each == router(own))
+        marked.ends.update(
+            each for each in Ways(area, own).ends_for(to.prefix) if each == router(own)
+        )
     return marked
 
 
 def map_lines(area: Area, own: IPv4Address, to: Destination | None = None) -> list[str]:
-    """The graph, a line each: routers as boxes, networks as ellipses, what is announced from outside as notes."""
+    """The graph, a line each: routers as boxes, networks as ellipses, what is announced from
+    outside as notes."""
     marked = marked_way(area, own, to) if to else Marked()
     title = f"area 0.0.0.0, as {own} knows it" + (f"\\n{to.said}" if to else "")
     lines = [*HEAD, f'  label="{title}";']
@@ -80,8 +84,11 @@ def router_lines(area: Area, own: IPv4Address, marked: Marked) -> Iterator[str]:
         yield f'  "{each}" [shape=box, label="{label}"{filled}{mark}];'
 
 
-def is_one_network(area: Area, one: IPv4Address, other: IPv4Address, ends: tuple[IPv4Address, ...]) -> IPv4Network | None:
-    """The stub network of either end that has both addresses of a link: it's the link's own network."""
+def is_one_network(
+    area: Area, one: IPv4Address, other: IPv4Address, ends: tuple[IPv4Address, ...]
+) -> IPv4Network | None:
+    """The stub network of either end that has both addresses of a link: it's the link's own
+    network."""
     for end in ends:
         for stub, _ in area.stubs(end):
             if stub.prefixlen and one in stub and other in stub:
@@ -89,12 +96,18 @@ def is_one_network(area: Area, one: IPv4Address, other: IPv4Address, ends: tuple
     return None
 
 
-def pairs(area: Area, one: IPv4Address, other: IPv4Address) -> Iterator[tuple[RouterLink | None, RouterLink | None]]:
-    """The links between two routers, each with the one that leads back: that of the same network, else the next in order."""
+def pairs(
+    area: Area, one: IPv4Address, other: IPv4Address
+) -> Iterator[tuple[RouterLink | None, RouterLink | None]]:
+    """The links between two routers, each with the one that leads back: that of the same network,
+    else the next in order."""
     there, back = area.neighbor_links(one, other), area.neighbor_links(other, one)
     alone = []
     for link in there:
-        same = next((each for each in back if is_one_network(area, link.data, each.data, (one, other))), None)
+        same = next(
+            (each for each in back if is_one_network(area, link.data, each.data, (one, other))),
+            None,
+        )
         if same:
             back.remove(same)
             yield link, same
@@ -105,12 +118,22 @@ def pairs(area: Area, one: IPv4Address, other: IPv4Address) -> Iterator[tuple[Ro
 
 
 def point_to_point_lines(area: Area, marked: Marked, drawn: set[IPv4Network]) -> Iterator[str]:
-    """A line between two routers for each link; `drawn` gets the networks of the links, which need no node of their own."""
+    """A line between two routers for each link; `drawn` gets the networks of the links, which need
+    no node of their own."""
     ids = sorted(area.routers)
-    linked = {(one, link.id) for one in ids for link in area.routers[one].links if link.type == LinkType.POINT_TO_POINT}
+    linked = {
+        (one, link.id)
+        for one in ids
+        for link in area.routers[one].links
+        if link.type == LinkType.POINT_TO_POINT
+    }
     for one, other in sorted({(min(pair), max(pair)) for pair in linked}):
         for there, back in pairs(area, one, other):
-            net = is_one_network(area, there.data, back.data, (one, other)) if there and back else None
+            net = (
+                is_one_network(area, there.data, back.data, (one, other))
+                if there and back
+                else None
+            )
             if net:
                 drawn.add(net)
             yield link_line(one, other, there, back, net, marked)
@@ -124,8 +147,8 @@ def link_line(
     net: IPv4Network | None,
     marked: Marked,
 ) -> str:
-    """One link: its network and its cost, at each end where the two differ; an arrow where it is on the way; dashed where nothing leads
-    back, so that it doesn't count."""
+    """One link: its network and its cost, at each end where the two differ; an arrow where it is on
+    the way; dashed where nothing leads back, so that it doesn't count."""
     costs = [each.metric for each in (there, back) if each]
     words = [f"{net}"] if net else []
     ends = ""
@@ -148,7 +171,9 @@ def transit_lines(area: Area, marked: Marked) -> Iterator[str]:
     """Networks with several routers, and their routers' links to them."""
     for identity, body in sorted(area.networks.items()):
         net = network_of(identity, body.mask)
-        on_way = network(identity) in marked.ends or any(network(identity) in (step.start, step.end) for step in marked.steps)
+        on_way = network(identity) in marked.ends or any(
+            network(identity) in (step.start, step.end) for step in marked.steps
+        )
         mark = f", {MARKED}" if on_way else ""
         yield f'  "network {identity}" [shape=ellipse, label="{net or identity}"{mark}];'
         for each in sorted(area.routers):

@@ -16,7 +16,8 @@ PACKET_HEADER = struct.Struct("=IIII")
 
 
 class Capture:
-    """A file that packets are written to, through a descriptor that a client opened with its own rights."""
+    """A file that packets are written to, through a descriptor that a client opened with its own
+    rights."""
 
     def __init__(self, descriptor: int, name: str) -> None:
         if not stat.S_ISREG(os.fstat(descriptor).st_mode):
@@ -30,7 +31,8 @@ class Capture:
         self._write(FILE_HEADER.pack(MAGIC, 2, 4, 0, 0, LONGEST, LINKTYPE_RAW))
 
     def take(self, packet: bytes) -> None:
-        """Writes a packet with the moment. After an error nothing more is written, and the error is kept."""
+        """Writes a packet with the moment. After an error nothing more is written, and the error is
+        kept."""
         moment = time.time_ns()
         seconds, rest = divmod(moment, 1_000_000_000)
         head = PACKET_HEADER.pack(seconds & 0xFFFFFFFF, rest // 1000, len(packet), len(packet))

@@ -16,13 +16,17 @@ def chosen_box(run: Path, name: str | None) -> str:
     """The box that is meant: the one of this name, or the only one that runs."""
     if name is not None:
         if not BOX_NAME.fullmatch(name):
-            raise Stopped(f"{name!r} is no name of a box: letters, digits, `.`, `_` and `-`", Status.USAGE)
+            raise Stopped(
+                f"{name!r} is no name of a box: letters, digits, `.`, `_` and `-`", Status.USAGE
+            )
         return name
     names = running(run)
     if not names:
         raise Stopped(f"no box of this user's runs (in {run}): `leafrunt up CONFIG` starts one")
     if len(names) > 1:
-        raise Stopped(f"several boxes run: {', '.join(names)}; choose one by `--box NAME`", Status.USAGE)
+        raise Stopped(
+            f"several boxes run: {', '.join(names)}; choose one by `--box NAME`", Status.USAGE
+        )
     return names[0]
 
 
@@ -33,7 +37,9 @@ class Client:
         self.box = chosen_box(run, name)
         path = socket_path(run, self.box)
         if len(str(path).encode()) > LONGEST_SOCKET_PATH:
-            raise Stopped(f"{path}: a socket's path has at most {LONGEST_SOCKET_PATH} bytes", Status.USAGE)
+            raise Stopped(
+                f"{path}: a socket's path has at most {LONGEST_SOCKET_PATH} bytes", Status.USAGE
+            )
         self._socket = connected(path, self.box)
         self._reader = self._socket.makefile("r", encoding="utf-8", newline="\n")
 
@@ -76,13 +82,16 @@ def connected(path: Path, box: str) -> socket.socket:
         if isinstance(error, (FileNotFoundError, ConnectionRefusedError)):
             raise Stopped(f"the box {box} doesn't run: `leafrunt up` starts it") from error
         if isinstance(error, PermissionError):
-            raise Stopped(f"{path}: a box's console is its owner's alone", Status.REFUSED) from error
+            raise Stopped(
+                f"{path}: a box's console is its owner's alone", Status.REFUSED
+            ) from error
         raise Stopped(f"cannot connect to {path}: {error.strerror}") from error
     return one
 
 
 def own_answer(answer: list[str]) -> list[str]:
-    """The lines of a word of the box's own, without the `end` of a list; `Stopped` where it was refused."""
+    """The lines of a word of the box's own, without the `end` of a list; `Stopped` where it was
+    refused."""
     if answer and answer[0].startswith(REFUSED):
         raise Stopped(answer[0].removeprefix(REFUSED), Status.REFUSED)
     return answer[:-1] if answer and answer[-1] == "end" else answer

@@ -46,7 +46,9 @@ def prefix(text: str) -> IPv4Network:
     try:
         return IPv4Network(text)
     except ValueError as error:
-        raise argparse.ArgumentTypeError(f"{text!r} is no A.B.C.D/L whose bits after the first L are 0") from error
+        raise argparse.ArgumentTypeError(
+            f"{text!r} is no A.B.C.D/L whose bits after the first L are 0"
+        ) from error
 
 
 def address(text: str) -> IPv4Address:
@@ -63,23 +65,61 @@ def parser() -> argparse.ArgumentParser:
     words = top.add_subparsers(dest="command", required=True, metavar="COMMAND")
     for name, title in TITLES.items():
         epilog = f"example:\n  {EXAMPLES[name]}"
-        one = words.add_parser(name, help=title, description=title, epilog=epilog, formatter_class=shown, allow_abbrev=False)
+        one = words.add_parser(
+            name,
+            help=title,
+            description=title,
+            epilog=epilog,
+            formatter_class=shown,
+            allow_abbrev=False,
+        )
         if name != "check":
-            one.add_argument("--run-directory", type=Path, default=RUN, metavar="DIR", help=f"where running boxes have their sockets (default {RUN})")
+            one.add_argument(
+                "--run-directory",
+                type=Path,
+                default=RUN,
+                metavar="DIR",
+                help=f"where running boxes have their sockets (default {RUN})",
+            )
         if name in ("up", "check"):
-            one.add_argument("config", type=Path, metavar="CONFIG", help="the configuration, a TOML file; its name without .toml is the box's")
+            one.add_argument(
+                "config",
+                type=Path,
+                metavar="CONFIG",
+                help="the configuration, a TOML file; its name without .toml is the box's",
+            )
         else:
-            one.add_argument("--box", metavar="NAME", help="which box; not needed where one alone runs")
+            one.add_argument(
+                "--box", metavar="NAME", help="which box; not needed where one alone runs"
+            )
         if name == "up":
-            one.add_argument("--state-directory", type=Path, default=STATE, metavar="DIR", help=f"where sequence numbers are kept from one start to the next (default {STATE})")
+            one.add_argument(
+                "--state-directory",
+                type=Path,
+                default=STATE,
+                metavar="DIR",
+                help=f"where sequence numbers are kept from one start to the next (default {STATE})",
+            )
         if name == "console":
-            one.add_argument("-c", dest="lines", action="append", default=[], metavar="LINE", help="ask this, and leave; may be given several times")
+            one.add_argument(
+                "-c",
+                dest="lines",
+                action="append",
+                default=[],
+                metavar="LINE",
+                help="ask this, and leave; may be given several times",
+            )
         if name == "status":
             one.add_argument("--json", action="store_true", help="for a program: one value in JSON")
         if name == "database":
             one.add_argument("id", nargs="?", type=address, metavar="ID", help="a Link State ID")
         if name == "map":
-            one.add_argument("--to", type=prefix, metavar="PREFIX", help="mark the way that the kernel takes there")
+            one.add_argument(
+                "--to",
+                type=prefix,
+                metavar="PREFIX",
+                help="mark the way that the kernel takes there",
+            )
     return top
 
 
@@ -87,7 +127,11 @@ def up(words: argparse.Namespace) -> Status:
     log = start_log()
     configuration = read_configuration(words.config, kernel_interfaces())
     run, state = words.run_directory.absolute(), words.state_directory.absolute()
-    return Box(configuration, Room(configuration.name, run / configuration.name, state / configuration.name), log).run()
+    return Box(
+        configuration,
+        Room(configuration.name, run / configuration.name, state / configuration.name),
+        log,
+    ).run()
 
 
 def check(words: argparse.Namespace) -> Status:
@@ -98,7 +142,10 @@ def check(words: argparse.Namespace) -> Status:
 
 def checked_lines(path: Path, configuration: Configuration) -> list[str]:
     names = ", ".join(f"{each.name} {each.address}" for each in configuration.interfaces)
-    warnings = [*configuration.advice, *host_warnings(each.name for each in configuration.interfaces)]
+    warnings = [
+        *configuration.advice,
+        *host_warnings(each.name for each in configuration.interfaces),
+    ]
     said = f"{path}: nothing is wrong: router {configuration.router_id} at {names}"
     return [said, *(f"warning: {each}" for each in warnings)]
 

@@ -1,7 +1,7 @@
 """The configuration of a box: one TOML file, and one more for its authentication keys.
 
-Everything that can be wrong with them is found before anything is started, all of it at once, and told with its key, what was found there
-and what is allowed.
+Everything that can be wrong with them is found before anything is started, all of it at once, and
+told with its key, what was found there and what is allowed.
 """
 from __future__ import annotations
 
@@ -37,7 +37,8 @@ SECONDS_TO_VERIFY = 60
 
 @dataclass(frozen=True)
 class InterfaceSettings:
-    """An interface of the file, with its address and MTU as the kernel has them. Times are in seconds (RFC 2328, C.3)."""
+    """An interface of the file, with its address and MTU as the kernel has them. Times are in
+    seconds (RFC 2328, C.3)."""
 
     name: str
     address: IPv4Interface
@@ -89,7 +90,8 @@ class Configuration:
     """What isn't wrong, and yet should be known."""
 
     def text(self, ports: list[tuple[int, int]]) -> str:
-        """The configuration of `routerd`: an interface's datagrams come to the first port of its pair, and go to the second."""
+        """The configuration of `routerd`: an interface's datagrams come to the first port of its
+        pair, and go to the second."""
         lines = [f"router {self.router_id}"]
         for number, (each, (port, peer)) in enumerate(zip(self.interfaces, ports, strict=True), 1):
             lines.append(
@@ -112,7 +114,13 @@ def verdict_of(routerd: Path, path: Path) -> str:
     """What `routerd verify` says of an object: `accepted bound N`, or why it isn't accepted."""
     words = [str(routerd), "verify", str(path)]
     try:
-        ran = subprocess.run(words, stdin=subprocess.DEVNULL, capture_output=True, timeout=SECONDS_TO_VERIFY, check=False)
+        ran = subprocess.run(
+            words,
+            stdin=subprocess.DEVNULL,
+            capture_output=True,
+            timeout=SECONDS_TO_VERIFY,
+            check=False,
+        )
     except (OSError, subprocess.TimeoutExpired) as error:
         return f"{words[0]} can't be run: {error}"
     said = (ran.stdout or ran.stderr).decode(errors="replace").split("\n", 1)[0]
@@ -123,14 +131,18 @@ Judge = Callable[[Path, Path], str]
 
 
 def read_bytes(path: Path) -> bytes:
-    """A file of the operator's, which may be any file: a regular one, not too long, that others can't change."""
+    """A file of the operator's, which may be any file: a regular one, not too long, that others
+    can't change."""
     try:
         with open(os.open(path, os.O_RDONLY | os.O_NONBLOCK | os.O_CLOEXEC), "rb") as it:
             status = os.fstat(it.fileno())
             if not stat.S_ISREG(status.st_mode):
                 raise Stopped(f"cannot read {path}: it is no regular file")
             if status.st_mode & stat.S_IWOTH:
-                raise Stopped(f"{path}: others can change it (mode {mode_of(status)}): chmod o-w it", Status.REFUSED)
+                raise Stopped(
+                    f"{path}: others can change it (mode {mode_of(status)}): chmod o-w it",
+                    Status.REFUSED,
+                )
             data = it.read(LONGEST_FILE + 1)
     except OSError as error:
         raise Stopped(f"cannot read {path}: {error.strerror}") from error
@@ -143,9 +155,12 @@ def mode_of(status: os.stat_result) -> str:
     return f"{stat.S_IMODE(status.st_mode):04o}"
 
 
-def read_configuration(path: Path, kernel: Mapping[str, KernelInterface], judge: Judge = verdict_of) -> Configuration:
-    """Reads a file and all that it names, and starts nothing. `Mistaken` where anything is wrong with them, `Stopped` where the file can't
-    be read. `kernel` are the kernel's interfaces, `judge` says whether an object is accepted.
+def read_configuration(
+    path: Path, kernel: Mapping[str, KernelInterface], judge: Judge = verdict_of
+) -> Configuration:
+    """Reads a file and all that it names, and starts nothing. `Mistaken` where anything is wrong
+    with them, `Stopped` where the file can't be read. `kernel` are the kernel's interfaces, `judge`
+    says whether an object is accepted.
     """
     path = path.absolute()
     data = read_bytes(path)
@@ -167,12 +182,24 @@ def router_id_of(text: str) -> IPv4Address:
 
 
 class _Reader:
-    """Reads one file. Each part is read even where an earlier one is mistaken, so that all mistakes are told at once."""
+    """Reads one file. Each part is read even where an earlier one is mistaken, so that all mistakes
+    are told at once."""
 
     def __init__(
-        self, path: Path, top: Table, mistakes: list[Mistake], kernel: Mapping[str, KernelInterface], judge: Judge
+        self,
+        path: Path,
+        top: Table,
+        mistakes: list[Mistake],
+        kernel: Mapping[str, KernelInterface],
+        judge: Judge,
     ) -> None:
-        self._path, self._top, self._mistakes, self._kernel, self._judge = path, top, mistakes, kernel, judge
+        self._path, self._top, self._mistakes, self._kernel, self._judge = (
+            path,
+            top,
+            mistakes,
+            kernel,
+            judge,
+        )
         self._folder = path.parent
         self._advice: list[str] = []
 
@@ -206,7 +233,9 @@ class _Reader:
         """The file's name without its ending is the box's, and those of its folders and its socket."""
         if not BOX_NAME.fullmatch(self._path.stem):
             allowed = "letters, digits, `.`, `_` and `-`, at most 64, first a letter or a digit, then .toml"
-            self._mistakes.append(Mistake(self._path.name, "the file's name", shown(self._path.name), allowed))
+            self._mistakes.append(
+                Mistake(self._path.name, "the file's name", shown(self._path.name), allowed)
+            )
 
     def _in_folder(self, text: str) -> Path:
         return self._folder / text
@@ -282,11 +311,18 @@ class _Reader:
 
     @staticmethod
     def _lifetime(table: Table) -> Lifetime:
-        moments = {each: table.moment(each) for each in ("generate_from", "generate_to", "accept_from", "accept_to")}
+        moments = {
+            each: table.moment(each)
+            for each in ("generate_from", "generate_to", "accept_from", "accept_to")
+        }
         for verb in ("generate", "accept"):
             first, last = moments[f"{verb}_from"], moments[f"{verb}_to"]
             if first is not None and last is not None and first >= last:
-                table.note(f"{verb}_to", f"a moment that isn't after {verb}_from", f"a moment after {verb}_from")
+                table.note(
+                    f"{verb}_to",
+                    f"a moment that isn't after {verb}_from",
+                    f"a moment after {verb}_from",
+                )
                 return Lifetime()
         return Lifetime(**moments)
 
@@ -295,7 +331,11 @@ class _Reader:
     def _interfaces(self, keys: dict[str, Key] | None) -> list[InterfaceSettings]:
         tables = self._top.tables("interface", interface_title)
         if tables is not None and not 1 <= len(tables) <= MOST_INTERFACES:
-            self._top.note("interface", str(len(tables) or "nothing"), f"1 to {MOST_INTERFACES} tables [[interface]]")
+            self._top.note(
+                "interface",
+                str(len(tables) or "nothing"),
+                f"1 to {MOST_INTERFACES} tables [[interface]]",
+            )
         read: list[InterfaceSettings] = []
         for table in tables or []:
             one = self._interface(table, keys)
@@ -304,7 +344,11 @@ class _Reader:
                 continue
             for other in read:
                 if one.name == other.name:
-                    table.note("name", f"{shown(one.name)}, as in an earlier [[interface]]", "each interface once")
+                    table.note(
+                        "name",
+                        f"{shown(one.name)}, as in an earlier [[interface]]",
+                        "each interface once",
+                    )
                 elif one.address.ip == other.address.ip:
                     found = f"{one.address}, which {other.name} has too"
                     table.note("address", found, "an address of each interface's own")
@@ -325,7 +369,11 @@ class _Reader:
             table.note("dead_interval", str(dead), f"more than hello_interval, which is {hello}")
         if inside and not passive and not LEAST_MTU <= inside.mtu <= MOST_MTU:
             found = f"{shown(inside.name)}, whose MTU is {inside.mtu}"
-            table.note("name", found, f"an interface with an MTU of {LEAST_MTU} to {MOST_MTU}, or passive = true")
+            table.note(
+                "name",
+                found,
+                f"an interface with an MTU of {LEAST_MTU} to {MOST_MTU}, or passive = true",
+            )
         if not table.is_sound or inside is None or address is None or chosen is None:
             return None
         return InterfaceSettings(
@@ -349,7 +397,11 @@ class _Reader:
         everything = inside.addresses + inside.secondary if inside else ()
         those = ", ".join(map(str, everything))
         if table.has("address"):
-            allowed = f"an address of the interface with its prefix length: {those}" if those else "A.B.C.D/L"
+            allowed = (
+                f"an address of the interface with its prefix length: {those}"
+                if those
+                else "A.B.C.D/L"
+            )
             address = table.parsed("address", allowed, IPv4Interface)
             if address is not None and inside and address not in everything:
                 table.note("address", shown(str(address)), allowed)
@@ -359,16 +411,28 @@ class _Reader:
         if inside is None:
             return None
         if not everything:
-            table.note("name", f"{shown(inside.name)}, which has no IPv4 address", "an interface that has one")
+            table.note(
+                "name",
+                f"{shown(inside.name)}, which has no IPv4 address",
+                "an interface that has one",
+            )
             return None
         if len(inside.addresses) != 1:
-            table.note("address", f"nothing, and the interface has {those}", f"one of these: {those}")
+            table.note(
+                "address", f"nothing, and the interface has {those}", f"one of these: {those}"
+            )
             return None
         return inside.addresses[0]
 
-    def _chosen_keys(self, table: Table, keys: dict[str, Key] | None, passive: bool) -> tuple[Key, ...] | None:
+    def _chosen_keys(
+        self, table: Table, keys: dict[str, Key] | None, passive: bool
+    ) -> tuple[Key, ...] | None:
         """The keys of an interface, of which the first signs."""
-        known = f"names of keys: {', '.join(keys) or 'none, as there is no file of keys'}" if keys is not None else "names of keys"
+        known = (
+            f"names of keys: {', '.join(keys) or 'none, as there is no file of keys'}"
+            if keys is not None
+            else "names of keys"
+        )
         names = table.texts("keys", known)
         if names is None or keys is None:
             return None
@@ -379,11 +443,19 @@ class _Reader:
                 table.note("keys", shown(name), known)
                 return None
             if any(key.id == other.id for other in chosen):
-                table.note("keys", f"{shown(name)}, whose ID {key.id} an earlier one has", "keys with different IDs")
+                table.note(
+                    "keys",
+                    f"{shown(name)}, whose ID {key.id} an earlier one has",
+                    "keys with different IDs",
+                )
                 return None
             chosen.append(key)
         if chosen and passive:
-            table.note("keys", f"a list of {len(chosen)}", "none where passive = true, as no packet is sent there")
+            table.note(
+                "keys",
+                f"a list of {len(chosen)}",
+                "none where passive = true, as no packet is sent there",
+            )
             return None
         return tuple(chosen)
 
@@ -392,7 +464,9 @@ class _Reader:
     def _announcements(self) -> list[Announcement]:
         tables = self._top.tables("announce", announce_title)
         if tables is not None and len(tables) > MOST_EXTERNALS:
-            self._top.note("announce", str(len(tables)), f"at most {MOST_EXTERNALS} tables [[announce]]")
+            self._top.note(
+                "announce", str(len(tables)), f"at most {MOST_EXTERNALS} tables [[announce]]"
+            )
         prefixes: dict[IPv4Address, IPv4Network] = {}
         read: list[Announcement] = []
         for table in tables or []:
@@ -405,7 +479,11 @@ class _Reader:
             if prefix is not None and prefix.network_address in prefixes:
                 other = prefixes[prefix.network_address]
                 found = f"{prefix}, and {other} in an earlier [[announce]]"
-                table.note("prefix", found, "one destination for each address (their Link State ID would be the same)")
+                table.note(
+                    "prefix",
+                    found,
+                    "one destination for each address (their Link State ID would be the same)",
+                )
             elif prefix is not None:
                 prefixes[prefix.network_address] = prefix
             if table.is_sound and prefix is not None:
@@ -420,7 +498,9 @@ class _Reader:
             if program is None:
                 continue
             if any(program.hook == other.hook for other in read):
-                found = f"{shown(program.object.name)}, for the hook {program.hook}, as an earlier one"
+                found = (
+                    f"{shown(program.object.name)}, for the hook {program.hook}, as an earlier one"
+                )
                 table.note("object", found, "one program for each hook")
             read.append(program)
         return read

@@ -18,7 +18,8 @@ LEAVING = ("quit", "exit")
 
 
 def asked(client: Client, line: str) -> list[str]:
-    """The answer to a line. A path is this process's to find: it is passed on from the root, and a file to capture to is opened here."""
+    """The answer to a line. A path is this process's to find: it is passed on from the root, and a
+    file to capture to is opened here."""
     word, _, rest = line.partition(" ")
     if line in ("help", "?"):
         return help_lines()

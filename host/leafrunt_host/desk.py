@@ -1,4 +1,5 @@
-"""What a line of the console is answered: `routerd`'s own lines are passed on, the box's are answered from what it knows."""
+"""What a line of the console is answered: `routerd`'s own lines are passed on, the box's are
+answered from what it knows."""
 from __future__ import annotations
 
 import json
@@ -34,7 +35,13 @@ class Desk:
     """Answers lines, for any number of clients at once."""
 
     def __init__(
-        self, known: Known, router: Router, bridge: Bridge, topology: Topology, log: Kept, end: Callable[[], None]
+        self,
+        known: Known,
+        router: Router,
+        bridge: Bridge,
+        topology: Topology,
+        log: Kept,
+        end: Callable[[], None],
     ) -> None:
         self._known, self._router, self._bridge = known, router, bridge
         self._topology, self._log, self._end = topology, log, end
@@ -68,7 +75,8 @@ class Desk:
             return Answer([f"refused: {why}: the box is ending"])
 
     def passed_on(self, line: str) -> list[str]:
-        """`routerd`'s answer, as it is. What it changes is noted, in the order in which `routerd` was asked."""
+        """`routerd`'s answer, as it is. What it changes is noted, in the order in which `routerd`
+        was asked."""
         word = line.partition(" ")[0]
         if word == "quit":
             return ["unknown"]
@@ -87,13 +95,17 @@ class Desk:
             self._known.announced = {**self._known.announced, prefix: (one, answer)}
         if answer == "withdrawn":
             gone = IPv4Network(line.split(" ")[1])
-            self._known.announced = {each: said for each, said in self._known.announced.items() if each != gone}
+            self._known.announced = {
+                each: said for each, said in self._known.announced.items() if each != gone
+            }
         if attached:
             path = line.partition(" ")[2]
             self._known.programs = {**self._known.programs, attached[1]: (path, int(attached[2]))}
         if answer.startswith("detached "):
             hook = answer.partition(" ")[2]
-            self._known.programs = {each: said for each, said in self._known.programs.items() if each != hook}
+            self._known.programs = {
+                each: said for each, said in self._known.programs.items() if each != hook
+            }
 
     # -- words of the box's own
 
@@ -111,7 +123,11 @@ class Desk:
         lines = []
         for number, each in enumerate(self._known.configuration.interfaces, 1):
             link = self._known.links.get(number)
-            counted = "".join(f", {what} {count}" for what, count in sorted(link.counters.items())) if link else ""
+            counted = (
+                "".join(f", {what} {count}" for what, count in sorted(link.counters.items()))
+                if link
+                else ""
+            )
             keys = f" keys {','.join(str(key.id) for key in each.keys)}" if each.keys else ""
             lines.append(
                 f"interface {number} {each.name} {each.address} mtu {each.mtu} cost {each.cost} "
@@ -123,11 +139,17 @@ class Desk:
     def _announced(self, rest: str) -> list[str]:
         none_after("announced", rest)
         announced = self._known.announced
-        return [f"{announced[each][0].line().removeprefix('add ')} {announced[each][1]}" for each in sorted(announced)]
+        return [
+            f"{announced[each][0].line().removeprefix('add ')} {announced[each][1]}"
+            for each in sorted(announced)
+        ]
 
     def _programs(self, rest: str) -> list[str]:
         none_after("programs", rest)
-        return [f"{hook} bound {bound} {path}" for hook, (path, bound) in sorted(self._known.programs.items())]
+        return [
+            f"{hook} bound {bound} {path}"
+            for hook, (path, bound) in sorted(self._known.programs.items())
+        ]
 
     def _database(self, rest: str) -> list[str]:
         if not rest:
@@ -148,7 +170,9 @@ class Desk:
         try:
             prefix = IPv4Network(rest)
         except ValueError:
-            raise Refused("after `map` comes nothing, or a destination: A.B.C.D/L whose other bits are 0, or A.B.C.D") from None
+            raise Refused(
+                "after `map` comes nothing, or a destination: A.B.C.D/L whose other bits are 0, or A.B.C.D"
+            ) from None
         route = kernel_route(prefix)
         if route is None:
             raise Refused(f"the kernel has no route to {prefix}")
@@ -162,7 +186,11 @@ class Desk:
         foreign = [each.interface for each in route.ways if each.interface not in addresses]
         if foreign:
             said += f" ({', '.join(foreign)} isn't this router's)"
-        own = tuple(addresses[each.interface] for each in route.ways if each.interface in addresses and each.address)
+        own = tuple(
+            addresses[each.interface]
+            for each in route.ways
+            if each.interface in addresses and each.address
+        )
         return Destination(route.prefix, own, said)
 
     def _last_of_log(self, rest: str) -> list[str]:
@@ -185,7 +213,9 @@ class Desk:
                 raise Refused(f"{rest}: {error}") from None
             if self._capture:
                 capture.end()
-                raise Refused(f"a capture to {self._capture.name} is under way: `capture off` ends it")
+                raise Refused(
+                    f"a capture to {self._capture.name} is under way: `capture off` ends it"
+                )
             self._capture = capture
             self._bridge.tap = lambda _interface, packet: capture.take(packet)
         return f"capturing to {rest}"

@@ -8,7 +8,13 @@ import time
 from collections import deque
 
 MOST_KEPT = 2000
-PRIORITIES = {logging.DEBUG: 7, logging.INFO: 6, logging.WARNING: 4, logging.ERROR: 3, logging.CRITICAL: 2}
+PRIORITIES = {
+    logging.DEBUG: 7,
+    logging.INFO: 6,
+    logging.WARNING: 4,
+    logging.ERROR: 3,
+    logging.CRITICAL: 2,
+}
 """syslog(3), as sd-daemon(3) writes them before a line."""
 
 
@@ -18,7 +24,8 @@ def one_line(text: str) -> str:
 
 
 class Line(logging.Formatter):
-    """A record as a line: with its moment, or, for systemd's journal, which has its own, with its priority."""
+    """A record as a line: with its moment, or, for systemd's journal, which has its own, with its
+    priority."""
 
     def __init__(self, for_journal: bool) -> None:
         super().__init__()

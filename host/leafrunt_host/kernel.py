@@ -1,4 +1,5 @@
-"""What the kernel says of its interfaces, and of the way that it takes to a destination: by `ip`, of iproute2."""
+"""What the kernel says of its interfaces, and of the way that it takes to a destination: by `ip`,
+of iproute2."""
 from __future__ import annotations
 
 import json
@@ -16,7 +17,8 @@ SECONDS = 30
 
 @dataclass(frozen=True)
 class KernelInterface:
-    """An interface as the kernel has it, with its IPv4 addresses, those of the loopback network left out."""
+    """An interface as the kernel has it, with its IPv4 addresses, those of the loopback network
+    left out."""
 
     name: str
     mtu: int
@@ -49,10 +51,15 @@ def ip_program() -> str:
 
 
 def ip_says(*words: str) -> list[dict]:
-    """What `ip -json` says to these words, each of which is passed on as one, never through a shell."""
+    """What `ip -json` says to these words, each of which is passed on as one, never through a
+    shell."""
     try:
         ran = subprocess.run(
-            [ip_program(), "-json", *words], capture_output=True, text=True, check=False, timeout=SECONDS
+            [ip_program(), "-json", *words],
+            capture_output=True,
+            text=True,
+            check=False,
+            timeout=SECONDS,
         )
     except (OSError, subprocess.TimeoutExpired) as error:
         raise Stopped(f"`ip {' '.join(words)}` failed: {error}") from error
@@ -76,17 +83,24 @@ def interface_of(said: dict) -> KernelInterface:
 
 def kernel_interfaces() -> dict[str, KernelInterface]:
     """All interfaces of the network namespace that this process is in, by their names."""
-    return {said["ifname"]: interface_of(said) for said in ip_says("address", "show") if "ifname" in said}
+    return {
+        said["ifname"]: interface_of(said)
+        for said in ip_says("address", "show")
+        if "ifname" in said
+    }
 
 
 def route_of(said: list[dict]) -> KernelRoute | None:
-    """The route that is taken, from what `ip -json route show match` says: the longest prefix, then the least metric."""
+    """The route that is taken, from what `ip -json route show match` says: the longest prefix, then
+    the least metric."""
     routes = []
     for each in said:
         prefix = IPv4Network("0.0.0.0/0" if each["dst"] == "default" else each["dst"])
         hops = each.get("nexthops", [each])
         ways = tuple(
-            Way(hop["dev"], IPv4Address(hop["gateway"]) if "gateway" in hop else None) for hop in hops if "dev" in hop
+            Way(hop["dev"], IPv4Address(hop["gateway"]) if "gateway" in hop else None)
+            for hop in hops
+            if "dev" in hop
         )
         routes.append((-prefix.prefixlen, each.get("metric", 0), KernelRoute(prefix, ways)))
     return min(routes, key=lambda each: each[:2])[2] if routes else None

@@ -68,7 +68,8 @@ class LsHeader:
 
 
 def header_of(data: bytes) -> LsHeader | None:
-    """The header of an LSA of a kind that `routerd` keeps; None for others, and for fewer than 20 bytes."""
+    """The header of an LSA of a kind that `routerd` keeps; None for others, and for fewer than 20
+    bytes."""
     if len(data) < HEADER.size:
         return None
     age, options, kind, identity, router, sequence, checksum, length = HEADER.unpack_from(data)
@@ -79,16 +80,22 @@ def header_of(data: bytes) -> LsHeader | None:
 
 
 def is_whole(data: bytes) -> bool:
-    """Whether an LSA's length field is its length, and its checksum holds: over all but the age the sum of the bytes and that of its partial
-    sums are 0 modulo 255 (RFC 2328, 12.1.7; RFC 905, annex B)."""
-    if len(data) < HEADER.size or data[18:20] != len(data).to_bytes(2, "big") or data[16:18] == b"\0\0":
+    """Whether an LSA's length field is its length, and its checksum holds: over all but the age the
+    sum of the bytes and that of its partial sums are 0 modulo 255 (RFC 2328, 12.1.7; RFC 905, annex
+    B)."""
+    if (
+        len(data) < HEADER.size
+        or data[18:20] != len(data).to_bytes(2, "big")
+        or data[16:18] == b"\0\0"
+    ):
         return False
     covered = data[2:]
     return sum(covered) % 255 == 0 and sum(accumulate(covered)) % 255 == 0
 
 
 def is_newer(one: LsHeader, other: LsHeader) -> bool:
-    """Whether one of two instances of an LSA, with their ages now, is newer than the other (RFC 2328, 13.1)."""
+    """Whether one of two instances of an LSA, with their ages now, is newer than the other (RFC
+    2328, 13.1)."""
     if one.sequence != other.sequence:
         return one.sequence > other.sequence
     if one.checksum != other.checksum:
@@ -100,8 +107,8 @@ def is_newer(one: LsHeader, other: LsHeader) -> bool:
 
 @dataclass(frozen=True)
 class RouterLink:
-    """A link of a router-LSA. By its kind `id` is the neighbor's Router ID, the Designated Router's address or the network's, and `data` the
-    own address or the network's mask."""
+    """A link of a router-LSA. By its kind `id` is the neighbor's Router ID, the Designated Router's
+    address or the network's, and `data` the own address or the network's mask."""
 
     type: int
     id: IPv4Address
@@ -140,7 +147,8 @@ Body = RouterBody | NetworkBody | SummaryBody | ExternalBody
 
 
 def body_of(data: bytes) -> Body | None:
-    """The body of an LSA; None where it is too short for what it announces. TOS metrics are left out (RFC 2328, A.4)."""
+    """The body of an LSA; None where it is too short for what it announces. TOS metrics are left
+    out (RFC 2328, A.4)."""
     body = data[HEADER.size :]
     try:
         match data[3]:
@@ -154,7 +162,9 @@ def body_of(data: bytes) -> Body | None:
             case LsType.EXTERNAL:
                 kind = 2 if body[4] & 0x80 else 1
                 forwarding, tag = IPv4Address(body[8:12]), int.from_bytes(body[12:16], "big")
-                return ExternalBody(IPv4Address(body[:4]), kind, int.from_bytes(body[5:8], "big"), forwarding, tag)
+                return ExternalBody(
+                    IPv4Address(body[:4]), kind, int.from_bytes(body[5:8], "big"), forwarding, tag
+                )
     except (IndexError, struct.error, ValueError):
         return None
     return None

@@ -36,7 +36,9 @@ def own_folder(path: Path) -> None:
         try:
             path.chmod(0o700)
         except OSError as error:
-            raise Stopped(f"{path} is open to others, and can't be closed: {error.strerror}") from error
+            raise Stopped(
+                f"{path} is open to others, and can't be closed: {error.strerror}"
+            ) from error
 
 
 @dataclass
@@ -58,14 +60,22 @@ class Room:
         return self.run / "routerd.conf"
 
     def enter(self) -> None:
-        """Makes the folders and takes the lock, which the kernel gives back however this process ends. What an earlier box left is removed."""
+        """Makes the folders and takes the lock, which the kernel gives back however this process
+        ends. What an earlier box left is removed."""
         if len(os.fsencode(self.socket)) > LONGEST_SOCKET_PATH:
-            raise Stopped(f"{self.socket}: a socket's path has at most {LONGEST_SOCKET_PATH} bytes", Status.REFUSED)
+            raise Stopped(
+                f"{self.socket}: a socket's path has at most {LONGEST_SOCKET_PATH} bytes",
+                Status.REFUSED,
+            )
         own_folder(self.run)
         own_folder(self.state)
         path = self.run / "lock"
         try:
-            lock = open(os.open(path, os.O_RDWR | os.O_CREAT | os.O_NOFOLLOW | os.O_CLOEXEC, 0o600), "r+", encoding="ascii")
+            lock = open(
+                os.open(path, os.O_RDWR | os.O_CREAT | os.O_NOFOLLOW | os.O_CLOEXEC, 0o600),
+                "r+",
+                encoding="ascii",
+            )
         except OSError as error:
             raise Stopped(f"cannot open {path}: {error.strerror}") from error
         try:
@@ -74,7 +84,10 @@ class Room:
             holder = lock.read(20).strip()
             lock.close()
             process = f" (process {holder})" if holder.isdigit() else ""
-            raise Stopped(f"the box {self.name} runs already{process}: `leafrunt down` ends it", Status.REFUSED) from error
+            raise Stopped(
+                f"the box {self.name} runs already{process}: `leafrunt down` ends it",
+                Status.REFUSED,
+            ) from error
         lock.truncate(0)
         lock.write(f"{os.getpid()}\n")
         lock.flush()
@@ -82,19 +95,22 @@ class Room:
         self.socket.unlink(missing_ok=True)
 
     def claim(self, names: Iterable[str]) -> None:
-        """Claims interfaces and the kernel's table for this box, in this network namespace, by abstract sockets (unix(7)): two boxes that
-        share one would undo each other's work."""
+        """Claims interfaces and the kernel's table for this box, in this network namespace, by
+        abstract sockets (unix(7)): two boxes that share one would undo each other's work."""
         for name in names:
             claim = socket.socket(socket.AF_UNIX, socket.SOCK_DGRAM)
             try:
                 claim.bind(f"\0leafrunt {name}")
             except OSError as error:
                 claim.close()
-                raise Stopped(f"another box has the {name} in this network namespace", Status.REFUSED) from error
+                raise Stopped(
+                    f"another box has the {name} in this network namespace", Status.REFUSED
+                ) from error
             self._claims.append(claim)
 
     def leave(self) -> None:
-        """Removes what nobody needs any more, and gives the name back. The state's folder stays, for the next start."""
+        """Removes what nobody needs any more, and gives the name back. The state's folder stays,
+        for the next start."""
         for claim in self._claims:
             claim.close()
         self._claims.clear()

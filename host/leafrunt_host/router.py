@@ -27,8 +27,8 @@ class RouterGone(Exception):
 
 @dataclass(frozen=True)
 class Ended:
-    """How `routerd` ended: its status, negative for a signal's number; its exact counters, which it prints last; the last line that it
-    printed, which says why where it didn't start."""
+    """How `routerd` ended: its status, negative for a signal's number; its exact counters, which it
+    prints last; the last line that it printed, which says why where it didn't start."""
 
     status: int
     counters: tuple[str, ...]
@@ -42,7 +42,9 @@ class Ended:
 class Router:
     """The child. Its standard error is logged, line by line."""
 
-    def __init__(self, program: Path, configuration: Path, told: Callable[[str], None] = lambda line: None) -> None:
+    def __init__(
+        self, program: Path, configuration: Path, told: Callable[[str], None] = lambda line: None
+    ) -> None:
         self._told = told
         self._lines: queue.SimpleQueue[str | None] = queue.SimpleQueue()
         self._one_at_a_time = threading.Lock()
@@ -58,7 +60,11 @@ class Router:
             start_new_session=True,
         )
         assert self._ran.stdin and self._ran.stdout and self._ran.stderr  # each is a pipe
-        self._input, self._output, self._errors = self._ran.stdin, self._ran.stdout, self._ran.stderr
+        self._input, self._output, self._errors = (
+            self._ran.stdin,
+            self._ran.stdout,
+            self._ran.stderr,
+        )
         self._readers = [
             threading.Thread(target=self._read_answers, daemon=True),
             threading.Thread(target=self._read_errors, daemon=True),
@@ -130,7 +136,8 @@ class Router:
         return answer[:-1] if answer[-1] == "end" else None
 
     def quit(self, seconds: float = SECONDS_TO_END) -> Ended:
-        """Ends it, if it hasn't ended, and waits for it. One that doesn't end by itself is killed, and that is logged."""
+        """Ends it, if it hasn't ended, and waits for it. One that doesn't end by itself is killed,
+        and that is logged."""
         with self._one_at_a_time:
             was_gone, self._is_gone = self._is_gone, True
             try:

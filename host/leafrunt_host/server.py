@@ -1,7 +1,8 @@
 """The box's console: a unix socket that its owner alone may use, for several clients at once.
 
-A client sends lines, and gets to each an answer: its lines, and then an empty one. Whatever a client does, stops doing or sends, the others
-don't notice: each has a thread of its own, and what it is sent is complete before the first byte of it goes out.
+A client sends lines, and gets to each an answer: its lines, and then an empty one. Whatever a
+client does, stops doing or sends, the others don't notice: each has a thread of its own, and what
+it is sent is complete before the first byte of it goes out.
 """
 from __future__ import annotations
 
@@ -28,7 +29,8 @@ LEAVING = ("quit", "exit")
 
 @dataclass
 class Asked:
-    """A line of a client, and the descriptor of a file that came with it: whoever takes it sets it to None."""
+    """A line of a client, and the descriptor of a file that came with it: whoever takes it sets it
+    to None."""
 
     line: str
     descriptor: int | None = None
@@ -36,7 +38,8 @@ class Asked:
 
 @dataclass
 class Answer:
-    """What a line is answered. Where `stays` is set the connection stays open until the box has ended."""
+    """What a line is answered. Where `stays` is set the connection stays open until the box has
+    ended."""
 
     lines: list[str] = field(default_factory=list)
     stays: bool = False
@@ -89,7 +92,9 @@ class Server:
     def _why_not(self, client: socket.socket) -> str | None:
         """Beside the socket's mode: root and the box's own user may come in, nobody else."""
         client.settimeout(SECONDS_TO_READ)
-        _, user, _ = CREDENTIALS.unpack(client.getsockopt(socket.SOL_SOCKET, socket.SO_PEERCRED, CREDENTIALS.size))
+        _, user, _ = CREDENTIALS.unpack(
+            client.getsockopt(socket.SOL_SOCKET, socket.SO_PEERCRED, CREDENTIALS.size)
+        )
         if user not in (0, os.geteuid()):
             return f"the console is its owner's alone, and this is the user {user}"
         with self._changing:
@@ -162,7 +167,8 @@ class _Lines:
         self._descriptors: list[int] = []
 
     def next(self) -> Asked | None:
-        """The next line; None where the client has left. One that is too long, or no text, is an empty line, which is no command."""
+        """The next line; None where the client has left. One that is too long, or no text, is an
+        empty line, which is no command."""
         is_long = False
         while b"\n" not in self._data:
             if len(self._data) > LONGEST_LINE:

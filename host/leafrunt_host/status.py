@@ -128,7 +128,8 @@ def status_of(known: Known) -> dict:
         },
         "warnings": list(known.warnings),
         "interfaces": [
-            interface_status(known, number, each) for number, each in enumerate(configuration.interfaces, 1)
+            interface_status(known, number, each)
+            for number, each in enumerate(configuration.interfaces, 1)
         ],
     }
 
@@ -147,10 +148,13 @@ def kernel_line(kernel: dict) -> str:
 
 
 def remark_lines(name: str, remarks: list[dict]) -> list[str]:
-    """Why a neighbor isn't heard, a line for each that was seen; nothing of those with which all is well."""
+    """Why a neighbor isn't heard, a line for each that was seen; nothing of those with which all is
+    well."""
     lines = []
     for each in remarks:
-        who = " ".join(filter(None, [each["router_id"], f"({each['address']})" if each["address"] else None]))
+        who = " ".join(
+            filter(None, [each["router_id"], f"({each['address']})" if each["address"] else None])
+        )
         if each["reasons"]:
             lines.append(f"  {name}:{f' {who}:' if who else ''} {'; '.join(each['reasons'])}")
     return lines
@@ -172,7 +176,9 @@ def interface_lines(each: dict) -> list[str]:
 def status_lines(status: dict) -> list[str]:
     """The same for a reader."""
     began = moment_text(status["since"])
-    lines = [f"box {status['box']}: router {status['router_id']}, since {began}, routerd is process {status['routerd']['pid']}"]
+    lines = [
+        f"box {status['box']}: router {status['router_id']}, since {began}, routerd is process {status['routerd']['pid']}"
+    ]
     lines += [f"routerd: {each}" for each in status["routerd"]["stopped"]]
     lines.append(kernel_line(status["kernel"]))
     lines += [f"warning: {each}" for each in status["warnings"]]

@@ -1,4 +1,5 @@
-"""Reading the tables of a TOML file key by key, so that each mistake is told with its key, what was found and what is allowed."""
+"""Reading the tables of a TOML file key by key, so that each mistake is told with its key, what was
+found and what is allowed."""
 from __future__ import annotations
 
 import difflib
@@ -35,10 +36,15 @@ def is_whole(value: object) -> TypeGuard[int]:
 
 
 def shown(value: object) -> str:
-    """A value as a line of a terminal can show it: nothing of it acts on the terminal, and it isn't long."""
+    """A value as a line of a terminal can show it: nothing of it acts on the terminal, and it isn't
+    long."""
     if isinstance(value, str):
         text = json.dumps(value)
-        return text if len(text) <= LONGEST_SHOWN else f'{text[:LONGEST_SHOWN]}.." ({len(value)} characters)'
+        return (
+            text
+            if len(text) <= LONGEST_SHOWN
+            else f'{text[:LONGEST_SHOWN]}.." ({len(value)} characters)'
+        )
     if isinstance(value, bool):
         return "true" if value else "false"
     if isinstance(value, int):
@@ -53,9 +59,16 @@ def shown(value: object) -> str:
 def mistake_of_toml(file: str, error: Exception) -> Mistake:
     """What is told of a text that is no TOML. What stands there isn't shown: it may be a secret."""
     if isinstance(error, RecursionError):
-        return Mistake(file, "the file", "lists or tables too deep within each other", "at most some hundred levels")
+        return Mistake(
+            file,
+            "the file",
+            "lists or tables too deep within each other",
+            "at most some hundred levels",
+        )
     if not isinstance(error, tomllib.TOMLDecodeError):
-        return Mistake(file, "the file", "a value that is too long", "numbers of at most 4300 digits")
+        return Mistake(
+            file, "the file", "a value that is too long", "numbers of at most 4300 digits"
+        )
     place = PLACE.match(str(error))
     where, what = (place[2], place[1]) if place else ("the file", str(error))
     return Mistake(file, where, f"no TOML ({what})", "TOML 1.0, as toml.io describes it")
@@ -67,7 +80,9 @@ def toml_of(file: str, data: bytes, mistakes: list[Mistake]) -> dict[str, object
         return tomllib.loads(data.decode("utf-8"))
     except UnicodeDecodeError as error:
         line = data[: error.start].count(b"\n") + 1
-        mistakes.append(Mistake(file, f"line {line}", f"the byte {data[error.start]:#04x}", "text in UTF-8"))
+        mistakes.append(
+            Mistake(file, f"line {line}", f"the byte {data[error.start]:#04x}", "text in UTF-8")
+        )
     except (ValueError, RecursionError) as error:
         mistakes.append(mistake_of_toml(file, error))
     return {}
@@ -76,11 +91,14 @@ def toml_of(file: str, data: bytes, mistakes: list[Mistake]) -> dict[str, object
 class Table:
     """One table of a file.
 
-    Each read of a key gives its value. Where it is a mistake that is noted, and reading goes on with the default, or with None where the
-    kind of value has none. `end` notes the keys that nobody asked for.
+    Each read of a key gives its value. Where it is a mistake that is noted, and reading goes on
+    with the default, or with None where the kind of value has none. `end` notes the keys that
+    nobody asked for.
     """
 
-    def __init__(self, file: str, where: str, items: dict[str, object], mistakes: list[Mistake]) -> None:
+    def __init__(
+        self, file: str, where: str, items: dict[str, object], mistakes: list[Mistake]
+    ) -> None:
         self._file, self._where, self._items, self._mistakes = file, where, items, mistakes
         self._asked: list[str] = []
         self._wrong: set[str] = set()
@@ -103,7 +121,9 @@ class Table:
     def has(self, key: str) -> bool:
         return key in self._items
 
-    def _value(self, key: str, allowed: str, default: object, is_right: Callable[[Any], bool]) -> object:
+    def _value(
+        self, key: str, allowed: str, default: object, is_right: Callable[[Any], bool]
+    ) -> object:
         self._asked.append(key)
         if key not in self._items:
             if default is None:
@@ -118,7 +138,9 @@ class Table:
     def whole(self, key: str, least: int, most: int, default: int | None = None) -> int:
         """A whole number in a range."""
         allowed = f"a whole number from {least} to {most}"
-        value = self._value(key, allowed, default, lambda each: is_whole(each) and least <= each <= most)
+        value = self._value(
+            key, allowed, default, lambda each: is_whole(each) and least <= each <= most
+        )
         return value if is_whole(value) else least if default is None else default
 
     def truth(self, key: str, default: bool) -> bool:
@@ -127,12 +149,16 @@ class Table:
 
     def text(self, key: str, allowed: str, default: str | None = None) -> str | None:
         """A text that isn't empty."""
-        value = self._value(key, allowed, default, lambda each: isinstance(each, str) and each != "")
+        value = self._value(
+            key, allowed, default, lambda each: isinstance(each, str) and each != ""
+        )
         return value if isinstance(value, str) else None
 
     def one_of(self, key: str, words: Iterable[str]) -> str | None:
         words = list(words)
-        value = self._value(key, f"one of {', '.join(map(shown, words))}", None, lambda each: each in words)
+        value = self._value(
+            key, f"one of {', '.join(map(shown, words))}", None, lambda each: each in words
+        )
         return value if isinstance(value, str) else None
 
     def secret(self, key: str, most: int, allowed: str) -> bytes | None:
@@ -142,11 +168,19 @@ class Table:
         data = value.encode() if isinstance(value, str) else b""
         if 1 <= len(data) <= most:
             return data
-        found = "nothing" if key not in self._items else f"{len(data)} bytes" if isinstance(value, str) else "no text"
+        found = (
+            "nothing"
+            if key not in self._items
+            else f"{len(data)} bytes"
+            if isinstance(value, str)
+            else "no text"
+        )
         self.note(key, found, allowed)
         return None
 
-    def parsed(self, key: str, allowed: str, parse: Callable[[str], T], default: str | None = None) -> T | None:
+    def parsed(
+        self, key: str, allowed: str, parse: Callable[[str], T], default: str | None = None
+    ) -> T | None:
         """A text that `parse` takes; one that it answers with a ValueError is a mistake."""
         text = self.text(key, allowed, default)
         if text is None:
@@ -164,7 +198,9 @@ class Table:
         if value is None:
             return None
         if not isinstance(value, datetime) or value.tzinfo is None:
-            self.note(key, shown(value), "a date and time with its offset, such as 2027-01-01T00:00:00Z")
+            self.note(
+                key, shown(value), "a date and time with its offset, such as 2027-01-01T00:00:00Z"
+            )
             return None
         return value.timestamp()
 
@@ -181,7 +217,8 @@ class Table:
         return None if value is None else texts
 
     def tables(self, key: str, title: Callable[[int, dict], str]) -> list[Table] | None:
-        """The tables of a list, `[[key]]` in the file, empty where there is none; `title` says where one of them stands."""
+        """The tables of a list, `[[key]]` in the file, empty where there is none; `title` says
+        where one of them stands."""
         allowed = f"tables, each begun with [[{key}]]"
         value = self._value(key, allowed, [], lambda each: isinstance(each, list))
         if not isinstance(value, list):
@@ -190,7 +227,10 @@ class Table:
             if not isinstance(each, dict):
                 self.note(key, shown(each), allowed)
                 return None
-        return [Table(self._file, title(at, each), each, self._mistakes) for at, each in enumerate(value, 1)]
+        return [
+            Table(self._file, title(at, each), each, self._mistakes)
+            for at, each in enumerate(value, 1)
+        ]
 
     def end(self) -> None:
         """Notes the keys that were never asked for."""
@@ -198,4 +238,8 @@ class Table:
             if key not in self._asked:
                 close = difflib.get_close_matches(key, self._asked, 1, 0.7)
                 meant = f" ({close[0]}, maybe)" if close else ""
-                self.note(key if key.isidentifier() else shown(key), "an unknown key", f"{', '.join(self._asked)}{meant}")
+                self.note(
+                    key if key.isidentifier() else shown(key),
+                    "an unknown key",
+                    f"{', '.join(self._asked)}{meant}",
+                )

@@ -1,8 +1,9 @@
 """The link-state database as the packets that passed through the bridge show it.
 
-Each LSA that a neighbor is given or gives passes through the bridge whole, so once a neighbor is Full nothing is missing here. What comes
-from the wire counts once `routerd` acknowledged it (RFC 2328, 13.5), and what `routerd` sends counts at once: so this is its database, and
-nothing that it refused.
+Each LSA that a neighbor is given or gives passes through the bridge whole, so once a neighbor is
+Full nothing is missing here. What comes from the wire counts once `routerd` acknowledged it (RFC
+2328, 13.5), and what `routerd` sends counts at once: so this is its database, and nothing that it
+refused.
 """
 from __future__ import annotations
 
@@ -38,12 +39,15 @@ KINDS = frozenset(LsType)
 MOST_WAITING = 50_000
 SECONDS_WAITING = 60
 MOST_UNREAD = 8_192
-"""Packets that may wait to be read. Beyond that they are left out and counted, since the bridge may not wait for this."""
+"""Packets that may wait to be read. Beyond that they are left out and counted, since the bridge may
+not wait for this."""
 SECONDS_TO_READ = 5
 SECONDS_UNSETTLED = 0.5
-"""Packets of two interfaces may be read here in another order than `routerd` sent them in, this long at most."""
+"""Packets of two interfaces may be read here in another order than `routerd` sent them in, this
+long at most."""
 KEY, INSTANCE = slice(3, 12), slice(3, 18)
-"""Of an LSA's header: type, Link State ID and advertising router; and sequence number and checksum after them (RFC 2328, A.4.1)."""
+"""Of an LSA's header: type, Link State ID and advertising router; and sequence number and checksum
+after them (RFC 2328, A.4.1)."""
 
 
 @dataclass(frozen=True)
@@ -73,21 +77,26 @@ def age_of(data: bytes) -> int:
 
 
 class Topology:
-    """The database. The bridge hands it packets, a thread of its own reads them, and others ask, in threads of theirs."""
+    """The database. The bridge hands it packets, a thread of its own reads them, and others ask, in
+    threads of theirs."""
 
     def __init__(self, clock: Callable[[], float] = time.monotonic) -> None:
         self._clock = clock
         self._one_at_a_time = threading.Lock()
         self._entries: dict[bytes, Entry] = {}
         self._waiting: OrderedDict[bytes, Entry] = OrderedDict()
-        self._unread: queue.SimpleQueue[tuple[Side, Packet, float] | threading.Event] = queue.SimpleQueue()
+        self._unread: queue.SimpleQueue[
+            tuple[Side, Packet, float] | threading.Event
+        ] = queue.SimpleQueue()
         self.left_out = 0
         threading.Thread(target=self._read, name="topology", daemon=True).start()
 
     def watch(self, side: Side, packet: Packet, now: float) -> None:
         """Takes note of a packet that the bridge took: from the wire, or from `routerd`."""
         is_update = packet.type == PacketType.LINK_STATE_UPDATE
-        if not is_update and (side is Side.WIRE or packet.type != PacketType.LINK_STATE_ACKNOWLEDGMENT):
+        if not is_update and (
+            side is Side.WIRE or packet.type != PacketType.LINK_STATE_ACKNOWLEDGMENT
+        ):
             return
         if self._unread.qsize() >= MOST_UNREAD:
             self.left_out += 1
@@ -124,7 +133,8 @@ class Topology:
                 self._wait(entry, now)
 
     def _wait(self, entry: Entry, now: float) -> None:
-        """An LSA from the wire waits until `routerd` acknowledges it, which takes it a second, or refuses it in silence."""
+        """An LSA from the wire waits until `routerd` acknowledges it, which takes it a second, or
+        refuses it in silence."""
         instance = entry.data[INSTANCE]
         self._waiting[instance] = entry
         self._waiting.move_to_end(instance)
@@ -141,7 +151,8 @@ class Topology:
             self._put(replace(entry, age=age_of(header)), now)
 
     def _put(self, entry: Entry, now: float) -> None:
-        """An older instance than the one here comes late, or, where that one was flushed, begins anew (12.1.6, 14.1)."""
+        """An older instance than the one here comes late, or, where that one was flushed, begins
+        anew (12.1.6, 14.1)."""
         if not is_whole(entry.data):
             return
         before = self._entries.get(entry.data[KEY])
@@ -152,8 +163,8 @@ class Topology:
         self._entries[entry.data[KEY]] = entry
 
     def entries(self) -> list[tuple[LsHeader, Entry]]:
-        """The LSAs with their headers of now, in the order of their keys; those that are flushed or ran out aren't in it. What the bridge
-        has handed over by now is read first."""
+        """The LSAs with their headers of now, in the order of their keys; those that are flushed or
+        ran out aren't in it. What the bridge has handed over by now is read first."""
         is_read = threading.Event()
         self._unread.put(is_read)
         is_read.wait(SECONDS_TO_READ)
@@ -166,7 +177,9 @@ class Topology:
         return [(entry.header_at(now), entry) for _, entry in found if entry.age_at(now) < MAX_AGE]
 
 
-HEADING = f"{'Type':<12} {'Link State ID':<15} {'Router':<15} {'Sequence':<8} {'Age':>4} {'Checksum':>8}"
+HEADING = (
+    f"{'Type':<12} {'Link State ID':<15} {'Router':<15} {'Sequence':<8} {'Age':>4} {'Checksum':>8}"
+)
 
 
 def database_line(header: LsHeader) -> str:
@@ -180,7 +193,9 @@ def database_lines(topology: Topology) -> list[str]:
     """All LSAs, a line each, below a heading."""
     lines = [HEADING, *(database_line(header) for header, _ in topology.entries())]
     if topology.left_out:
-        lines.append(f"({topology.left_out} packets came too fast to be read here: what they had is missing until it is sent again)")
+        lines.append(
+            f"({topology.left_out} packets came too fast to be read here: what they had is missing until it is sent again)"
+        )
     return lines
 
 
@@ -197,7 +212,11 @@ def body_lines(header: LsHeader, body: Body | None) -> list[str]:
     """What an LSA's body says, in words."""
     match body:
         case RouterBody(flags, links):
-            titles = {RouterFlags.B: "area border router", RouterFlags.E: "AS boundary router", RouterFlags.V: "virtual link"}
+            titles = {
+                RouterFlags.B: "area border router",
+                RouterFlags.E: "AS boundary router",
+                RouterFlags.V: "virtual link",
+            }
             said = [title for flag, title in titles.items() if flags & flag]
             return [f"flags: {', '.join(said) or 'none'}", *map(link_line, links)]
         case NetworkBody(mask, routers):
@@ -205,7 +224,9 @@ def body_lines(header: LsHeader, body: Body | None) -> list[str]:
         case SummaryBody(mask, metric):
             return [f"mask {mask}, metric {metric}"]
         case ExternalBody(mask, kind, metric, forwarding, tag):
-            return [f"mask {mask}, type {kind}, metric {metric}, forwarding address {forwarding}, tag {tag}"]
+            return [
+                f"mask {mask}, type {kind}, metric {metric}, forwarding address {forwarding}, tag {tag}"
+            ]
     return [f"a body of {header.length - LSA_HEADER_LENGTH} bytes that can't be read"]
 
 
@@ -215,7 +236,9 @@ def link_line(link: RouterLink) -> str:
         case LinkType.POINT_TO_POINT:
             return f"link to the router {link.id}, own address {link.data}, metric {link.metric}"
         case LinkType.TRANSIT:
-            return f"link to the network of {link.id}, own address {link.data}, metric {link.metric}"
+            return (
+                f"link to the network of {link.id}, own address {link.data}, metric {link.metric}"
+            )
         case LinkType.STUB:
             return f"stub network {link.id}, mask {link.data}, metric {link.metric}"
         case LinkType.VIRTUAL:

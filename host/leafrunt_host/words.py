@@ -1,4 +1,5 @@
-"""The lines of `leafrunt console`: those of `routerd`'s own console, which are passed on as they are, and the box's beside them."""
+"""The lines of `leafrunt console`: those of `routerd`'s own console, which are passed on as they
+are, and the box's beside them."""
 from __future__ import annotations
 
 ROUTERD_WORDS = {

@@ -1,4 +1,5 @@
-"""Runs a box whose kernel has one made-up interface, since a test may open no raw socket: `run_box.py CONFIG RUN STATE`."""
+"""Runs a box whose kernel has one made-up interface, since a test may open no raw socket:
+`run_box.py CONFIG RUN STATE`."""
 import sys
 from ipaddress import IPv4Interface
 from pathlib import Path

@@ -1,7 +1,9 @@
-"""Stands in for `routerd` where the box around it is tested: its console, with answers in the same forms, and no OSPF.
+"""Stands in for `routerd` where the box around it is tested: its console, with answers in the same
+forms, and no OSPF.
 
-`attach /end/N` ends it with status N, `attach /silent` answers nothing any more, `attach /long` answers many bytes. A configuration whose
-Router ID is 9.9.9.N isn't started: 1 says that a port is taken (the first time), 2 ends at once, 3 is no `routerd`.
+`attach /end/N` ends it with status N, `attach /silent` answers nothing any more, `attach /long`
+answers many bytes. A configuration whose Router ID is 9.9.9.N isn't started: 1 says that a port is
+taken (the first time), 2 ends at once, 3 is no `routerd`.
 """
 import os
 import sys

@@ -1,4 +1,5 @@
-"""A box from its start to its end, around a stand-in for `routerd`, as the operator's commands see it."""
+"""A box from its start to its end, around a stand-in for `routerd`, as the operator's commands see
+it."""
 import contextlib
 import io
 import os
@@ -249,7 +250,8 @@ class Consoles(Boxes):
         self.assertEqual(client.answer(), ["counter 5 6", "end"])
 
     def one_that_goes_away(self) -> None:
-        """A client that leaves while its answer is on the way, and one that reads nothing, keep nobody from anything."""
+        """A client that leaves while its answer is on the way, and one that reads nothing, keep
+        nobody from anything."""
         silent = socket.socket(socket.AF_UNIX, socket.SOCK_STREAM)
         silent.connect(str(socket_path(self.run_folder, "one")))
         silent.sendall(b"attach /long\n")
@@ -456,7 +458,8 @@ class Ends(Boxes):
         self.assertIn("routerd ended: killed by signal 9", log)
 
     def test_a_box_that_is_killed(self) -> None:
-        """It leaves no `routerd` behind; its socket is there, and takes nobody in; it can be started again."""
+        """It leaves no `routerd` behind; its socket is there, and takes nobody in; it can be
+        started again."""
         box = self.up()
         routerd = self.routerd_of(self.client())
         box.kill()
@@ -496,7 +499,9 @@ class Starts(Boxes):
         rooms[0].claim([name])
         with self.assertRaises(Stopped) as raised:
             rooms[1].claim([name])
-        self.assertEqual(str(raised.exception), f"another box has the {name} in this network namespace")
+        self.assertEqual(
+            str(raised.exception), f"another box has the {name} in this network namespace"
+        )
         rooms[0].leave()
         rooms[1].claim([name])
         rooms[1].leave()
@@ -592,7 +597,10 @@ class Typing(unittest.TestCase):
         self.assertEqual(completions(["attach", "x"], ""), [])
         folder = str(HERE)
         self.assertEqual(completions(["attach"], f"{folder}/stand"), [f"{folder}/stand_in.py"])
-        self.assertEqual(completions(["attach"], str(HERE.parent / "leafrunt_h")), [f"{HERE.parent}/leafrunt_host/"])
+        self.assertEqual(
+            completions(["attach"], str(HERE.parent / "leafrunt_h")),
+            [f"{HERE.parent}/leafrunt_host/"],
+        )
         self.assertEqual(completions(["capture"], "of"), ["off"])
 
     def test_help(self) -> None:

@@ -30,7 +30,8 @@ FIRST = -0x7FFFFFFF
 
 
 def sealed(data: bytes) -> bytes:
-    """The LSA with its check bytes: the ones of 1 to 255 that make both sums 0 modulo 255 (RFC 905, annex B)."""
+    """The LSA with its check bytes: the ones of 1 to 255 that make both sums 0 modulo 255 (RFC 905,
+    annex B)."""
     blank = data[:16] + b"\0\0" + data[18:]
     covered = blank[2:]
     first, second, after = sum(covered), sum(accumulate(covered)), len(covered) - 15
@@ -373,8 +374,7 @@ class Maps(unittest.TestCase):
         lines = map_lines(area(*SQUARE), FOUR, to)
         self.assertTrue(
             any(
-                line.startswith('  "2.2.2.2" -> "4.4.4.4"') and "dir=back" in line
-                for line in lines
+                line.startswith('  "2.2.2.2" -> "4.4.4.4"') and "dir=back" in line for line in lines
             )
         )
 
