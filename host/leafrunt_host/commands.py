@@ -58,68 +58,54 @@ def address(text: str) -> IPv4Address:
         raise argparse.ArgumentTypeError(f"{text!r} is no Link State ID, A.B.C.D") from error
 
 
+def with_folders(one: argparse.ArgumentParser, name: str) -> None:
+    """Where a box keeps its files, and which box is meant."""
+    if name != "check":
+        about = f"where running boxes have their sockets (default {RUN})"
+        one.add_argument("--run-directory", type=Path, default=RUN, metavar="DIR", help=about)
+    if name == "up":
+        about = f"where sequence numbers are kept over a restart (default {STATE})"
+        one.add_argument("--state-directory", type=Path, default=STATE, metavar="DIR", help=about)
+    if name in ("up", "check"):
+        about = "the configuration, a TOML file; its name without .toml is the box's"
+        one.add_argument("config", type=Path, metavar="CONFIG", help=about)
+    else:
+        about = "which box; not needed where one alone runs"
+        one.add_argument("--box", metavar="NAME", help=about)
+
+
+def with_own_words(one: argparse.ArgumentParser, name: str) -> None:
+    """What one command alone takes."""
+    if name == "console":
+        about = "ask this, and leave; may be given several times"
+        one.add_argument(
+            "-c", dest="lines", action="append", default=[], metavar="LINE", help=about
+        )
+    if name == "status":
+        one.add_argument("--json", action="store_true", help="for a program: one value in JSON")
+    if name == "database":
+        one.add_argument("id", nargs="?", type=address, metavar="ID", help="a Link State ID")
+    if name == "map":
+        about = "mark the way that the kernel takes there"
+        one.add_argument("--to", type=prefix, metavar="PREFIX", help=about)
+
+
 def parser() -> argparse.ArgumentParser:
     """The words of the command line."""
     shown = argparse.RawDescriptionHelpFormatter
     top = argparse.ArgumentParser("leafrunt", description=ABOUT, formatter_class=shown)
     words = top.add_subparsers(dest="command", required=True, metavar="COMMAND")
     for name, title in TITLES.items():
-        epilog = f"example:\n  {EXAMPLES[name]}"
         one = words.add_parser(
             name,
             help=title,
             description=title,
-            epilog=epilog,
+            epilog=f"example:\n  {EXAMPLES[name]}",
             formatter_class=shown,
             allow_abbrev=False,
         )
-        if name != "check":
-            one.add_argument(
-                "--run-directory",
-                type=Path,
-                default=RUN,
-                metavar="DIR",
-                help=f"where running boxes have their sockets (default {RUN})",
-            )
-        if name in ("up", "check"):
-            one.add_argument(
-                "config",
-                type=Path,
-                metavar="CONFIG",
-                help="the configuration, a TOML file; its name without .toml is the box's",
-            )
-        else:
-            one.add_argument(
-                "--box", metavar="NAME", help="which box; not needed where one alone runs"
-            )
-        if name == "up":
-            one.add_argument(
-                "--state-directory",
-                type=Path,
-                default=STATE,
-                metavar="DIR",
-                help=f"where sequence numbers are kept from one start to the next (default {STATE})",
-            )
-        if name == "console":
-            one.add_argument(
-                "-c",
-                dest="lines",
-                action="append",
-                default=[],
-                metavar="LINE",
-                help="ask this, and leave; may be given several times",
-            )
-        if name == "status":
-            one.add_argument("--json", action="store_true", help="for a program: one value in JSON")
-        if name == "database":
-            one.add_argument("id", nargs="?", type=address, metavar="ID", help="a Link State ID")
-        if name == "map":
-            one.add_argument(
-                "--to",
-                type=prefix,
-                metavar="PREFIX",
-                help="mark the way that the kernel takes there",
-            )
+        with_folders(one, name)
+        with_own_words(one, name)
     return top
 
 
