@@ -53,13 +53,19 @@ class Known:
     started: float = field(default_factory=time.time)
     neighbors: dict[int, Neighbor] = field(default_factory=dict)
     announced: dict[IPv4Network, tuple[Announcement, str]] = field(default_factory=dict)
-    """The destinations, each with `routerd`'s answer."""
+    """The destinations that were given, each with `routerd`'s answer."""
     programs: dict[str, tuple[str, int]] = field(default_factory=dict)
     """By hook the object file and the bound."""
     kept: Kept = field(default_factory=Kept)
     warnings: tuple[str, ...] = ()
     stopped: tuple[str, ...] = ()
     """Interfaces that `routerd` serves no longer."""
+
+
+def originated(known: Known) -> frozenset[IPv4Network]:
+    """The destinations that this router announces: those that a price withholds aren't."""
+    announced = known.announced.items()
+    return frozenset(prefix for prefix, (_, answer) in announced if answer == "originated")
 
 
 def moment_text(moment: float) -> str:
