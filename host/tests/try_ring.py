@@ -240,12 +240,16 @@ def ring_cut(it: Ring, looks: Looks) -> None:
         looks.timed("and mended: Full again", COMES_UP, it.is_up)
 
 
+def droppers(it: Ring) -> list[tuple[str, Bird | Frr]]:
+    """The two neighbors of 1.1.1.1."""
+    return [("BIRD", it.bird), ("FRR", it.frr)]
+
+
 def ring_ended(it: Ring, looks: Looks) -> None:
     box = it.boxes[0]
     start = time.monotonic()
-    box.signal(signal.SIGTERM)
-    dropped: dict[str, Bird | Frr] = {"BIRD": it.bird, "FRR": it.frr}
-    for name, router in dropped.items():
+    box.send_signal(signal.SIGTERM)
+    for name, router in droppers(it):
         took = within(10, lambda: router.neighbors().get(box.router_id) in NOT_FULL, 0.05)
         took = None if took is None else time.monotonic() - start
         measured = "not within 10 s" if took is None else f"after {took:.1f} s"
@@ -268,7 +272,7 @@ def ring_killed(it: Ring, looks: Looks) -> None:
     box = it.boxes[0]
     box.stop(signal.SIGKILL)
     start = time.monotonic()
-    for name, router in {"BIRD": it.bird, "FRR": it.frr}.items():
+    for name, router in droppers(it):
         within(20, lambda: router.neighbors().get(box.router_id) in NOT_FULL, 0.1)
         took = time.monotonic() - start
         what = f"a box is killed: {name} drops it within RouterDeadInterval, 8 s"
