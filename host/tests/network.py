@@ -533,7 +533,7 @@ class Box:
         self.process = None
         return status
 
-    def signal(self, number: int) -> None:
+    def send_signal(self, number: int) -> None:
         if self.process:
             self.process.send_signal(number)
 

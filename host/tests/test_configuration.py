@@ -677,7 +677,6 @@ class Reading(Files):
         for text in (WHOLE, KEYS):
             self.assertEqual(toml.loads(text), tomllib.loads(text))
 
-
     def test_the_examples(self) -> None:
         """The files of docs/HOST.md's first network."""
         examples = Path(__file__).parents[2] / "examples" / "host"
@@ -687,14 +686,25 @@ class Reading(Files):
             "eth2": KernelInterface("eth2", 1500, (IPv4Interface("192.168.1.1/24"),)),
         }
         for name in ("north", "south"):
-            text = (examples / f"{name}.toml").read_text().replace("\nkeys", '\nrouterd = "routerd"\nkeys', 1)
+            text = (
+                (examples / f"{name}.toml")
+                .read_text()
+                .replace("\nkeys", '\nrouterd = "routerd"\nkeys', 1)
+            )
             read = read_configuration(self.write(f"{name}.toml", text.encode()), kernel, judge)
-            self.assertEqual([(each.passive, len(each.keys)) for each in read.interfaces], [(False, 1), (True, 0)])
+            self.assertEqual(
+                [(each.passive, len(each.keys)) for each in read.interfaces],
+                [(False, 1), (True, 0)],
+            )
 
     def test_the_documents_have_each_key(self) -> None:
         """docs/HOST.md's table of keys against the keys that are read."""
         document = (Path(__file__).parents[2] / "docs" / "HOST.md").read_text(encoding="utf-8")
-        for each in f"{TOP_KEYS}, keys, {INTERFACE_KEYS}, prefix, metric, type, tag, object, {KEY_FIELDS}".split(", "):
+        for (
+            each
+        ) in f"{TOP_KEYS}, keys, {INTERFACE_KEYS}, prefix, metric, type, tag, object, {KEY_FIELDS}".split(
+            ", "
+        ):
             with self.subTest(each):
                 self.assertRegex(document, rf"`(\[\[)?{each}\b|\b{each} = |{each},")
 

@@ -240,12 +240,16 @@ def ring_cut(it: Ring, looks: Looks) -> None:
         looks.timed("and mended: Full again", COMES_UP, it.is_up)
 
 
+def droppers(it: Ring) -> list[tuple[str, Bird | Frr]]:
+    """The two neighbors of 1.1.1.1."""
+    return [("BIRD", it.bird), ("FRR", it.frr)]
+
+
 def ring_ended(it: Ring, looks: Looks) -> None:
     box = it.boxes[0]
     start = time.monotonic()
-    box.signal(signal.SIGTERM)
-    dropped: dict[str, Bird | Frr] = {"BIRD": it.bird, "FRR": it.frr}
-    for name, router in dropped.items():
+    box.send_signal(signal.SIGTERM)
+    for name, router in droppers(it):
         took = within(10, lambda: router.neighbors().get(box.router_id) in NOT_FULL, 0.05)
         took = None if took is None else time.monotonic() - start
         measured = "not within 10 s" if took is None else f"after {took:.1f} s"
@@ -268,7 +272,7 @@ def ring_killed(it: Ring, looks: Looks) -> None:
     box = it.boxes[0]
     box.stop(signal.SIGKILL)
     start = time.monotonic()
-    for name, router in {"BIRD": it.bird, "FRR": it.frr}.items():
+    for name, router in droppers(it):
         within(20, lambda: router.neighbors().get(box.router_id) in NOT_FULL, 0.1)
         took = time.monotonic() - start
         what = f"a box is killed: {name} drops it within RouterDeadInterval, 8 s"
@@ -314,37 +318,36 @@ def ring_replays(it: Ring, looks: Looks) -> None:
     """Packets of BIRD that were sent before are sent again to 1.1.1.1."""
     box, hello = it.boxes[0], 1
     first = it.network.wire("first", 1, 1, hello)
-    it.network.wire("send", 1, 0, first)
     said = "replayed packet: sequence number below the last one"
-    looks.timed(
-        "an old Hello of BIRD is replayed: `leafrunt status` says so",
-        5,
-        lambda: is_said(box, said),
-    )
+
+    def is_refused(frame: str) -> bool:
+        send_again(it, frame)
+        return is_said(box, said)
+
+    looks.timed("an old Hello of BIRD is replayed: told", 10, lambda: is_refused(first))
     print(f"     {line_of(box, said)}")
     looks.look("and the adjacency stays Full", is_full(box, "2.2.2.2"))
     box.stop(signal.SIGKILL)
     box.start()
-    within(10, lambda: "replayed" in box.status() or send_again(it, first))
-    looks.look("the same right after the box was killed and started again", is_said(box, said))
+    looks.timed(
+        "the same right after the box was killed and started again", 10, lambda: is_refused(first)
+    )
     looks.timed("and the adjacency comes to Full", COMES_UP, lambda: is_full(box, "2.2.2.2"))
+    earlier = it.network.wire("last", 1, 1, hello)
+    time.sleep(DEAD_INTERVAL)
     it.bird.stop(signal.SIGKILL)
-    last, start = it.network.wire("last", 1, 1, hello), time.monotonic()
+    start = time.monotonic()
 
     def is_dropped() -> bool:
-        send_again(it, last)
+        send_again(it, earlier)
         return not is_full(box, "2.2.2.2")
 
-    looks.timed(
-        "BIRD is killed and its last Hello replayed: dropped within 9 s all the same",
-        DEAD_INTERVAL + 1,
-        is_dropped,
-    )
-    said = "replayed packet: the same one was taken before"
-    looks.look("`leafrunt status` says so", is_said(box, said))
+    what = "BIRD is killed, and a Hello of eight seconds before is replayed: dropped all the same"
+    looks.timed(what, DEAD_INTERVAL + 2, is_dropped)
+    looks.look("`leafrunt status` says why", is_said(box, said))
     print(f"     {line_of(box, said)}")
     while time.monotonic() - start < 2 * DEAD_INTERVAL:
-        send_again(it, last)
+        send_again(it, earlier)
         time.sleep(0.5)
     state = box.neighbors().get("2.2.2.2")
     looks.look("replayed on: no adjacency comes of it", state in NOT_FULL, f"{state or 'Down'}")
@@ -352,10 +355,10 @@ def ring_replays(it: Ring, looks: Looks) -> None:
     looks.timed("BIRD is started again: Full", COMES_UP, it.is_up)
 
 
-def send_again(it: Ring, frame: str) -> bool:
+def send_again(it: Ring, frame: str) -> None:
+    """Sends a frame that BIRD sent to 1.1.1.1 once more."""
     it.network.wire("send", 1, 0, frame)
     time.sleep(0.1)
-    return False
 
 
 def ring_refusals(it: Ring, looks: Looks) -> None:
