@@ -12,10 +12,10 @@ from leafrunt_host import console
 from leafrunt_host.box import Box
 from leafrunt_host.client import Client, own_answer
 from leafrunt_host.configuration import Configuration, read_configuration
-from leafrunt_host.forwarding import host_warnings
 from leafrunt_host.journal import start_log
 from leafrunt_host.kernel import kernel_interfaces
 from leafrunt_host.rooms import RUN, STATE, Room
+from leafrunt_host.status import warnings_of
 from leafrunt_host.statuses import Status, Stopped
 
 ABOUT = """A box that routes: `routerd`, an OSPF router, on this host, among BIRD, FRR and others.
@@ -128,12 +128,8 @@ def check(words: argparse.Namespace) -> Status:
 
 def checked_lines(path: Path, configuration: Configuration) -> list[str]:
     names = ", ".join(f"{each.name} {each.address}" for each in configuration.interfaces)
-    warnings = [
-        *configuration.advice,
-        *host_warnings(each.name for each in configuration.interfaces),
-    ]
     said = f"{path}: nothing is wrong: router {configuration.router_id} at {names}"
-    return [said, *(f"warning: {each}" for each in warnings)]
+    return [said, *(f"warning: {each}" for each in warnings_of(configuration))]
 
 
 def asked(words: argparse.Namespace, line: str) -> list[str]:

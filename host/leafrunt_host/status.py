@@ -8,6 +8,7 @@ from ipaddress import IPv4Address, IPv4Network
 
 from leafrunt_host.bridge import Link
 from leafrunt_host.configuration import Announcement, Configuration, InterfaceSettings
+from leafrunt_host.forwarding import host_warnings
 from leafrunt_host.observing import Adjacencies
 
 NEIGHBOR = re.compile(r"neighbor (\d+) (\S+) (\w+)")
@@ -57,7 +58,6 @@ class Known:
     programs: dict[str, tuple[str, int]] = field(default_factory=dict)
     """By hook the object file and the bound."""
     kept: Kept = field(default_factory=Kept)
-    warnings: tuple[str, ...] = ()
     stopped: tuple[str, ...] = ()
     """Interfaces that `routerd` serves no longer."""
 
@@ -66,6 +66,13 @@ def originated(known: Known) -> frozenset[IPv4Network]:
     """The destinations that this router announces: those that a price withholds aren't."""
     announced = known.announced.items()
     return frozenset(prefix for prefix, (_, answer) in announced if answer == "originated")
+
+
+def warnings_of(configuration: Configuration) -> list[str]:
+    """What isn't wrong with the configuration or with the kernel's settings, as they are now, and
+    yet should be known."""
+    names = [each.name for each in configuration.interfaces]
+    return [*configuration.advice, *host_warnings(names)]
 
 
 def moment_text(moment: float) -> str:
@@ -132,7 +139,7 @@ def status_of(known: Known) -> dict:
             "without_next_hop": list(map(str, kept.without_hop)),
             "error": kept.error,
         },
-        "warnings": list(known.warnings),
+        "warnings": warnings_of(configuration),
         "interfaces": [
             interface_status(known, number, each)
             for number, each in enumerate(configuration.interfaces, 1)
