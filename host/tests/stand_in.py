@@ -7,6 +7,7 @@ taken (the first time), 2 ends at once, 3 is no `routerd`.
 """
 import os
 import sys
+import time
 
 LISTS = {
     "table": ["10.0.1.0/24 intra 10 via 0", "192.0.2.0/24 ext2 20 via 1"],
@@ -42,8 +43,7 @@ def answer(line: str) -> None:
     elif line.startswith("attach /end/"):
         sys.exit(int(line.rpartition("/")[2]))
     elif line == "attach /silent":
-        while sys.stdin.readline():
-            pass
+        time.sleep(600)
     elif line == "attach /long":
         say("x" * 4_000_000)
     elif word == "attach" and rest:
