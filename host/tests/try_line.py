@@ -232,6 +232,15 @@ def long_lsas(it: Line, looks: Looks) -> None:
     looks.timed("one of 6,048 bytes too", 30, lambda: has_stubs(it, 500))
 
 
+def routes_of_others(it: Line, looks: Looks) -> None:
+    """The one has our prefix and metric, the other our protocol and another metric."""
+    table = output("ip", "-n", it.box.namespace, "route", "show", "172.16.1.0/24")
+    is_there = "10.0.2.2" in table and "proto 89" not in table
+    looks.look("a route of another with our prefix and metric stays", is_there)
+    told = [line for line in it.box.log_lines() if "File exists" in line]
+    looks.look("that is logged once", len(told) == 1, f"{len(told)} lines")
+
+
 def too_long_lsa(it: Line, looks: Looks) -> None:
     """BIRD's router-LSA of 700 networks has 8,448 bytes: `routerd` reads packets up to 8,192."""
     networks = [f"198.{18 + each // 256}.{each % 256}.0/24" for each in range(700)]
