@@ -319,6 +319,34 @@ def forged(it: Line, looks: Looks) -> None:
     )
 
 
+def peers(given: Try) -> None:
+    """A link whose ends have addresses of no common network, each with the other's as its peer."""
+    network, looks = given.network, given.looks
+    own, far = network.namespace("box"), network.namespace("bird")
+    one = End(own, "eth1", "192.0.2.1 peer 198.51.100.7/32")
+    network.link(one, End(far, "eth1", "198.51.100.7 peer 192.0.2.1/32"))
+    network.link(End(far, "d0", "172.16.1.1/24"), End(far, "d1", "172.31.0.1/32"))
+    side = Side("eth1", (SHA,))
+    bird = Bird(network, far, "2.2.2.2", [side, Side("d0", is_passive=True)])
+    box = Box(network, given.routerd, own, "box", "1.1.1.1", [side])
+    box.start()
+    bird.start()
+    looks.timed("Full", COMES_UP, lambda: is_full(box, "2.2.2.2") and is_full(bird, "1.1.1.1"))
+    wanted = {"172.16.1.0/24": ["198.51.100.7"]}
+
+    def has() -> bool:
+        routes = box.kernel_routes()
+        return {each: routes.get(each) for each in wanted} == wanted
+
+    looks.timed("BIRD's network is in the kernel's table, by the peer's address", 20, has)
+    said = [each for each in box.status().splitlines() if "198.51.100.7" in each]
+    looks.look(
+        "nothing is to be said of it", len(said) == 1, "; ".join(each.strip() for each in said)
+    )
+    box.stop()
+    bird.stop()
+
+
 def rollover(given: Try) -> None:
     """Key 5 is used for some seconds more, then key 6; both ends know both."""
     it, looks = Line(given), given.looks
