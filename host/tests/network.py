@@ -540,7 +540,11 @@ class Box:
     def wait(self, seconds: float = 30) -> int | None:
         """Its status, once it ended by itself; None where it doesn't within that time."""
         process = self.process
-        if process is None or within(seconds, lambda: process.poll() is not None) is None:
+        if process is None:
+            return None
+        try:
+            process.wait(seconds)
+        except subprocess.TimeoutExpired:
             return None
         return self.stop()
 
