@@ -13,8 +13,12 @@ from pathlib import Path
 
 from leafrunt_host.packets import HEADER, ROUTER_MTU, PacketType, merged
 
-MOST_WAITING = 8192
-"""Datagrams that wait for one interface; the next ones are dropped and counted."""
+MOST_WAITING = 8 << 20
+"""Bytes that wait for one interface at most; what comes then is dropped and counted."""
+RECORD = 128
+"""Bytes that are counted for each datagram beside its own."""
+MOST_HELLOS = 64
+"""Hellos that may go first; who sends more of them has no advantage of it."""
 MOST_AHEAD = 64 << 10
 """Bytes of the kernel's memory that may wait in `routerd`'s socket before more is given to it."""
 LOOKED_AGAIN = 0.01
@@ -50,17 +54,19 @@ class Inbox:
     def __init__(self) -> None:
         self._hellos: deque[bytes] = deque()
         self._others: deque[bytes] = deque()
-        self._ahead = 0
+        self._ahead = self._bytes = 0
 
     def __len__(self) -> int:
         return len(self._hellos) + len(self._others)
 
     def put(self, data: bytes) -> bool:
         """Whether there's room for it."""
-        if len(self) >= MOST_WAITING:
+        if self._bytes + len(data) + RECORD > MOST_WAITING:
             return False
+        self._bytes += len(data) + RECORD
         is_hello = len(data) >= HEADER.size and data[1] == PacketType.HELLO
-        (self._hellos if is_hello else self._others).append(data)
+        goes_first = is_hello and len(self._hellos) < MOST_HELLOS
+        (self._hellos if goes_first else self._others).append(data)
         return True
 
     @property
@@ -76,17 +82,22 @@ class Inbox:
         """The next datagram; None where there is none, or `routerd` has enough."""
         if self.is_blocked or not self:
             return None
-        data = self._hellos.popleft() if self._hellos else self._merged()
+        data = self._next(self._hellos) if self._hellos else self._merged()
         self._ahead += kernel_memory(len(data))
+        return data
+
+    def _next(self, line: deque[bytes]) -> bytes:
+        data = line.popleft()
+        self._bytes -= len(data) + RECORD
         return data
 
     def _merged(self) -> bytes:
         """The next one, an Update together with those that follow as far as they fit."""
-        data = self._others.popleft()
+        data = self._next(self._others)
         while self._others:
             more = merged(data, self._others[0], ROUTER_MTU)
             if more is None:
                 break
-            self._others.popleft()
+            self._next(self._others)
             data = more
         return data

@@ -1,5 +1,5 @@
-"""A test network: network namespaces, links between them, and the programs that run there: boxes of
-Leafrunt, BIRD and FRR. All of it is removed by `Network.close`, whatever happened before.
+"""A test network: network namespaces, links between them, and the programs that run there: boxes
+of Leafrunt, BIRD and FRR. All of it is removed by `Network.close`, whatever happened before.
 
 Nothing here touches the network of the host itself, or its routing daemons.
 """
@@ -133,7 +133,7 @@ class Network:
 
     def __init__(self) -> None:
         remove_stale()
-        self.work = Path(tempfile.mkdtemp(prefix=f"{PREFIX}-"))
+        self.work = Path(tempfile.mkdtemp(prefix=f"{PREFIX}-{os.getpid()}-"))
         self.work.chmod(0o711)
         self._namespaces: list[str] = []
         self._running: list[subprocess.Popen[str]] = []
@@ -266,7 +266,8 @@ class Network:
         return found
 
     def close(self) -> list[str]:
-        """Ends all programs, removes all namespaces and files; what was still running after that."""
+        """Ends all programs, removes all namespaces and files; what was still running after
+        that."""
         for one in reversed(self._running[:]):
             self.stop(one)
         time.sleep(0.2)
@@ -287,12 +288,22 @@ def kill_all_in(namespace: str) -> None:
 
 
 def remove_stale() -> None:
-    """Removes namespaces that an earlier try left, which was killed: their names have its number."""
+    """Removes what an earlier try left that was killed: namespaces, their programs, and
+    folders, whose names have its number."""
     for line in output("ip", "netns", "list").splitlines():
-        found = re.match(rf"{PREFIX}-(\d+)-\S+", line)
-        if found and not Path("/proc", found[1]).exists():
-            kill_all_in(found[0])
-            output("ip", "netns", "del", found[0])
+        if is_stale(line):
+            name = line.split()[0]
+            kill_all_in(name)
+            output("ip", "netns", "del", name)
+    for folder in Path(tempfile.gettempdir()).glob(f"{PREFIX}-*"):
+        if is_stale(folder.name):
+            shutil.rmtree(folder, ignore_errors=True)
+
+
+def is_stale(name: str) -> bool:
+    """Whether a name has the number of a try that doesn't run any more."""
+    found = re.match(rf"{PREFIX}-(\d+)-", name)
+    return found is not None and not Path("/proc", found[1]).exists()
 
 
 @dataclass(frozen=True, order=True)

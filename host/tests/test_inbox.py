@@ -4,7 +4,15 @@ import unittest
 from ipaddress import IPv4Address
 from pathlib import Path
 
-from leafrunt_host.inbox import MOST_AHEAD, MOST_WAITING, Inbox, kernel_memory, waiting_at
+from leafrunt_host.inbox import (
+    MOST_AHEAD,
+    MOST_HELLOS,
+    MOST_WAITING,
+    RECORD,
+    Inbox,
+    kernel_memory,
+    waiting_at,
+)
 from leafrunt_host.packets import ROUTER_MTU, Packet, PacketType, lsas_of, merged, read
 from tests import captured
 
@@ -75,9 +83,25 @@ class Waiting(unittest.TestCase):
 
     def test_it_is_bounded(self) -> None:
         inbox = Inbox()
-        for _ in range(MOST_WAITING):
+        size = len(HELLO) + RECORD
+        for _ in range(MOST_WAITING // size):
             self.assertTrue(inbox.put(HELLO))
         self.assertFalse(inbox.put(HELLO))
+        inbox.take()
+        self.assertTrue(inbox.put(HELLO))
+
+    def test_hellos_push_nothing_back_for_ever(self) -> None:
+        inbox = Inbox()
+        inbox.put(update(lsa(1, 36)))
+        for _ in range(2 * MOST_HELLOS):
+            inbox.put(HELLO)
+        found: list[bytes] = []
+        while len(inbox):
+            inbox.seen(0)
+            found += taken(inbox)
+        self.assertEqual(
+            [data[1] for data in found].index(PacketType.LINK_STATE_UPDATE), MOST_HELLOS
+        )
 
     def test_what_the_kernel_says(self) -> None:
         with tempfile.TemporaryDirectory() as folder:

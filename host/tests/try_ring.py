@@ -146,8 +146,8 @@ def ring(given: Try) -> None:
 
 
 def externals(given: Try) -> None:
-    """10,000 externals of BIRD come and leave, at HelloInterval 10 and RouterDeadInterval 40."""
-    it = Ring(given, 10, 40)
+    """10,000 externals of BIRD come and leave."""
+    it = Ring(given)
     it.start()
     given.looks.timed("the ring is up", 2 * COMES_UP, it.is_up)
     ring_externals(it, given.looks)
