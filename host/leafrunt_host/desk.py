@@ -3,6 +3,7 @@ answered from what it knows."""
 from __future__ import annotations
 
 import json
+import logging
 import re
 import threading
 from collections.abc import Callable
@@ -13,7 +14,7 @@ from leafrunt_host.area_map import Destination, map_lines
 from leafrunt_host.bridge import Bridge
 from leafrunt_host.capture import Capture
 from leafrunt_host.configuration import Announcement
-from leafrunt_host.journal import Kept
+from leafrunt_host.journal import Kept, where_it_failed
 from leafrunt_host.kernel import KernelRoute, kernel_route
 from leafrunt_host.router import Router, RouterGone
 from leafrunt_host.server import Answer, Asked
@@ -21,6 +22,7 @@ from leafrunt_host.status import Known, neighbors_of, status_lines, status_of
 from leafrunt_host.statuses import Stopped
 from leafrunt_host.topology import Topology, database_lines, whole_lines
 
+log = logging.getLogger("leafrunt.console")
 LOG_LINES = 40
 CHANGES = ("attach", "detach", "add", "withdraw")
 ADDED = re.compile(r"add (\S+) (\d+) ([12]) (\d+)")
@@ -73,6 +75,10 @@ class Desk:
             return Answer([f"refused: {why}"])
         except RouterGone as why:
             return Answer([f"refused: {why}: the box is ending"])
+        except Exception as error:
+            # a mistake in this program: the client gets an answer all the same
+            log.error("console: %.80r: %s", asked.line, where_it_failed(error))
+            return Answer([f"refused: {where_it_failed(error)}"])
 
     def passed_on(self, line: str) -> list[str]:
         """`routerd`'s answer, as it is. What it changes is noted, in the order in which `routerd`

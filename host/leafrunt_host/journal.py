@@ -4,6 +4,7 @@ from __future__ import annotations
 import logging
 import os
 import sys
+import threading
 import time
 from collections import deque
 
@@ -56,6 +57,23 @@ class Kept(logging.Handler):
         return lines[-count:] if count else []
 
 
+def where_it_failed(error: Exception) -> str:
+    """One line on an error that nobody expected: what it was, and where."""
+    at = error.__traceback__
+    while at and at.tb_next:
+        at = at.tb_next
+    where = (
+        f" ({os.path.basename(at.tb_frame.f_code.co_filename)}, line {at.tb_lineno})" if at else ""
+    )
+    return f"a mistake in this program: {type(error).__name__}: {error}{where}"
+
+
+def told_of_thread(failed: threading.ExceptHookArgs) -> None:
+    """What a thread that nobody waits for failed with: in one line, as everything is."""
+    if isinstance(failed.exc_value, Exception):
+        logging.getLogger("leafrunt").error("%s", where_it_failed(failed.exc_value))
+
+
 def start_log(level: int = logging.INFO) -> Kept:
     """Sends the log of this package to standard error, and keeps its last lines."""
     log = logging.getLogger("leafrunt")
@@ -66,4 +84,5 @@ def start_log(level: int = logging.INFO) -> Kept:
     kept = Kept()
     log.handlers = [shown, kept]
     logging.raiseExceptions = False
+    threading.excepthook = told_of_thread
     return kept

@@ -77,17 +77,30 @@ class Server:
         while not self._ending.is_set():
             try:
                 client, _ = self._listener.accept()
-            except OSError:
-                return
+            except OSError as error:
+                if not self._ending.wait(1):
+                    log.warning("console: no client can come in: %s", error.strerror)
+                continue
             why = self._why_not(client)
             if why:
                 log.warning("console: a client was refused: %s", why)
                 self._send(client, [f"refused: {why}"])
                 client.close()
                 continue
+            self._let_in(client)
+
+    def _let_in(self, client: socket.socket) -> None:
+        """Gives a client a thread of its own."""
+        with self._changing:
+            self._clients.add(client)
+        thread = threading.Thread(target=self._serve, args=(client,), name="client", daemon=True)
+        try:
+            thread.start()
+        except RuntimeError as error:
+            log.warning("console: no client can come in: %s", error)
             with self._changing:
-                self._clients.add(client)
-            threading.Thread(target=self._serve, args=(client,), name="client", daemon=True).start()
+                self._clients.discard(client)
+            client.close()
 
     def _why_not(self, client: socket.socket) -> str | None:
         """Beside the socket's mode: root and the box's own user may come in, nobody else."""

@@ -7,6 +7,7 @@ refused.
 """
 from __future__ import annotations
 
+import logging
 import queue
 import threading
 import time
@@ -16,6 +17,7 @@ from dataclasses import dataclass, replace
 from ipaddress import IPv4Address
 
 from leafrunt_host.exchange import Side
+from leafrunt_host.journal import where_it_failed
 from leafrunt_host.lsas import (
     MAX_AGE,
     Body,
@@ -35,6 +37,7 @@ from leafrunt_host.lsas import (
 )
 from leafrunt_host.packets import LSA_HEADER_LENGTH, Malformed, Packet, PacketType, chunks, lsas_of
 
+log = logging.getLogger("leafrunt.topology")
 KINDS = frozenset(LsType)
 MOST_WAITING = 50_000
 SECONDS_WAITING = 60
@@ -110,13 +113,19 @@ class Topology:
             if isinstance(given, threading.Event):
                 given.set()
                 continue
-            side, packet, now = given
-            with self._one_at_a_time:
-                if packet.type == PacketType.LINK_STATE_UPDATE:
-                    self._updated(side, packet, now)
-                else:
-                    for header in chunks(packet.body, LSA_HEADER_LENGTH):
-                        self._acknowledged(header, now)
+            try:
+                with self._one_at_a_time:
+                    self._read_one(*given)
+            except Exception as error:
+                # a mistake in this program: the next packet is read all the same
+                log.error("database: %s", where_it_failed(error))
+
+    def _read_one(self, side: Side, packet: Packet, now: float) -> None:
+        if packet.type == PacketType.LINK_STATE_UPDATE:
+            self._updated(side, packet, now)
+        else:
+            for header in chunks(packet.body, LSA_HEADER_LENGTH):
+                self._acknowledged(header, now)
 
     def _updated(self, side: Side, packet: Packet, now: float) -> None:
         try:
