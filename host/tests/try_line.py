@@ -1,5 +1,5 @@
-"""The looks at a box between BIRD and FRR: many LSAs at each end, and what an operator may meet. See
-`try-network`."""
+"""The looks at a box between BIRD and FRR: many LSAs at each end, and what an operator may
+meet. See `try-network`."""
 from __future__ import annotations
 
 import sys
@@ -35,7 +35,8 @@ from tests.network import (
 
 
 class Line:
-    """BIRD 2.2.2.2 - a box - FRR 3.3.3.3, each link with an MTU, direct or by wires that lose packets."""
+    """BIRD 2.2.2.2 - a box - FRR 3.3.3.3, each link with an MTU, direct or by wires that lose
+    packets."""
 
     def __init__(
         self,
@@ -165,8 +166,8 @@ def lossy(given: Try, mtu: int, router_id: str, role: str) -> None:
 
 
 def limits(given: Try) -> None:
-    """LSAs above the MTU, an MTU and an address that change, settings of the kernel, forged packets,
-    routes of others."""
+    """LSAs above the MTU, an MTU and an address that change, settings of the kernel, forged
+    packets, routes of others."""
     it, looks = Line(given), given.looks
     own = it.box.namespace
     run("ip", "netns", "exec", own, "sysctl", "-qw", "net.ipv4.ip_forward=0")
@@ -368,7 +369,8 @@ def rollover(given: Try) -> None:
 
 
 def links(given: Try) -> None:
-    """Two links to one router: equal ways, a link that goes down, an interface that is made anew."""
+    """Two links to one router: equal ways, a link that goes down, an interface that is made
+    anew."""
     network, looks = given.network, given.looks
     own, far = network.namespace("box"), network.namespace("frr")
     ends = {
