@@ -160,7 +160,7 @@ def lossy(given: Try, mtu: int, router_id: str, role: str) -> None:
     it.network.wire("loss", 20)
     it.start()
     what = f"{count} LSAs at each of three, 20 % loss, MTU {mtu}, `routerd` {role}, with digests"
-    looks.timed(f"{what}: both neighbors Full", 180, it.is_up, 0.5)
+    looks.timed(f"{what}: both neighbors Full", 300, it.is_up, 0.5)
     looks.timed("the same LSAs at all three", 120, lambda: it.is_equal(count), 1)
     it.stop()
 
