@@ -24,6 +24,8 @@ MOST_AHEAD = 64 << 10
 LOOKED_AGAIN = 0.01
 """Seconds until the socket is looked at again."""
 UDP_SOCKETS = Path("/proc/net/udp")
+LOOPBACK = ("0100007F", "7F000001")
+"""127.0.0.1 there, by the order of this machine's bytes."""
 
 
 def kernel_memory(length: int) -> int:
@@ -42,9 +44,9 @@ def waiting_at(ports: set[int], sockets: Path = UDP_SOCKETS) -> dict[int, int]:
         return found
     for line in lines:
         words = line.split()
-        port = int(words[1].split(":")[1], 16)
-        if port in ports:
-            found[port] = found.get(port, 0) + int(words[4].split(":")[1], 16)
+        address, port = words[1].split(":")
+        if address in LOOPBACK and int(port, 16) in ports:
+            found[int(port, 16)] = int(words[4].split(":")[1], 16)
     return found
 
 

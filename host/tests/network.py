@@ -71,7 +71,7 @@ def output(*words: object, seconds: float = TOTAL_SECONDS) -> str:
 
 @dataclass(frozen=True)
 class End:
-    """An interface in a namespace, with its address."""
+    """An interface in a namespace, with its address, as `ip address add` takes it."""
 
     namespace: str
     interface: str
@@ -79,7 +79,7 @@ class End:
 
     @property
     def ip(self) -> IPv4Address:
-        return IPv4Interface(self.address).ip
+        return IPv4Interface(self.address.split()[0]).ip
 
 
 @dataclass(frozen=True)
@@ -164,7 +164,8 @@ class Network:
             self._up(end)
 
     def _up(self, end: End) -> None:
-        run("ip", "-n", end.namespace, "addr", "add", end.address, "dev", end.interface)
+        words = end.address.split()
+        run("ip", "-n", end.namespace, "addr", "add", *words, "dev", end.interface)
         run("ip", "-n", end.namespace, "link", "set", end.interface, "up")
 
     def wired(self, one: End, other: End, mtu: int = 1500) -> int:

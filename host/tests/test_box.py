@@ -388,7 +388,9 @@ class Consoles(Boxes):
         self.assertIn(["counter 5 6", "end"], said)
         for client in clients:
             client.close()
-        self.assertTrue(within(30, lambda: self.client().ask("counters") == ["counter 5 6", "end"]))
+        self.assertTrue(
+            within(30, lambda: self.client().ask("counters") == ["counter 5 6", "end"])
+        )
 
 
 class Ends(Boxes):

@@ -151,7 +151,9 @@ class Captures(unittest.TestCase):
             self.assertEqual(capture.end(), f"captured 2 packets to {path}")
             capture.take(b"late")
             data = path.read_bytes()
-        self.assertEqual(struct.unpack("=IHHiIII", data[:24]), (0xA1B2C3D4, 2, 4, 0, 0, 65535, 101))
+        self.assertEqual(
+            struct.unpack("=IHHiIII", data[:24]), (0xA1B2C3D4, 2, 4, 0, 0, 65535, 101)
+        )
         at = 24
         for each in packets:
             seconds, micros, kept, length = struct.unpack("=IIII", data[at : at + 16])

@@ -19,6 +19,7 @@ from tests import captured
 UDP = """\
    sl  local_address rem_address   st tx_queue rx_queue tr tm->when retrnsmt   uid  timeout inode
   210: 0100007F:1B59 00000000:0000 07 00000000:00012C00 00:00000000 00000000     0        0 1 2 0 0
+  212: 0100000A:1B59 00000000:0000 07 00000000:00000001 00:00000000 00000000     0        0 3 2 0 0
   211: 0100007F:1B5A 0100007F:1B59 01 00000000:00000000 00:00000000 00000000     0        0 2 2 0 0
 """
 HELLO = bytes.fromhex(captured.BIRD_HELLO_PLAIN)

@@ -374,7 +374,8 @@ class Maps(unittest.TestCase):
         lines = map_lines(area(*SQUARE), FOUR, to)
         self.assertTrue(
             any(
-                line.startswith('  "2.2.2.2" -> "4.4.4.4"') and "dir=back" in line for line in lines
+                line.startswith('  "2.2.2.2" -> "4.4.4.4"') and "dir=back" in line
+                for line in lines
             )
         )
 

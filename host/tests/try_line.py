@@ -1,5 +1,5 @@
-"""The looks at a box between BIRD and FRR: many LSAs at each end, and what an operator may meet. See
-`try-network`."""
+"""The looks at a box between BIRD and FRR: many LSAs at each end, and what an operator may
+meet. See `try-network`."""
 from __future__ import annotations
 
 import sys
@@ -35,7 +35,8 @@ from tests.network import (
 
 
 class Line:
-    """BIRD 2.2.2.2 - a box - FRR 3.3.3.3, each link with an MTU, direct or by wires that lose packets."""
+    """BIRD 2.2.2.2 - a box - FRR 3.3.3.3, each link with an MTU, direct or by wires that lose
+    packets."""
 
     def __init__(
         self,
@@ -165,8 +166,8 @@ def lossy(given: Try, mtu: int, router_id: str, role: str) -> None:
 
 
 def limits(given: Try) -> None:
-    """LSAs above the MTU, an MTU and an address that change, settings of the kernel, forged packets,
-    routes of others."""
+    """LSAs above the MTU, an MTU and an address that change, settings of the kernel, forged
+    packets, routes of others."""
     it, looks = Line(given), given.looks
     own = it.box.namespace
     run("ip", "netns", "exec", own, "sysctl", "-qw", "net.ipv4.ip_forward=0")
@@ -319,6 +320,34 @@ def forged(it: Line, looks: Looks) -> None:
     )
 
 
+def peers(given: Try) -> None:
+    """A link whose ends have addresses of no common network, each with the other's as its peer."""
+    network, looks = given.network, given.looks
+    own, far = network.namespace("box"), network.namespace("bird")
+    one = End(own, "eth1", "192.0.2.1 peer 198.51.100.7/32")
+    network.link(one, End(far, "eth1", "198.51.100.7 peer 192.0.2.1/32"))
+    network.link(End(far, "d0", "172.16.1.1/24"), End(far, "d1", "172.31.0.1/32"))
+    side = Side("eth1", (SHA,))
+    bird = Bird(network, far, "2.2.2.2", [side, Side("d0", is_passive=True)])
+    box = Box(network, given.routerd, own, "box", "1.1.1.1", [side])
+    box.start()
+    bird.start()
+    looks.timed("Full", COMES_UP, lambda: is_full(box, "2.2.2.2") and is_full(bird, "1.1.1.1"))
+    wanted = {"172.16.1.0/24": ["198.51.100.7"]}
+
+    def has() -> bool:
+        routes = box.kernel_routes()
+        return {each: routes.get(each) for each in wanted} == wanted
+
+    looks.timed("BIRD's network is in the kernel's table, by the peer's address", 20, has)
+    said = [each for each in box.status().splitlines() if "198.51.100.7" in each]
+    looks.look(
+        "nothing is to be said of it", len(said) == 1, "; ".join(each.strip() for each in said)
+    )
+    box.stop()
+    bird.stop()
+
+
 def rollover(given: Try) -> None:
     """Key 5 is used for some seconds more, then key 6; both ends know both."""
     it, looks = Line(given), given.looks
@@ -340,7 +369,8 @@ def rollover(given: Try) -> None:
 
 
 def links(given: Try) -> None:
-    """Two links to one router: equal ways, a link that goes down, an interface that is made anew."""
+    """Two links to one router: equal ways, a link that goes down, an interface that is made
+    anew."""
     network, looks = given.network, given.looks
     own, far = network.namespace("box"), network.namespace("frr")
     ends = {

@@ -263,9 +263,8 @@ def ring_ended(it: Ring, looks: Looks) -> None:
     looks.look("none of its routes is left in the kernel's table", not left, f"{left} are")
     looks.timed("the other hosts ping each other", 10, lambda: it.is_connected(0.4, range(1, 5)))
     box.start()
-    looks.timed(
-        "started again: Full, and every host pings every other", COMES_UP, lambda: it.is_up()
-    )
+    looks.timed("started again: Full", COMES_UP, it.is_up)
+    looks.timed("and every host pings every other", 20, it.is_connected)
 
 
 def ring_killed(it: Ring, looks: Looks) -> None:

@@ -1,12 +1,12 @@
 #!/usr/bin/env python3
-"""The wires of a test network: passes Ethernet frames on between pairs of interfaces of the network
-namespace that it runs in, and loses, stops, keeps and repeats them as it is told.
+"""The wires of a test network: passes Ethernet frames on between pairs of interfaces of the
+network namespace that it runs in, and loses, stops, keeps and repeats them as it is told.
 
-    wire.py ONE:OTHER..        the pairs of interfaces, wires 1, 2, 3 and so on
+wire.py ONE:OTHER.. the pairs of interfaces, wires 1, 2, 3 and so on
 
 Lines on standard input, each answered with `ok` or a line of hex:
 
-    loss PERCENT               so many of all frames are lost from now on, on every wire
+loss PERCENT               so many of all frames are lost from now on, on every wire
     cut NUMBER, mend NUMBER    nothing passes that wire, and again
     last NUMBER SIDE TYPE      the last OSPF packet of that type that came from that side, 0 or 1
     first NUMBER SIDE TYPE     the first one
