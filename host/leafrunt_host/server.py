@@ -81,7 +81,10 @@ class Server:
                 if not self._ending.wait(1):
                     log.warning("console: no client can come in: %s", error.strerror)
                 continue
-            why = self._why_not(client)
+            try:
+                why = self._why_not(client)
+            except OSError as error:
+                why = str(error.strerror)
             if why:
                 log.warning("console: a client was refused: %s", why)
                 self._send(client, [f"refused: {why}"])

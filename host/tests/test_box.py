@@ -322,9 +322,12 @@ class Consoles(Boxes):
         pid = os.fork()
         if pid == 0:
             try:
-                os.setgroups([])
-                os.setgid(NOBODY)
-                os.setuid(NOBODY)
+                try:
+                    os.setgroups([])
+                    os.setgid(NOBODY)
+                    os.setuid(NOBODY)
+                except OSError:
+                    os._exit(98)
                 os.dup2(writer, 2)
                 sys.stderr = os.fdopen(2, "w", closefd=False)
                 status = main([words[0], "--run-directory", str(self.run_folder), *words[1:]])
@@ -335,7 +338,10 @@ class Consoles(Boxes):
         os.close(writer)
         with os.fdopen(reader) as said:
             text = said.read()
-        return os.waitstatus_to_exitcode(os.waitpid(pid, 0)[1]), text
+        status = os.waitstatus_to_exitcode(os.waitpid(pid, 0)[1])
+        if status == 98:
+            self.skipTest("no process here may become another user")
+        return status, text
 
     def commands(self) -> None:
         said = self.leafrunt("console", given="table\n\nhelp\nquit\nhello\n")
