@@ -1,4 +1,3 @@
 mod FreshSeats
 mod SeatsOf
 mod Sending
-mod Counted

@@ -11,16 +11,19 @@ use std::time::{Clock, Duration};
 use words::Second;
 use worker::{Book, Gate, Hub, Open, Port, Site, TurnError, Turned, Work, turn};
 
-// Holds a turn until it is released, or gives up after 10,000 tries of a millisecond.
+// Holds a turn until it is released, or gives up after 10,000 tries of a millisecond. It tells that
+// a turn came by.
 #[derive(Drop)]
 struct Held<'a, R: Clock> {
     rt: &'a R,
     released: &'a AtomicBool,
+    came_by: &'a AtomicBool,
     gave_up: &'a AtomicBool,
 }
 
 impl<'a, R: Clock> Gate for Held<'a, R> {
     fn pass(&self, _port: u16) {
+        self.came_by.store(true, Ordering::SeqCst);
         for _attempt in 0..10_000u32 {
             if self.released.load(Ordering::SeqCst) {
                 return;
@@ -56,7 +59,8 @@ pub fn tick<L: Site, R: Wait>(
 }
 
 /// Holds the Hello of port 1 at moment 5 until port 2 has ticked at each moment from 5 to below
-/// this: what it is answered, or a Tick that was refused; 9 where the gate gave up.
+/// this: what it is answered, or a Tick that was refused; 9 where the gate gave up, or no turn came
+/// by it.
 pub fn hold<L: Site + Send + Sync, R: Threads + Wait + Clock + Sync, Q: Wait + Drop>(
     rt: &R,
     alloc: Global,
@@ -66,9 +70,11 @@ pub fn hold<L: Site + Send + Sync, R: Threads + Wait + Clock + Sync, Q: Wait + D
 ) -> Result<u8, Fail> {
     let work = hello(alloc, 1, 0)?;
     let (released, gave_up) = (AtomicBool::new(false), AtomicBool::new(false));
+    let came_by = AtomicBool::new(false);
     let gate = Held {
         rt,
         released: &released,
+        came_by: &came_by,
         gave_up: &gave_up,
     };
     let (first, second) = (&mut stage.first, &mut stage.second);
@@ -81,7 +87,10 @@ pub fn hold<L: Site + Send + Sync, R: Threads + Wait + Clock + Sync, Q: Wait + D
             refused
         },
     );
-    if gave_up.load(Ordering::SeqCst) {
+    if answer == 6 {
+        return Ok(6);
+    }
+    if gave_up.load(Ordering::SeqCst) || !came_by.load(Ordering::SeqCst) {
         return Ok(9);
     }
     Ok(if refused > 0 { refused } else { answer })
