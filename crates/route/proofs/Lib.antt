@@ -1,2 +1,2 @@
 pub mod Fresh
-pub mod Pairs
+pub mod Alike

@@ -5,7 +5,7 @@ use sockets::Sockets;
 use worker::{Port, Site};
 
 /// The last port and the last link, which receives at the interface of the port's number.
-#[tactic(auto, using(crate::proofs::Pairs::last_alike, crate::proofs::Pairs::rest_alike))]
+#[tactic(auto, using(crate::proofs::Alike::last_alike, crate::proofs::Alike::rest_alike))]
 pub fn next_pair<'s, L: Site>(
     ports: &mut Vec<Port<L>>,
     links: &mut Vec<Sockets<'s>>,

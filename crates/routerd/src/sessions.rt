@@ -3,7 +3,7 @@ use log::Log;
 use route::route;
 use std::alloc::{AllocError, Global};
 use std::fs;
-use std::io::Cursor;
+use std::io::{self, BufReader, Cursor, ErrorKind, Read};
 use std::net::Net;
 use std::rt::Files;
 use std::sync::Wait;
@@ -124,6 +124,39 @@ fn a_long_line_is_answered_once(rt: HostRuntime) -> Result<(), Fail> {
         assert_eq!(rt; printed.as_slice(), answers.as_slice(), "{length}");
         assert_eq!(rt; status, 0);
     }
+    Ok(())
+}
+
+// An input that fails after one line.
+#[derive(Drop)]
+struct Broken {
+    is_read: bool,
+}
+
+impl Read for Broken {
+    fn read(&mut self, buffer: &mut [u8]) -> io::Result<usize> {
+        let line = b"table\n";
+        if self.is_read || buffer.len() < line.len() {
+            return Err(io::Error::from(ErrorKind::InvalidData));
+        }
+        self.is_read = true;
+        buffer[..line.len()].copy_from_slice(line);
+        Ok(line.len())
+    }
+}
+
+/// Its sockets are of other ports again.
+const BROKEN: &str =
+    "router 1.1.1.1\ninterface 1 10.0.1.1/24 cost 10 hello 10 dead 40 rxmt 5 delay 1 port 27111 peer 27112\n";
+
+#[test]
+fn an_input_that_fails_ends_it_with_status_3(rt: HostRuntime) -> Result<(), Fail> {
+    let mut input = BufReader::new(rt.alloc(), Broken { is_read: false })?;
+    let mut output = Vec::new(rt.alloc());
+    let status = route(&rt, BROKEN, &mut input, &mut output);
+    let answers = b"10.0.1.0/24 intra 10 via 0\nend\n";
+    assert_eq!(rt; output.as_slice(), answers.as_slice());
+    assert_eq!(rt; status, 3);
     Ok(())
 }
 

@@ -26,7 +26,8 @@ pub enum Ended {
 impl Ended {
     /// The status of the program: 0, or 3 where a link failed.
     pub fn status(self) -> u8
-        ensures { (result ≡ 3) ↔ (self ≡ Fault) }
+        ensures quit { self ≡ Quit → result ≡ 0 }
+        ensures fault { self ≡ Fault → result ≡ 3 }
     {
         match self {
             Ended::Quit => 0,
@@ -41,6 +42,7 @@ impl Ended {
 ///
 /// A refused turn sends nothing. After a fault in the midst of a turn's outs the event stands, and
 /// the later outs aren't sent.
+#[tactic(auto, using(crate::proofs::Living::has_lived))]
 pub fn run<L: Site, B: Taker<L>, G: Gate, K: Link, S: Seconds, R: Wait>(
     rt: &R,
     alloc: Global,
@@ -65,7 +67,7 @@ pub fn run<L: Site, B: Taker<L>, G: Gate, K: Link, S: Seconds, R: Wait>(
         if quit.load(Ordering::SeqCst) {
             break;
         }
-        let round = round(
+        let Ok(()) = round(
             rt,
             alloc,
             hub,
@@ -75,10 +77,9 @@ pub fn run<L: Site, B: Taker<L>, G: Gate, K: Link, S: Seconds, R: Wait>(
             clock,
             &mut ticked,
             &mut buffer,
-        );
-        if round.is_err() {
+        ) else {
             return Ended::Fault;
-        }
+        };
     }
     Ended::Quit
 }
@@ -108,6 +109,7 @@ fn round<L: Site, B: Taker<L>, G: Gate, K: Link, S: Seconds, R: Wait>(
 }
 
 // A Tick's turn, where the clock shows another moment than that of the last one.
+#[tactic(auto, using(crate::proofs::Living::ticked_then, crate::proofs::Living::ticks_now))]
 fn tick<L: Site, B: Taker<L>, G: Gate, K: Link, S: Seconds, R: Wait>(
     rt: &R,
     hub: &Hub<L, B>,
@@ -135,6 +137,7 @@ fn tick<L: Site, B: Taker<L>, G: Gate, K: Link, S: Seconds, R: Wait>(
 }
 
 // A turn with the datagram that the link gives, if it gives one.
+#[tactic(auto, using(crate::proofs::Living::listened))]
 fn listen<L: Site, B: Taker<L>, G: Gate, K: Link, S: Seconds, R: Wait>(
     rt: &R,
     alloc: Global,
@@ -163,6 +166,7 @@ fn listen<L: Site, B: Taker<L>, G: Gate, K: Link, S: Seconds, R: Wait>(
 }
 
 // A turn with a datagram. Without memory it is lost.
+#[tactic(auto, using(crate::proofs::Living::turned_to))]
 fn hear<L: Site, B: Taker<L>, G: Gate, K: Link, S: Seconds, R: Wait>(
     rt: &R,
     alloc: Global,
@@ -191,6 +195,7 @@ fn hear<L: Site, B: Taker<L>, G: Gate, K: Link, S: Seconds, R: Wait>(
 
 // A turn, and its outs are sent. Where the turn is refused, nothing is. The moment is that of the
 // turn's last try then.
+#[tactic(auto, using(crate::proofs::Living::served, crate::proofs::Living::refused))]
 fn serve<L: Site, B: Taker<L>, G: Gate, K: Link, S: Seconds, R: Wait>(
     rt: &R,
     hub: &Hub<L, B>,
@@ -218,6 +223,7 @@ fn serve<L: Site, B: Taker<L>, G: Gate, K: Link, S: Seconds, R: Wait>(
 /// A turn at the moment. Where the clock of the router is ahead of this one it is tried again, at
 /// most three times, each time at a new moment, which asks the programs anew. What it gives and how
 /// it is refused is as the last [`turn`] says; the moment is that of this last one then.
+#[tactic(auto, using(crate::proofs::Living::not_again, crate::proofs::Living::once_more, crate::proofs::Living::at_last))]
 pub fn tried<L: Site, B: Taker<L>, G: Gate, S: Seconds, R: Wait>(
     rt: &R,
     hub: &Hub<L, B>,
