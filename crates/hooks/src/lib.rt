@@ -11,6 +11,7 @@ mod history;
 mod input;
 pub mod laws;
 mod loader;
+mod numbered;
 mod operation;
 mod question;
 mod rule;

@@ -9,6 +9,7 @@ ghost use Rattle.isa.specs.declared.hook.Hook.TheVariants.{Count as HookCount};
 use crate::asker::Asker;
 use crate::error::HookError;
 use crate::history::{Front, Head};
+use crate::numbered::Numbered;
 use crate::operation::Operation;
 use crate::rule::{ProgramWriter, Sees, Takes, Tells};
 use crate::value::{Entry, Programs};
@@ -128,16 +129,16 @@ impl<R: Wait + Drop> Loader<R> {
         self.publish(Operation::Detach(hook))
     }
 
+    // Once the operation has its number, nothing is refused any more.
     fn publish(&mut self, operation: Operation) -> Result<(), AllocError>
         ensures operations { MatchResult result (λ _. operations_of self.new ≡ operations_of self.old ++ operation ∷ []) (λ _. operations_of self.new ≡ operations_of self.old) }
         ensures history { history_of self.new ≡ history_of self.old }
     {
-        let Some(front) = self.writer.published().front.and(&self.head, &operation) else {
+        let front = &self.writer.published().front;
+        let Some(numbered) = Numbered::next(front, &self.head, operation) else {
             return Err(AllocError);
         };
-        if self.writer.append(Entry { operation, front }).is_err() {
-            return Err(AllocError);
-        }
+        numbered.append_to(&mut self.writer, &self.rt);
         replace_with(&mut self.writer, &self.rt, show);
         Ok(())
     }

@@ -3,7 +3,7 @@ use crate::trials::{object_of, refuses_at, verdict_of};
 use std::test::Fail;
 
 /// A program, the slot and the rule of its refusal, and the program mended.
-const RULES: [(&str, usize, u8, &str); 16] = [
+const RULES: [(&str, usize, u8, &str); 17] = [
     (
         "hook tag; rank 0; goto +1; r0 = wide 1; exit",
         0,
@@ -39,6 +39,12 @@ const RULES: [(&str, usize, u8, &str); 16] = [
         2,
         6,
         "hook tag; rank 0; r1 = 0; r2 = 1; call 1; exit",
+    ),
+    (
+        "hook tag; rank 0; *u64 r10 -8 = r1; *u8 r10 -8 = 1; r0 = *u64 r10 -8; exit",
+        2,
+        6,
+        "hook tag; rank 0; *u64 r10 -8 = r1; *u8 r10 -9 = 1; r6 = *u64 r10 -8; r0 = *u8 r6 8; exit",
     ),
     (
         "hook tag; rank 0; r0 = *u64 r1 60; exit",

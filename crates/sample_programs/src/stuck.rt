@@ -25,13 +25,20 @@ const PLACES: [Unsafe; 8] = [
 ];
 
 /// An empty register or stack byte is read (trap 3).
-const EMPTY: [Unsafe; 10] = [
+const EMPTY: [Unsafe; 11] = [
     ("hook tag; rank 0; r0 = r3; exit", 0, 5, 3),
     ("hook tag; rank 0; r0 = *u8 r5 0; exit", 0, 5, 3),
     ("hook tag; rank 0; r0 = *u64 r10 -8; exit", 0, 5, 3),
     ("hook tag; rank 0; *u64 r10 -8 = r4; r0 = 0; exit", 0, 5, 3),
     (
         "hook tag; rank 0; *u32 r10 -8 = 7; r0 = *u64 r10 -8; exit",
+        1,
+        5,
+        3,
+    ),
+    // half of it is a part of a pointer, and half is empty
+    (
+        "hook tag; rank 0; *u64 r10 -8 = r1; r0 = *u64 r10 -12; exit",
         1,
         5,
         3,
@@ -61,7 +68,7 @@ const EMPTY: [Unsafe; 10] = [
 ];
 
 /// A pointer is used as a number, or a number as a pointer (trap 4).
-const KINDS: [Unsafe; 15] = [
+const KINDS: [Unsafe; 18] = [
     (
         "hook tag; rank 0; r2 = *u64 r1 8; r0 = *u8 r2 0; exit",
         1,
@@ -108,6 +115,25 @@ const KINDS: [Unsafe; 15] = [
     (
         "hook tag; rank 0; *u64 r10 -8 = r1; r0 = *u32 r10 -8; exit",
         1,
+        6,
+        4,
+    ),
+    // a part of the pointer was overwritten, at its first byte and behind it
+    (
+        "hook tag; rank 0; *u64 r10 -8 = r1; *u8 r10 -8 = 1; r0 = *u64 r10 -8; exit",
+        2,
+        6,
+        4,
+    ),
+    (
+        "hook tag; rank 0; *u64 r10 -8 = r1; *u16 r10 -4 = 1; r0 = *u64 r10 -8; exit",
+        2,
+        6,
+        4,
+    ),
+    (
+        "hook tag; rank 0; *u64 r10 -8 = r1; *u64 r10 -12 = r1; r0 = *u8 r10 -1; exit",
+        2,
         6,
         4,
     ),

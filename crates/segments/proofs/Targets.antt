@@ -5,9 +5,12 @@ use Rattle.std.proofs.lemmas.Bool.{cases_eq}
 use Rattle.std.proofs.lemmas.Bool.Decides.{nat_tests}
 use Rattle.object.specs.Statements.{StatementParts}
 use Rattle.object.specs.Objects.{AreStatements}
+use Rattle.machine.specs.declared.state.State.{State as Machine}
 use Rattle.kinds.specs.declared.statement.Target.{Target}
+use Rattle.kinds.specs.Meaning.{TargetHolds}
+use Rattle.kinds.specs.Stated.{GivesStated, MeetsStatement}
 use Rattle.segments.specs.Places.{target_at}
-use Rattle.segments.specs.Stated.{statement_at, IsTargetOf, Agrees, AreTargets}
+use Rattle.segments.specs.Stated.{statement_at, IsTargetOf, Agrees, AreTargets, MeetStatements}
 
 -- what is past the end stands there already
 pub pushed_default : {A : Type 0} (xs : List A) (d : A) (r : ℕ) → get_or (xs ++ d ∷ []) r d ≡ get_or xs r d
@@ -46,6 +49,19 @@ target_agrees contains (Some s) (Some other) target agrees some =
     let same : other ≡ target = cc in
     (s, refl, subst (λ t. IsTargetOf contains s t) same agrees)
 
+statement_agrees : {D : Type 0} (contains : D → ℕ → Type 0) (stated : Option StatementParts) (found : Option (Target D)) (s : StatementParts)
+    → Agrees contains stated found → stated ≡ Some s → (target : Target D) × (found ≡ Some target) × IsTargetOf contains s target
+statement_agrees contains None found s agrees some = cc
+statement_agrees contains (Some other) None s agrees some = absurd agrees
+statement_agrees contains (Some other) (Some target) s agrees some =
+    let same : other ≡ s = cc in
+    (target, refl, subst (λ x. IsTargetOf contains x target) same agrees)
+
+-- where something is stated there is its target
+pub target_stated : {D : Type 0} (contains : D → ℕ → Type 0) (statements : List StatementParts) (targets : List (Option (Target D))) (slot : ℕ) (s : StatementParts)
+    → AreTargets contains statements targets → statement_at statements slot ≡ Some s → (target : Target D) × (target_at targets slot ≡ Some target) × IsTargetOf contains s target
+target_stated contains statements targets slot s are some = statement_agrees contains (statement_at statements slot) (target_at targets slot) s (are slot) some
+
 pub unstated_of : {D : Type 0} (contains : D → ℕ → Type 0) (statements : List StatementParts) (targets : List (Option (Target D))) (slot : ℕ)
     → AreTargets contains statements targets → target_at targets slot ≡ None → statement_at statements slot ≡ None
 unstated_of contains statements targets slot are none = stated_agrees contains (statement_at statements slot) (target_at targets slot) (are slot) none
@@ -72,12 +88,13 @@ pub Found : {D : Type 0} → (D → ℕ → Type 0) → Option StatementParts �
 Found contains whole rest None = whole ≡ rest
 Found contains whole rest (Some target) = IsSomeAnd whole (λ s. IsTargetOf contains s target)
 
-pub record AreFoundSoFar {D : Type 0} (contains : D → ℕ → Type 0) (statements rest : List StatementParts) (size : ℕ) (targets : List (Option (Target D))) : Type 0 where
+pub record AreFoundSoFar {D : Type 0} (contains : D → ℕ → Type 0) (gives : GivesStated D) (statements rest : List StatementParts) (size : ℕ) (targets : List (Option (Target D))) : Type 0 where
   pub long : length targets ≡ size
   pub found : (slot : ℕ) → Found contains (statement_at statements slot) (statement_at rest slot) (target_at targets slot)
   pub least : ℕ
   pub ordered : AreStatements least size rest
   pub unfilled : (slot : ℕ) → least ≤ slot → target_at targets slot ≡ None
+  pub meet : MeetStatements contains gives targets
 
 found_none : {D : Type 0} (contains : D → ℕ → Type 0) (whole rest : Option StatementParts) (found : Option (Target D)) → found ≡ None → whole ≡ rest → Found contains whole rest found
 unfolding Found
@@ -93,14 +110,15 @@ found_some : {D : Type 0} (contains : D → ℕ → Type 0) (whole rest : Option
 unfolding Found
 found_some contains whole rest s target same is = rw same is
 
-pub none_found : {D : Type 0} (contains : D → ℕ → Type 0) (statements : List StatementParts) (size : ℕ) (targets : List (Option (Target D)))
-    → length targets ≡ size → ((slot : ℕ) → target_at targets slot ≡ None) → AreStatements 0 size statements → AreFoundSoFar contains statements statements size targets
-none_found contains statements size targets long none ordered = record {
+pub none_found : {D : Type 0} (contains : D → ℕ → Type 0) (gives : GivesStated D) (statements : List StatementParts) (size : ℕ) (targets : List (Option (Target D)))
+    → length targets ≡ size → ((slot : ℕ) → target_at targets slot ≡ None) → AreStatements 0 size statements → AreFoundSoFar contains gives statements statements size targets
+none_found contains gives statements size targets long none ordered = record {
   long = long;
   found = λ slot. found_none contains _ _ (target_at targets slot) (none slot) refl;
   least = 0;
   ordered = ordered;
   unfilled = λ slot _. none slot;
+  meet = λ slot target is. absurd (none_is_some (target_at targets slot) (none slot) is);
 }
 
 agrees_at_end : {D : Type 0} (contains : D → ℕ → Type 0) (whole : Option StatementParts) (found : Option (Target D)) → Found contains whole None found → Agrees contains whole found
@@ -110,9 +128,9 @@ agrees_at_end contains (Some s) None is = cc
 agrees_at_end contains None (Some target) is = absurd is
 agrees_at_end contains (Some s) (Some target) is = is
 
-pub all_found : {D : Type 0} (contains : D → ℕ → Type 0) (statements rest : List StatementParts) (size : ℕ) (targets : List (Option (Target D)))
-    → AreFoundSoFar contains statements rest size targets → rest ≡ [] → AreTargets contains statements targets
-all_found contains statements rest size targets so_far none slot =
+pub all_found : {D : Type 0} (contains : D → ℕ → Type 0) (gives : GivesStated D) (statements rest : List StatementParts) (size : ℕ) (targets : List (Option (Target D)))
+    → AreFoundSoFar contains gives statements rest size targets → rest ≡ [] → AreTargets contains statements targets
+all_found contains gives statements rest size targets so_far none slot =
     agrees_at_end contains (statement_at statements slot) (target_at targets slot)
     (subst (λ ss. Found contains (statement_at statements slot) (statement_at ss slot) (target_at targets slot)) none (so_far.found slot))
 
@@ -122,11 +140,14 @@ stated_here s ss = let same : nat_eq s.slot s.slot ≡ true = grind (arith, nat_
 stated_later : (s : StatementParts) (ss : List StatementParts) (slot : ℕ) → s.slot ≢ slot → statement_at (s ∷ ss) slot ≡ statement_at ss slot
 stated_later s ss slot other = let apart : nat_eq s.slot slot ≡ false = grind (arith, nat_tests) in rw apart refl
 
-module _ {D : Type 0} (contains : D → ℕ → Type 0) (statements : List StatementParts) (s : StatementParts) (ss : List StatementParts) (size : ℕ) (targets : List (Option (Target D))) (target : Target D) where
+some_is_one : {A : Type 0} {x y : A} (o : Option A) → o ≡ Some x → o ≡ Some y → x ≡ y
+some_is_one o first second = cc
+
+module _ {D : Type 0} (contains : D → ℕ → Type 0) (gives : GivesStated D) (statements : List StatementParts) (s : StatementParts) (ss : List StatementParts) (size : ℕ) (targets : List (Option (Target D))) (target : Target D) where
   put : List (Option (Target D))
   put = set targets s.slot (Some target)
 
-  found_here : AreFoundSoFar contains statements (s ∷ ss) size targets → IsTargetOf contains s target → (slot : ℕ) → s.slot ≡ slot
+  found_here : AreFoundSoFar contains gives statements (s ∷ ss) size targets → IsTargetOf contains s target → (slot : ℕ) → s.slot ≡ slot
       → Found contains (statement_at statements slot) (statement_at ss slot) (target_at put slot)
   unfolding put
   found_here so_far is slot same =
@@ -137,7 +158,7 @@ module _ {D : Type 0} (contains : D → ℕ → Type 0) (statements : List State
       (subst (λ o. Found contains (statement_at statements s.slot) (statement_at ss s.slot) o) (sym now)
       (found_some contains _ _ s target before is))
 
-  found_elsewhere : AreFoundSoFar contains statements (s ∷ ss) size targets → (slot : ℕ) → slot ≢ s.slot
+  found_elsewhere : AreFoundSoFar contains gives statements (s ∷ ss) size targets → (slot : ℕ) → slot ≢ s.slot
       → Found contains (statement_at statements slot) (statement_at ss slot) (target_at put slot)
   unfolding put
   found_elsewhere so_far slot other =
@@ -145,10 +166,24 @@ module _ {D : Type 0} (contains : D → ℕ → Type 0) (statements : List State
       subst (λ o. Found contains (statement_at statements slot) (statement_at ss slot) o) (sym now)
       (subst (λ o. Found contains (statement_at statements slot) o (target_at targets slot)) (stated_later s ss slot (λ e. other (sym e))) (so_far.found slot))
 
-  pub one_more_found : AreFoundSoFar contains statements (s ∷ ss) size targets → IsTargetOf contains s target
-      → AreFoundSoFar contains statements ss size (set targets s.slot (Some target))
+  meet_more : AreFoundSoFar contains gives statements (s ∷ ss) size targets → IsTargetOf contains s target
+      → ((machine : Machine) → TargetHolds contains target machine → MeetsStatement contains gives s machine) → MeetStatements contains gives put
   unfolding put
-  one_more_found so_far is = record {
+  meet_more so_far is meets slot other stated =
+      ⊎_elim
+      (λ (same : slot ≡ s.slot).
+      let inside : s.slot < length targets = omega (arith, so_far.long, so_far.ordered.2) in
+      let there : target_at (set targets s.slot (Some target)) s.slot ≡ Some other = subst (λ at. target_at (set targets s.slot (Some target)) at ≡ Some other) same stated in
+      let one : target ≡ other = some_is_one _ (get_or-set_same targets s.slot (Some target) None inside) there in
+      subst (λ t. (machine : Machine) → TargetHolds contains t machine → MeetsStatement contains gives t.statement.now machine) one (λ machine holds. rw is.same (meets machine holds)))
+      (λ (apart : slot ≢ s.slot). so_far.meet slot other (sym (get_or-set_other targets s.slot slot (Some target) None apart) ∙ stated))
+      (cases_eq slot s.slot)
+
+  pub one_more_found : AreFoundSoFar contains gives statements (s ∷ ss) size targets → IsTargetOf contains s target
+      → ((machine : Machine) → TargetHolds contains target machine → MeetsStatement contains gives s machine)
+      → AreFoundSoFar contains gives statements ss size (set targets s.slot (Some target))
+  unfolding put
+  one_more_found so_far is meets = record {
     long = simp length-set so_far.long;
     found = λ slot. ⊎_elim
         (λ (same : slot ≡ s.slot). found_here so_far is slot (sym same))
@@ -160,4 +195,5 @@ module _ {D : Type 0} (contains : D → ℕ → Type 0) (statements : List State
         let other : slot ≢ s.slot = omega (arith, above) in
         let below : so_far.least ≤ slot = omega (arith, above, so_far.ordered.1) in
         get_or-set_other targets s.slot slot (Some target) None other ∙ so_far.unfilled slot below;
+    meet = meet_more so_far is meets;
   }

@@ -115,7 +115,9 @@ pub record IsWellMade (code : List Slot) (statements : List StatementParts)
   pub reached : IsUnreached code statements slot → ⊥
   pub stated : IsUnstated code statements slot → ⊥
 
--- of those rules, the ones that come before this one at a slot are met there
+-- Of those rules, the ones that come before this one at a slot are met there. A rule on edges that
+-- is broken at slot 0 may be so where the start of a run enters a statement, which is tried before
+-- that slot's own rules.
 abbrev pub IsFirstHere : List Slot → List StatementParts → ℕ → Rule → Type 0
 IsFirstHere code statements slot rules.Target = Unit {0}
 IsFirstHere code statements slot rules.FallsOff = IsBadTarget code statements slot → ⊥
@@ -124,8 +126,8 @@ IsFirstHere code statements slot rules.Unreached =
 IsFirstHere code statements slot rules.Unstated =
     (IsBadTarget code statements slot → ⊥) × (FallsOff code slot → ⊥)
     × (IsUnreached code statements slot → ⊥)
-IsFirstHere code statements slot rules.NotWithin = Unit {0}
-IsFirstHere code statements slot rules.Rank = Unit {0}
+IsFirstHere code statements slot rules.NotWithin = 0 < slot → IsWellMade code statements slot
+IsFirstHere code statements slot rules.Rank = 0 < slot → IsWellMade code statements slot
 IsFirstHere code statements slot rules.Budget = Unit {0}
 IsFirstHere code statements slot rules.Memory = Unit {0}
 IsFirstHere code statements slot other = IsWellMade code statements slot

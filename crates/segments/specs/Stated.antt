@@ -3,9 +3,11 @@ use Rattle.std.specs.Prelude.{◌≡◌, ℕ, ◌<◌, ◌==◌, if◌then◌els
 use Rattle.std.specs.Prelude.{length, slice_index_or}
 use Rattle.object.specs.Statements.{StatementParts}
 use Rattle.object.specs.declared.kind.Kind.TheVariants as said
+use Rattle.machine.specs.declared.state.State.{State as Machine}
 use Rattle.kinds.specs.declared.state.Kind.TheVariants as kinds
 use Rattle.kinds.specs.declared.statement.Target.{Target}
-use Rattle.kinds.specs.Stated.{IsRead}
+use Rattle.kinds.specs.Meaning.{TargetHolds}
+use Rattle.kinds.specs.Stated.{GivesStated, IsRead, MeetsStatement}
 use Rattle.segments.specs.Places.{target_at}
 
 -- what is stated at the slot, if anything is
@@ -33,3 +35,11 @@ abbrev pub AreTargets : {D : Type 0} → (D → ℕ → Type 0) → List Stateme
     → List (Option (Target D)) → Type 0
 AreTargets contains statements targets =
     (slot : ℕ) → Agrees contains (statement_at statements slot) (target_at targets slot)
+
+-- each machine that is as a target says is as its statement says
+abbrev pub MeetStatements : {D : Type 0} → (D → ℕ → Type 0) → GivesStated D
+    → List (Option (Target D)) → Type 0
+MeetStatements {D = D} contains gives targets =
+    (slot : ℕ) (target : Target D) → target_at targets slot ≡ Some target
+    → (machine : Machine) → TargetHolds contains target machine
+    → MeetsStatement contains gives target.statement.now machine

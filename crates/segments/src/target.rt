@@ -2,7 +2,7 @@
 ghost use Rattle.std.specs.Prelude.{◌≡◌, ◌↔◌, ℕ, IfOk, IsSome, IsTrue, MatchOption, None, Some, length};
 ghost use Rattle.object.specs.Objects.{AreStatements};
 ghost use Rattle.segments.specs.Places.{target_at};
-ghost use Rattle.segments.specs.Stated.{AreTargets};
+ghost use Rattle.segments.specs.Stated.{AreTargets, MeetStatements};
 
 use absdom::Domain;
 use kinds::{Target, target_of};
@@ -52,7 +52,9 @@ pub fn targets_of<'a, D: Domain>(
     statements: &'a [Statement],
 ) -> Result<Vec<Option<Target<'a, D>>>, AllocError>
     requires { AreStatements 0 size statements.now }
-    ensures { IfOk result (λ targets. AreTargets D.contains statements.now targets.items) }
+    ensures are { IfOk result (λ targets. AreTargets D.contains statements.now targets.items) }
+    ensures meet { IfOk result (λ targets.
+        MeetStatements D.contains D.stated_gives targets.items) }
 {
     let mut targets = unstated(alloc, size)?;
     for statement in statements {

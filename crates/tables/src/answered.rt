@@ -8,7 +8,7 @@ ghost use Rattle.routes.specs.declared.root.Root.{Root};
 ghost use Rattle.tables.specs.Orders.{answer_cmp};
 ghost use Rattle.tables.specs.Parts.{AreLetIn, LacksAnswers};
 
-use crate::lookups::{is_answered, is_let_in};
+use crate::lookups::{is_answered, is_let_in, is_of};
 use crate::order::{are_in_order, in_order};
 use std::alloc::{AllocError, Global};
 use words::Route;
@@ -17,8 +17,9 @@ use words::Route;
 /// with 0, in the order of their prefixes. The answers are those of the program that the operator
 /// asks of each route; 0 lets it in.
 ///
-/// Each candidate is looked up by halving. Answers in the order of their routes, as those to all
-/// candidates in turn are, serve as they stand, others as a copy that is put in order.
+/// The answer to each candidate is looked for where it stands if the answers are those to all
+/// candidates in turn, and else by halving. Answers in the order of their routes serve as they
+/// stand, others as a copy that is put in order.
 ///
 /// # Errors
 /// Where memory for the table or that copy is refused.
@@ -40,7 +41,8 @@ pub fn table(
 }
 
 /// Tells whether some candidate's equal route has no answer at all, so that the program is to be
-/// asked again. The time is that of [`table`].
+/// asked again. Where the answers are those to all candidates in turn, each is looked at once; else
+/// the time is that of [`table`].
 ///
 /// # Errors
 /// Where the answers don't stand in the order of their routes, and memory for a copy of them is
@@ -54,6 +56,9 @@ pub fn is_stale(
         → AreCandidates said root candidates.now
         → (IsTrue stale ↔ IsStale said root answers.now)) }
 {
+    if are_answered_in_turn(candidates, answers) {
+        return Ok(false);
+    }
     if are_in_order(answers) {
         return Ok(lack_answers(candidates, answers));
     }
@@ -71,8 +76,11 @@ fn let_in(
     ensures { IfOk result (λ part. AreLetIn answers.now routes.now part.items) }
 {
     let mut part = Vec::new(alloc);
+    let mut next = 0;
     for route in routes {
-        if is_let_in(answers, route) {
+        let (found, after) = is_let_in(answers, next, route);
+        next = after;
+        if found {
             part.push(*route)?;
         }
     }
@@ -84,10 +92,28 @@ fn lack_answers(routes: &[Route], answers: &[(Route, u64)]) -> bool
     requires { IsSorted answer_cmp answers.now }
     ensures { IsTrue result ↔ LacksAnswers answers.now routes.now }
 {
+    let mut next = 0;
     for route in routes {
-        if !is_answered(answers, route) {
+        let (found, after) = is_answered(answers, next, route);
+        next = after;
+        if !found {
             return true;
         }
     }
     false
+}
+
+// Whether the answer to each route stands at the route's own place.
+fn are_answered_in_turn(routes: &[Route], answers: &[(Route, u64)]) -> bool
+    ensures { IsTrue result → LacksAnswers answers.now routes.now → ⊥ }
+{
+    if answers.len() < routes.len() {
+        return false;
+    }
+    for at in 0..routes.len() {
+        if !is_of(&answers[at], &routes[at]) {
+            return false;
+        }
+    }
+    true
 }

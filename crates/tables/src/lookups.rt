@@ -1,5 +1,5 @@
-//! Answers of routes looked up by halving.
-ghost use Rattle.std.specs.Prelude.{◌↔◌, IsTrue};
+//! Answers of routes: the one that is next in turn, or else looked up by halving.
+ghost use Rattle.std.specs.Prelude.{◌≡◌, ◌↔◌, IsTrue};
 ghost use Rattle.std.specs.List.Sorted.{IsSorted};
 ghost use Rattle.routes.specs.Tables.{IsAnswered, IsLetIn};
 ghost use Rattle.tables.specs.Orders.{answer_cmp};
@@ -7,23 +7,48 @@ ghost use Rattle.tables.specs.Orders.{answer_cmp};
 use crate::order::{compare_answers, compare_routes};
 use words::Route;
 
-/// Tells whether an equal route stands among the answers with the word 0.
-pub fn is_let_in(answers: &[(Route, u64)], route: &Route) -> bool
+/// Tells whether an equal route stands among the answers with the word 0, and at which place the
+/// answer to the next route is tried first. Where the one at the place `next` is the route's, as it
+/// is where answers are those to all routes in turn, it is looked at alone.
+pub fn is_let_in(answers: &[(Route, u64)], next: usize, route: &Route) -> (bool, usize)
     requires { IsSorted answer_cmp answers.now }
-    ensures { IsTrue result ↔ IsLetIn answers.now route.now }
+    ensures { IsTrue result.0 ↔ IsLetIn answers.now route.now }
 {
+    if next < answers.len() && lets_in(&answers[next], route) {
+        return (true, next + 1);
+    }
     let wanted = (*route, 0);
-    answers
-        .binary_search_by(|answer| compare_answers(answer, &wanted))
-        .is_ok()
+    match answers.binary_search_by(|answer| compare_answers(answer, &wanted)) {
+        Ok(at) => (true, at + 1),
+        Err(at) => (false, at),
+    }
 }
 
-/// Tells whether an equal route stands among the answers.
-pub fn is_answered(answers: &[(Route, u64)], route: &Route) -> bool
+/// Tells whether an equal route stands among the answers, and at which place the answer to the next
+/// route is tried first, as [`is_let_in`] does.
+pub fn is_answered(answers: &[(Route, u64)], next: usize, route: &Route) -> (bool, usize)
     requires { IsSorted answer_cmp answers.now }
-    ensures { IsTrue result ↔ IsAnswered answers.now route.now }
+    ensures { IsTrue result.0 ↔ IsAnswered answers.now route.now }
 {
-    answers
-        .binary_search_by(|answer| compare_routes(&answer.0, route))
-        .is_ok()
+    if next < answers.len() && is_of(&answers[next], route) {
+        return (true, next + 1);
+    }
+    match answers.binary_search_by(|answer| compare_routes(&answer.0, route)) {
+        Ok(at) => (true, at + 1),
+        Err(at) => (false, at),
+    }
+}
+
+/// Tells whether this is the answer to an equal route.
+pub fn is_of(answer: &(Route, u64), route: &Route) -> bool
+    ensures { IsTrue result ↔ (answer.now.0 ≡ route.now) }
+{
+    answer.0 == *route
+}
+
+// Whether this is the answer to an equal route, and the word 0.
+fn lets_in(answer: &(Route, u64), route: &Route) -> bool
+    ensures { IsTrue result ↔ (answer.now ≡ (route.now, 0)) }
+{
+    answer.1 == 0 && is_of(answer, route)
 }

@@ -2,6 +2,7 @@
 ghost use Rattle.std.specs.Prelude.{◌≡◌, ◌↔◌, ℕ, IfOk, IsTrue};
 ghost use Rattle.std.specs.List.{Contains};
 ghost use Rattle.std.specs.List.Sorted.{IsSorted};
+ghost use Rattle.std.specs.Ordering.{is_lt};
 ghost use Rattle.tables.specs.Orders.{answer_cmp, route_cmp};
 ghost use Rattle.words.specs.declared.route.Route.{Route as RouteValue};
 
@@ -34,11 +35,21 @@ pub fn are_in_order(answers: &[(Route, u64)]) -> bool
     ensures { IsTrue result ↔ IsSorted answer_cmp answers.now }
 {
     for at in 1..answers.len() {
-        if compare_answers(&answers[at], &answers[at - 1]).is_lt() {
+        if comes_before(&answers[at], &answers[at - 1]) {
             return false;
         }
     }
     true
+}
+
+// Whether the first answer comes before the other one. Most differ in the address of the prefix.
+fn comes_before(a: &(Route, u64), b: &(Route, u64)) -> bool
+    ensures { result ≡ is_lt (answer_cmp a.now b.now) }
+{
+    if b.0.prefix.address().bits() < a.0.prefix.address().bits() {
+        return false;
+    }
+    compare_answers(a, b).is_lt()
 }
 
 /// The same answers in their order.

@@ -87,8 +87,8 @@ follow_refused hook code entry_rank statements slot i rules.Bounds here made may
 follow_refused hook code entry_rank statements slot i rules.Align here made may = ((i, here), made)
 follow_refused hook code entry_rank statements slot i rules.Helper here made may = (lacks hook code slot i here may, made)
 follow_refused hook code entry_rank statements slot i rules.Argument here made may = ((i, here), made)
-follow_refused hook code entry_rank statements slot i rules.NotWithin here made may = ((i, here), tt)
-follow_refused hook code entry_rank statements slot i rules.Rank here made may = ((i, here), tt)
+follow_refused hook code entry_rank statements slot i rules.NotWithin here made may = ((i, here), λ later. made)
+follow_refused hook code entry_rank statements slot i rules.Rank here made may = ((i, here), λ later. made)
 follow_refused hook code entry_rank statements slot i rules.Budget here made may = absurd may
 follow_refused hook code entry_rank statements slot i rules.ExitKind here made may = ((i, here), made)
 follow_refused hook code entry_rank statements slot i rules.Frame here made may = (record { instruction = i; at = here; writes = may }, made)
@@ -102,23 +102,23 @@ empty_refused hook code entry_rank statements slot i rule here made is =
 
 -- an edge from the entry
 pub entry_refused : (hook : Hook) (code : List Slot) (entry_rank : ℕ) (statements : List StatementParts) (slot : ℕ) (rule : Rule)
-    → Begins code slot → IsOfEdge rule → IsRefusal hook code entry_rank statements slot rule
-entry_refused hook code entry_rank statements slot rules.Target begins edge = absurd edge
-entry_refused hook code entry_rank statements slot rules.FallsOff begins edge = absurd edge
-entry_refused hook code entry_rank statements slot rules.Unreached begins edge = absurd edge
-entry_refused hook code entry_rank statements slot rules.Unstated begins edge = absurd edge
-entry_refused hook code entry_rank statements slot rules.Empty begins edge = absurd edge
-entry_refused hook code entry_rank statements slot rules.Kind begins edge = absurd edge
-entry_refused hook code entry_rank statements slot rules.Bounds begins edge = absurd edge
-entry_refused hook code entry_rank statements slot rules.Align begins edge = absurd edge
-entry_refused hook code entry_rank statements slot rules.Helper begins edge = absurd edge
-entry_refused hook code entry_rank statements slot rules.Argument begins edge = absurd edge
-entry_refused hook code entry_rank statements slot rules.NotWithin begins edge = (begins, tt)
-entry_refused hook code entry_rank statements slot rules.Rank begins edge = (begins, tt)
-entry_refused hook code entry_rank statements slot rules.Budget begins edge = absurd edge
-entry_refused hook code entry_rank statements slot rules.ExitKind begins edge = absurd edge
-entry_refused hook code entry_rank statements slot rules.Frame begins edge = absurd edge
-entry_refused hook code entry_rank statements slot rules.Memory begins edge = absurd edge
+    → slot ≡ 0 → Begins code slot → IsOfEdge rule → IsRefusal hook code entry_rank statements slot rule
+entry_refused hook code entry_rank statements slot rules.Target zeroth begins edge = absurd edge
+entry_refused hook code entry_rank statements slot rules.FallsOff zeroth begins edge = absurd edge
+entry_refused hook code entry_rank statements slot rules.Unreached zeroth begins edge = absurd edge
+entry_refused hook code entry_rank statements slot rules.Unstated zeroth begins edge = absurd edge
+entry_refused hook code entry_rank statements slot rules.Empty zeroth begins edge = absurd edge
+entry_refused hook code entry_rank statements slot rules.Kind zeroth begins edge = absurd edge
+entry_refused hook code entry_rank statements slot rules.Bounds zeroth begins edge = absurd edge
+entry_refused hook code entry_rank statements slot rules.Align zeroth begins edge = absurd edge
+entry_refused hook code entry_rank statements slot rules.Helper zeroth begins edge = absurd edge
+entry_refused hook code entry_rank statements slot rules.Argument zeroth begins edge = absurd edge
+entry_refused hook code entry_rank statements slot rules.NotWithin zeroth begins edge = (begins, λ later. absurd (omega (arith, zeroth, later)))
+entry_refused hook code entry_rank statements slot rules.Rank zeroth begins edge = (begins, λ later. absurd (omega (arith, zeroth, later)))
+entry_refused hook code entry_rank statements slot rules.Budget zeroth begins edge = absurd edge
+entry_refused hook code entry_rank statements slot rules.ExitKind zeroth begins edge = absurd edge
+entry_refused hook code entry_rank statements slot rules.Frame zeroth begins edge = absurd edge
+entry_refused hook code entry_rank statements slot rules.Memory zeroth begins edge = absurd edge
 
 -- nothing is before the first slot
 pub first_of_all : (code : List Slot) (statements : List StatementParts) (slot : ℕ) (rule : Rule) → slot ≡ 0 → IsFirstHere code statements slot rule → IsFirst code statements slot rule

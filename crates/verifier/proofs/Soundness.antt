@@ -10,20 +10,25 @@ use Rattle.isa.specs.Flow.{Begins, size}
 use Rattle.machine.specs.declared.fault.Fault.{Fault}
 use Rattle.machine.specs.declared.state.State.{State as Machine}
 use Rattle.machine.specs.Label.{Label}
-use Rattle.machine.specs.State.{start}
+use Rattle.machine.specs.State.{Setting, start}
 use Rattle.machine.specs.Steps.{Step}
 use Rattle.machine.specs.Faults.{Stuck}
 use Rattle.machine.specs.Runs.{Leads, Run, Safe}
 use Rattle.kinds.specs.declared.statement.Target.{Target}
 use Rattle.kinds.specs.Meaning.{TargetHolds}
+use Rattle.kinds.specs.Stated.{GivesStated, MeetsStatement}
+use Rattle.object.specs.Statements.{StatementParts}
 use Rattle.ranks.specs.Lines.{rank_value}
 use Rattle.regions.specs.declared.Region.{Region}
 use Rattle.regions.specs.Regions.{AreKeptRegions, IsKeptAt}
 use Rattle.transfer.specs.Given.{Given, setting_of}
 use Rattle.segments.specs.Places.{target_at}
 use Rattle.segments.specs.Segments.{Visits, at_entry, at_target, falls, Enters, EntersNext, IsFine}
+use Rattle.segments.specs.Stated.{AreTargets, MeetStatements, statement_at}
+use Rattle.segments.proofs.Targets.{target_stated}
 use Rattle.segments.proofs.Made.{inside_code}
 use Rattle.verifier.specs.Kept.{IsKept}
+use Rattle.verifier.specs.Stated.{RunsMeetStatements}
 use Rattle.verifier.proofs.SegmentLemmas.{size_some}
 
 -- The steps that are left: the rank counts the turns that the code may still be gone through, and the slot what is left of this one.
@@ -57,6 +62,19 @@ left_jump slots rank rank' slot to inside inside' below =
 some_and : {A : Type 0} {P : A → Type 0} (o : Option A) → IsSomeAnd o P → (x : A) × (o ≡ Some x) × P x
 some_and None p = absurd p
 some_and (Some x) p = (x, refl, p)
+
+none_is_some : {A : Type 0} {x : A} (o : Option A) → o ≡ None → o ≡ Some x → ⊥
+none_is_some o none some = cc
+
+some_is_one : {A : Type 0} {x y : A} (o : Option A) → o ≡ Some x → o ≡ Some y → x ≡ y
+some_is_one o first second = cc
+
+-- a visit of a slot with a statement is as stated there
+visited_as_stated : {D : Type 0} (contains : D → ℕ → Type 0) (setting : Setting) (targets : List (Option (Target D))) (entry segment target : Target D) (begin now : Machine)
+    → Visits contains setting targets entry segment begin now → target_at targets now.slot ≡ Some target → TargetHolds contains target now
+visited_as_stated contains setting targets entry segment target begin now (at_entry zeroth unstated holds) stated = absurd (none_is_some (target_at targets begin.slot) unstated stated)
+visited_as_stated contains setting targets entry segment target begin now (at_target is holds) stated = subst (λ t. TargetHolds contains t begin) (some_is_one (target_at targets begin.slot) is stated) holds
+visited_as_stated contains setting targets entry segment target begin now (falls before label i visit at does behind unstated) stated = absurd (none_is_some (target_at targets now.slot) unstated stated)
 
 module _ {D : Type 0} (contains : D → ℕ → Type 0) (code : List Slot) (hook : Hook) (targets : List (Option (Target D))) (entry : Target D) (limit : ℕ) (input : Given) where
   -- the machine is in a segment, at an instruction, and has steps left
@@ -138,6 +156,13 @@ module _ {D : Type 0} (contains : D → ℕ → Type 0) (code : List Slot) (hook
       let inside = inside_code code s.slot reached.begins in
       (omega (arith, run.steps, reached.bounded, inside), λ fault stuck. (fine s.slot reached.begins).free input reached.segment reached.begin s fault reached.visit refl stuck)
 
+  pub met_stated : ((slot : ℕ) → Begins code slot → IsFine contains code hook targets entry slot) → Begins code 0 → TargetHolds contains entry start → ((target : Target D) → target_at targets 0 ≡ Some target → Enters contains false entry target start start)
+      → (rank_value entry.statement.now.rank start + 1) * length code ≤ limit
+      → (m : ℕ) (labels : List Label) (s : Machine) → Run (setting_of code hook input) m labels s → (target : Target D) → target_at targets s.slot ≡ Some target → TargetHolds contains target s
+  met_stated fine begins holds edge room m labels s run target stated =
+      let reached = reached_along fine labels 0 start s (first_reached begins holds edge room (target_at targets 0) refl) run.leads in
+      visited_as_stated contains (setting_of code hook input) targets entry reached.segment target reached.begin s reached.visit stated
+
   pub met_kept : ((slot : ℕ) → Begins code slot → IsFine contains code hook targets entry slot) → Begins code 0 → TargetHolds contains entry start → ((target : Target D) → target_at targets 0 ≡ Some target → Enters contains false entry target start start)
       → (rank_value entry.statement.now.rank start + 1) * length code ≤ limit → (kept : List Region) → ((slot : ℕ) → Begins code slot → IsKept contains code hook targets entry kept slot)
       → (m : ℕ) (labels : List Label) (s : Machine) → Run (setting_of code hook input) m labels s → IsKeptAt (setting_of code hook input) kept s
@@ -158,3 +183,12 @@ pub kept_regions : {D : Type 0} (contains : D → ℕ → Type 0) (code : List S
     → (kept : List Region) → ((slot : ℕ) → Begins code slot → IsKept contains code hook targets entry kept slot) → AreKeptRegions code hook kept
 kept_regions contains code hook targets entry begins holds edge fine kept keeps =
     λ input m labels s run. met_kept contains code hook targets entry ((rank_value entry.statement.now.rank start + 1) * length code) input fine begins holds edge (omega arith) kept keeps m labels s run
+
+-- And each run that comes to a slot with a statement is as stated there.
+pub runs_as_stated : {D : Type 0} (contains : D → ℕ → Type 0) (gives : GivesStated D) (code : List Slot) (hook : Hook) (targets : List (Option (Target D))) (entry : Target D) → Begins code 0 → TargetHolds contains entry start
+    → ((target : Target D) → target_at targets 0 ≡ Some target → Enters contains false entry target start start) → ((slot : ℕ) → Begins code slot → IsFine contains code hook targets entry slot)
+    → (statements : List StatementParts) → AreTargets contains statements targets → MeetStatements contains gives targets → RunsMeetStatements contains gives code hook statements
+runs_as_stated contains gives code hook targets entry begins holds edge fine statements are meet = λ input n labels machine statement run stated.
+    let there = target_stated contains statements targets machine.slot statement are stated in
+    let as_stated = met_stated contains code hook targets entry ((rank_value entry.statement.now.rank start + 1) * length code) input fine begins holds edge (omega arith) n labels machine run there.0 there.1 in
+    subst (λ s. MeetsStatement contains gives s machine) there.2.same (meet machine.slot there.0 there.1 machine as_stated)

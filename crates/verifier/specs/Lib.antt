@@ -3,3 +3,4 @@ pub mod Plain
 pub mod Pass
 pub mod Examples
 pub mod Kept
+pub mod Stated

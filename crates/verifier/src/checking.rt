@@ -4,6 +4,7 @@ ghost use Rattle.object.specs.Objects.{AreStatements};
 ghost use Rattle.machine.specs.Runs.{Safe};
 ghost use Rattle.segments.specs.Refusals.{IsFirst, MayRefuse, budget};
 ghost use Rattle.verifier.specs.Plain.{IsPlain};
+ghost use Rattle.verifier.specs.Stated.{RunsMeetStatements};
 
 use crate::accepted::Accepted;
 use crate::entry::{enter_start, entry_of, entry_statement, unknown};
@@ -41,6 +42,9 @@ fn bound_of_runs(rank: u32, size: usize) -> Result<u64, Refusal>
 
 /// Accepts the code only where it is safe within (rank + 1) times its slots, at most 1,000,000.
 ///
+/// Each run that comes to a stated slot is as stated there, as far as the domain tells numbers
+/// apart.
+///
 /// A refusal names the first slot that breaks a rule, and of the rules broken there the one that
 /// is tried first: those on jumps, statements and the code's end are named only where they are
 /// broken and none of them is broken before, those on helpers, on the bound and on r10 only where
@@ -60,6 +64,8 @@ pub fn verify<D: Domain>(
     ensures bound { IfOk result (λ accepted. (accepted.bound ≡ (entry_rank + 1) * length code)
         × (accepted.bound ≤ budget)) }
     ensures safe { IfOk result (λ _. Safe code hook ((entry_rank + 1) * length code)) }
+    ensures stated { IfOk result (λ _.
+        RunsMeetStatements D.contains D.stated_gives code hook statements.now) }
     ensures named { IfErr result (λ refusal.
         MayRefuse hook code entry_rank statements.now refusal.slot refusal.rule) }
     ensures first { IfErr result (λ refusal.

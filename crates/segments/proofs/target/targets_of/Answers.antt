@@ -4,7 +4,7 @@ use Rattle.segments.proofs.Targets.{AreFoundSoFar, all_found, none_found, one_mo
 use Rattle.segments.proofs.target.targets_of.Goals as goal
 
 pub loop-statement-init : goal.loop-statement-init
-loop-statement-init g c = none_found g.D.Domain.contains c.args.statements.now c.args.size c.in_ok-targets.targets.items c.in_ok-targets.ensures.long c.in_ok-targets.ensures.none c.requires
+loop-statement-init g c = none_found g.D.Domain.contains g.D.Domain.stated_gives c.args.statements.now c.args.size c.in_ok-targets.targets.items c.in_ok-targets.ensures.long c.in_ok-targets.ensures.none c.requires
 
 pub loop-statement-preserved : goal.loop-statement-preserved
 loop-statement-preserved g c =
@@ -13,12 +13,15 @@ loop-statement-preserved g c =
     let i = c.loop-statement.statement-index in
     let inside : i < length statements = c.loop-statement-test.true in
     let cut : drop i statements ≡ s ∷ drop (i + 1) statements = rw add-one (drop-cons statements i s inside ∙ ap (λ x. x ∷ drop (suc i) statements) (sym c.statement-item.is)) in
-    let more = one_more_found g.D.Domain.contains statements s (drop (i + 1) statements) c.args.size c.loop-statement.targets.items c.in_ok-target.target
-    (subst (λ ss. AreFoundSoFar g.D.Domain.contains statements ss c.args.size c.loop-statement.targets.items) cut c.loop-statement.invariant)
-    (record { same = c.in_ok-target.ensures.statement; ten = c.in_ok-target.ensures.ten; read = c.in_ok-target.ensures.read }) in
+    let more = one_more_found g.D.Domain.contains g.D.Domain.stated_gives statements s (drop (i + 1) statements) c.args.size c.loop-statement.targets.items c.in_ok-target.target
+    (subst (λ ss. AreFoundSoFar g.D.Domain.contains g.D.Domain.stated_gives statements ss c.args.size c.loop-statement.targets.items) cut c.loop-statement.invariant)
+    (record { same = c.in_ok-target.ensures.statement; ten = c.in_ok-target.ensures.ten; read = c.in_ok-target.ensures.read }) c.in_ok-target.ensures.meets in
     rw c.slot.ensures.value more
 
-pub returns : goal.returns
-returns g c =
+pub returns-clause-are : goal.returns-clause-are
+returns-clause-are g c =
     let none : drop c.loop-statement.statement-index c.args.statements.now ≡ [] = grind (arith, common_steps) in
-    all_found g.D.Domain.contains c.args.statements.now (drop c.loop-statement.statement-index c.args.statements.now) c.args.size c.loop-statement.targets.items c.loop-statement.invariant none
+    all_found g.D.Domain.contains g.D.Domain.stated_gives c.args.statements.now (drop c.loop-statement.statement-index c.args.statements.now) c.args.size c.loop-statement.targets.items c.loop-statement.invariant none
+
+pub returns-clause-meet : goal.returns-clause-meet
+returns-clause-meet g c = c.loop-statement.invariant.meet

@@ -1,0 +1,2 @@
+pub mod Announced
+pub mod Vetoes

@@ -1,0 +1,3 @@
+pub mod Announced
+pub mod Tables
+pub mod Vetoes

@@ -1,0 +1,20 @@
+-- What a program at `veto` can do: keep candidates out of its own router's table. It can't bring in
+-- a route, nor change one.
+use Rattle.std.specs.Prelude.{◌≡◌, ℕ, List}
+use Rattle.std.specs.List.{Contains}
+use Rattle.words.specs.declared.route.Route.{Route}
+use Rattle.routes.specs.Candidates.{IsCandidate}
+use Rattle.routes.specs.Said.{Said}
+use Rattle.routes.specs.Tables.{Answers, IsTable}
+use Rattle.routes.specs.declared.root.Root.{Root}
+
+-- whatever the answers are
+pub record VetoesOnlyKeepRoutesOut : Type 0 where
+  -- each route of the table is a candidate
+  pub candidates : (said : Said) (root : Root) (answers : Answers) (table : List Route)
+      → IsTable said root answers table → (route : Route) → Contains table route
+      → IsCandidate said root route
+  -- and a candidate that isn't in the table wasn't answered with 0
+  pub kept_out : (said : Said) (root : Root) (answers : Answers) (table : List Route)
+      → IsTable said root answers table → (route : Route) → IsCandidate said root route
+      → (Contains table route → ⊥) → Contains answers (route, 0) → ⊥

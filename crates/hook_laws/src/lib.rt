@@ -1,0 +1,27 @@
+//! Laws on what a loaded program can do to a router and to its neighbors, each carried by a function
+//! that does nothing: whatever a program answers, this is all that follows.
+#![tactic(auto)]
+
+ghost use Rattle.hook_laws.specs.Announced.{WhatIsAnnouncedWasAskedFor};
+ghost use Rattle.hook_laws.specs.Tables.{VetoesOnlyKeepRoutesOut};
+ghost use Rattle.hook_laws.specs.Vetoes.{VetoesAreNotHeard};
+
+/// Other routers notice nothing of what a program answers at `veto`: of two Installs of one router
+/// at one moment with any two lists of answers the packets that are sent are the same, and so is
+/// all that the router is afterwards but the answers themselves.
+pub fn vetoes_are_not_heard()
+    ensures { VetoesAreNotHeard }
+{}
+
+/// Whatever programs answer at `veto`, the table has candidates alone, and lacks those alone that
+/// weren't answered with 0.
+pub fn vetoes_only_keep_routes_out()
+    ensures { VetoesOnlyKeepRoutesOut }
+{}
+
+/// Whatever programs answer at `tag` and `price`, over every run: each destination that the router
+/// announces is one that the operator asked for, with a metric below LSInfinity, and this is what
+/// its AS-external-LSA is to say (RFC 2328, section 12.4.4).
+pub fn what_is_announced_was_asked_for()
+    ensures { WhatIsAnnouncedWasAskedFor }
+{}

@@ -1,0 +1,48 @@
+//! An operation that has its number in the history.
+ghost use Rattle.std.specs.Prelude.{◌≡◌, [], ◌∷◌, ◌++◌, drop, IfSome};
+ghost use Rattle.hooks.specs.History.{head_of};
+
+use crate::history::{Front, Head};
+use crate::operation::Operation;
+use crate::rule::ProgramWriter;
+use crate::value::Entry;
+use std::sync::Wait;
+use std::thread;
+
+/// An operation whose number in the history is taken. A number isn't given back, so a value of this type can't be
+/// dropped: who took the number appends the operation.
+pub struct Numbered {
+    entry: Entry,
+}
+
+impl Numbered {
+    /// Takes the next number for the operation. `None` where the history is longer than the front, or no number is left.
+    pub fn next(front: &Front, head: &Head, operation: Operation) -> Option<Numbered>
+        requires { head.now ≡ head_of front.now.seen.book }
+        ensures operation { IfSome result (λ n. n.entry.operation ≡ operation) }
+        ensures front { IfSome result (λ n. (n.entry.front.seen.book ≡ front.now.seen.book)
+            × (n.entry.front.seen.log ≡ front.now.seen.log ++ operation ∷ [])) }
+    {
+        let front = front.and(head, &operation)?;
+        Some(Numbered {
+            entry: Entry { operation, front },
+        })
+    }
+
+    /// Appends the operation to those that the writer publishes next. Where its place there gets no memory it tries
+    /// again, until there is some: a place that was reserved needs none.
+    pub fn append_to<R: Wait>(self, writer: &mut ProgramWriter, rt: &R)
+        ensures desk { writer.new.desk ≡ writer.old.desk }
+        ensures pending { drop writer.new.behind writer.new.log.items
+            ≡ drop writer.old.behind writer.old.log.items ++ self.entry ∷ [] }
+    {
+        let Numbered { mut entry } = self;
+        for _ in rt.forever() {
+            match writer.append(entry) {
+                Ok(()) => break,
+                Err(refused) => entry = refused,
+            }
+            thread::yield_now();
+        }
+    }
+}

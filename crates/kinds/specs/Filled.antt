@@ -1,0 +1,31 @@
+-- Stack bytes that are known to be filled: with a byte, or with a piece of a pointer.
+use Rattle.std.specs.Prelude.{◌≡◌, ℕ, ◌<◌, ◌≤◌, List, length, slice_index_or}
+use Rattle.kinds.specs.declared.state.Entry.{Entry}
+use Rattle.kinds.specs.declared.state.Entry.TheVariants as entries
+
+-- what is known of the stack from a byte on
+abbrev pub entry_in : {D : Type 0} → List (Entry D) → ℕ → Entry D
+entry_in known at = slice_index_or known at entries.Unknown
+
+-- the byte is known not to be empty
+abbrev pub IsKnownFilled : {D : Type 0} → Entry D → Type 0
+IsKnownFilled entries.Unknown = ⊥
+IsKnownFilled other = Unit {0}
+
+-- each byte from start to end is
+abbrev pub AreKnownFilled : {D : Type 0} → ℕ → ℕ → List (Entry D) → Type 0
+AreKnownFilled start end known = (at : ℕ) → start ≤ at → at < end → IsKnownFilled (entry_in known at)
+
+-- After bytes are put from start to end, of each of which `inside` is known, a byte is known to be
+-- filled if it was before; and if `inside` says so, those that were put are.
+pub record StaysFilledAt {D : Type 0} (at start end : ℕ) (inside entry after : Entry D)
+    : Type 0 where
+  pub stays : IsKnownFilled inside → IsKnownFilled entry → IsKnownFilled after
+  pub put : IsKnownFilled inside → start ≤ at → at < end → IsKnownFilled after
+
+-- the same of each byte of which something may be known
+pub record StaysFilled {D : Type 0} (start end : ℕ) (inside : Entry D)
+    (known after : List (Entry D)) : Type 0 where
+  pub long : length after ≡ length known
+  pub each : (at : ℕ) → at < length known
+      → StaysFilledAt at start end inside (entry_in known at) (entry_in after at)

@@ -1,0 +1,44 @@
+-- What the definitions of refusals say of small programs.
+use Rattle.std.specs.Prelude.{◌≡◌, ℕ, ◌<◌, List, [], ◌∷◌}
+use Rattle.isa.specs.declared.code.Slot.{Slot}
+use Rattle.isa.specs.declared.code.Slot.TheVariants.{Start}
+use Rattle.isa.specs.declared.hook.Hook.{Hook}
+use Rattle.isa.specs.declared.instruction.Instruction.TheVariants.{Exit}
+use Rattle.transfer.specs.declared.rule.Rule.{Rule}
+use Rattle.transfer.specs.declared.rule.Rule.TheVariants as rules
+use Rattle.segments.specs.Refusals.{IsFirst, MayRefuse}
+use Rattle.verifier.specs.Examples.{ended, seven, test_on}
+
+-- Of `r0 = 7; exit`: want of memory at slot 0, and at its two slots a rule of which only the domain
+-- can tell whether it is broken; none on jumps, statements, the code's end, helpers, the bound and
+-- r10.
+abbrev pub IsOfSound : ℕ → Rule → Type 0
+IsOfSound slot rules.Target = ⊥
+IsOfSound slot rules.FallsOff = ⊥
+IsOfSound slot rules.Unreached = ⊥
+IsOfSound slot rules.Unstated = ⊥
+IsOfSound slot rules.Helper = ⊥
+IsOfSound slot rules.Budget = ⊥
+IsOfSound slot rules.Frame = ⊥
+IsOfSound slot rules.Memory = slot ≡ 0
+IsOfSound slot other = slot < 2
+
+-- a sound program may be refused by no rule that the code and the statements alone can break
+abbrev pub SoundCodeIsNotNamed : Type 0
+SoundCodeIsNotNamed =
+    (hook : Hook) (slot : ℕ) (rule : Rule) → MayRefuse hook (ended seven) 0 [] slot rule
+    → IsOfSound slot rule
+
+-- `r0 = 7; if r0 == 0 goto L; L: exit`, of which nothing is stated at L
+abbrev pub unstated_code : List Slot
+unstated_code = Start seven ∷ Start test_on ∷ Start Exit ∷ []
+
+-- Its second slot breaks a rule of its own. So no rule that comes behind that one counts there, no
+-- rule on an edge either, and none at a later slot.
+pub record LaterRulesDontCount : Type 0 where
+  pub unstated : IsFirst unstated_code [] 1 rules.Unstated
+  pub kind : IsFirst unstated_code [] 1 rules.Kind → ⊥
+  pub frame : IsFirst unstated_code [] 1 rules.Frame → ⊥
+  pub within : IsFirst unstated_code [] 1 rules.NotWithin → ⊥
+  pub rank : IsFirst unstated_code [] 1 rules.Rank → ⊥
+  pub later : (rule : Rule) → IsFirst unstated_code [] 2 rule → ⊥

@@ -1,0 +1,46 @@
+-- What the definitions of an accepted program say of small ones.
+use Rattle.std.specs.Prelude.{◌≡◌, ℕ, List, [], ◌∷◌, Some, pos, slice_get}
+use Rattle.isa.specs.declared.code.Slot.{Slot}
+use Rattle.isa.specs.declared.hook.Hook.{Hook}
+use Rattle.isa.specs.declared.instruction.Instruction.TheVariants.{Load}
+use Rattle.isa.specs.declared.instruction.LoadSize.TheVariants.{Unsigned64}
+use Rattle.object.specs.declared.kind.Kind.{Kind}
+use Rattle.object.specs.declared.kind.Kind.TheVariants.{Context, Empty}
+use Rattle.object.specs.Sets.{no_bytes, with_range}
+use Rattle.object.specs.Statements.{StatementParts}
+use Rattle.kinds.specs.Stated.{GivesStated, any_number}
+use Rattle.regions.specs.declared.Region.{Region}
+use Rattle.regions.specs.declared.Region.TheVariants as regions
+use Rattle.regions.specs.Regions.{AreKeptRegions}
+use Rattle.verifier.specs.Examples.{constant_rank, ended}
+use Rattle.verifier.specs.Stated.{RunsMeetStatements}
+
+-- `r0 = *u64 r1 0; exit`
+abbrev pub loads_context : List Slot
+loads_context = ended (Load Unsigned64 0 1 (pos 0))
+
+-- its load goes into the context
+abbrev pub LoadsAreOfTheContext : Type 0
+LoadsAreOfTheContext =
+    (hook : Hook) (kept : List Region) → AreKeptRegions loads_context hook kept
+    → slice_get kept 0 ≡ Some regions.Context
+
+-- at the first slot this is said of r0 and r1, and of these bytes of the stack
+abbrev pub says_first : Kind → Kind → StatementParts
+says_first first second = record {
+  slot = 0;
+  rank = constant_rank 0;
+  kinds = first ∷ second ∷ [];
+  stack = no_bytes;
+}
+
+-- A run begins with r1 at the first byte of the context, and with nothing in r0 and on the stack:
+-- so no program is accepted that states otherwise at slot 0, whatever the domain.
+pub record StartsAsStated {D : Type 0} (contains : D → ℕ → Type 0) (gives : GivesStated D)
+    (hook : Hook) : Type 0 where
+  pub offset : RunsMeetStatements contains gives loads_context hook
+      (says_first Empty (Context 8) ∷ []) → ⊥
+  pub filled : RunsMeetStatements contains gives loads_context hook
+      (says_first any_number Empty ∷ []) → ⊥
+  pub byte : RunsMeetStatements contains gives loads_context hook
+      (record (says_first Empty Empty) { stack = with_range 0 1 no_bytes } ∷ []) → ⊥

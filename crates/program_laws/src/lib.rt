@@ -1,0 +1,46 @@
+//! Laws of the definitions of programs, each carried by a function with an empty body: of what a seat may be told, of what a refusal
+//! may name, and of what the runs of an accepted program are.
+#![tactic(auto)]
+
+ghost use Rattle.isa.specs.declared.hook.Hook.{Hook};
+ghost use Rattle.program_laws.specs.Refusals.{LaterRulesDontCount, SoundCodeIsNotNamed};
+ghost use Rattle.program_laws.specs.Runs.{LoadsAreOfTheContext, StartsAsStated};
+ghost use Rattle.program_laws.specs.Seats.{AdditionsAreRefusedLast, SeatsGrow, SeatsStayLawful};
+
+use absdom::Domain;
+
+/// What a seat's list of accesses says is so after any steps that it may make, if it was before: each read of a counter found at least what
+/// the list knew, each load of a cell what was last stored, and there are at most 2^31 additions.
+pub fn seats_stay_lawful()
+    ensures { SeatsStayLawful }
+{}
+
+/// An addition is refused only after 2^31 of them.
+pub fn additions_are_refused_last()
+    ensures { AdditionsAreRefusedLast }
+{}
+
+/// A seat's list grows by the accesses of its steps, and by nothing else.
+pub fn seats_grow()
+    ensures { SeatsGrow }
+{}
+
+/// A sound program is named by no rule that the code and its statements alone can break.
+pub fn sound_code_is_not_named()
+    ensures { SoundCodeIsNotNamed }
+{}
+
+/// Where a slot breaks one of the rules on jumps, statements and the code's end, none behind it counts there, and none at a later slot.
+pub fn later_rules_dont_count()
+    ensures { LaterRulesDontCount }
+{}
+
+/// A load by the pointer of the start goes into the context, whatever is kept at its slot.
+pub fn loads_are_of_the_context()
+    ensures { LoadsAreOfTheContext }
+{}
+
+/// No program is accepted whose first slot states what a run doesn't begin with.
+pub fn runs_start_as_stated<D: Domain>()
+    ensures { (hook : Hook) → StartsAsStated D.contains D.stated_gives hook }
+{}
