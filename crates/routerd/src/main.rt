@@ -70,10 +70,7 @@ fn stand_in(rt: &HostRuntime) -> Option<File> {
 }
 
 // Runs the router of a configuration, whose console's input is read through a buffer.
-fn run<
-    R: Input + Net + Threads + Wait + Clock + Log + Files + AllocGlobal + Sync + Drop,
-    O: Write,
->(
+fn run<R: Input + Net + Threads + Wait + Clock + Log + Files + AllocGlobal + Sync + Drop, O: Write>(
     rt: &R,
     configuration: &str,
     output: &mut O,

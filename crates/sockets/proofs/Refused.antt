@@ -15,4 +15,4 @@ pub refused_at : (interfaces : List ConfiguredInterface) (k : ℕ) (d : Configur
     → k < length interfaces → error ≡ Bind (slice_index_or interfaces k d).port → IsRefusalOf interfaces error
 refused_at interfaces k d error lt same =
     subst (IsRefusalOf interfaces) (sym same)
-      (k, lt, port_at interfaces k d (slice_index_or interfaces k d).port lt)
+    (k, lt, port_at interfaces k d (slice_index_or interfaces k d).port lt)

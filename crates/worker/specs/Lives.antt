@@ -44,7 +44,7 @@ abbrev pub IsTurned : Offers → Took → Turns
 IsTurned offers took moment work before after turned =
     TakesFor offers took moment work turned.outs.items
     × MatchOption turned.refreshed (after ≡ before + 1)
-        (λ outs. TakesFor offers took moment Refresh outs.items × (after ≡ before + 2))
+    (λ outs. TakesFor offers took moment Refresh outs.items × (after ≡ before + 2))
 
 -- what is said of a worker at the port of this number, with such a link and such a clock
 abbrev pub senses_of : {Link Clock : Type 0} → Gives Link → Hears Link → Shows Clock → Offers → Took → (number : ℕ)
@@ -56,7 +56,7 @@ senses_of gives hears shows offers took number =
 abbrev pub IsSent : {Link : Type 0} → Gives Link → (before : Link) → Turned → (after : Link) → Type 0
 IsSent gives before turned after =
     MatchOption turned.refreshed (IsGivenEach gives before turned.outs.items after)
-      (λ outs. IsGivenEach gives before (turned.outs.items ++ outs.items) after)
+    (λ outs. IsGivenEach gives before (turned.outs.items ++ outs.items) after)
 
 -- the clock showed each of these moments and nothing else, the latest first
 abbrev pub ShowsEach : {Clock : Type 0} → Shows Clock → (before : Clock) → List ℕ → (after : Clock) → Type 0
@@ -86,7 +86,7 @@ pub record Serves {Link Clock : Type 0} (senses : Senses Link Clock) (moment : �
   pub tried : IsTried senses.shows before.clock moment after.clock ended outcome
   pub given : MatchResult outcome
       (λ turned. senses.turns ended work before.events after.events turned
-          × IsSent senses.gives before.link turned after.link)
+      × IsSent senses.gives before.link turned after.link)
       (λ _. (after.link ≡ before.link) × (after.events ≡ before.events))
 
 -- ---- a round
@@ -99,7 +99,7 @@ pub record Ticks {Link Clock : Type 0} (senses : Senses Link Clock) (ticked : Op
   pub is_shown : senses.shows before.clock moment shown
   pub turn : ((ticked ≡ Some moment) × (next ≡ ticked) × (after ≡ record before { clock = shown }))
       ⊎ ((ticked ≢ Some moment) × ((ended : ℕ) × (next ≡ Some ended)
-          × Serves senses moment Tick (record before { clock = shown }) ended after))
+      × Serves senses moment Tick (record before { clock = shown }) ended after))
 
 -- a datagram came: there is a turn with it at the interface of the worker's port, at a moment that the clock showed then; or there was no
 -- memory for it, and it is lost
@@ -107,7 +107,7 @@ abbrev pub IsTurnedTo : {Link Clock : Type 0} → Senses Link Clock → (bytes :
 IsTurnedTo {Clock = Clock} senses bytes before after =
     (after ≡ before)
     ⊎ ((moment : ℕ) × (shown : Clock) × (ended : ℕ) × senses.shows before.clock moment shown
-        × Serves senses moment (Datagram senses.number bytes) (record before { clock = shown }) ended after)
+    × Serves senses moment (Datagram senses.number bytes) (record before { clock = shown }) ended after)
 
 -- what is done about what was heard
 abbrev pub IsHeard : {Link Clock : Type 0} → Senses Link Clock → Option (List ℕ) → (before after : Standing Link Clock) → Type 0

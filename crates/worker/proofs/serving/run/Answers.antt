@@ -7,11 +7,11 @@ pub loop-preserved : goal.loop-preserved
 loop-preserved g c =
     let senses = senses_of g.K.Link.gives g.K.Link.hears g.S.Seconds.shows g.B.Taker.offers g.B.Taker.took in
     let round =
-        subst (λ n. Round (senses n) c.loop.ticked
-            (record { link = c.loop.link; clock = c.loop.clock; events = c.loop.port.share.amount })
-            c.round.new.ticked
-            (record { link = c.round.new.link; clock = c.round.new.clock; events = c.round.new.port.share.amount }))
-          c.loop.invariant.number c.in-Ok.ensures.round in
+    subst (λ n. Round (senses n) c.loop.ticked
+    (record { link = c.loop.link; clock = c.loop.clock; events = c.loop.port.share.amount })
+    c.round.new.ticked
+    (record { link = c.round.new.link; clock = c.round.new.clock; events = c.round.new.port.share.amount }))
+    c.loop.invariant.number c.in-Ok.ensures.round in
     record {
       fine = search rules;
       number = search rules;
