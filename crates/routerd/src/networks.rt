@@ -147,7 +147,7 @@ impl<'a, R: Wait + Clock> Operator<'a, R> {
         }
         self.lines += 1;
         sleep(self.rt, Duration::from_millis(250));
-        if self.lines.is_multiple_of(2) {
+        if self.lines % 2 == 0 {
             "table\n"
         } else {
             "neighbors\n"
