@@ -2,7 +2,7 @@ use Rattle.std.specs.Prelude.{◌≡◌}
 use Rattle.worker.proofs.Living.{IsTriedSo}
 use Rattle.worker.proofs.serving.tried.Given as goal
 
-abbrev pub invariant-loop-tries : goal.invariant-loop-_tries
+abbrev pub invariant-loop-tries : goal.invariant-loop-tries
 invariant-loop-tries g l = record {
   events : l.port.share.amount ≡ l.initial.port.share.amount;
   number : l.port.number ≡ l.initial.port.number;
