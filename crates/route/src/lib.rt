@@ -10,7 +10,6 @@ mod crew;
 mod error;
 mod labor;
 mod lines;
-mod pairs;
 mod running;
 mod talk;
 

@@ -42,7 +42,6 @@ pub fn turn<L: Site, B: Taker<L>, G: Gate, R: Wait>(
         (λ outs. TakesFor B.offers B.took moment Work.Refresh outs.items
         × (port.new.share.amount ≡ port.old.share.amount + 2))) }
     ensures err { OnErr result (port.new.share.amount ≡ port.old.share.amount) }
-    ensures number { port.new.number ≡ port.old.number }
 {
     let changes = hub.changes();
     let event = asked(rt, hub, &mut port.asker, &mut port.seat, moment, work)?;
@@ -71,7 +70,6 @@ fn refresh<L: Site, B: Taker<L>, R: Wait>(
         TakesFor B.offers B.took moment Work.Refresh outs.items) }
     ensures share { OnOk result (port.new.share.amount ≡ port.old.share.amount + 1) }
     ensures err { OnErr result (port.new.share.amount ≡ port.old.share.amount) }
-    ensures number { port.new.number ≡ port.old.number }
 {
     let event = installation(rt, hub, &mut port.asker, &mut port.seat, moment)?;
     let share = &mut port.share;

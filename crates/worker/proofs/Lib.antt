@@ -1,4 +1,4 @@
 mod FreshSeats
 mod SeatsOf
 mod Sending
-mod Living
+mod Counted

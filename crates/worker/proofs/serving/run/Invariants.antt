@@ -1,14 +1,5 @@
 use Rattle.std.specs.Prelude.{◌≡◌, ℕ}
-use Rattle.worker.specs.Lives.{Lives, senses_of}
 use Rattle.worker.proofs.serving.run.Given as goal
 
 abbrev pub invariant-loop : goal.invariant-loop
-invariant-loop g l = record {
-  fine : ◌≡◌ {A = ℕ} (g.K.Link.faults l.link) (g.K.Link.faults l.initial.link);
-  number : l.port.number ≡ l.initial.port.number;
-  lived : (rounds : ℕ) × Lives
-      (senses_of g.K.Link.gives g.K.Link.hears g.S.Seconds.shows g.B.Taker.offers g.B.Taker.took l.initial.port.number)
-      (record { link = l.initial.link; clock = l.initial.clock; events = l.initial.port.share.amount })
-      rounds l.ticked
-      (record { link = l.link; clock = l.clock; events = l.port.share.amount });
-}
+invariant-loop g l = ◌≡◌ {A = ℕ} (g.K.Link.faults l.link) (g.K.Link.faults l.initial.link)
