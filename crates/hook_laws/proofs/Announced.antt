@@ -1,7 +1,6 @@
 -- What an event makes of the destinations that are announced: only a Redistribute adds one.
-use Rattle.std.proofs.Common.{◌≡◌, ℕ, ◌<◌, ◌≤◌, ◌⊎◌, inl, inr, Bool, true, false, cond, not, ◌&&◌, List, [], ◌∷◌, map, Option, None, Some, arith, refl, sym, ◌∙◌, ap, subst}
+use Rattle.std.proofs.Common.{◌≡◌, ℕ, ◌<◌, ◌⊎◌, inl, inr, Bool, true, false, cond, not, ◌&&◌, List, [], ◌∷◌, map, Option, None, Some, refl, sym, ◌∙◌, ap, subst}
 use Rattle.std.specs.Prelude.{◌==◌, nat_le}
-use Rattle.std.specs.List.{Contains}
 use Rattle.std.specs.FinMap as finite
 use Rattle.std.specs.Ordering.{is_eq}
 use Rattle.std.specs.declared.cmp.Ordering.{Ordering}
@@ -24,15 +23,15 @@ use Rattle.packet.specs.declared.model.Body.{Body}
 use Rattle.packet.specs.declared.model.Body.TheVariants as body
 use Rattle.packet.specs.declared.model.Packet.{Packet}
 use Rattle.received.specs.Cases.{Case}
-use Rattle.received.specs.Links.{Link, neighbor_at}
+use Rattle.received.specs.Links.{neighbor_at}
 use Rattle.received.specs.Outcomes.{on_links}
 use Rattle.received.specs.Updates.{after_case, case_at, goes_on}
-use Rattle.events.specs.Commands.{after_redistribute, after_withdraw, announce, announce_as, answered, end_want, is_announced_as, is_for, unannounce}
-use Rattle.events.specs.Endings.{describe_router, describe_router_later, end_event, is_current, links_differ, loading_done, start_event}
+use Rattle.events.specs.Commands.{after_redistribute, after_withdraw, announce, announce_as, answered, end_want, is_announced_as, is_for}
+use Rattle.events.specs.Endings.{describe_router, end_event, is_current, links_differ, loading_done, start_event}
 use Rattle.events.specs.Events.{Happens, OwnPart, Run, Step, initial}
 use Rattle.events.specs.EventState.{EventState, on_area, on_router}
 use Rattle.events.specs.Originations.{announced_body, due_keys, external_body, external_key, flush, forget_originations, has_max_sequence, has_room, is_wanted, may_originate, originate, originate_anyway, originate_body, originate_due, originate_or_flush, originate_or_wait, receive_self_originated, router_body, router_key, wait, wanted_body}
-use Rattle.events.specs.Packets.{acknowledged_by, after_lsa, after_lsas, after_packet, after_self_originated, after_unread, case_in, from_neighbor, is_heard, is_in_exchange, requested_from}
+use Rattle.events.specs.Packets.{acknowledged_by, after_lsas, after_packet, after_self_originated, after_unread, case_in, from_neighbor, is_heard, is_in_exchange, requested_from}
 use Rattle.events.specs.Routers.{Occurrence, Router, unannounced}
 use Rattle.events.specs.Ticks.{after_tick, run_out}
 use Rattle.events.specs.declared.model.Config.{Config}
@@ -300,7 +299,9 @@ ran old (s ∷ steps) new (middle, first, others) =
             | inl before ↦
                 elim (one.1 key e before) [
                   | inl earlier ↦ inl earlier
-                  | inr a ↦ inr (a.at, record {
+                  | inr a ↦ inr (
+                    a.at,
+                    record {
                       step = s;
                       among = first_is s steps;
                       tagged = a.tagged;
@@ -310,7 +311,8 @@ ran old (s ∷ steps) new (middle, first, others) =
                       is = a.is;
                       answers = a.answers;
                       below = a.below;
-                    })
+                    },
+                  )
                 ]
             | inr a ↦ inr (a.0 ∙ ap (λ own. external_key own e.prefix) one.0, later s steps e a.1)
           ],

@@ -1,2 +1,5 @@
 pub mod Announced
+pub mod Apart
+pub mod Destinations
+pub mod OneDestination
 pub mod Vetoes

@@ -1,12 +1,11 @@
 -- No part of an event looks at the answers of the last Install.
-use Rattle.std.proofs.Common.{◌≡◌, ℕ, Bool, true, false, cond, not, ◌&&◌, List, [], Option, None, Some, refl, sym, ◌∙◌, ap}
+use Rattle.std.proofs.Common.{◌≡◌, ℕ, Bool, true, false, cond, not, ◌&&◌, List, Option, None, Some, refl, sym, ◌∙◌, ap}
 use Rattle.std.specs.FinMap as finite
 use Rattle.words.specs.Numbers.{Moment}
 use Rattle.words.specs.declared.key.Key.{Key}
 use Rattle.words.specs.declared.route.Route.{Route}
 use Rattle.lsa.specs.declared.body.Body.{Body}
 use Rattle.received.specs.Links.{Link}
-use Rattle.events.specs.Commands.{after_install}
 use Rattle.events.specs.Endings.{describe_router, describe_router_later, end_event, is_current, links_differ, loading_done, remove_aged, request_all, start_event}
 use Rattle.events.specs.Events.{Happens}
 use Rattle.events.specs.EventState.{EventState, on_area, on_router}

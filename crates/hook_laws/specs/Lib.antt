@@ -1,3 +1,4 @@
 pub mod Announced
+pub mod Destinations
 pub mod Tables
 pub mod Vetoes

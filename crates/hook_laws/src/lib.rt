@@ -3,6 +3,7 @@
 #![tactic(auto)]
 
 ghost use Rattle.hook_laws.specs.Announced.{WhatIsAnnouncedWasAskedFor};
+ghost use Rattle.hook_laws.specs.Destinations.{AnswersReachOneDestination};
 ghost use Rattle.hook_laws.specs.Tables.{VetoesOnlyKeepRoutesOut};
 ghost use Rattle.hook_laws.specs.Vetoes.{VetoesAreNotHeard};
 
@@ -24,4 +25,14 @@ pub fn vetoes_only_keep_routes_out()
 /// its AS-external-LSA is to say (RFC 2328, section 12.4.4).
 pub fn what_is_announced_was_asked_for()
     ensures { WhatIsAnnouncedWasAskedFor }
+{}
+
+/// What programs answer at `tag` and `price` reaches the one destination that they are asked about:
+/// of two Redistributes of one destination at one moment with any answers, the router is afterwards
+/// the same but for what it keeps under the key of that destination's LSA. Each other copy in the
+/// database, each other destination, each other entry of a list, and each neighbor's state is the
+/// same. It supposes that no neighbor is being asked for that very LSA, and that the router-LSA has
+/// a copy.
+pub fn answers_reach_one_destination()
+    ensures { AnswersReachOneDestination }
 {}

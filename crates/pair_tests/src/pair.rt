@@ -63,7 +63,7 @@ fn converse<L: Site, M: Site, R: Wait>(
     taken && !one.is_waiting() && !other.is_waiting()
 }
 
-// At each of these moments both tick and converse. Whether all was taken.
+// A round at each of these moments: both tick, and converse. Whether all was taken.
 fn live<L: Site, M: Site, R: Wait>(
     rt: &R,
     one_hub: &Hub<L, Book<L>>,
@@ -82,7 +82,8 @@ fn live<L: Site, M: Site, R: Wait>(
     taken
 }
 
-// Both live for 30 rounds. If there is a work, the other does it then, and both live for ten more.
+// Thirty rounds and a refresh. Where the other has some work to do, it does it then, and ten more
+// rounds and a refresh follow. Whether all was taken.
 fn live_on<L: Site, M: Site, R: Wait>(
     rt: &R,
     one_hub: &Hub<L, Book<L>>,
@@ -91,15 +92,19 @@ fn live_on<L: Site, M: Site, R: Wait>(
     other: &mut Member<M>,
     work: Option<&Work>,
 ) -> bool {
-    let is_fine = live(rt, one_hub, one, other_hub, other, (0, 30));
-    let Some(work) = work else {
-        return is_fine;
-    };
-    let last = Second::new(29);
-    is_fine
-        && works(rt, other_hub, other, one, last, work)
-        && converse(rt, one_hub, one, other_hub, other, last)
-        && live(rt, one_hub, one, other_hub, other, (30, 40))
+    let (last, end) = (Second::new(29), Second::new(39));
+    let taken = live(rt, one_hub, one, other_hub, other, (0, 30))
+        && works(rt, one_hub, one, other, last, &Work::Refresh);
+    match work {
+        None => taken,
+        Some(work) => {
+            taken
+                && works(rt, other_hub, other, one, last, work)
+                && converse(rt, one_hub, one, other_hub, other, last)
+                && live(rt, one_hub, one, other_hub, other, (30, 40))
+                && works(rt, one_hub, one, other, end, &Work::Refresh)
+        }
+    }
 }
 
 // 1.1.1.1 at its worker's port.
@@ -118,7 +123,7 @@ fn other_at<L: Site>(alloc: Global, setup: Setup) -> Result<(Hub<L, Book<L>>, Me
     Ok(opened::<L>(alloc, setup, core)?)
 }
 
-// The table of 1.1.1.1 after its life beside the other, whose work after 30 rounds this is.
+// The table of 1.1.1.1 after its life beside the other, whose work after thirty rounds this is.
 fn table_beside<L: Site, M: Site, R: Wait>(
     rt: &R,
     alloc: Global,

@@ -1,2 +1,3 @@
 mod FromSome
+pub mod Longer
 mod Vetoes

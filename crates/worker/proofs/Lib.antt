@@ -2,3 +2,4 @@ mod FreshSeats
 mod SeatsOf
 mod Sending
 mod Counted
+mod Tries

@@ -1,7 +1,9 @@
 //! The loop of a worker.
-ghost use Rattle.std.specs.Prelude.{◌≡◌, ℕ, ◌+◌, ◌<◌, ◌++◌, ◌↔◌, IfOk, MatchOption, OnOk, OnErr};
+ghost use Rattle.std.specs.Prelude.{◌≡◌, ◌<◌, ◌++◌, ◌↔◌, IfOk, MatchOption, OnOk, OnErr};
 ghost use Rattle.worker.specs.Sending.{IsGivenEach};
-ghost use Rattle.turns.specs.Turns.{TakesFor};
+ghost use mathlib.Core.List.{IsPrefix};
+ghost use Rattle.hooks.specs.Known.{known_to};
+ghost use Rattle.turns.specs.Turns.{IsTurned};
 ghost use Rattle.worker.specs.declared.serving.Ended.TheVariants.{Fault, Quit};
 
 use links::{Link, LinkFault, Seconds};
@@ -127,6 +129,7 @@ fn serve<L: Site, B: Taker<L>, G: Gate, K: Link, S: Seconds, R: Wait>(
 /// A turn at the moment. Where the clock of the router is ahead of this one it is tried again, at
 /// most three times, each time at a new moment, which asks the programs anew. What it gives and how
 /// it is refused is as the last [`turn`] says; the moment is that of this last one then.
+#[tactic(auto, using(crate::proofs::Tries::turned_first, crate::proofs::Tries::known_still, crate::proofs::Tries::known_first))]
 pub fn tried<L: Site, B: Taker<L>, G: Gate, S: Seconds, R: Wait>(
     rt: &R,
     hub: &Hub<L, B>,
@@ -136,15 +139,13 @@ pub fn tried<L: Site, B: Taker<L>, G: Gate, S: Seconds, R: Wait>(
     moment: &mut Second,
     work: &Work,
 ) -> Result<Turned, TurnError>
-    ensures outs { IfOk result (λ r.
-        TakesFor B.offers B.took moment.new work.now r.outs.items) }
-    ensures refreshed { IfOk result (λ r. MatchOption r.refreshed
-        (port.new.share.amount ≡ port.old.share.amount + 1)
-        (λ outs. TakesFor B.offers B.took moment.new Work.Refresh outs.items
-        × (port.new.share.amount ≡ port.old.share.amount + 2))) }
+    ensures turned { IfOk result (λ r. IsTurned B.offers B.took (known_to port.old.asker)
+        moment.new work.now port.old.share.amount port.new.share.amount r) }
     ensures err { OnErr result (port.new.share.amount ≡ port.old.share.amount) }
+    ensures number { port.new.number ≡ port.old.number }
+    ensures known { IsPrefix (known_to port.old.asker) (known_to port.new.asker) }
 {
-    for _again in 0..3u32 {
+    for _tries in 0..3u32 {
         match turn(rt, hub, port, gate, *moment, work) {
             Err(TurnError::Book(BookError::Core(CoreError::ClockBack))) => {
                 *moment = clock.second();

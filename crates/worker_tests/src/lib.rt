@@ -20,3 +20,5 @@ mod stage;
 mod steps;
 #[cfg(test)]
 mod times;
+#[cfg(test)]
+mod watching;

@@ -5,9 +5,10 @@ ghost use Rattle.worker.specs.Opening.{IsSetUpFor};
 
 use crate::failing_links::serve;
 use crate::samples::{destination, first};
-use crate::side_by_side::{hold, tick};
+use crate::side_by_side::{Holds, hold, tick};
 use crate::stage::{Stage, Step};
 use crate::times::{follow, try_again};
+use crate::watching::watch;
 use hooks::{HookError, Loader};
 use std::alloc::Global;
 use std::marker::Brand;
@@ -33,9 +34,11 @@ pub enum Scene<'a> {
     /// The worker at interface 1 runs by a clock that shows these moments, one a round, and hears
     /// nothing.
     Clock(&'a [u64]),
-    /// A Hello at moment 5 is held at the gate of port 1, until port 2 has ticked at each moment
-    /// from 5 to below this.
-    Held(u64),
+    /// A turn of port 1 at moment 5 is held at its gate, until port 2 has ticked at each moment from
+    /// 5 to below this.
+    Held(Holds, u64),
+    /// A datagram at interface 1 is counted before its turn passes the gate.
+    Watched,
 }
 
 /// What is seen in the end.
@@ -82,7 +85,8 @@ fn act<L: Site + Send + Sync, R: Threads + Wait + Clock + Abort + Sync, Q: Wait 
         Scene::Ticks(until) => Ok((tick(rt, hub, &mut stage.first, 0, until), 0)),
         Scene::Tries(moments) => Ok((try_again(rt, alloc, hub, &mut stage.first, moments)?, 0)),
         Scene::Clock(moments) => Ok(follow(rt, alloc, hub, &mut stage.first, moments)?),
-        Scene::Held(until) => Ok((hold(rt, alloc, hub, stage, until)?, 0)),
+        Scene::Held(held, until) => Ok((hold(rt, alloc, hub, stage, held, until)?, 0)),
+        Scene::Watched => Ok((0, 0)),
     }
 }
 
@@ -127,6 +131,9 @@ fn play_on<L: Site + Send + Sync, R: Threads + Wait + Clock + Abort + Sync, Q: W
     requires { history_of loader ≡ L.history }
 {
     let (console, first, second) = three(ports).ok_or("three ports")?;
+    if let Scene::Watched = scene {
+        return Ok((watch(rt, alloc, hub, first, second, loader)?, 0));
+    }
     let mut stage = Stage {
         console,
         first,
@@ -180,7 +187,7 @@ pub fn ends<R: Threads + Wait + Clock + Abort + Sync>(
 ) -> Result<(), Fail> {
     let end = play(rt, alloc, scene)?;
     let again = match scene {
-        Scene::Held(_) => end.status == 6,
+        Scene::Held(_, _) => end.status == 6,
         _ => end != wanted,
     };
     if !again {
@@ -188,8 +195,7 @@ pub fn ends<R: Threads + Wait + Clock + Abort + Sync>(
         return Ok(());
     }
     for _time in 0..2u32 {
-        let end = play(rt, alloc, scene)?;
-        assert_eq!(rt; end, wanted, "{scene:?}");
+        assert_eq!(rt; play(rt, alloc, scene)?, wanted, "{scene:?}");
     }
     Ok(())
 }

@@ -3,4 +3,4 @@ use Rattle.turns.proofs.taker.BookTaker.take.Goals as goal
 
 pub returns-clause-ok : goal.returns-clause-ok
 returns-clause-ok g c =
-    sent_by_some (λ outs. outs.items) c.args.moment c.args.event.now c.args.self.now.current c.apply_anew.new.self.current c.apply_anew.result c.apply_anew.ensures.ok
+    sent_by_some (λ outs. outs.items) c.args.moment c.taken_at-at.result c.args.event.now c.args.self.now.current c.apply_anew.new.self.current c.apply_anew.result c.apply_anew.ensures.ok

@@ -1,0 +1,76 @@
+-- What programs at `tag` and `price` can do: decide about the one destination that they are asked
+-- about. Of two routers that differ in their answers alone, all else stays the same.
+use Rattle.std.specs.Prelude.{◌≡◌, ℕ, Bool, true, false, List, map, Option, None, Some}
+use Rattle.std.specs.List.{list_any}
+use Rattle.std.specs.FinMap as finite
+use Rattle.std.specs.FinSet as set
+use Rattle.words.specs.Numbers.{Moment}
+use Rattle.words.specs.declared.key.Key.{Key}
+use Rattle.words.specs.declared.route.External.{External}
+use Rattle.lsdb.specs.Copies.{Database, DatabaseCopy}
+use Rattle.lsdb.specs.Headers.{lsa_key}
+use Rattle.adjacency.specs.Asked.{was_requested}
+use Rattle.adjacency.specs.Neighbors.{Neighbor}
+use Rattle.received.specs.Links.{Link}
+use Rattle.events.specs.Events.{Happens}
+use Rattle.events.specs.Originations.{external_key, router_key}
+use Rattle.events.specs.Routers.{Occurrence, Router}
+use Rattle.events.specs.declared.model.Out.{Out}
+
+-- ---- all that isn't kept under a key
+
+-- a neighbor, but for the key's entry of its retransmission list, and for when that list was last
+-- sent
+abbrev pub neighbor_without : Key → Neighbor → Neighbor
+neighbor_without key n = record n {
+  retransmissions = finite.remove n.retransmissions key;
+  retransmitted_at = 0;
+}
+
+abbrev pub neighbor_on_without : Key → Option Neighbor → Option Neighbor
+neighbor_on_without key None = None
+neighbor_on_without key (Some n) = Some (neighbor_without key n)
+
+abbrev pub link_without : Key → Link → Link
+link_without key link = record link { neighbor = neighbor_on_without key link.neighbor }
+
+-- a router, but for what it keeps under the key: the copy in its database, the destination, whether
+-- an instance waits, when one was originated, and entries of retransmission lists
+abbrev pub router_without : Key → Router → Router
+router_without key r = record r {
+  area = record {
+    links = map (link_without key) r.area.links;
+    database = finite.remove r.area.database key;
+  };
+  announced = finite.remove r.announced key;
+  waiting = set.remove r.waiting key;
+  originated = finite.remove r.originated key;
+}
+
+-- ---- two answers
+
+-- some neighbor is still asked for the LSA of this key
+abbrev pub is_requested : Key → List Link → Bool
+is_requested key links = list_any (λ link. was_requested key link.neighbor) links
+
+-- the copy stands under the key of its LSA, as all do in a router that runs
+abbrev pub IsUnderItsKey : Key → Database → Type 0
+IsUnderItsKey key database =
+    (c : DatabaseCopy) → finite.get database key ≡ Some c → lsa_key c.lsa ≡ key
+
+-- Two Redistributes of one destination at one moment, with any answers. No neighbor is being asked
+-- for the LSA, whose flooding may end that neighbor's Loading; and the router-LSA has its place in
+-- the database, which the external LSA can't take then.
+abbrev pub AnswersReachOneDestination : Type 0
+AnswersReachOneDestination =
+    (old : Router) (moment : Moment) (destination : External)
+    (tagged others : External) (tag price another_tag another_price : ℕ)
+    (outs these : List Out) (new next : Router)
+    → is_requested (external_key old.id destination.prefix) old.area.links ≡ false
+    → finite.contains_key old.area.database (router_key old.id) ≡ true
+    → IsUnderItsKey (external_key old.id destination.prefix) old.area.database
+    → Happens old moment (Occurrence.Redistribute tagged tag destination price) outs new
+    → Happens old moment
+    (Occurrence.Redistribute others another_tag destination another_price) these next
+    → router_without (external_key old.id destination.prefix) new
+    ≡ router_without (external_key old.id destination.prefix) next
