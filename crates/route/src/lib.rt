@@ -10,6 +10,7 @@ mod crew;
 mod error;
 mod labor;
 mod lines;
+mod pairs;
 mod running;
 mod talk;
 
