@@ -45,7 +45,7 @@ impl Ended {
 ///
 /// A refused turn sends nothing. After a fault in the midst of a turn's outs the event stands, and
 /// the later outs aren't sent.
-#[tactic(auto, using(crate::proofs::Living::has_lived))]
+#[tactic(auto, using(crate::proofs::Living::has_lived, crate::proofs::Tries::known_first))]
 pub fn run<L: Site, B: Taker<L>, G: Gate, K: Link, S: Seconds, R: Wait>(
     rt: &R,
     alloc: Global,
@@ -90,6 +90,7 @@ pub fn run<L: Site, B: Taker<L>, G: Gate, K: Link, S: Seconds, R: Wait>(
 }
 
 // A round: first the time, and then the link. `ticked` is the moment of the last Tick.
+#[tactic(auto, using(crate::proofs::Tries::known_still))]
 fn round<L: Site, B: Taker<L>, G: Gate, K: Link, S: Seconds, R: Wait>(
     rt: &R,
     alloc: Global,
