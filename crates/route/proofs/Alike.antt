@@ -36,4 +36,4 @@ paired f g every ports first links is h k e =
     let numbers : CountDownTo 0 (map f (ports ++ first ∷ [])) = subst (λ l. CountDownTo 0 (map f l)) is h in
     let many : length every ≡ length ports + 1 = ap length is ∙ length-append ports (first ∷ []) in
     let as_many : length ports ≡ length links = omega (arith, many, e) in
-    counted_same 1 (map f ports) (map g links) (length-map f ports ∙ as_many ∙ sym (length-map g links)) (counted_off f 0 ports first numbers).1 k
+    counted_same 1 (map f ports) (map g links) (length-map ports f ∙ as_many ∙ sym (length-map links g)) (counted_off f 0 ports first numbers).1 k
