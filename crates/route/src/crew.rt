@@ -92,7 +92,6 @@ fn in_scope<
 }
 
 // Starts the others, lets the operator talk at the last port, and joins them after it.
-#[tactic(auto, using(crate::proofs::Alike::paired))]
 fn crew<
     's,
     E,
