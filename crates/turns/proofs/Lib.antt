@@ -1,3 +1,4 @@
+mod Counted
 mod FromSome
 pub mod Longer
 mod Vetoes

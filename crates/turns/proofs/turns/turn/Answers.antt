@@ -6,6 +6,6 @@ pub returns-clause-turned : goal.returns-clause-turned
 returns-clause-turned g c = record {
   outs = (c.in_ok-event.event, c.in_ok-event.ensures.event, c.in_ok-taken.ensures.ok);
   refreshed =
-      follows (known_to c.args.port.now.asker) _ c.in_ok-event.ensures.known (λ outs. outs.items) g.B.offers g.B.took c.args.moment
+      follows (known_to c.args.port.now.asker) _ c.in_ok-event.ensures.known (λ outs. outs.items) g.B.Taker.offers g.B.Taker.took c.args.moment
       _ _ _ c.follow-refreshed.result c.in_ok-taken.ensures.share c.follow-refreshed.ensures.refreshed;
 }

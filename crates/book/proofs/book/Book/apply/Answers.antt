@@ -23,7 +23,7 @@ invariant_of-self-2 g c =
           (let P : List Entry → Type 0 = λ l. Replays c.self.inside.start l after in
           subst P (sym grown) (replays_on _ journal _ _ (entry c.args.moment copy) _ kept.replays happened));
       weighed =
-          c.with_event.ensures ∙ (ap (λ n. with_event n c.args.event.now) kept.weighed
+          c.with_event-self-inside.ensures ∙ (ap (λ n. with_event n c.args.event.now) kept.weighed
           ∙ (ap (λ (e : Event). with_event (bytes_of journal) e) (sym c.in_ok-event_copy.ensures)
           ∙ (sym (bytes_with journal (entry c.args.moment copy)) ∙ ap bytes_of (sym grown))));
       room = search rules;
