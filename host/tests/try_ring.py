@@ -218,6 +218,13 @@ def marked_next(box: Box, prefix: str) -> str:
     return ""
 
 
+def uses_third_wire(it: Ring) -> bool:
+    """Whether the kernels of 3.3.3.3 and 4.4.4.4 send to each other's hosts by the link between
+    them: Full comes seconds before, as router-LSAs are five seconds apart."""
+    there, back = kernel_next(it.boxes[2], "172.16.4.2"), kernel_next(it.boxes[3], "172.16.3.2")
+    return (there, back) == ("right", "left")
+
+
 def ring_cut(it: Ring, looks: Looks) -> None:
     """The link between two boxes: once with its carrier, once without a sign."""
     for what, cut, mend, most in (
@@ -234,6 +241,7 @@ def ring_cut(it: Ring, looks: Looks) -> None:
             DEAD_INTERVAL + 3,
         ),
     ):
+        looks.timed("both of its ends send by it", COMES_UP, lambda: uses_third_wire(it))
         cut()
         looks.timed(what, most, lambda: it.is_connected(0.4))
         mend()
