@@ -2,6 +2,7 @@
 meet. See `try-network`."""
 from __future__ import annotations
 
+import re
 import sys
 import time
 from collections.abc import Callable
@@ -65,6 +66,7 @@ class Line:
         self.frr.gateway = "172.16.2.9"
         sides = [Side("to-bird", to_bird), Side("to-frr", to_frr)]
         self.box = Box(self.network, given.routerd, box, "box", router_id, sides)
+        self._started = 0.0
 
     def give(self, count: int) -> None:
         """So many externals for each of the three."""
@@ -77,6 +79,17 @@ class Line:
         self.is_started()
         self.bird.start()
         self.frr.start()
+        self._started = time.time()
+
+    def full_after(self) -> float | None:
+        """How many seconds after all were started the box logged its second neighbor as Full; None
+        before. On a busy machine it takes seconds to ask BIRD and FRR."""
+        moments = {}
+        for line in self.box.log_lines():
+            found = re.fullmatch(r"(\S+ \S+) info: (\S+): \S+ \S+ -> Full", line)
+            if found:
+                moments[found[2]] = datetime.fromisoformat(found[1]).timestamp()
+        return max(0.0, max(moments.values()) - self._started) if len(moments) == 2 else None
 
     def is_started(self) -> bool:
         return within(60, lambda: self.box.ask("neighbors")) is not None
@@ -133,8 +146,12 @@ def described(given: Try, what: str, router_id: str, mtu: int, has_keys: bool, c
     it.give(count)
     it.start()
     looks = given.looks
-    if not looks.timed(f"{what}: both neighbors Full within 10 s", 10, it.is_up):
-        print(f"     {it.box.neighbors()} {it.bird.neighbors()} {it.frr.neighbors()}")
+    within(60, lambda: it.full_after() is not None)
+    took = it.full_after()
+    measured = "never" if took is None else f"after {took:.0f} s, by the box's log"
+    good = took is not None and took <= 10
+    looks.look(f"{what}: both neighbors Full within 10 s", good, measured)
+    looks.timed("and so BIRD and FRR say", 60, it.is_up)
     looks.timed(
         f"the same {3 * count + 3} LSAs, with equal sequence numbers, at all three",
         60,
