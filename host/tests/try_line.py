@@ -46,6 +46,7 @@ class Line:
         mtu: int = 1500,
         has_keys: bool = False,
         is_wired: bool = False,
+        dead: int = DEAD_INTERVAL,
     ) -> None:
         self.network = given.network
         bird, box, frr = (self.network.namespace(each) for each in ("bird", "box", "frr"))
@@ -58,13 +59,19 @@ class Line:
             self.network.link(End(name, "d0", address), End(name, "d1", "172.31.0.1/32"))
         to_bird, to_frr = ((SHA,), (MD5,)) if has_keys else ((), ())
         self.bird = Bird(
-            self.network, bird, "2.2.2.2", [Side("eth1", to_bird), Side("d0", is_passive=True)]
+            self.network,
+            bird,
+            "2.2.2.2",
+            [Side("eth1", to_bird, dead=dead), Side("d0", is_passive=True)],
         )
         self.frr = Frr(
-            self.network, frr, "3.3.3.3", [Side("eth1", to_frr), Side("d0", is_passive=True)]
+            self.network,
+            frr,
+            "3.3.3.3",
+            [Side("eth1", to_frr, dead=dead), Side("d0", is_passive=True)],
         )
         self.frr.gateway = "172.16.2.9"
-        sides = [Side("to-bird", to_bird), Side("to-frr", to_frr)]
+        sides = [Side("to-bird", to_bird, dead=dead), Side("to-frr", to_frr, dead=dead)]
         self.box = Box(self.network, given.routerd, box, "box", router_id, sides)
         self._started = 0.0
 
@@ -166,13 +173,14 @@ def described(given: Try, what: str, router_id: str, mtu: int, has_keys: bool, c
 
 
 def losing(given: Try) -> None:
-    """3,000 LSAs at each of the three over links that lose a fifth of all packets."""
+    """3,000 LSAs at each of the three over links that lose a fifth of all packets; RouterDeadInterval
+    20, since of four Hellos in a row all are lost too often."""
     for mtu, router_id, role in ((1500, "1.1.1.1", "slave"), (9000, "9.9.9.9", "master")):
         anew(given, lambda: lossy(given, mtu, router_id, role))
 
 
 def lossy(given: Try, mtu: int, router_id: str, role: str) -> None:
-    it, count, looks = Line(given, router_id, mtu, True, True), 3_000, given.looks
+    it, count, looks = Line(given, router_id, mtu, True, True, 20), 3_000, given.looks
     it.give(count)
     it.network.wire("loss", 20)
     it.start()
