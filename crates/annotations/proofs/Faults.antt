@@ -4,6 +4,7 @@ use Rattle.isa.specs.declared.hook.Hook.{Hook}
 use Rattle.annotations.specs.declared.shortfall.Shortfall.{Shortfall}
 use Rattle.annotations.specs.declared.shortfall.Shortfall.TheVariants as shortfalls
 use Rattle.object.specs.Objects.{ObjectParts}
+use Rattle.object.specs.Spelling.{Spells}
 use Rattle.verifier.specs.Programs.{Program}
 use Rattle.annotations.specs.Annotated.{HasCode, IsAnnotated, IsAnnotation, IsCodeAnnotation}
 use Rattle.annotations.specs.Verdict.{IsFileShortfall, IsNoVerdict, IsShortfall, IsTurnsShortfall}
@@ -53,3 +54,9 @@ file_annotation hook turns file text object bytes accepted has h = record { text
 pub plain_annotation : (hook : Hook) (turns : Option ℕ) (text : List ℕ) (object : ObjectParts) (bytes : List ℕ) (accepted : Program)
     → IsAnnotated hook text object bytes accepted → IsCodeAnnotation hook turns text object bytes accepted
 plain_annotation hook turns text object bytes accepted h = record { written = text; code_is = inl refl; annotated = h }
+
+-- the same of an object's file
+pub of_the_object : (hook : Hook) (turns : Option ℕ) (file text : List ℕ) (object : ObjectParts) (s : Shortfall)
+    → Spells file object → object.hook ≡ hook → object.code ≡ text → IsTurnsShortfall hook turns text s → IsFileShortfall hook turns file s
+of_the_object hook turns file text object s spells same_hook same_code h =
+    of_the_file hook turns file text s (inl (record { object = object; spells = spells; same_hook = same_hook; same_code = same_code })) h

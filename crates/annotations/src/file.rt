@@ -57,7 +57,7 @@ fn annotate_bare(
 }
 
 /// The same for a file that has to be an object.
-#[tactic(auto, using(crate::proofs::Faults::file_annotation, crate::proofs::Faults::of_the_file))]
+#[tactic(auto, using(crate::proofs::Faults::file_annotation, crate::proofs::Faults::of_the_object))]
 fn annotate_object(
     alloc: Global,
     hook: Hook,

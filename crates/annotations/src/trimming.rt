@@ -1,5 +1,5 @@
 //! Statements without the known bits that the verifier does without.
-ghost use Rattle.std.specs.Prelude.{IfOk, IfErr};
+ghost use Rattle.std.specs.Prelude.{◌≤◌, IfOk, IfErr};
 ghost use Rattle.annotations.specs.Annotated.{IsAnnotated};
 ghost use Rattle.annotations.specs.Verdict.{IsNoVerdict};
 
@@ -90,8 +90,28 @@ fn retried(
     }
 }
 
+/// The object without the known bits that the verifier does without, of one statement after the other.
+fn one_by_one(
+    alloc: Global,
+    hook: Hook,
+    bytes: &[u8],
+    annotated: Annotated,
+    count: usize,
+) -> Result<Annotated, Shortfall>
+    requires few { count ≤ 4096 }
+    requires annotated { IsAnnotated hook bytes.now annotated.object annotated.bytes.items annotated.accepted }
+    ensures accepted { IfOk result (λ a. IsAnnotated hook bytes.now a.object a.bytes.items a.accepted) }
+    ensures fault { IfErr result IsNoVerdict }
+{
+    let mut annotated = annotated;
+    for place in 0..count {
+        annotated = retried(alloc, hook, bytes, annotated, place, place + 1)?;
+    }
+    Ok(annotated)
+}
+
 /// The object without the known bits that the verifier does without: of all statements, or of one after
-/// the other.
+/// the other where there are few.
 pub fn without_idle_bits(
     alloc: Global,
     hook: Hook,
@@ -103,11 +123,9 @@ pub fn without_idle_bits(
     ensures fault { IfErr result IsNoVerdict }
 {
     let count = annotated.object.statements().len();
-    let mut annotated = retried(alloc, hook, bytes, annotated, 0, count)?;
-    if count <= MOST_TRIES {
-        for place in 0..count {
-            annotated = retried(alloc, hook, bytes, annotated, place, place + 1)?;
-        }
+    let annotated = retried(alloc, hook, bytes, annotated, 0, count)?;
+    if count > MOST_TRIES {
+        return Ok(annotated);
     }
-    Ok(annotated)
+    one_by_one(alloc, hook, bytes, annotated, count)
 }

@@ -1,11 +1,13 @@
 -- A journal with one more event.
 use Rattle.std.proofs.Common.{◌≡◌, List, [], ◌∷◌, ◌++◌, map, sym, subst, refl, ap, ◌∙◌}
 use Rattle.std.proofs.lemmas.List.{map-append}
+use Rattle.std.proofs.lemmas.List.Sums.{fold-append}
 use Rattle.events.specs.declared.model.Out.{Out}
 use Rattle.events.specs.Events.{Happens, Run, Step}
 use Rattle.events.specs.Routers.{Router}
 use Rattle.flood.specs.Occurrences.{occurrence_of}
 use Rattle.book.specs.declared.entry.Entry.{Entry}
+use Rattle.book.specs.Bytes.{bytes_of, with_event}
 use Rattle.book.specs.Replay.{Replays, entered, happened}
 
 abbrev step : Entry → List Out → Step
@@ -30,3 +32,7 @@ pub replays_on : (start : Router) (journal : List Entry) (before after : Router)
     → Replays start (journal ++ e ∷ []) after
 replays_on start journal before after e outs (steps, same, run) now =
     (steps ++ step e outs ∷ [], same_on steps journal (step e outs) e same refl, run_on steps start before after (step e outs) run now)
+
+-- the bytes of a journal with one more event
+pub bytes_with : (journal : List Entry) (e : Entry) → bytes_of (journal ++ e ∷ []) ≡ with_event (bytes_of journal) e.event
+bytes_with journal e = fold-append (λ bytes (x : Entry). with_event bytes x.event) 0 journal (e ∷ [])

@@ -2,6 +2,8 @@
 pub use Rattle.flood.specs.Occurrences
 pub use Rattle.flood.specs.Offers
 pub use Rattle.flood.specs.declared.event.Event
+pub use Rattle.adjacency.specs.declared.state.State
+pub mod Bytes
 pub mod Replay
 pub mod Refusals
 pub mod Numbers

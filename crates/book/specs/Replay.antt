@@ -1,11 +1,12 @@
 -- A journal, and what it says of a router.
-use Rattle.std.specs.Prelude.{◌≡◌, ◌⊎◌, ℕ, ◌≤◌, List, [], ◌∷◌, ◌++◌, length, map}
+use Rattle.std.specs.Prelude.{◌≡◌, ◌⊎◌, ℕ, ◌<◌, ◌≤◌, List, [], ◌∷◌, ◌++◌, length, map}
 use Rattle.words.specs.Numbers.{Moment}
 use Rattle.events.specs.Events.{Run, Step}
 use Rattle.events.specs.Routers.{Occurrence, Router}
 use Rattle.flood.specs.declared.event.Event.{Event}
 use Rattle.flood.specs.Occurrences.{occurrence_of}
 use Rattle.book.specs.declared.entry.Entry.{Entry}
+use Rattle.book.specs.Bytes.{bytes_of}
 
 abbrev pub entry : Moment → Event → Entry
 entry moment event = record { moment = moment; event = event }
@@ -40,20 +41,26 @@ started core = record { start = core; journal = []; current = core; taken = 0 }
 abbrev pub marked : BookView → BookView
 marked b = record b { start = b.current; journal = [] }
 
--- it is the same book, or the one that was marked
-abbrev pub IsSameOrMarked : (old new : BookView) → Type 0
-IsSameOrMarked old new = (new ≡ old) ⊎ (new ≡ marked old)
+-- the journal is full: it holds 65,536 events, or events of more than 64 MiB
+abbrev pub IsDue : BookView → Type 0
+IsDue b = (length b.journal ≡ 65536) ⊎ (67108864 < bytes_of b.journal)
 
--- the entry stands last in the journal, which goes on or was emptied by a mark before
+-- it is the same book; or the one that was marked, which only a book is whose journal is full
+abbrev pub IsSameOrMarked : (old new : BookView) → Type 0
+IsSameOrMarked old new = (new ≡ old) ⊎ (IsDue old × (new ≡ marked old))
+
+-- the entry stands last in the journal, which goes on; or, where the journal was full, alone in one
+-- that was emptied by a mark before
 abbrev pub IsNoted : (old : BookView) → Entry → (new : BookView) → Type 0
 IsNoted old e new =
     ((new.start ≡ old.start) × (new.journal ≡ old.journal ++ e ∷ []))
-    ⊎ ((new.start ≡ old.current) × (new.journal ≡ e ∷ []))
+    ⊎ (IsDue old × (new.start ≡ old.current) × (new.journal ≡ e ∷ []))
 
 -- what holds of the fields of every book, beside the total of its ledger
-pub record IsKept (start : Router) (journal : List Entry) (now : Router) (taken total : ℕ)
-    : Type 0 where
+pub record IsKept (start : Router) (journal : List Entry) (now : Router)
+    (noted taken total : ℕ) : Type 0 where
   pub replays : Replays start journal now
+  pub weighed : noted ≡ bytes_of journal
   pub room : length journal ≤ 65536
   pub few : taken ≤ 9223372036854775808
   pub counted : taken ≡ total

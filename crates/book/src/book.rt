@@ -1,14 +1,16 @@
 //! The book itself: an event is taken, and the book starts anew.
 ghost use Rattle.std.specs.Prelude.{◌≡◌, ℕ, ◌+◌, ◌^◌, ◌<◌, ◌≤◌, [], ◌∷◌, ◌++◌, ◌↔◌, length, IfOk};
-ghost use Rattle.std.specs.Prelude.{IsTrue, OnOk, OnErr};
+ghost use Rattle.std.specs.Prelude.{IsTrue, None, OnOk, OnErr};
 ghost use Rattle.events.specs.Events.{Happens};
 ghost use Rattle.flood.specs.Occurrences.{occurrence_of};
+ghost use Rattle.flood.specs.Early.{early_refusal};
 ghost use Rattle.flood.specs.Offers.{IsStaleNow};
 ghost use Rattle.book.specs.Refusals.{Answers, AnswersAnew};
 ghost use Rattle.book.specs.Replay.{IsNoted, IsSameOrMarked, Replays, entry, marked, started};
 
 use crate::entry::Entry;
 use crate::error::BookError;
+use crate::weight::with_event;
 use flood::{Core, Event, Out};
 use std::alloc::{AllocError, Global};
 use std::marker::Model;
@@ -26,9 +28,6 @@ pub const TAKEN: u64 = 1 << 63;
 /// How many bytes the journal's events may hold before [`Book::apply_anew`] starts it anew, 64 MiB.
 pub const NOTED: u64 = 64 << 20;
 
-/// The bytes that an entry takes beside what its event holds elsewhere, or more.
-const ENTRY: u64 = 256;
-
 /// A router with its past: the router at the start, the events since, and the router as it is now.
 ///
 /// Clauses see these and how many events were taken in all, before the start too. `L` is the ledger
@@ -39,7 +38,7 @@ pub struct Book<L: Ledger> {
     start: Core,
     current: Core,
     journal: Vec<Entry>,
-    // The bytes of the journal, or more.
+    // The bytes that the journal's events take.
     noted: u64,
     taken: u64,
     total: ledger::Book<L>,
@@ -74,7 +73,7 @@ impl<L: Ledger> Model for Book<L> {
       taken = b.taken;
     } };
 
-    ghost invariant = { λ b. IsKept b.start b.journal.items b.current b.taken b.total.total };
+    ghost invariant = { λ b. IsKept b.start b.journal.items b.current b.noted b.taken b.total.total };
 }
 
 impl<L: Ledger> Book<L> {
@@ -147,10 +146,7 @@ impl<L: Ledger> Book<L> {
         self.journal.reserve(1)?;
         let event_copy = event.copy()?;
         let outs = self.current.step(moment, event)?;
-        self.noted = self
-            .noted
-            .saturating_add(event.weight())
-            .saturating_add(ENTRY);
+        self.noted = with_event(self.noted, event);
         self.journal.push_reserved(Entry {
             moment,
             event: event_copy,
@@ -175,12 +171,13 @@ impl<L: Ledger> Book<L> {
         Ok(())
     }
 
-    // Marks a book whose journal is full, or whose events hold more than 64 MiB. Only a full
-    // journal's mark is refused where it gets no memory.
+    // Marks a book whose journal holds 65,536 events, or events of more than 64 MiB. Only the first
+    // is refused where it gets no memory.
     fn make_room(&mut self) -> Result<(), AllocError>
         ensures book { IsSameOrMarked self.old self.new }
         ensures room { OnOk result (length self.new.journal < 65536) }
-        ensures err { OnErr result (self.new ≡ self.old) }
+        ensures err { OnErr result
+            ((self.new ≡ self.old) × (length self.old.journal ≡ 65536)) }
     {
         if self.journal.len() == JOURNAL {
             return self.mark();
@@ -195,7 +192,8 @@ impl<L: Ledger> Book<L> {
     /// journal is full, or where its events hold more than 64 MiB. So `Journal` is answered only
     /// where 2^63 events were taken.
     ///
-    /// A mark stands, whether the event is taken or not. A mark that is made for the journal's
+    /// A mark stands, whether the event is taken or not. None is made where the event is refused
+    /// for its moment or its interface, which needs no memory. A mark that is due for the journal's
     /// bytes alone refuses nothing where it gets no memory: the journal grows on.
     pub fn apply_anew(
         &mut self,
@@ -211,6 +209,8 @@ impl<L: Ledger> Book<L> {
         ensures share { OnOk result (mine.new.amount ≡ mine.old.amount + 1) }
         ensures parts { mine.new.parts ≡ mine.old.parts }
         ensures refused { AnswersAnew self.old moment event.now result }
+        ensures early { (early_refusal self.old.current moment (occurrence_of event.now) ≡ None → ⊥)
+            → self.new ≡ self.old }
         ensures err { OnErr result
             (IsSameOrMarked self.old self.new × (mine.new.amount ≡ mine.old.amount)) }
     {

@@ -8,6 +8,7 @@
 mod book;
 mod entry;
 mod error;
+mod weight;
 
 pub use book::{Book, JOURNAL, NOTED, TAKEN};
 pub use entry::Entry;

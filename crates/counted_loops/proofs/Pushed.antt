@@ -28,16 +28,16 @@ detours-append counter at (h ∷ heads) head =
     ∙ ap (λ n. detours counter at (h ∷ heads) ++ detour counter n head) place
 
 -- a loop that has pushed one slot more
-pub one_more_slot : (slots : ℕ) (heads : List ℕ) (code : List Slot) (i : ℕ) (d : Slot) (out before after : List Slot) → i < length code
-    → before ≡ out ++ redirected_from slots heads 0 (take i code) → after ≡ before ++ slots_at slots heads i (get_or code i d)
+pub one_more_slot : (slots : ℕ) (heads : List ℕ) (code : List Slot) (i : ℕ) (s d : Slot) (out before after : List Slot) → i < length code
+    → get_or code i d ≡ s → before ≡ out ++ redirected_from slots heads 0 (take i code) → after ≡ before ++ slots_at slots heads i s
     → after ≡ out ++ redirected_from slots heads 0 (take (i + 1) code)
-one_more_slot slots heads code i d out before after lt so_far pushed =
-    let s : Slot = get_or code i d in
+one_more_slot slots heads code i s d out before after lt is so_far pushed =
     let done : List Slot = redirected_from slots heads 0 (take i code) in
     let within : i ≤ length code = omega arith in
     let place : 0 + length (take i code) ≡ i = zero-add (length (take i code)) ∙ length-take-le i code within in
+    let taken : take (i + 1) code ≡ take i code ++ s ∷ [] = take_more code i d lt ∙ ap (λ x. take i code ++ x ∷ []) is in
     let more : redirected_from slots heads 0 (take (i + 1) code) ≡ done ++ slots_at slots heads i s =
-    ap (λ xs. redirected_from slots heads 0 xs) (take_more code i d lt) ∙ redirected-append slots heads 0 (take i code) s
+    ap (λ xs. redirected_from slots heads 0 xs) taken ∙ redirected-append slots heads 0 (take i code) s
     ∙ ap (λ n. done ++ slots_at slots heads n s) place in
     pushed ∙ ap (λ t. t ++ slots_at slots heads i s) so_far ∙ append_assoc out done (slots_at slots heads i s) ∙ ap (λ t. out ++ t) (sym more)
 

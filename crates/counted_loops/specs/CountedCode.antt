@@ -67,16 +67,21 @@ place_of heads slot (Some to) =
 abbrev pub detour_at : ℕ → ℕ → ℕ
 detour_at slots place = slots + 1 + 4 * place
 
--- the instruction, which goes to the detour of its head instead, if it jumps back to one
-abbrev pub redirected : ℕ → ℕ → Instruction → Option ℕ → Instruction
-redirected slots slot i None = i
-redirected slots slot i (Some place) =
-    with_distance i (distance_between (slot + 1) (detour_at slots place))
+-- how far it is from this slot to the detour
+abbrev pub distance_of : ℕ → ℕ → Option ℕ → Option ℤ
+distance_of slots slot None = None
+distance_of slots slot (Some place) = Some (distance_between (slot + 1) (detour_at slots place))
 
--- An instruction with its second half, if it has one: which is nothing more where it stands itself.
+-- the instruction, to this distance if there is one
+abbrev pub redirected : Instruction → Option ℤ → Instruction
+redirected i None = i
+redirected i (Some distance) = with_distance i distance
+
+-- An instruction with its second half, if it has one; where that stands, there is nothing more. A jump
+-- back to a head goes to the head's detour instead.
 abbrev pub slots_at : ℕ → List ℕ → ℕ → Slot → List Slot
 slots_at slots heads slot (Start i) =
-    slots_of (redirected slots slot i (place_of heads slot (jump_target slot i)))
+    slots_of (redirected i (distance_of slots slot (place_of heads slot (jump_target slot i))))
 slots_at slots heads slot SecondHalf = []
 
 -- the code from this slot on

@@ -1,7 +1,7 @@
 //! Counted code.
 ghost use Rattle.std.specs.Prelude.{◌≡◌, ◌==◌, ◌+◌, ◌*◌, ◌<◌, ◌≤◌, ◌++◌, IfOk, OnOk, length, position};
 ghost use Rattle.isa.specs.Flow.{jump_target};
-ghost use Rattle.counted_loops.specs.CountedCode.{IsCounted, detour, detour_at, detours, distance_between, place_of, redirected, redirected_from, slots_at, with_distance, with_number};
+ghost use Rattle.counted_loops.specs.CountedCode.{IsCounted, detour, detour_at, detours, distance_between, distance_of, place_of, redirected, redirected_from, slots_at, with_distance, with_number};
 
 use crate::error::CountError;
 use crate::registers::unnamed;
@@ -91,25 +91,50 @@ fn detour_at(slots: usize, place: usize) -> usize
     slots + 1 + 4 * place
 }
 
-/// The instruction, which goes to the detour of its head instead, if it jumps back to one.
-fn redirected(
+/// How far the jump of an instruction at the slot goes to the detour of its head, if it jumps back to one.
+fn distance_of(
     slots: usize,
     heads: &[usize],
     slot: usize,
-    instruction: Instruction,
-) -> Result<Instruction, CountError>
+    instruction: &Instruction,
+) -> Result<Option<i16>, CountError>
     requires slots { slots ≤ 4096 }
     requires slot { slot < 4096 }
     requires few { length heads.now ≤ 4096 }
-    ensures { IfOk result (λ i. i ≡ redirected slots slot instruction (place_of heads.now slot (jump_target slot instruction))) }
+    ensures { IfOk result (λ d. d ≡ distance_of slots slot (place_of heads.now slot (jump_target slot instruction.now))) }
 {
-    match place_of(heads, slot, jump_of(slot, &instruction)) {
-        Some(place) => {
-            let distance = distance_between(slot + 1, detour_at(slots, place))?;
-            Ok(with_distance(instruction, distance))
-        }
-        None => Ok(instruction),
+    match place_of(heads, slot, jump_of(slot, instruction)) {
+        Some(place) => Ok(Some(distance_between(slot + 1, detour_at(slots, place))?)),
+        None => Ok(None),
     }
+}
+
+/// The instruction, to this distance if there is one.
+fn redirected(instruction: &Instruction, distance: Option<i16>) -> Instruction
+    ensures { result ≡ redirected instruction.now distance }
+{
+    match distance {
+        Some(distance) => with_distance(*instruction, distance),
+        None => *instruction,
+    }
+}
+
+/// Adds the instruction, which goes to the detour of its head instead, if it jumps back to one.
+fn push_redirected(
+    builder: &mut CodeBuilder,
+    slots: usize,
+    heads: &[usize],
+    slot: usize,
+    instruction: &Instruction,
+) -> Result<(), CountError>
+    requires slots { slots ≤ 4096 }
+    requires slot { slot < 4096 }
+    requires few { length heads.now ≤ 4096 }
+    ensures { OnOk result (builder.new ≡ builder.old ++ slots_at slots heads.now slot (Slot.Start instruction.now)) }
+{
+    let distance = distance_of(slots, heads, slot, instruction)?;
+    builder.push(redirected(instruction, distance))?;
+    Ok(())
 }
 
 /// Adds the instruction that begins at the slot, if one does.
@@ -118,18 +143,15 @@ fn push_slot(
     slots: usize,
     heads: &[usize],
     slot: usize,
-    place: Slot,
+    place: &Slot,
 ) -> Result<(), CountError>
     requires slots { slots ≤ 4096 }
     requires slot { slot < 4096 }
     requires few { length heads.now ≤ 4096 }
-    ensures { OnOk result (builder.new ≡ builder.old ++ slots_at slots heads.now slot place) }
+    ensures { OnOk result (builder.new ≡ builder.old ++ slots_at slots heads.now slot place.now) }
 {
     match place {
-        Slot::Start(instruction) => {
-            builder.push(redirected(slots, heads, slot, instruction)?)?;
-            Ok(())
-        }
+        Slot::Start(instruction) => push_redirected(builder, slots, heads, slot, instruction),
         Slot::SecondHalf => Ok(()),
     }
 }
@@ -141,7 +163,7 @@ fn push_code(builder: &mut CodeBuilder, code: &Code, heads: &[usize]) -> Result<
 {
     let slots = code.len();
     for (slot, place) in code.slots().iter().enumerate() {
-        push_slot(builder, slots, heads, slot, *place)?;
+        push_slot(builder, slots, heads, slot, place)?;
     }
     Ok(())
 }

@@ -1,5 +1,6 @@
 //! What a worker receives and sends through, and its clock.
-ghost use Rattle.std.specs.Prelude.{◌≡◌, ℕ, ◌<◌, ◌≤◌, List, IfOk, IfSome, OnOk, OnErr};
+ghost use Rattle.std.specs.Prelude.{◌≡◌, ℕ, ◌<◌, ◌≤◌, List, Option, IfOk, IfSome, OnOk, OnErr};
+ghost use Rattle.links.specs.Datagrams.{datagram_in};
 
 use words::Second;
 
@@ -10,30 +11,38 @@ pub struct LinkFault {}
 /// What a worker receives and sends through. It counts its faults: each call that failed, and none
 /// that didn't.
 ///
-/// What it says of bytes that it was given to send is left open here: whoever sends, proved for any
-/// link, can say it only by the call itself, with that interface and those bytes.
+/// What it says of bytes that it was given to send, and of what it heard, is left open here: whoever
+/// sends or hears, proved for any link, can say it only by the call itself, with that interface and
+/// those bytes.
 pub trait Link {
     ghost faults: { Self → ℕ };
 
     ghost gives: { Self → ℕ → List ℕ → Self → Type 0 };
+
+    ghost hears: { Self → Option (List ℕ) → Self → Type 0 };
 
     /// The length of a datagram, which stands at the buffer's front, or none where none came within
     /// a second. A datagram longer than the buffer is cut to 8,193 bytes, one more than a packet
     /// may have.
     fn receive(&mut self, buffer: &mut [u8; 8193]) -> Result<Option<usize>, LinkFault>
         ensures length { IfOk result (λ n. IfSome n (λ n. n ≤ 8193)) }
+        ensures heard { IfOk result (λ n. hears self.old (datagram_in buffer.new n) self.new) }
         ensures fine { OnOk result (faults self.new ≡ faults self.old) }
         ensures fault { OnErr result (faults self.old < faults self.new) };
 
-    /// Tells whether the bytes were sent at the interface of this number; if not, a send would have
-    /// waited.
+    /// Tells whether the bytes were sent at the interface of this number; if not, they are lost: a
+    /// send would have waited, or was refused for a reason that is the packet's or its way's.
     fn send(&mut self, interface: u16, bytes: &[u8]) -> Result<bool, LinkFault>
         ensures given { OnOk result (gives self.old interface bytes.now self.new) }
         ensures fine { OnOk result (faults self.new ≡ faults self.old) }
         ensures fault { OnErr result (faults self.old < faults self.new) };
 }
 
-/// A clock of whole seconds.
+/// A clock of whole seconds. What it says of the second that it showed is left open here: only who
+/// asked it can say it.
 pub trait Seconds {
-    fn second(&mut self) -> Second;
+    ghost shows: { Self → ℕ → Self → Type 0 };
+
+    fn second(&mut self) -> Second
+        ensures { shows self.old result self.new };
 }

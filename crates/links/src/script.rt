@@ -90,6 +90,9 @@ impl<'a> Script<'a> {
 impl<'a> Link for Script<'a> {
     ghost faults = { λ s. s.faults };
 
+    // Hearing sends nothing.
+    ghost hears = { λ s _ t. t.sent ≡ s.sent };
+
     // At most one datagram more was sent.
     ghost gives = { λ s interface bytes t. t.sent ≤ s.sent + 1 };
 
@@ -128,6 +131,11 @@ impl Times {
 }
 
 impl Seconds for Times {
+    ghost use Rattle.std.specs.Prelude.{⊤};
+
+    // Its moments are those of the list, which may fall.
+    ghost shows = { λ _ _ _. ⊤ };
+
     fn second(&mut self) -> Second {
         let at = self.played;
         self.played = at.saturating_add(1);

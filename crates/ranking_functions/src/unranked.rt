@@ -64,8 +64,9 @@ impl<'a> Graph<'a> {
         failed: Option<usize>,
     ) -> Result<Unranked, AllocError> {
         let mut unranked = vec![in self.alloc; false; self.nodes()]?;
-        for passed in 0..self.sites.len() {
-            let head = self.sites.len() - 1 - passed;
+        let count = self.sites.len();
+        for passed in 0..count {
+            let head = count - 1 - passed;
             if self.sites.is_head(head) && self.is_unranked(plan, &unranked, head)? {
                 put(&mut unranked, head, true);
             }

@@ -1,9 +1,11 @@
 //! The workers on threads of their own, the console beside them, and back.
-ghost use Rattle.std.specs.Prelude.{◌≡◌, ◌+◌, All, length, vec_len, IfOk};
+ghost use Rattle.std.specs.Prelude.{◌≡◌, ◌+◌, All, length, map, vec_len, IfOk};
+ghost use Rattle.links.specs.Descending.{CountDownTo};
 ghost use Rattle.maps.specs.Words.{IsOf};
 ghost use Rattle.worker.specs.Opening.{IsSetUpFor};
 
 use crate::labor::{Workers, work};
+use crate::pairs::next_pair;
 use crate::talk::{Console, talk};
 use log::Log;
 use operator::Desk;
@@ -20,7 +22,7 @@ use worker::{Book, Closed, Core, Hub, Port, Setup, Site, close_hub, open_hub};
 
 /// Lets each worker run on a thread with a port of its own, and the operator on this thread at port
 /// 0, until the operator is done. Every thread is joined before it answers, whatever it answers.
-/// There is a link for each port but the operator's. The book took just as many events as all
+/// There is a link for each port but the operator's: port n's receives at interface n. The book took just as many events as all
 /// shares count; the shared words come back with all their seats, as
 /// [`Shared::close`](maps::Shared::close) asks for them.
 ///
@@ -44,6 +46,7 @@ pub fn side_by_side<
 ) -> Result<Closed<L>, AllocError>
     requires setup { IsSetUpFor L.name L.parts L.words L.history setup }
     requires links { vec_len setup.seats ≡ vec_len links + 1 }
+    requires interfaces { CountDownTo 1 (map (λ l. l.own) links.items) }
     ensures taken { IfOk result (λ r.
         (r.taken ≡ r.share.amount) × (r.share.parts ≡ L.parts)) }
     ensures seats { IfOk result (λ r.
@@ -71,14 +74,18 @@ fn in_scope<
     desk: &mut Desk<L, Q, Sockets<'_>, SystemSeconds<'_, S>>,
     console: &mut Console<'_, S, I, O>,
 ) -> Result<Vec<Port<L>>, AllocError>
-    requires { vec_len ports ≡ vec_len links + 1 }
+    requires links { vec_len ports ≡ vec_len links + 1 }
+    requires numbers { CountDownTo 0 (map (λ p. p.number) ports.items) }
+    requires interfaces { CountDownTo 1 (map (λ l. l.own) links.items) }
     ensures { IfOk result (λ back. vec_len back ≡ vec_len ports) }
 {
     thread::scope(
         thread::scope_env(),
         rt,
         |scope| -> Result<Vec<Port<L>>, AllocError>
-            requires { vec_len ports ≡ vec_len links + 1 }
+            requires links { vec_len ports ≡ vec_len links + 1 }
+            requires numbers { CountDownTo 0 (map (λ p. p.number) ports.items) }
+            requires interfaces { CountDownTo 1 (map (λ l. l.own) links.items) }
             ensures { IfOk result (λ back. vec_len back ≡ vec_len ports) }
         { crew(scope, rt, hub, workers, links, desk, console, ports) },
     )
@@ -104,7 +111,9 @@ fn crew<
     console: &mut Console<'_, S, I, O>,
     ports: Vec<Port<L>>,
 ) -> Result<Vec<Port<L>>, AllocError>
-    requires { vec_len ports ≡ vec_len links + 1 }
+    requires links { vec_len ports ≡ vec_len links + 1 }
+    requires numbers { CountDownTo 0 (map (λ p. p.number) ports.items) }
+    requires interfaces { CountDownTo 1 (map (λ l. l.own) links.items) }
     ensures { IfOk result (λ back. vec_len back ≡ vec_len ports) }
 {
     let mut ports = ports;
@@ -118,8 +127,8 @@ fn crew<
     joined(rt, running, first, back)
 }
 
-// A thread for each port, each with the last link. Where one can't be started the others are told
-// to end.
+// A thread for each port, each with the link that receives at the interface of its number. Where one
+// can't be started the others are told to end.
 fn started<'s, E, L: Site + Send + Sync, R: Threads + Wait + Clock + Log + Sync>(
     scope: &Scope<'s, E>,
     hub: &'s Hub<L, Book<L>>,
@@ -127,18 +136,17 @@ fn started<'s, E, L: Site + Send + Sync, R: Threads + Wait + Clock + Log + Sync>
     links: Vec<Sockets<'s>>,
     ports: Vec<Port<L>>,
 ) -> Result<Vec<JoinHandle<Port<L>>>, AllocError>
-    requires { vec_len ports ≡ vec_len links }
+    requires { map (λ p. p.number) ports.items ≡ map (λ l. l.own) links.items }
     ensures { IfOk result (λ running. vec_len running ≡ vec_len ports) }
 {
     let (mut ports, mut links) = (ports, links);
     let mut running = Vec::with_capacity(workers.alloc, ports.len())?;
     let (clock, memory) = (workers.rt, workers.alloc);
     let (quit, failed) = (&workers.quit, &workers.failed);
-    while let Some(port) = ports.pop() {
-        let Some(link) = links.pop() else {
-            unreachable!()
-        };
-        let life = move || work(clock, memory, link, quit, failed, hub, port);
+    while let Some((port, link)) = next_pair(&mut ports, &mut links) {
+        let life = move || -> Port<L>
+            requires { port.number ≡ link.own }
+        { work(clock, memory, link, quit, failed, hub, port) };
         let Ok(thread) = scope.spawn(life) else {
             workers.quit.store(true, Ordering::SeqCst);
             return Err(AllocError);

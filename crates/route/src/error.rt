@@ -1,5 +1,6 @@
 //! Why a router doesn't run.
-ghost use Rattle.std.specs.Prelude.{◌≤◌};
+ghost use Rattle.std.specs.Prelude.{◌≡◌};
+ghost use Rattle.route.specs.Statuses.{status_of};
 
 use console::ConfigurationError;
 use hooks::HookError;
@@ -33,7 +34,7 @@ pub enum RouteError {
 impl RouteError {
     /// The status that the program ends with: 1 refused, 3 a socket or a stream, 4 memory.
     pub fn status(&self) -> u8
-        ensures { result ≤ 4 }
+        ensures { result ≡ status_of self.now }
     {
         match self {
             RouteError::Configuration(_) | RouteError::Hooks(_) => 1,

@@ -1,4 +1,6 @@
 //! What the threads of the interfaces do.
+ghost use Rattle.std.specs.Prelude.{◌≡◌};
+
 use log::{Level, Log, Logged, warn};
 use sockets::{Sockets, SystemSeconds};
 use std::alloc::Global;
@@ -18,8 +20,8 @@ pub struct Workers<'a, R> {
     pub failed: AtomicBool,
 }
 
-/// What a worker does with its port and its link, on a thread of its own, before it brings the port
-/// back. `failed` is set where its socket failed, which a warning tells.
+/// What a worker does with its port and the link that receives at the port's interface, on a thread
+/// of its own, before it brings the port back. `failed` is set where its socket failed, which a warning tells.
 pub fn work<L: Site, R: Wait + Clock + Log>(
     rt: &R,
     alloc: Global,
@@ -28,7 +30,9 @@ pub fn work<L: Site, R: Wait + Clock + Log>(
     failed: &AtomicBool,
     hub: &Hub<L, Book<L>>,
     port: Port<L>,
-) -> Port<L> {
+) -> Port<L>
+    requires { port.number ≡ link.own }
+{
     let (mut port, mut link) = (port, link);
     let mut clock = SystemSeconds::new(rt);
     let ended = run(

@@ -9,6 +9,8 @@
 mod crew;
 mod error;
 mod labor;
+mod lines;
+mod pairs;
 mod running;
 mod talk;
 

@@ -1,5 +1,6 @@
 //! A router from its configuration to its end.
-ghost use Rattle.std.specs.Prelude.{◌≡◌, ◌⊎◌, ◌≤◌, ◌+◌, IfOk, IsTrue, if◌then◌else◌, vec_len};
+ghost use Rattle.std.specs.Prelude.{◌≡◌, ◌⊎◌, ◌≤◌, ◌+◌, IfOk, IsTrue, if◌then◌else◌, map, vec_len};
+ghost use Rattle.links.specs.Descending.{CountDownTo};
 ghost use Rattle.hooks.specs.Known.{history_of};
 ghost use Rattle.worker.specs.Opening.{IsSetUpFor};
 
@@ -7,14 +8,14 @@ use crate::crew::side_by_side;
 use crate::error::RouteError;
 use crate::labor::Workers;
 use crate::talk::Console;
-use console::{Configured, read_configuration, totals_text};
-use events::Config;
+use console::{Configured, ConfiguredInterface, read_configuration, totals_text};
+use events::{Config, Interface};
 use hooks::Loader;
 use links::Seconds;
 use log::Log;
 use operator::{Desk, Outlet};
 use sockets::{Sockets, SystemSeconds, Wire, bind_each, listening};
-use std::alloc::Global;
+use std::alloc::{AllocError, Global};
 use std::io::{BufRead, Write};
 use std::marker::{Brand, PhantomData};
 use std::net::Net;
@@ -26,20 +27,36 @@ use std::time::Clock;
 use words::Sequence;
 use worker::{Closed, ConfigError, Core, Setup, Site};
 
-// The router of a configuration, from the clock's second on.
-fn config_of<R: Clock>(
-    rt: &R,
+// The interfaces of a configuration, without their ports.
+fn interfaces_of(
     alloc: Global,
-    configured: &Configured,
-) -> Result<Config, RouteError> {
+    configured: &[ConfiguredInterface],
+) -> Result<Sequence<Interface>, AllocError>
+    ensures { IfOk result (λ r. r ≡ map (λ c. c.interface) configured.now) }
+{
     let mut interfaces = Vec::new(alloc);
-    for configured in configured.interfaces.as_slice() {
+    for configured in configured {
         interfaces.push(configured.interface)?;
     }
+    Ok(Sequence::from_vec(interfaces))
+}
+
+// The router of a configuration, from the second on that the clock shows.
+fn config_of<C: Seconds>(
+    alloc: Global,
+    clock: &mut C,
+    configured: &Configured,
+) -> Result<Config, RouteError>
+    ensures start { IfOk result (λ config. C.shows clock.old config.start clock.new) }
+    ensures router { IfOk result (λ config. config.router ≡ configured.now.router) }
+    ensures interfaces { IfOk result (λ config.
+        config.interfaces ≡ map (λ c. c.interface) configured.now.interfaces) }
+{
+    let interfaces = interfaces_of(alloc, configured.interfaces.as_slice())?;
     Ok(Config {
         router: configured.router,
-        start: SystemSeconds::new(rt).second(),
-        interfaces: Sequence::from_vec(interfaces),
+        start: clock.second(),
+        interfaces,
     })
 }
 
@@ -90,6 +107,7 @@ fn run_crew<
 ) -> Result<u8, RouteError>
     requires setup { IsSetUpFor L.name L.parts L.words L.history setup }
     requires links { vec_len setup.seats ≡ vec_len links + 1 }
+    requires interfaces { CountDownTo 1 (map (λ l. l.own) links.items) }
     ensures ended { IfOk result (λ status. (status ≡ 0) ⊎ (status ≡ 3)) }
     ensures own { IsTrue desk.new.outlet.failed → IfOk result (λ status. status ≡ 3) }
 {
@@ -129,6 +147,7 @@ fn run_all<
     requires setup { IsSetUpFor L.name L.parts L.words L.history setup }
     requires history { history_of loader ≡ L.history }
     requires links { vec_len setup.seats ≡ vec_len links + 1 }
+    requires interfaces { CountDownTo 1 (map (λ l. l.own) links.items) }
     ensures ended { IfOk result (λ status. (status ≡ 0) ⊎ (status ≡ 3)) }
 {
     let alloc = rt.alloc();
@@ -165,8 +184,8 @@ fn run_all<
     run_crew(rt, setup, config, &workers, links, &mut desk, &mut console)
 }
 
-/// Runs this router over these sockets, that of the first interface last, and over one of the
-/// console's own, as [`run_router`] does.
+/// Runs this router over these links, one for each interface and that of the first one last, and over
+/// one of the console's own, as [`run_router`] does.
 ///
 /// # Errors
 ///
@@ -187,6 +206,7 @@ pub fn operate<
     input: &'x mut I,
     output: &'x mut O,
 ) -> Result<u8, RouteError>
+    requires { CountDownTo 1 (map (λ l. l.own) links.items) }
     ensures ended { IfOk result (λ status. (status ≡ 0) ⊎ (status ≡ 3)) }
 {
     let ports = links.len().saturating_add(1);
@@ -208,7 +228,8 @@ fn run_over<
 ) -> Result<u8, RouteError>
     ensures ended { IfOk result (λ status. (status ≡ 0) ⊎ (status ≡ 3)) }
 {
-    let config = config_of(rt, rt.alloc(), configured)?;
+    let mut clock = SystemSeconds::new(rt);
+    let config = config_of(rt.alloc(), &mut clock, configured)?;
     let links = listening(rt, rt.alloc(), wires)?;
     operate(
         rt,

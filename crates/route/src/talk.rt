@@ -1,8 +1,8 @@
 //! The console: lines in, lines out, at port 0.
+use crate::lines::{Given, next_line};
 use links::{Link, Seconds};
 use operator::{Desk, Told};
-use std::alloc::Global;
-use std::io::{BufRead, ErrorKind, Write};
+use std::io::{BufRead, Write};
 use std::rt::Files;
 use std::sync::Wait;
 use worker::{Book, Hub, Port, Site};
@@ -17,47 +17,6 @@ pub struct Console<'a, S, I, O> {
     pub mute: bool,
     /// The input can't be read: the console ends.
     pub deaf: bool,
-}
-
-// What the input gave.
-#[derive(Drop)]
-enum Given {
-    Line(String),
-    // There was no memory for the line, which is passed over.
-    Memory,
-    End,
-    Failed,
-}
-
-// What is left of a line for which there was no memory is passed over.
-fn pass_over<I: BufRead>(input: &mut I) -> Given {
-    match input.skip_until(b'\n') {
-        Ok(_) => Given::Memory,
-        Err(_) => Given::Failed,
-    }
-}
-
-// The next line. One that isn't UTF-8 is empty here: neither is a command.
-fn next_line<I: BufRead>(alloc: Global, input: &mut I) -> Given {
-    let mut bytes = Vec::new(alloc);
-    match input.read_until(b'\n', &mut bytes) {
-        Ok(0) => Given::End,
-        Ok(_) => match String::from_utf8(bytes) {
-            Ok(line) => Given::Line(line),
-            Err(_) => Given::Line(String::new(alloc)),
-        },
-        Err(error) => match error.kind() {
-            ErrorKind::OutOfMemory => pass_over(input),
-            _ => Given::Failed,
-        },
-    }
-}
-
-fn without_line_feed(line: &str) -> &str {
-    match line.strip_suffix('\n') {
-        Some(text) => text,
-        None => line,
-    }
 }
 
 // Reads a line, does what it asks for, and answers. Tells whether there is more to come.
@@ -76,7 +35,7 @@ fn obey_next<
     console: &mut Console<'_, S, I, O>,
 ) -> bool {
     let told = match next_line(desk.alloc, console.input) {
-        Given::Line(line) => desk.obey(console.rt, hub, port, without_line_feed(line.as_str())),
+        Given::Line(line) => desk.obey(console.rt, hub, port, line.as_str()),
         Given::Memory => Some(Told::Memory),
         Given::End => None,
         Given::Failed => {

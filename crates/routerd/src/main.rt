@@ -5,19 +5,29 @@
 #[cfg(test)]
 mod failing_sockets;
 #[cfg(test)]
-mod pair;
+mod networks;
 #[cfg(test)]
 mod refusals;
+#[cfg(test)]
+mod refused_sends;
 #[cfg(test)]
 mod sessions;
 
 use commands::{Routing, program};
+use log::Log;
 use route::RouteError;
 use std::alloc::{AllocError, Global};
 use std::cell::OnceCell;
-use std::io::{BufRead, Write};
+use std::fs::File;
+use std::io::{BufRead, BufReader, Write};
+use std::net::Net;
+use std::os::fd::AsRawFd;
 use std::process::ExitCode;
-use std::{env, io};
+use std::rt::Files;
+use std::sync::Wait;
+use std::thread::Threads;
+use std::time::Clock;
+use std::{env, fs, io};
 
 /// The configuration of the router that the words ask for. `main` runs it, which alone has this
 /// machine's threads.
@@ -33,16 +43,51 @@ impl Routing for Asked {
         if kept.push_str(text).is_ok() && self.configuration.set(kept).is_ok() {
             return 0;
         }
-        match writeln!(output, "{}", RouteError::Memory) {
-            Ok(()) => RouteError::Memory.status(),
-            Err(_) => RouteError::Output.status(),
-        }
+        tell(&RouteError::Memory, output)
+    }
+}
+
+// Tells why there is no router, and answers the status.
+fn tell<O: Write>(error: &RouteError, output: &mut O) -> u8 {
+    match writeln!(output, "{error}") {
+        Ok(()) => error.status(),
+        Err(_) => RouteError::Output.status(),
+    }
+}
+
+// A file that stands where a standard stream is closed: the null device, which can be read, and has
+// no bytes; it can't be written. None where descriptors 0 to 2 are taken.
+fn stand_in(rt: &HostRuntime) -> Option<File> {
+    let file = match fs::open(rt, "/dev/null") {
+        Ok(file) => file,
+        Err(_) => fs::open(rt, "/").ok()?,
+    };
+    if file.as_raw_fd() <= 2 {
+        Some(file)
+    } else {
+        None
+    }
+}
+
+// Runs the router of a configuration, whose console's input is read through a buffer.
+fn run<R: Input + Net + Threads + Wait + Clock + Log + Files + AllocGlobal + Sync + Drop, O: Write>(
+    rt: &R,
+    configuration: &str,
+    output: &mut O,
+) -> u8 {
+    match BufReader::new(rt.alloc(), rt.reader()) {
+        Ok(mut input) => route::route(rt, configuration, &mut input, output),
+        Err(_) => tell(&RouteError::Memory, output),
     }
 }
 
 /// Hands the arguments and the standard streams to the program, runs the router that they ask for,
 /// if they do, and ends with the status.
+///
+/// A standard stream that was closed at the start has the null device in its place to the end: else
+/// a socket or a file that is opened would get its number, and a datagram would be a console's line.
 fn main(rt: HostRuntime) -> ExitCode {
+    let _stand_ins = (stand_in(&rt), stand_in(&rt), stand_in(&rt));
     let mut input = rt.reader();
     let mut output = io::writer(&rt);
     let mut errors = rt.stderr();
@@ -65,7 +110,7 @@ fn main(rt: HostRuntime) -> ExitCode {
         Err(error) => { program::end_without_words(rt.alloc(), &error, &mut output, &mut errors) }
     };
     let status = match asked.configuration.get() {
-        Some(text) => route::route(&rt, text.as_str(), &mut input, &mut output),
+        Some(text) => run(&rt, text.as_str(), &mut output),
         None => status,
     };
     ExitCode::from(status)

@@ -1,8 +1,9 @@
 //! One router with a console: what each line is answered.
 use log::Log;
 use route::route;
+use std::alloc::{AllocError, Global};
 use std::fs;
-use std::io::Cursor;
+use std::io::{self, BufReader, Cursor, ErrorKind, Read};
 use std::net::Net;
 use std::rt::Files;
 use std::sync::Wait;
@@ -30,6 +31,10 @@ const UNKNOWN: &[u8] =
 const COUNTING: &[u8] =
     b"BPFH\x01\x03\x00\x00\x00\x00\x00\x00\x05\x00\x00\x00\xb7\x01\x00\x00\x05\x00\x00\x00\xb7\x02\x00\x00\x03\x00\x00\x00\x85\x00\x00\x00\x01\x00\x00\x00\xb7\x00\x00\x00\x14\x00\x00\x00\x95\x00\x00\x00\x00\x00\x00\x00";
 
+/// That of `r0 = 16777215; exit` at `price`: LSInfinity, which keeps a destination back.
+const WITHHOLDING: &[u8] =
+    b"BPFH\x01\x03\x00\x00\x00\x00\x00\x00\x02\x00\x00\x00\xb7\x00\x00\x00\xff\xff\xff\x00\x95\x00\x00\x00\x00\x00\x00\x00";
+
 /// The lines of a session, and what they are answered.
 #[derive(Clone, Copy)]
 struct Session {
@@ -55,6 +60,17 @@ const SESSIONS: &[Session] = &[
         lines: b"counters\nattach counting\nadd 203.0.113.0/24 10 2 0\ncounters\nquit\n",
         answers: b"end\nattached price bound 5\noriginated\ncounter 5 3\nend\ncounter 5 3\n",
     },
+    // A price of LSInfinity keeps a destination back, and a longer prefix of an address that is
+    // announced clashes with it.
+    Session {
+        lines: b"attach withholding\nadd 203.0.113.0/24 20 2 0\ndetach price\nadd 203.0.113.0/24 20 2 0\nadd 203.0.113.0/25 20 2 0\nquit\n",
+        answers: b"attached price bound 2\nwithheld\ndetached price\noriginated\nrefused 3\n",
+    },
+    // A directory and a device are no regular files.
+    Session {
+        lines: b"attach .\nattach /dev/null\nattach /dev/zero\nquit\n",
+        answers: b"cannot read .\ncannot read /dev/null\ncannot read /dev/zero\n",
+    },
 ];
 
 // The status of a router with this configuration, and what it printed.
@@ -76,11 +92,71 @@ fn each_line_is_answered(rt: HostRuntime) -> Result<(), Fail> {
     fs::write(&rt, "unknown", UNKNOWN)?;
     fs::write(&rt, "empty", EMPTY)?;
     fs::write(&rt, "prose", "r0 = 1; exit")?;
+    fs::write(&rt, "withholding", WITHHOLDING)?;
     for session in SESSIONS {
         let (status, printed) = routed(&rt, ONE, session.lines);
         assert_eq!(rt; printed.as_slice(), session.answers);
         assert_eq!(rt; status, 0);
     }
+    Ok(())
+}
+
+/// Its sockets are of other ports, as another test may run beside this one.
+const LONG: &str =
+    "router 1.1.1.1\ninterface 1 10.0.1.1/24 cost 10 hello 10 dead 40 rxmt 5 delay 1 port 27109 peer 27110\n";
+
+// A line of so many letters, and `table`.
+fn long_line(alloc: Global, length: usize) -> Result<Vec<u8>, AllocError> {
+    let mut lines = Vec::new(alloc);
+    for _letter in 0..length {
+        lines.push(b'x')?;
+    }
+    lines.extend_from_slice(b"\ntable\n")?;
+    Ok(lines)
+}
+
+// A line is answered once, however long it is.
+#[test]
+fn a_long_line_is_answered_once(rt: HostRuntime) -> Result<(), Fail> {
+    for length in [4_095, 4_096, 4_097, 4_098, 8_193, 100_000] {
+        let (status, printed) = routed(&rt, LONG, &long_line(rt.alloc(), length)?);
+        let answers = b"unknown\n10.0.1.0/24 intra 10 via 0\nend\n";
+        assert_eq!(rt; printed.as_slice(), answers.as_slice(), "{length}");
+        assert_eq!(rt; status, 0);
+    }
+    Ok(())
+}
+
+// An input that fails after one line.
+#[derive(Drop)]
+struct Broken {
+    is_read: bool,
+}
+
+impl Read for Broken {
+    fn read(&mut self, buffer: &mut [u8]) -> io::Result<usize> {
+        let line = b"table\n";
+        if self.is_read || buffer.len() < line.len() {
+            return Err(io::Error::from(ErrorKind::InvalidData));
+        }
+        self.is_read = true;
+        buffer[..line.len()].copy_from_slice(line);
+        Ok(line.len())
+    }
+}
+
+/// Its sockets are of other ports again.
+const BROKEN: &str =
+    "router 1.1.1.1\ninterface 1 10.0.1.1/24 cost 10 hello 10 dead 40 rxmt 5 delay 1 port 27111 peer 27112\n";
+
+#[test]
+fn an_input_that_fails_ends_it_with_status_3(rt: HostRuntime) -> Result<(), Fail> {
+    let mut input = BufReader::new(rt.alloc(), Broken { is_read: false })?;
+    let mut output = Vec::new(rt.alloc());
+    let status = route(&rt, BROKEN, &mut input, &mut output);
+    let answers = b"10.0.1.0/24 intra 10 via 0\nend\n";
+    assert_eq!(rt; output.as_slice(), answers.as_slice());
+    assert_eq!(rt; status, 3);
     Ok(())
 }
 

@@ -4,7 +4,7 @@ use crate::trials::refuses_at;
 use std::test::Fail;
 
 /// A program, and the slot and the rule of its refusal.
-const FIRST: [(&str, usize, u8); 12] = [
+const FIRST: [(&str, usize, u8); 13] = [
     // r1 is a pointer, which no helper takes; but there is no helper 9, and none of number 3 at `veto`
     ("hook veto; rank 0; call 9; exit", 0, 9),
     ("hook veto; rank 0; call 3; exit", 0, 9),
@@ -44,6 +44,12 @@ const FIRST: [(&str, usize, u8); 12] = [
         11,
     ),
     ("hook tag; rank 0; L: exit; state L rank 1", 0, 12),
+    // the jump leads to where nothing is stated, and the next slot's edge lacks r2
+    (
+        "hook tag; rank 0; r0 = *u8 r1 16; if r0 > 100 goto +1; N: exit; exit; state N rank 0; with r2 any",
+        1,
+        4,
+    ),
     // a statement at the second half of a wide instruction
     ("hook tag; rank 0; r0 = wide 1; exit; state 1 rank 0", 1, 1),
     // a register that may wrap is no rank that falls

@@ -27,6 +27,11 @@ fn whole_seconds<R: Clock>(rt: &R) -> Option<u64> {
 }
 
 impl<'a, R: Clock> Seconds for SystemSeconds<'a, R> {
+    ghost use Rattle.std.specs.Prelude.{◌≡◌};
+
+    // It never falls.
+    ghost shows = { λ before second after. (before.last ≤ second) × (after.last ≡ second) };
+
     fn second(&mut self) -> Second {
         if let Some(now) = whole_seconds(self.rt) {
             if now > self.last {

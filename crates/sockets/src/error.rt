@@ -1,4 +1,7 @@
 //! Why there are no sockets.
+ghost use Rattle.std.specs.Prelude.{◌≡◌};
+ghost use Rattle.sockets.specs.declared.error.SocketError.TheVariants.{Memory};
+
 use std::alloc::{AllocError, AllocFailed};
 use thiserror::Error;
 
@@ -17,12 +20,16 @@ pub enum SocketError {
 }
 
 impl From<AllocError> for SocketError {
+    ghost from_gives = { λ _ error. error ≡ Memory };
+
     fn from(_error: AllocError) -> SocketError {
         SocketError::Memory
     }
 }
 
 impl<T: Drop> From<AllocFailed<T>> for SocketError {
+    ghost from_gives = { λ _ error. error ≡ Memory };
+
     fn from(_error: AllocFailed<T>) -> SocketError {
         SocketError::Memory
     }

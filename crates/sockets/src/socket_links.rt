@@ -1,51 +1,21 @@
-//! UDP sockets of 127.0.0.1, one for each interface: any worker sends at each of them, its own
+//! A worker's link over the sockets of all interfaces: any worker sends at each of them, its own
 //! worker alone receives.
-ghost use Rattle.std.specs.Prelude.{◌≡◌, ◌≤◌, ◌<◌, ℕ, IfOk, IfSome, OnOk, OnErr, length, vec_len};
+ghost use Rattle.std.specs.Prelude.{◌≡◌, ◌≤◌, IfOk, IfSome, OnOk, length, map, take, vec_len};
+ghost use Rattle.links.specs.Descending.{CountDownTo};
 
 use crate::error::SocketError;
-use console::ConfiguredInterface;
+use crate::refusals::{came, sent};
+use crate::socket::DatagramSocket;
+use crate::wire::{Wire, wire_at};
 use links::{Link, LinkFault};
 use mio::net::UdpSocket;
 use mio::unix::SourceFd;
 use mio::{Events, Interest, Poll, Token};
 use std::alloc::{AllocError, Global};
 use std::io::{self, ErrorKind};
-use std::net::{Ipv4Addr, Net, SocketAddr};
+use std::net::Net;
 use std::os::fd::AsRawFd;
 use std::time::Duration;
-
-/// An interface's socket, and the port that its packets go to.
-#[derive(Drop)]
-pub struct Wire {
-    socket: UdpSocket,
-    peer: u16,
-}
-
-fn address_of(port: u16) -> SocketAddr {
-    SocketAddr::from((Ipv4Addr::LOCALHOST, port))
-}
-
-/// Binds the socket of each interface, in order; the first port that can't be had is the error.
-pub fn bind_each<R: Net>(
-    rt: &R,
-    alloc: Global,
-    interfaces: &[ConfiguredInterface],
-) -> Result<Vec<Wire>, SocketError>
-    ensures { IfOk result (λ wires. vec_len wires ≡ length interfaces.now) }
-{
-    let mut wires = Vec::new(alloc);
-    for before in 0..interfaces.len() {
-        let configured = &interfaces[before];
-        match UdpSocket::bind(rt, address_of(configured.port)) {
-            Ok(socket) => wires.push(Wire {
-                socket,
-                peer: configured.peer,
-            })?,
-            Err(_) => return Err(SocketError::Bind(configured.port)),
-        }
-    }
-    Ok(wires)
-}
 
 /// Where a worker waits for its interface's datagrams.
 #[derive(Drop)]
@@ -57,10 +27,10 @@ struct Ear {
 /// A worker's link: it sends at each interface, and receives at its own, if it has one. Once it has
 /// failed it gives and takes nothing more.
 #[derive(Drop)]
-pub struct Sockets<'a> {
-    wires: &'a [Wire],
-    /// Its own interface, at this index.
-    own: usize,
+pub struct Sockets<'a, S = UdpSocket> {
+    wires: &'a [Wire<S>],
+    /// The number of its own interface, and 0 for the console's link, which only sends.
+    own: u16,
     ear: Option<Ear>,
     /// How many calls failed: 0, or 1, after which none is made.
     faults: u8,
@@ -76,21 +46,23 @@ fn listen<R: Net>(rt: &R, alloc: Global, wire: &Wire) -> io::Result<Ear> {
 }
 
 impl<'a> Sockets<'a> {
-    /// The link of the worker at the interface of this index. `Wait` where the socket can't be
-    /// waited at, or there is none of this index; `Memory` where memory was refused.
+    /// The link of the worker at the interface of this number. `Wait` where the socket can't be
+    /// waited at, or there is none of this number; `Memory` where memory was refused.
     pub fn of_interface<R: Net>(
         rt: &R,
         alloc: Global,
         wires: &'a [Wire],
-        index: usize,
-    ) -> Result<Sockets<'a>, SocketError> {
-        let Some(wire) = wires.get(index) else {
+        interface: u16,
+    ) -> Result<Sockets<'a>, SocketError>
+        ensures { IfOk result (λ link. (link.own ≡ interface) × (link.wires.now ≡ wires.now)) }
+    {
+        let Some(wire) = wire_at(wires, interface) else {
             return Err(SocketError::Wait);
         };
         match listen(rt, alloc, wire) {
             Ok(ear) => Ok(Sockets {
                 wires,
-                own: index,
+                own: interface,
                 ear: Some(ear),
                 faults: 0,
             }),
@@ -100,9 +72,13 @@ impl<'a> Sockets<'a> {
             },
         }
     }
+}
 
+impl<'a, S> Sockets<'a, S> {
     /// The console's link, which only sends.
-    pub fn of_console(wires: &'a [Wire]) -> Sockets<'a> {
+    pub fn of_console(wires: &'a [Wire<S>]) -> Sockets<'a, S>
+        ensures { (result.own ≡ 0) × (result.faults ≡ 0) × (result.wires.now ≡ wires.now) }
+    {
         Sockets {
             wires,
             own: 0,
@@ -110,35 +86,49 @@ impl<'a> Sockets<'a> {
             faults: 0,
         }
     }
+
+    /// The number of the interface that it receives at, and 0 for the console's.
+    pub fn interface(&self) -> u16
+        ensures { result ≡ self.now.own }
+    {
+        self.own
+    }
 }
 
 /// The links of the workers, that of the first interface last.
+///
+/// # Errors
+///
+/// `Wait` where a socket can't be waited at, or there are more than 65,535; `Memory` where memory was
+/// refused.
 pub fn listening<'x, R: Net>(
     rt: &R,
     alloc: Global,
     wires: &'x [Wire],
 ) -> Result<Vec<Sockets<'x>>, SocketError>
-    ensures { IfOk result (λ links. vec_len links ≡ length wires.now) }
+    ensures each { IfOk result (λ links. vec_len links ≡ length wires.now) }
+    ensures interfaces { IfOk result (λ links. CountDownTo 1 (map (λ l. l.own) links.items)) }
 {
     let mut links = Vec::with_capacity(alloc, wires.len())?;
     for before in 0..wires.len() {
-        let link = Sockets::of_interface(rt, alloc, wires, wires.len() - 1 - before)?;
+        let Ok(interface) = u16::try_from(wires.len() - before) else {
+            return Err(SocketError::Wait);
+        };
+        let link = Sockets::of_interface(rt, alloc, wires, interface)?;
         links.push(link)?;
     }
     Ok(links)
 }
 
 /// One datagram that is there already. A datagram longer than the buffer is cut.
-fn take(wire: &Wire, buffer: &mut [u8; 8193]) -> Result<Option<usize>, LinkFault>
-    ensures { IfOk result (λ n. IfSome n (λ n. n ≤ 8193)) }
+fn take<S: DatagramSocket>(
+    wire: &Wire<S>,
+    buffer: &mut [u8; 8193],
+) -> Result<Option<usize>, LinkFault>
+    ensures length { IfOk result (λ n. IfSome n (λ n. n ≤ 8193)) }
+    ensures handed { IfOk result (λ n. IfSome n (λ n. S.hands wire.now.socket (take n buffer.new))) }
 {
-    match wire.socket.recv_from(buffer) {
-        Ok((length, _)) => Ok(Some(length)),
-        Err(error) => match error.kind() {
-            ErrorKind::WouldBlock | ErrorKind::Interrupted => Ok(None),
-            _ => Err(LinkFault {}),
-        },
-    }
+    came(wire.socket.receive(buffer))
 }
 
 /// Waits until a datagram may be there, at most a second.
@@ -153,8 +143,13 @@ fn wait(ear: &mut Ear) -> Result<(), LinkFault> {
 }
 
 /// A datagram that is there, or that comes within a second.
-fn hear(wire: &Wire, ear: &mut Ear, buffer: &mut [u8; 8193]) -> Result<Option<usize>, LinkFault>
-    ensures { IfOk result (λ n. IfSome n (λ n. n ≤ 8193)) }
+fn hear<S: DatagramSocket>(
+    wire: &Wire<S>,
+    ear: &mut Ear,
+    buffer: &mut [u8; 8193],
+) -> Result<Option<usize>, LinkFault>
+    ensures length { IfOk result (λ n. IfSome n (λ n. n ≤ 8193)) }
+    ensures handed { IfOk result (λ n. IfSome n (λ n. S.hands wire.now.socket (take n buffer.new))) }
 {
     if let Some(length) = take(wire, buffer)? {
         return Ok(Some(length));
@@ -163,29 +158,31 @@ fn hear(wire: &Wire, ear: &mut Ear, buffer: &mut [u8; 8193]) -> Result<Option<us
     take(wire, buffer)
 }
 
-fn say(wire: &Wire, bytes: &[u8]) -> Result<bool, LinkFault> {
-    match wire.socket.send_to(bytes, address_of(wire.peer)) {
-        Ok(_) => Ok(true),
-        Err(error) => match error.kind() {
-            ErrorKind::WouldBlock | ErrorKind::Interrupted => Ok(false),
-            _ => Err(LinkFault {}),
-        },
+// To port 0 no packet can go: a socket whose peer has it is of no use.
+fn say<S: DatagramSocket>(wire: &Wire<S>, bytes: &[u8]) -> Result<bool, LinkFault>
+    ensures { OnOk result (S.takes wire.now.socket wire.now.peer bytes.now) }
+{
+    if wire.peer == 0 {
+        return Err(LinkFault {});
     }
+    sent(wire.socket.send(bytes, wire.peer))
 }
 
-impl<'a> Link for Sockets<'a> {
-    ghost use Rattle.std.specs.Prelude.{⊤};
+impl<'a, S: DatagramSocket> Link for Sockets<'a, S> {
+    ghost use Rattle.sockets.specs.Wires.{IsHandedOver, IsHeardAt};
 
     ghost faults = { λ s. s.faults };
 
-    // What a socket takes, no contract says.
-    ghost gives = { λ _ _ _ _. ⊤ };
+    ghost gives = { λ s interface bytes _. s.faults ≡ 0
+        → IsHandedOver S.takes s.wires.now interface bytes };
+
+    ghost hears = { λ s heard _. IsHeardAt S.hands s.wires.now s.own heard };
 
     fn receive(&mut self, buffer: &mut [u8; 8193]) -> Result<Option<usize>, LinkFault> {
         if self.faults > 0 {
             return Ok(None);
         }
-        let Some(wire) = self.wires.get(self.own) else {
+        let Some(wire) = wire_at(self.wires, self.own) else {
             return Ok(None);
         };
         let Some(ear) = &mut self.ear else {
@@ -201,14 +198,14 @@ impl<'a> Link for Sockets<'a> {
     }
 
     fn send(&mut self, interface: u16, bytes: &[u8]) -> Result<bool, LinkFault> {
-        if self.faults > 0 || interface == 0 {
+        if self.faults > 0 {
             return Ok(false);
         }
-        let Some(wire) = self.wires.get(interface as usize - 1) else {
+        let Some(wire) = wire_at(self.wires, interface) else {
             return Ok(false);
         };
         match say(wire, bytes) {
-            Ok(sent) => Ok(sent),
+            Ok(went) => Ok(went),
             Err(fault) => {
                 self.faults = 1;
                 Err(fault)

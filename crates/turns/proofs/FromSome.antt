@@ -1,5 +1,5 @@
 -- What is so of this router is so of some router.
-use Rattle.std.proofs.Common.{List, IfOk}
+use Rattle.std.proofs.Common.{◌≡◌, List, IfOk, subst}
 use Rattle.std.specs.Prelude.{Result, Ok, Err}
 use Rattle.words.specs.Numbers.{Moment}
 use Rattle.words.specs.declared.route.Route.{Route}
@@ -10,12 +10,14 @@ use Rattle.events.specs.Routers.{Router}
 use Rattle.book.specs.Event.{Event}
 use Rattle.book.specs.Occurrences.{occurrence_of}
 use Rattle.book.specs.Offers.{IsOffered}
-use Rattle.turns.specs.Turns.{IsOfferedBySome, Sends}
+use Rattle.turns.specs.Turns.{IsOfferedBySome, Sends, taken_at}
 
-pub sent_by_some : {V E : Type 0} (items : V → List Out) (moment : Moment) (e : Event) (old new : Router) (r : Result V E)
-    → IfOk r (λ outs. Happens old moment (occurrence_of e) (items outs) new) → IfOk r (λ outs. Sends moment e (items outs))
-sent_by_some items moment e old new (Ok x) h = (old, new, h)
-sent_by_some items moment e old new (Err x) h = h
+pub sent_by_some : {V E : Type 0} (items : V → List Out) (moment at : Moment) (e : Event) (old new : Router) (r : Result V E)
+    → at ≡ taken_at e moment old.moment
+    → IfOk r (λ outs. Happens old at (occurrence_of e) (items outs) new) → IfOk r (λ outs. Sends moment e (items outs))
+sent_by_some items moment at e old new (Ok x) is h =
+    (old, new, subst (λ (m : Moment). Happens old m (occurrence_of e) (items x) new) is h)
+sent_by_some items moment at e old new (Err x) is h = h
 
 pub offered_by_some : {V E : Type 0} (candidates : V → List Route) (rows : V → List TableRow) (now : Router) (r : Result V E)
     → IfOk r (λ o. IsOffered now (candidates o) (rows o)) → IfOk r (λ o. IsOfferedBySome (candidates o) (rows o))

@@ -1,2 +1,4 @@
+mod Counted
 mod FromSome
+pub mod Longer
 mod Vetoes

@@ -13,15 +13,15 @@ use Rattle.hooks.specs.Answered.{IsAnswered}
 use Rattle.hooks.specs.Questions.{RouteAnswer, veto_input}
 use Rattle.turns.specs.Turns.{AreVetoes, IsVetoOn, IsWordOn}
 
-is_word : {before now : List Operation} {old new : SeatView} {input : Given} {word : ℕ}
-    → IsAnswered before now old new input word → IsWordOn input word
-is_word {now = now} h = (now, h.labels, h.answers)
+pub is_word : {before now : List Operation} {old new : SeatView} {input : Given} {word : ℕ}
+    → IsAnswered before now old new input word → IsWordOn before input word
+is_word {now = now} h = (now, h.labels, h.begins, h.answers)
 
 pub is_veto : {before now : List Operation} {old new : SeatView} (moment : Moment) (rows : List TableRow) (route : Route) (a : RouteAnswer)
     → (a.route ≡ route) × (a.moment ≡ moment) → IsAnswered before now old new (veto_input route moment rows) a.word
-    → (a.route ≡ route) × IsVetoOn moment rows a
-is_veto moment rows route a asked answered =
-    let P : Route → Type 0 = λ r. IsWordOn (veto_input r moment rows) a.word in (
+    → (a.route ≡ route) × IsVetoOn before moment rows a
+is_veto {before = before} moment rows route a asked answered =
+    let P : Route → Type 0 = λ r. IsWordOn before (veto_input r moment rows) a.word in (
       asked.0,
       record { asked = asked.1; answered = subst P (sym asked.0) (is_word answered) },
     )
@@ -30,17 +30,17 @@ alone : (P : RouteAnswer → Type 0) (a : RouteAnswer) → P a → All P (a ∷ 
 alone P a p zero d lt = p
 alone P a p (suc k) d lt = absurd (omega arith)
 
-pub one_more : (moment : Moment) (rows asked_rows : List TableRow) (routes items : List Route) (i : ℕ) (answers after : List RouteAnswer) (route : Route) (a : RouteAnswer)
-    → asked_rows ≡ rows → items ≡ routes → AreVetoes moment rows (take i routes) answers → i < length items → route ≡ get_or items i route
-    → after ≡ answers ++ a ∷ [] → (a.route ≡ route) × IsVetoOn moment asked_rows a → AreVetoes moment rows (take (i + 1) routes) after
-one_more moment rows asked_rows routes items i answers after route a same_rows same_routes so_far there item grown one =
+pub one_more : (known : List Operation) (moment : Moment) (rows asked_rows : List TableRow) (routes items : List Route) (i : ℕ) (answers after : List RouteAnswer) (route : Route) (a : RouteAnswer)
+    → asked_rows ≡ rows → items ≡ routes → AreVetoes known moment rows (take i routes) answers → i < length items → route ≡ get_or items i route
+    → after ≡ answers ++ a ∷ [] → (a.route ≡ route) × IsVetoOn known moment asked_rows a → AreVetoes known moment rows (take (i + 1) routes) after
+one_more known moment rows asked_rows routes items i answers after route a same_rows same_routes so_far there item grown one =
     let more : take (i + 1) items ≡ take i items ++ route ∷ [] =
     take_more items i route there ∙ ap (λ r. take i items ++ r ∷ []) (sym item) in
     let more_routes : take (i + 1) routes ≡ take i routes ++ route ∷ [] =
     (let P : List Route → Type 0 = λ l. take (i + 1) l ≡ take i l ++ route ∷ [] in subst P same_routes more) in
-    let on : IsVetoOn moment rows a = (let P : List TableRow → Type 0 = λ l. IsVetoOn moment l a in subst P same_rows one.1) in
-    let Q : List RouteAnswer → Type 0 = λ l. All (IsVetoOn moment rows) l in (
+    let on : IsVetoOn known moment rows a = (let P : List TableRow → Type 0 = λ l. IsVetoOn known moment l a in subst P same_rows one.1) in
+    let Q : List RouteAnswer → Type 0 = λ l. All (IsVetoOn known moment rows) l in (
       ap (map (λ x. x.route)) grown ∙ map-append (λ x. x.route) answers (a ∷ []) ∙ ap (λ l. l ++ a.route ∷ []) so_far.0
           ∙ ap (λ r. take i routes ++ r ∷ []) one.0 ∙ sym more_routes,
-      subst Q (sym grown) (All-append (IsVetoOn moment rows) answers (a ∷ []) so_far.1 (alone (IsVetoOn moment rows) a on)),
+      subst Q (sym grown) (All-append (IsVetoOn known moment rows) answers (a ∷ []) so_far.1 (alone (IsVetoOn known moment rows) a on)),
     )

@@ -1,22 +1,37 @@
 -- What a turn gives to the book, and what comes of it.
-use Rattle.std.specs.Prelude.{◌≡◌, ℕ, List, map}
+use Rattle.std.specs.Prelude.{◌≡◌, ◌⊎◌, ℕ, ◌+◌, ◌<◌, Bool, List, [], Option, Some, MatchOption}
+use Rattle.std.specs.Prelude.{length, map, max, slice_get}
+use Rattle.std.specs.FinMap as finite
 use Rattle.std.specs.List.{All}
-use Rattle.words.specs.Numbers.{Moment}
+use mathlib.Core.List.{IsPrefix}
+use Rattle.words.specs.Numbers.{InterfaceNumber, Moment, RouterNumber}
+use Rattle.words.specs.Prefixes.{Network}
 use Rattle.words.specs.declared.route.External.{External}
 use Rattle.words.specs.declared.route.Route.{Route}
 use Rattle.words.specs.declared.route.TableRow.{TableRow}
 use Rattle.machine.specs.Given.{Given}
 use Rattle.machine.specs.Label.{Label}
+use Rattle.maps.specs.Words.{SeatView}
+use Rattle.events.specs.declared.model.CoreError.TheVariants as core_error
 use Rattle.events.specs.declared.model.Out.{Out}
+use Rattle.events.specs.Commands.{is_for}
 use Rattle.events.specs.Events.{Happens}
+use Rattle.events.specs.Originations.{external_key}
 use Rattle.events.specs.Routers.{Router}
 use Rattle.hooks.specs.declared.operation.Operation.{Operation}
+use Rattle.hooks.specs.Answered.{IsAnswered}
 use Rattle.hooks.specs.Operations.{Answers}
-use Rattle.hooks.specs.Questions.{ExternalAnswer, RouteAnswer, price_input, tag_input, veto_input}
+use Rattle.hooks.specs.Questions.{ExternalAnswer, RouteAnswer}
+use Rattle.hooks.specs.Questions.{count_input, price_input, tag_input, veto_input}
+use Rattle.book.specs.declared.error.BookError.TheVariants as book_error
 use Rattle.book.specs.Event.{Event}
 use Rattle.book.specs.Event.TheVariants as event
 use Rattle.book.specs.Occurrences.{occurrence_of}
 use Rattle.book.specs.Offers.{IsOffered}
+use Rattle.book.specs.State.{State}
+use Rattle.turns.specs.declared.turned.Turned.{Turned}
+use Rattle.turns.specs.declared.turned.TurnError.{TurnError}
+use Rattle.turns.specs.declared.turned.TurnError.TheVariants as turn_error
 use Rattle.turns.specs.declared.work.Work.{Work}
 use Rattle.turns.specs.declared.work.Work.TheVariants as work
 
@@ -30,76 +45,143 @@ Took = Moment → Event → List Out → Type 0
 abbrev pub Offers : Type 1
 Offers = List Route → List TableRow → Type 0
 
--- a book says: from some router, the event at this moment sends these
+-- When a book takes an event that it is given at a moment: an installation at the moment of the
+-- router's last event, where this is later; everything else at the moment itself.
+abbrev pub taken_at : Event → Moment → (last : Moment) → Moment
+taken_at (event.Packet number bytes) moment last = moment
+taken_at event.Tick moment last = moment
+taken_at (event.Redistribute tag price) moment last = moment
+taken_at (event.Withdraw prefix) moment last = moment
+taken_at (event.Install answers) moment last = max moment last
+taken_at (event.LinkDown number) moment last = moment
+
+-- a book says: from some router, the event that is given at this moment sends these
 abbrev pub Sends : Moment → Event → List Out → Type 0
 Sends moment e outs =
-    (old : Router) × (new : Router) × Happens old moment (occurrence_of e) outs new
+    (old : Router) × (new : Router)
+    × Happens old (taken_at e moment old.moment) (occurrence_of e) outs new
 
 -- a book says: they are those of some router
 abbrev pub IsOfferedBySome : List Route → List TableRow → Type 0
 IsOfferedBySome candidates rows = (r : Router) × IsOffered r candidates rows
 
+-- whether a router announces the destination of this prefix
+abbrev pub announces : Router → Network → Bool
+announces r prefix = is_for prefix (finite.get r.announced (external_key r.id prefix))
+
+-- a book says: some router does, or doesn't
+abbrev pub IsWantedBySome : Network → Bool → Type 0
+IsWantedBySome prefix wanted = (r : Router) × (wanted ≡ announces r prefix)
+
+-- the neighbors at the interfaces 1 to so many, each as it is found at its own
+pub record AreNeighbors (at : InterfaceNumber → Option (RouterNumber × State))
+    (interfaces : ℕ) (neighbors : List (Option (RouterNumber × State))) : Type 0 where
+  pub all : length neighbors ≡ interfaces
+  pub each : (k : ℕ) → k < interfaces → slice_get neighbors k ≡ Some (at (k + 1))
+
 -- ---- answers to questions
 
--- the word that the programs, after some operations of the loader, answer to this input
-abbrev pub IsWordOn : Given → (word : ℕ) → Type 0
-IsWordOn input word =
-    (operations : List Operation) × (labels : List Label) × Answers operations input labels word
+-- the word that the programs answer to this input, after operations of the loader that begin with
+-- all that were known
+abbrev pub IsWordOn : (known : List Operation) → Given → (word : ℕ) → Type 0
+IsWordOn known input word =
+    (operations : List Operation) × (labels : List Label)
+    × IsPrefix known operations × Answers operations input labels word
 
 -- the answer is on this destination, at this moment, beside these rows
-pub record IsTagOn (external : External) (moment : Moment) (rows : List TableRow)
-    (a : ExternalAnswer) : Type 0 where
+pub record IsTagOn (known : List Operation) (external : External) (moment : Moment)
+    (rows : List TableRow) (a : ExternalAnswer) : Type 0 where
   pub destination : a.external ≡ external
   pub asked : a.moment ≡ moment
-  pub answered : IsWordOn (tag_input external moment rows) a.word
+  pub answered : IsWordOn known (tag_input external moment rows) a.word
 
-pub record IsPriceOn (external : External) (moment : Moment) (rows : List TableRow)
-    (a : ExternalAnswer) : Type 0 where
+pub record IsPriceOn (known : List Operation) (external : External) (moment : Moment)
+    (rows : List TableRow) (a : ExternalAnswer) : Type 0 where
   pub destination : a.external ≡ external
   pub asked : a.moment ≡ moment
-  pub answered : IsWordOn (price_input external moment rows) a.word
+  pub answered : IsWordOn known (price_input external moment rows) a.word
 
 -- the answer is on its route, at this moment, beside these rows
-pub record IsVetoOn (moment : Moment) (rows : List TableRow) (a : RouteAnswer) : Type 0 where
+pub record IsVetoOn (known : List Operation) (moment : Moment) (rows : List TableRow)
+    (a : RouteAnswer) : Type 0 where
   pub asked : a.moment ≡ moment
-  pub answered : IsWordOn (veto_input a.route moment rows) a.word
+  pub answered : IsWordOn known (veto_input a.route moment rows) a.word
 
 -- the answers are on these routes, in their order
-abbrev pub AreVetoes : Moment → List TableRow → List Route → List RouteAnswer → Type 0
-AreVetoes moment rows routes answers =
-    (map (λ a. a.route) answers ≡ routes) × All (IsVetoOn moment rows) answers
+abbrev pub AreVetoes : (known : List Operation) → Moment → List TableRow → List Route
+    → List RouteAnswer → Type 0
+AreVetoes known moment rows routes answers =
+    (map (λ a. a.route) answers ≡ routes) × All (IsVetoOn known moment rows) answers
+
+-- The datagram was counted as one of the interface: an asker's list and its seat are those after a
+-- word that the programs answer of it; or they are as before, where it got no reading.
+abbrev pub IsCounted : (before now : List Operation) → (old new : SeatView)
+    → InterfaceNumber → Moment → (packet : List ℕ) → Type 0
+IsCounted before now old new number moment packet =
+    ((now ≡ before) × (new ≡ old))
+    ⊎ ((word : ℕ) × IsAnswered before now old new (count_input number moment packet) word)
+
+-- where the work is a datagram, that is counted
+abbrev pub CountsFor : (before now : List Operation) → (old new : SeatView) → Work → Moment → Type 0
+CountsFor before now old new (work.Datagram number bytes) moment =
+    IsCounted before now old new number moment bytes
+CountsFor before now old new work.Tick moment = Unit {0}
+CountsFor before now old new (work.Add external) moment = Unit {0}
+CountsFor before now old new (work.Withdraw prefix) moment = Unit {0}
+CountsFor before now old new (work.Down number) moment = Unit {0}
+CountsFor before now old new work.Refresh moment = Unit {0}
 
 -- ---- the event of a work
 
 -- it installs an answer on each candidate that was offered at once
-abbrev pub IsInstall : Offers → Moment → Event → Type 0
-IsInstall offers moment e =
+abbrev pub IsInstall : Offers → (known : List Operation) → Moment → Event → Type 0
+IsInstall offers known moment e =
     (candidates : List Route) × (rows : List TableRow) × (answers : List RouteAnswer)
-    × offers candidates rows × AreVetoes moment rows candidates answers
+    × offers candidates rows × AreVetoes known moment rows candidates answers
     × (e ≡ event.Install answers)
 
 -- it announces the destination, as the programs answer on the rows of the table
-abbrev pub IsRedistribute : Offers → External → Moment → Event → Type 0
-IsRedistribute offers external moment e =
+abbrev pub IsRedistribute : Offers → (known : List Operation) → External → Moment → Event → Type 0
+IsRedistribute offers known external moment e =
     (candidates : List Route) × (rows : List TableRow)
     × (tag : ExternalAnswer) × (price : ExternalAnswer)
-    × offers candidates rows × IsTagOn external moment rows tag
-    × IsPriceOn external moment rows price × (e ≡ event.Redistribute tag price)
+    × offers candidates rows × IsTagOn known external moment rows tag
+    × IsPriceOn known external moment rows price × (e ≡ event.Redistribute tag price)
 
 -- the event is that of the work, with answers to its questions
-abbrev pub IsFor : Offers → Work → Moment → Event → Type 0
-IsFor offers (work.Datagram number bytes) moment e = e ≡ event.Packet number bytes
-IsFor offers work.Tick moment e = e ≡ event.Tick
-IsFor offers (work.Add external) moment e = IsRedistribute offers external moment e
-IsFor offers (work.Withdraw prefix) moment e = e ≡ event.Withdraw prefix
-IsFor offers (work.Down number) moment e = e ≡ event.LinkDown number
-IsFor offers work.Refresh moment e = IsInstall offers moment e
+abbrev pub IsFor : Offers → (known : List Operation) → Work → Moment → Event → Type 0
+IsFor offers known (work.Datagram number bytes) moment e = e ≡ event.Packet number bytes
+IsFor offers known work.Tick moment e = e ≡ event.Tick
+IsFor offers known (work.Add external) moment e = IsRedistribute offers known external moment e
+IsFor offers known (work.Withdraw prefix) moment e = e ≡ event.Withdraw prefix
+IsFor offers known (work.Down number) moment e = e ≡ event.LinkDown number
+IsFor offers known work.Refresh moment e = IsInstall offers known moment e
 
--- the work's event was taken at this moment, and sent these
-abbrev pub TakesFor : Offers → Took → Moment → Work → List Out → Type 0
-TakesFor offers took moment w outs =
-    (e : Event) × IsFor offers w moment e × took moment e outs
+-- the work's event was given at this moment, and sent these
+abbrev pub TakesFor : Offers → Took → (known : List Operation) → Moment → Work → List Out → Type 0
+TakesFor offers took known moment w outs =
+    (e : Event) × IsFor offers known w moment e × took moment e outs
 
--- it was at some moment
+-- it was at some moment, whatever was known
 abbrev pub TakesOnce : Offers → Took → Work → List Out → Type 0
-TakesOnce offers took w outs = (moment : Moment) × TakesFor offers took moment w outs
+TakesOnce offers took w outs = (moment : Moment) × TakesFor offers took [] moment w outs
+
+-- What comes of a turn at a port that knew these operations: the outs of the work's event, and,
+-- where a refresh followed, those of its installation. The events count in the port's share, which
+-- grew from one number to the other.
+pub record IsTurned (offers : Offers) (took : Took) (known : List Operation) (moment : Moment)
+    (w : Work) (before after : ℕ) (turned : Turned) : Type 0 where
+  pub outs : TakesFor offers took known moment w turned.outs.items
+  pub refreshed : MatchOption turned.refreshed (after ≡ before + 1)
+      (λ outs. TakesFor offers took known moment work.Refresh outs.items × (after ≡ before + 2))
+
+-- ---- refusals
+
+-- an installation
+abbrev pub IsInstalling : Event → Type 0
+IsInstalling e = (answers : List RouteAnswer) × (e ≡ event.Install answers)
+
+-- what the questions are refused for: no reading, or no memory
+abbrev pub IsUnasked : TurnError → Type 0
+IsUnasked e =
+    (e ≡ turn_error.Away) ⊎ (e ≡ turn_error.Book (book_error.Core core_error.Memory))

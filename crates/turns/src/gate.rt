@@ -1,4 +1,5 @@
 //! What a turn passes before it takes the lock.
+ghost use Rattle.std.specs.Prelude.{ℕ};
 
 /// A gate that lets each turn pass.
 #[derive(Drop)]
@@ -9,6 +10,12 @@ impl Gate for Open {
 }
 
 /// What each turn passes once, after the programs were asked and before the lock is taken.
+///
+/// What is so of a port that passed is left open here: a turn, which is proved for any gate, can
+/// say it only of one that passed.
 pub trait Gate {
-    fn pass(&self, port: u16);
+    ghost passed: { Self → ℕ → Type 0 } = { λ gate port. Unit {0} };
+
+    fn pass(&self, port: u16)
+        ensures { passed self.now port };
 }

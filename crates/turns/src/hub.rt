@@ -1,13 +1,20 @@
 //! The book under its lock.
-ghost use Rattle.std.specs.Prelude.{◌≡◌, ◌+◌, ◌<◌, IfOk, OnOk, OnErr};
+ghost use Rattle.std.specs.Prelude.{◌≡◌, ◌+◌, ◌<◌, ◌≤◌, Err, IfOk, OnOk, OnErr, max};
+ghost use mathlib.Core.List.{IsPrefix};
+ghost use Rattle.words.specs.Constants.{clock_end};
+ghost use Rattle.maps.specs.Access.{floor};
+ghost use Rattle.maps.specs.Words.{grown};
+ghost use Rattle.maps.specs.declared.access.Access.TheVariants.{Read};
+ghost use Rattle.hooks.specs.Known.{known_to};
+ghost use Rattle.turns.specs.Turns.{AreNeighbors, IsInstalling};
 
 use crate::port::Port;
 use crate::site::Site;
 use crate::taker::Taker;
 use crate::turned::TurnError;
-use book::{Book, BookError, Event, Offered, Out, State};
+use book::{Book, BookError, CoreError, Event, Offered, Out, State};
 use maps::Shared;
-use std::alloc::AllocError;
+use std::alloc::{AllocError, Global};
 use std::marker::PhantomData;
 use std::sync::atomic::{AtomicU64, Ordering};
 use std::sync::ledger::Share;
@@ -44,6 +51,9 @@ fn take<L: Site, B: Taker<L>>(
     ensures share { OnOk result (mine.new.amount ≡ mine.old.amount + 1) }
     ensures parts { mine.new.parts ≡ mine.old.parts }
     ensures err { OnErr result (mine.new.amount ≡ mine.old.amount) }
+    ensures clock { IsInstalling event.now
+        → result ≡ Err (BookError.Core CoreError.ClockBack)
+        → clock_end ≤ max moment (B.moment_of book.old) }
 {
     let outs = book.take(mine, moment, event)?;
     let stale = match book.stale() {
@@ -51,6 +61,22 @@ fn take<L: Site, B: Taker<L>>(
         Err(_) => false,
     };
     Ok(Taken { outs, stale })
+}
+
+// The neighbors at the interfaces 1 to so many.
+fn neighbors_of<L: Site, B: Taker<L>>(
+    alloc: Global,
+    book: &B,
+    interfaces: u16,
+) -> Result<Vec<Option<(RouterId, State)>>, AllocError>
+    ensures { IfOk result (λ all.
+        AreNeighbors (B.neighbor_at book.now) interfaces all.items) }
+{
+    let mut neighbors = Vec::new(alloc);
+    for interface in 0..interfaces {
+        neighbors.push(book.neighbor(interface + 1))?;
+    }
+    Ok(neighbors)
 }
 
 impl<L: Site, B: Taker<L>> Hub<L, B> {
@@ -79,10 +105,15 @@ impl<L: Site, B: Taker<L>> Hub<L, B> {
         (book.into_inner(), shared)
     }
 
-    /// The number in one of the 256 counters that the programs share, as the port's seat reads it.
+    /// The number in one of the 256 counters that the programs share, as the port's seat reads it:
+    /// at least what the seat's programs have read there and added since.
     pub fn counter(&self, port: &mut Port<L>, index: usize) -> u64
         requires { index < 256 }
-        ensures { port.new.share ≡ port.old.share }
+        ensures read { port.new.seat ≡ grown port.old.seat (Read index result) }
+        ensures floor { floor index port.old.seat.accesses ≤ result }
+        ensures share { port.new.share ≡ port.old.share }
+        ensures number { port.new.number ≡ port.old.number }
+        ensures known { known_to port.new.asker ≡ known_to port.old.asker }
     {
         self.shared.read(&mut port.seat, index)
     }
@@ -113,6 +144,9 @@ impl<L: Site, B: Taker<L>> Hub<L, B> {
         ensures share { OnOk result (mine.new.amount ≡ mine.old.amount + 1) }
         ensures parts { mine.new.parts ≡ mine.old.parts }
         ensures err { OnErr result (mine.new.amount ≡ mine.old.amount) }
+        ensures clock { IsInstalling event.now
+            → result ≡ Err (BookError.Core CoreError.ClockBack)
+            → (book : B) × (clock_end ≤ max moment (B.moment_of book)) }
     {
         let mut guard = self.book.lock(rt);
         take(&mut *guard, mine, moment, event)
@@ -149,24 +183,44 @@ impl<L: Site, B: Taker<L>> Hub<L, B> {
         let book: &B = &*guard;
         book.offered()
     }
-}
 
-impl<L: Site> Hub<L, Book<L>> {
     /// The neighbor at the interface of this number and its state, or None where it is Down or
     /// there is no such interface.
-    pub fn neighbor<R: Wait>(&self, rt: &R, interface: u16) -> Option<(RouterId, State)> {
+    pub fn neighbor<R: Wait>(&self, rt: &R, interface: u16) -> Option<(RouterId, State)>
+        ensures { (book : B) × (result ≡ B.neighbor_at book interface) }
+    {
         let guard = self.book.lock(rt);
-        let book: &Book<L> = &*guard;
-        book.now().neighbor(interface)
+        let book: &B = &*guard;
+        book.neighbor(interface)
+    }
+
+    /// The neighbors at the interfaces 1 to so many, of one moment under the lock: at each as
+    /// [`neighbor`](Hub::neighbor) gives it.
+    pub fn neighbors<R: Wait>(
+        &self,
+        rt: &R,
+        alloc: Global,
+        interfaces: u16,
+    ) -> Result<Vec<Option<(RouterId, State)>>, AllocError>
+        ensures { IfOk result (λ all.
+            (book : B) × AreNeighbors (B.neighbor_at book) interfaces all.items) }
+    {
+        let guard = self.book.lock(rt);
+        let book: &B = &*guard;
+        neighbors_of::<L, B>(alloc, book, interfaces)
     }
 
     /// Tells whether this destination is announced.
-    pub fn wants<R: Wait>(&self, rt: &R, prefix: Prefix) -> bool {
+    pub fn wants<R: Wait>(&self, rt: &R, prefix: Prefix) -> bool
+        ensures { B.wanted prefix result }
+    {
         let guard = self.book.lock(rt);
-        let book: &Book<L> = &*guard;
-        book.now().wants(prefix)
+        let book: &B = &*guard;
+        book.wants(prefix)
     }
+}
 
+impl<L: Site> Hub<L, Book<L>> {
     /// How many events the book has taken, for whoever brings every share: just as many as they
     /// count.
     pub fn taken<R: Wait>(&self, rt: &R, all: &mut Share<L>) -> u64

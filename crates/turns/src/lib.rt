@@ -7,6 +7,7 @@
 
 mod gate;
 mod hub;
+pub mod laws;
 mod port;
 mod questions;
 mod site;

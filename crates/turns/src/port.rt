@@ -49,6 +49,7 @@ impl<L: Site> Port<L> {
     pub fn learn(&mut self, notice: Notice)
         requires { tells_of notice ≡ L.history }
         ensures share { self.new.share ≡ self.old.share }
+        ensures number { self.new.number ≡ self.old.number }
         ensures saw { IsPrefix (known_to self.old.asker) (known_to self.new.asker) }
         ensures learnt { IsPrefix (told_by notice) (known_to self.new.asker) }
     {

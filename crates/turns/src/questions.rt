@@ -1,8 +1,18 @@
 //! What a turn asks the programs, and the event that it makes of the answers.
-ghost use Rattle.std.specs.Prelude.{◌≡◌, IfOk, IfSome};
+ghost use Rattle.std.specs.Prelude.{◌≡◌, IfErr, IfOk};
+ghost use mathlib.Core.List.{IsPrefix};
 ghost use Rattle.maps.specs.Words.{IsOf};
-ghost use Rattle.hooks.specs.Known.{asks_of};
-ghost use Rattle.turns.specs.Turns.{AreVetoes, IsFor, IsInstall, IsPriceOn, IsTagOn, IsVetoOn};
+ghost use Rattle.hooks.specs.Known.{asks_of, known_to};
+ghost use Rattle.turns.specs.Turns.{
+  AreVetoes,
+  CountsFor,
+  IsFor,
+  IsInstall,
+  IsPriceOn,
+  IsTagOn,
+  IsUnasked,
+  IsVetoOn,
+};
 
 use crate::hub::Hub;
 use crate::site::Site;
@@ -26,9 +36,14 @@ pub fn asked<L: Site, B: Taker<L>, R: Wait>(
     work: &Work,
 ) -> Result<Event, TurnError>
     requires { IsOf L.words seat.old }
-    ensures event { IfOk result (λ event. IsFor B.offers work.now moment event) }
+    ensures event { IfOk result (λ event.
+        IsFor B.offers (known_to asker.old) work.now moment event) }
+    ensures counted { CountsFor (known_to asker.old) (known_to asker.new) seat.old seat.new
+        work.now moment }
+    ensures err { IfErr result IsUnasked }
     ensures seat { IsOf L.words seat.new }
     ensures history { asks_of asker.new ≡ asks_of asker.old }
+    ensures known { IsPrefix (known_to asker.old) (known_to asker.new) }
 {
     match work {
         Work::Datagram(number, bytes) => {
@@ -54,9 +69,12 @@ fn redistribution<L: Site, B: Taker<L>, R: Wait>(
     external: &External,
 ) -> Result<Event, TurnError>
     requires { IsOf L.words seat.old }
-    ensures event { IfOk result (λ event. IsFor B.offers (Work.Add external.now) moment event) }
+    ensures event { IfOk result (λ event.
+        IsFor B.offers (known_to asker.old) (Work.Add external.now) moment event) }
+    ensures err { IfErr result IsUnasked }
     ensures seat { IsOf L.words seat.new }
     ensures history { asks_of asker.new ≡ asks_of asker.old }
+    ensures known { IsPrefix (known_to asker.old) (known_to asker.new) }
 {
     let offered = hub.offered(rt)?;
     let (tagged, priced) = answers(&hub.shared, asker, seat, moment, external, &offered)?;
@@ -73,10 +91,14 @@ fn answers(
     offered: &Offered,
 ) -> Result<(TagAnswer, PriceAnswer), TurnError>
     requires { IsOf shared.now seat.old }
-    ensures tag { IfOk result (λ r. IsTagOn external.now moment offered.now.rows.items r.0) }
-    ensures price { IfOk result (λ r. IsPriceOn external.now moment offered.now.rows.items r.1) }
+    ensures tag { IfOk result (λ r.
+        IsTagOn (known_to asker.old) external.now moment offered.now.rows.items r.0) }
+    ensures price { IfOk result (λ r.
+        IsPriceOn (known_to asker.old) external.now moment offered.now.rows.items r.1) }
+    ensures err { IfErr result IsUnasked }
     ensures seat { IsOf shared.now seat.new }
     ensures history { asks_of asker.new ≡ asks_of asker.old }
+    ensures known { IsPrefix (known_to asker.old) (known_to asker.new) }
 {
     let rows = offered.rows.as_slice();
     let tagged = tag(asker, external, moment, rows, shared, seat)?;
@@ -95,9 +117,12 @@ fn tag(
     seat: &mut Seat,
 ) -> Result<TagAnswer, TurnError>
     requires { IsOf shared.now seat.old }
-    ensures answer { IfOk result (λ a. IsTagOn external.now moment rows.now a) }
+    ensures answer { IfOk result (λ a.
+        IsTagOn (known_to asker.old) external.now moment rows.now a) }
+    ensures err { IfErr result IsUnasked }
     ensures seat { IsOf shared.now seat.new }
     ensures history { asks_of asker.new ≡ asks_of asker.old }
+    ensures known { IsPrefix (known_to asker.old) (known_to asker.new) }
 {
     match asker.tag(external, moment, rows, shared, seat) {
         Some(answer) => Ok(answer),
@@ -114,9 +139,12 @@ fn price(
     seat: &mut Seat,
 ) -> Result<PriceAnswer, TurnError>
     requires { IsOf shared.now seat.old }
-    ensures answer { IfOk result (λ a. IsPriceOn external.now moment rows.now a) }
+    ensures answer { IfOk result (λ a.
+        IsPriceOn (known_to asker.old) external.now moment rows.now a) }
+    ensures err { IfErr result IsUnasked }
     ensures seat { IsOf shared.now seat.new }
     ensures history { asks_of asker.new ≡ asks_of asker.old }
+    ensures known { IsPrefix (known_to asker.old) (known_to asker.new) }
 {
     match asker.price(external, moment, rows, shared, seat) {
         Some(answer) => Ok(answer),
@@ -133,9 +161,12 @@ pub fn installation<L: Site, B: Taker<L>, R: Wait>(
     moment: Second,
 ) -> Result<Event, TurnError>
     requires { IsOf L.words seat.old }
-    ensures event { IfOk result (λ event. IsInstall B.offers moment event) }
+    ensures event { IfOk result (λ event.
+        IsInstall B.offers (known_to asker.old) moment event) }
+    ensures err { IfErr result IsUnasked }
     ensures seat { IsOf L.words seat.new }
     ensures history { asks_of asker.new ≡ asks_of asker.old }
+    ensures known { IsPrefix (known_to asker.old) (known_to asker.new) }
 {
     let offered = hub.offered(rt)?;
     let answers = vetoes(&hub.shared, asker, seat, moment, &offered)?;
@@ -151,10 +182,12 @@ fn vetoes(
     offered: &Offered,
 ) -> Result<Vec<VetoAnswer>, TurnError>
     requires { IsOf shared.now seat.old }
-    ensures answers { IfOk result (λ answers. AreVetoes
+    ensures answers { IfOk result (λ answers. AreVetoes (known_to asker.old)
         moment offered.now.rows.items offered.now.candidates.items answers.items) }
+    ensures err { IfErr result IsUnasked }
     ensures seat { IsOf shared.now seat.new }
     ensures history { asks_of asker.new ≡ asks_of asker.old }
+    ensures known { IsPrefix (known_to asker.old) (known_to asker.new) }
 {
     let rows = offered.rows.as_slice();
     let mut answers = Vec::with_capacity(
@@ -180,9 +213,12 @@ fn veto(
     seat: &mut Seat,
 ) -> Result<VetoAnswer, TurnError>
     requires { IsOf shared.now seat.old }
-    ensures answer { IfOk result (λ a. (a.route ≡ route.now) × IsVetoOn moment rows.now a) }
+    ensures answer { IfOk result (λ a.
+        (a.route ≡ route.now) × IsVetoOn (known_to asker.old) moment rows.now a) }
+    ensures err { IfErr result IsUnasked }
     ensures seat { IsOf shared.now seat.new }
     ensures history { asks_of asker.new ≡ asks_of asker.old }
+    ensures known { IsPrefix (known_to asker.old) (known_to asker.new) }
 {
     match asker.veto(route, moment, rows, shared, seat) {
         Some(answer) => Ok(answer),

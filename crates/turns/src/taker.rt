@@ -1,28 +1,50 @@
 //! What takes events, as a turn sees it.
-ghost use Rattle.std.specs.Prelude.{◌≡◌, ◌+◌, ◌<◌, List, IfOk, OnOk, OnErr};
-ghost use Rattle.words.specs.Numbers.{Moment};
+ghost use Rattle.std.specs.Prelude.{◌≡◌, ◌+◌, ◌<◌, ◌≤◌, Bool, List, Option, Err, IfOk, OnOk, OnErr};
+ghost use Rattle.std.specs.Prelude.{max};
+ghost use Rattle.words.specs.Constants.{clock_end};
+ghost use Rattle.words.specs.Numbers.{InterfaceNumber, Moment, RouterNumber};
+ghost use Rattle.words.specs.Prefixes.{Network};
 ghost use Rattle.words.specs.declared.route.Route.{Route};
 ghost use Rattle.words.specs.declared.route.TableRow.{TableRow};
 ghost use Rattle.events.specs.declared.model.Out.{Out};
+ghost use Rattle.events.specs.Routers.{shown_at};
 ghost use Rattle.book.specs.Event.{Event};
-ghost use Rattle.turns.specs.Turns.{IsOfferedBySome, Sends};
+ghost use Rattle.book.specs.Offers.{IsOffered};
+ghost use Rattle.book.specs.State.{State};
+ghost use Rattle.turns.specs.Turns.{
+  IsInstalling,
+  IsOfferedBySome,
+  IsWantedBySome,
+  Sends,
+  announces,
+  taken_at,
+};
 
-use book::{Book, BookError, Event, Offered, Out};
+use book::{Book, BookError, CoreError, Event, Offered, Out, State};
 use std::alloc::AllocError;
 use std::sync::ledger::{Ledger, Share};
-use words::Second;
+use words::{Prefix, RouterId, Second};
 
 /// Takes events, and tells what it offers.
 ///
-/// What it says of an event that it took, and of what it offers, is left open here: a turn, which
-/// is proved for any such type, can say it only by the call itself. So a turn that gave another
-/// event, at another moment, or to another book, couldn't say what it promises.
+/// What it says of an event that it took, and of what it offers and wants, is left open here: a
+/// turn, which is proved for any such type, can say it only by the call itself. So a turn that gave
+/// another event, at another moment, or to another book, couldn't say what it promises.
 pub trait Taker<L: Ledger> {
     ghost took: { Moment → Event → List Out → Type 0 };
 
     ghost offers: { List Route → List TableRow → Type 0 };
 
+    ghost wanted: { Network → Bool → Type 0 };
+
+    ghost neighbor_at: { Self → InterfaceNumber → Option (RouterNumber × State) };
+
+    ghost moment_of: { Self → Moment };
+
     /// Takes an event, which counts once in the share. A refusal leaves the share as it was.
+    ///
+    /// An installation comes after programs were asked, which takes its time: it isn't refused
+    /// where another event came at a later moment meanwhile.
     fn take(
         &mut self,
         mine: &mut Share<L>,
@@ -33,7 +55,10 @@ pub trait Taker<L: Ledger> {
         ensures ok { IfOk result (λ outs. took moment event.now outs.items) }
         ensures share { OnOk result (mine.new.amount ≡ mine.old.amount + 1) }
         ensures parts { mine.new.parts ≡ mine.old.parts }
-        ensures err { OnErr result (mine.new.amount ≡ mine.old.amount) };
+        ensures err { OnErr result (mine.new.amount ≡ mine.old.amount) }
+        ensures clock { IsInstalling event.now
+            → result ≡ Err (BookError.Core CoreError.ClockBack)
+            → clock_end ≤ max moment (moment_of self.old) };
 
     /// Tells whether a candidate stands in no answer of the last installation.
     fn stale(&mut self) -> Result<bool, AllocError>;
@@ -41,13 +66,44 @@ pub trait Taker<L: Ledger> {
     /// The candidates now, and the rows of the table now.
     fn offered(&self) -> Result<Offered, AllocError>
         ensures { IfOk result (λ o. offers o.candidates.items o.rows.items) };
+
+    /// Tells whether this destination is announced now.
+    fn wants(&self, prefix: Prefix) -> bool
+        ensures { wanted prefix result };
+
+    /// The neighbor at the interface of this number and its state now, or None where it is Down or
+    /// there is no such interface.
+    fn neighbor(&self, interface: u16) -> Option<(RouterId, State)>
+        ensures { result ≡ neighbor_at self.now interface };
 }
 
-/// A book takes an event by [`Book::apply_anew`].
+// When an event that is given at a moment is taken, after one that came last: an installation isn't
+// taken before that one.
+fn taken_at(event: &Event, moment: Second, last: Second) -> Second
+    ensures { result ≡ taken_at event.now moment last }
+{
+    match event {
+        Event::Install(_) => moment.max(last),
+        Event::Packet(_, _) => moment,
+        Event::Tick => moment,
+        Event::Redistribute(_, _) => moment,
+        Event::Withdraw(_) => moment,
+        Event::LinkDown(_) => moment,
+    }
+}
+
+/// A book takes an event by [`Book::apply_anew`], an installation at the moment of its last event
+/// where this is later.
 impl<L: Ledger> Taker<L> for Book<L> {
     ghost took = { λ moment e outs. Sends moment e outs };
 
     ghost offers = { λ candidates rows. IsOfferedBySome candidates rows };
+
+    ghost wanted = { λ prefix wanted. IsWantedBySome prefix wanted };
+
+    ghost neighbor_at = { λ book interface. shown_at book.current interface };
+
+    ghost moment_of = { λ book. book.current.moment };
 
     fn take(
         &mut self,
@@ -55,14 +111,30 @@ impl<L: Ledger> Taker<L> for Book<L> {
         moment: Second,
         event: &Event,
     ) -> Result<Vec<Out>, BookError> {
-        self.apply_anew(mine, moment, event)
+        let at = taken_at(event, moment, self.now().moment());
+        self.apply_anew(mine, at, event)
     }
 
     fn stale(&mut self) -> Result<bool, AllocError> {
         self.is_stale()
     }
 
-    fn offered(&self) -> Result<Offered, AllocError> {
+    fn offered(&self) -> Result<Offered, AllocError>
+        ensures now { IfOk result (λ o.
+            IsOffered self.now.current o.candidates.items o.rows.items) }
+        ensures some { IfOk result (λ o. IsOfferedBySome o.candidates.items o.rows.items) }
+    {
         self.now().offered()
+    }
+
+    fn wants(&self, prefix: Prefix) -> bool
+        ensures now { result ≡ announces self.now.current prefix }
+        ensures some { IsWantedBySome prefix result }
+    {
+        self.now().wants(prefix)
+    }
+
+    fn neighbor(&self, interface: u16) -> Option<(RouterId, State)> {
+        self.now().neighbor(interface)
     }
 }

@@ -1,6 +1,9 @@
 //! A turn of a worker.
-ghost use Rattle.std.specs.Prelude.{◌≡◌, ◌+◌, IfOk, OnOk, OnErr, MatchOption};
-ghost use Rattle.turns.specs.Turns.{TakesFor};
+ghost use Rattle.std.specs.Prelude.{◌≡◌, ◌+◌, ◌≤◌, Err, IfOk, MatchOption, OnOk, OnErr, max};
+ghost use mathlib.Core.List.{IsPrefix};
+ghost use Rattle.words.specs.Constants.{clock_end};
+ghost use Rattle.hooks.specs.Known.{known_to};
+ghost use Rattle.turns.specs.Turns.{IsTurned, TakesFor};
 
 use crate::gate::Gate;
 use crate::hub::Hub;
@@ -10,7 +13,7 @@ use crate::site::Site;
 use crate::taker::Taker;
 use crate::turned::{TurnError, Turned};
 use crate::work::Work;
-use book::Out;
+use book::{BookError, CoreError, Out};
 use std::sync::Wait;
 use words::Second;
 
@@ -19,7 +22,9 @@ use words::Second;
 /// passes no gate. It may wait for the lock.
 ///
 /// At a [`Book`](book::Book) the outs are those that the event gives, by the rules of a whole
-/// event, from some router to some router; which router it was, only the book knows.
+/// event, from some router to some router; which router it was, only the book knows. An installation
+/// happens at the moment of the router's last event, where that is later than the turn's: it may
+/// have passed while the programs were asked. All else happens at the turn's moment.
 ///
 /// Refused: `Away` where `tag`, `price` or `veto` got no reading; else as the book refuses it
 /// ([`Book::apply_anew`](book::Book::apply_anew)): its journal first, then the router's order.
@@ -36,26 +41,49 @@ pub fn turn<L: Site, B: Taker<L>, G: Gate, R: Wait>(
     moment: Second,
     work: &Work,
 ) -> Result<Turned, TurnError>
-    ensures outs { IfOk result (λ r. TakesFor B.offers B.took moment work.now r.outs.items) }
-    ensures refreshed { IfOk result (λ r. MatchOption r.refreshed
-        (port.new.share.amount ≡ port.old.share.amount + 1)
-        (λ outs. TakesFor B.offers B.took moment Work.Refresh outs.items
-        × (port.new.share.amount ≡ port.old.share.amount + 2))) }
+    ensures turned { IfOk result (λ r. IsTurned B.offers B.took (known_to port.old.asker)
+        moment work.now port.old.share.amount port.new.share.amount r) }
+    ensures passed { OnOk result (G.passed gate.now port.old.number) }
     ensures err { OnErr result (port.new.share.amount ≡ port.old.share.amount) }
+    ensures clock { work.now ≡ Work.Refresh
+        → result ≡ Err (TurnError.Book (BookError.Core CoreError.ClockBack))
+        → (book : B) × (clock_end ≤ max moment (B.moment_of book)) }
+    ensures number { port.new.number ≡ port.old.number }
+    ensures known { IsPrefix (known_to port.old.asker) (known_to port.new.asker) }
 {
     let changes = hub.changes();
     let event = asked(rt, hub, &mut port.asker, &mut port.seat, moment, work)?;
     gate.pass(port.number);
     let taken = hub.take(rt, &mut port.share, moment, &event)?;
-    let refreshed = if taken.stale {
-        refresh(rt, hub, port, moment, changes).ok()
-    } else {
-        None
-    };
+    let refreshed = follow(rt, hub, port, moment, changes, taken.stale);
     Ok(Turned {
         outs: taken.outs,
         refreshed,
     })
+}
+
+// The refresh that follows a turn which left the router stale; None where it didn't, or the refresh
+// is refused.
+fn follow<L: Site, B: Taker<L>, R: Wait>(
+    rt: &R,
+    hub: &Hub<L, B>,
+    port: &mut Port<L>,
+    moment: Second,
+    changes: u64,
+    stale: bool,
+) -> Option<Vec<Out>>
+    ensures refreshed { MatchOption result
+        (port.new.share.amount ≡ port.old.share.amount)
+        (λ outs. TakesFor B.offers B.took (known_to port.old.asker) moment Work.Refresh outs.items
+        × (port.new.share.amount ≡ port.old.share.amount + 1)) }
+    ensures number { port.new.number ≡ port.old.number }
+    ensures known { IsPrefix (known_to port.old.asker) (known_to port.new.asker) }
+{
+    if stale {
+        refresh(rt, hub, port, moment, changes).ok()
+    } else {
+        None
+    }
 }
 
 // A refresh that passes no gate, unless the programs were changed since they had been so often.
@@ -67,9 +95,11 @@ fn refresh<L: Site, B: Taker<L>, R: Wait>(
     changes: u64,
 ) -> Result<Vec<Out>, TurnError>
     ensures outs { IfOk result (λ outs.
-        TakesFor B.offers B.took moment Work.Refresh outs.items) }
+        TakesFor B.offers B.took (known_to port.old.asker) moment Work.Refresh outs.items) }
     ensures share { OnOk result (port.new.share.amount ≡ port.old.share.amount + 1) }
     ensures err { OnErr result (port.new.share.amount ≡ port.old.share.amount) }
+    ensures number { port.new.number ≡ port.old.number }
+    ensures known { IsPrefix (known_to port.old.asker) (known_to port.new.asker) }
 {
     let event = installation(rt, hub, &mut port.asker, &mut port.seat, moment)?;
     let share = &mut port.share;

@@ -1,4 +1,5 @@
 mod FreshSeats
 mod SeatsOf
 mod Sending
-mod Counted
+mod Living
+mod Tries

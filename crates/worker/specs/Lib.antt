@@ -4,4 +4,6 @@ pub use Rattle.turns.specs.Turns
 pub use Rattle.turns.specs.Numbers
 pub use Rattle.turns.specs.declared.turned.TurnError
 pub mod Sending
+pub mod Refusals
+pub mod Lives
 pub mod Opening

@@ -1,5 +1,5 @@
 -- What the types of a hub and of its ports know in common.
-use Rattle.std.specs.Prelude.{◌≡◌, ℕ, ◌+◌, List, [], ◌∷◌, length}
+use Rattle.std.specs.Prelude.{◌≡◌, ℕ}
 use Rattle.std.specs.List.{All}
 use Rattle.logbook.specs.Pages.{Book as History}
 use Rattle.maps.specs.Words.{SharedWords}
@@ -12,8 +12,3 @@ abbrev pub IsSetUpFor : (name parts : ℕ) → SharedWords → History → Setup
 IsSetUpFor name parts words history s =
     (s.blank.name ≡ name) × (s.blank.parts ≡ parts) × (s.shared ≡ words)
     × All (λ a. asks_of a ≡ history) s.askers.items
-
--- the last of the numbers is this one, and each is one more than the number behind it
-abbrev pub CountDownTo : (last : ℕ) → (numbers : List ℕ) → Type 0
-CountDownTo last [] = Unit {0}
-CountDownTo last (n ∷ ns) = (n ≡ last + length ns) × CountDownTo last ns

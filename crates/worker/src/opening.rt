@@ -2,7 +2,8 @@
 ghost use Rattle.std.specs.Prelude.{◌≡◌, ◌+◌, ◌≤◌, All, IfNone, IfOk, IfSome, map, vec_len};
 ghost use Rattle.maps.specs.Words.{IsOf};
 ghost use Rattle.hooks.specs.Known.{asks_of};
-ghost use Rattle.worker.specs.Opening.{CountDownTo, IsSetUpFor};
+ghost use Rattle.links.specs.Descending.{CountDownTo};
+ghost use Rattle.worker.specs.Opening.{IsSetUpFor};
 
 use crate::setup::Setup;
 use hooks::Asker;

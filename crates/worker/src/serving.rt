@@ -1,8 +1,12 @@
 //! The loop of a worker.
-ghost use Rattle.std.specs.Prelude.{◌≡◌, ℕ, ◌+◌, ◌<◌, ◌++◌, ◌↔◌, IfOk, MatchOption, OnOk, OnErr};
+ghost use Rattle.std.specs.Prelude.{◌≡◌, ◌<◌, ◌++◌, ◌↔◌, IfOk, MatchOption, OnOk, OnErr};
+ghost use mathlib.Core.List.{IsPrefix};
+ghost use Rattle.hooks.specs.Known.{known_to};
+ghost use Rattle.turns.specs.Turns.{IsTurned};
 ghost use Rattle.worker.specs.Sending.{IsGivenEach};
-ghost use Rattle.turns.specs.Turns.{TakesFor};
-ghost use Rattle.worker.specs.declared.serving.Ended.TheVariants.{Fault};
+ghost use Rattle.worker.specs.Lives.{HasLived, IsTried, IsTurnedTo, Listens, Round, Serves, Ticks};
+ghost use Rattle.worker.specs.Lives.{senses_of};
+ghost use Rattle.worker.specs.declared.serving.Ended.TheVariants.{Fault, Quit};
 
 use links::{Link, LinkFault, Seconds};
 use std::alloc::Global;
@@ -25,7 +29,8 @@ pub enum Ended {
 impl Ended {
     /// The status of the program: 0, or 3 where a link failed.
     pub fn status(self) -> u8
-        ensures { (result ≡ 3) ↔ (self ≡ Fault) }
+        ensures quit { self ≡ Quit → result ≡ 0 }
+        ensures fault { self ≡ Fault → result ≡ 3 }
     {
         match self {
             Ended::Quit => 0,
@@ -40,6 +45,7 @@ impl Ended {
 ///
 /// A refused turn sends nothing. After a fault in the midst of a turn's outs the event stands, and
 /// the later outs aren't sent.
+#[tactic(auto, using(crate::proofs::Living::has_lived, crate::proofs::Tries::known_first))]
 pub fn run<L: Site, B: Taker<L>, G: Gate, K: Link, S: Seconds, R: Wait>(
     rt: &R,
     alloc: Global,
@@ -50,7 +56,14 @@ pub fn run<L: Site, B: Taker<L>, G: Gate, K: Link, S: Seconds, R: Wait>(
     clock: &mut S,
     quit: &AtomicBool,
 ) -> Ended
-    ensures { (result ≡ Fault) ↔ (K.faults link.old < K.faults link.new) }
+    ensures ended { (result ≡ Fault) ↔ (K.faults link.old < K.faults link.new) }
+    ensures lived { result ≡ Quit → HasLived
+        (senses_of K.gives K.hears S.shows B.offers B.took (known_to port.old.asker)
+        port.old.number)
+        (record { link = link.old; clock = clock.old; events = port.old.share.amount })
+        (record { link = link.new; clock = clock.new; events = port.new.share.amount }) }
+    ensures number { port.new.number ≡ port.old.number }
+    ensures known { IsPrefix (known_to port.old.asker) (known_to port.new.asker) }
 {
     // the moment of the last Tick
     let mut ticked = None;
@@ -59,28 +72,113 @@ pub fn run<L: Site, B: Taker<L>, G: Gate, K: Link, S: Seconds, R: Wait>(
         if quit.load(Ordering::SeqCst) {
             break;
         }
-        let mut now = clock.second();
-        if ticked != Some(now) {
-            if serve(rt, hub, port, gate, link, clock, &mut now, &Work::Tick).is_err() {
-                return Ended::Fault;
-            }
-            ticked = Some(now);
-        }
-        match link.receive(&mut buffer) {
-            Ok(None) => {}
-            Ok(Some(length)) => {
-                let heard = &buffer[..length];
-                if hear(rt, alloc, hub, port, gate, link, clock, heard).is_err() {
-                    return Ended::Fault;
-                }
-            }
-            Err(_) => return Ended::Fault,
-        }
+        let Ok(()) = round(
+            rt,
+            alloc,
+            hub,
+            port,
+            gate,
+            link,
+            clock,
+            &mut ticked,
+            &mut buffer,
+        ) else {
+            return Ended::Fault;
+        };
     }
     Ended::Quit
 }
 
+// A round: first the time, and then the link. `ticked` is the moment of the last Tick.
+#[tactic(auto, using(crate::proofs::Tries::known_still))]
+fn round<L: Site, B: Taker<L>, G: Gate, K: Link, S: Seconds, R: Wait>(
+    rt: &R,
+    alloc: Global,
+    hub: &Hub<L, B>,
+    port: &mut Port<L>,
+    gate: &G,
+    link: &mut K,
+    clock: &mut S,
+    ticked: &mut Option<Second>,
+    buffer: &mut [u8; 8193],
+) -> Result<(), LinkFault>
+    ensures round { OnOk result (Round
+        (senses_of K.gives K.hears S.shows B.offers B.took (known_to port.old.asker)
+        port.old.number) ticked.old
+        (record { link = link.old; clock = clock.old; events = port.old.share.amount }) ticked.new
+        (record { link = link.new; clock = clock.new; events = port.new.share.amount })) }
+    ensures number { port.new.number ≡ port.old.number }
+    ensures known { IsPrefix (known_to port.old.asker) (known_to port.new.asker) }
+    ensures fine { OnOk result (K.faults link.new ≡ K.faults link.old) }
+    ensures fault { OnErr result (K.faults link.old < K.faults link.new) }
+{
+    tick(rt, hub, port, gate, link, clock, ticked)?;
+    listen(rt, alloc, hub, port, gate, link, clock, buffer)
+}
+
+// A Tick's turn, where the clock shows another moment than that of the last one.
+#[tactic(auto, using(crate::proofs::Living::ticked_then, crate::proofs::Living::ticks_now, crate::proofs::Tries::known_first))]
+fn tick<L: Site, B: Taker<L>, G: Gate, K: Link, S: Seconds, R: Wait>(
+    rt: &R,
+    hub: &Hub<L, B>,
+    port: &mut Port<L>,
+    gate: &G,
+    link: &mut K,
+    clock: &mut S,
+    ticked: &mut Option<Second>,
+) -> Result<(), LinkFault>
+    ensures ticks { OnOk result (Ticks
+        (senses_of K.gives K.hears S.shows B.offers B.took (known_to port.old.asker)
+        port.old.number) ticked.old
+        (record { link = link.old; clock = clock.old; events = port.old.share.amount }) ticked.new
+        (record { link = link.new; clock = clock.new; events = port.new.share.amount })) }
+    ensures number { port.new.number ≡ port.old.number }
+    ensures known { IsPrefix (known_to port.old.asker) (known_to port.new.asker) }
+    ensures fine { OnOk result (K.faults link.new ≡ K.faults link.old) }
+    ensures fault { OnErr result (K.faults link.old < K.faults link.new) }
+{
+    let mut now = clock.second();
+    if *ticked == Some(now) {
+        return Ok(());
+    }
+    serve(rt, hub, port, gate, link, clock, &mut now, &Work::Tick)?;
+    *ticked = Some(now);
+    Ok(())
+}
+
+// A turn with the datagram that the link gives, if it gives one.
+#[tactic(auto, using(crate::proofs::Living::listened, crate::proofs::Tries::known_first))]
+fn listen<L: Site, B: Taker<L>, G: Gate, K: Link, S: Seconds, R: Wait>(
+    rt: &R,
+    alloc: Global,
+    hub: &Hub<L, B>,
+    port: &mut Port<L>,
+    gate: &G,
+    link: &mut K,
+    clock: &mut S,
+    buffer: &mut [u8; 8193],
+) -> Result<(), LinkFault>
+    ensures listens { OnOk result (Listens
+        (senses_of K.gives K.hears S.shows B.offers B.took (known_to port.old.asker)
+        port.old.number)
+        (record { link = link.old; clock = clock.old; events = port.old.share.amount })
+        (record { link = link.new; clock = clock.new; events = port.new.share.amount })) }
+    ensures number { port.new.number ≡ port.old.number }
+    ensures known { IsPrefix (known_to port.old.asker) (known_to port.new.asker) }
+    ensures fine { OnOk result (K.faults link.new ≡ K.faults link.old) }
+    ensures fault { OnErr result (K.faults link.old < K.faults link.new) }
+{
+    match link.receive(buffer)? {
+        Some(length) => {
+            let heard = &buffer[..length];
+            hear(rt, alloc, hub, port, gate, link, clock, heard)
+        }
+        None => Ok(()),
+    }
+}
+
 // A turn with a datagram. Without memory it is lost.
+#[tactic(auto, using(crate::proofs::Living::turned_to, crate::proofs::Tries::known_first))]
 fn hear<L: Site, B: Taker<L>, G: Gate, K: Link, S: Seconds, R: Wait>(
     rt: &R,
     alloc: Global,
@@ -91,6 +189,13 @@ fn hear<L: Site, B: Taker<L>, G: Gate, K: Link, S: Seconds, R: Wait>(
     clock: &mut S,
     heard: &[u8],
 ) -> Result<(), LinkFault>
+    ensures turned { OnOk result (IsTurnedTo
+        (senses_of K.gives K.hears S.shows B.offers B.took (known_to port.old.asker)
+        port.old.number) heard.now
+        (record { link = link.old; clock = clock.old; events = port.old.share.amount })
+        (record { link = link.new; clock = clock.new; events = port.new.share.amount })) }
+    ensures number { port.new.number ≡ port.old.number }
+    ensures known { IsPrefix (known_to port.old.asker) (known_to port.new.asker) }
     ensures fine { OnOk result (K.faults link.new ≡ K.faults link.old) }
     ensures fault { OnErr result (K.faults link.old < K.faults link.new) }
 {
@@ -104,6 +209,7 @@ fn hear<L: Site, B: Taker<L>, G: Gate, K: Link, S: Seconds, R: Wait>(
 
 // A turn, and its outs are sent. Where the turn is refused, nothing is. The moment is that of the
 // turn's last try then.
+#[tactic(auto, using(crate::proofs::Living::served, crate::proofs::Living::refused, crate::proofs::Tries::known_first))]
 fn serve<L: Site, B: Taker<L>, G: Gate, K: Link, S: Seconds, R: Wait>(
     rt: &R,
     hub: &Hub<L, B>,
@@ -114,18 +220,26 @@ fn serve<L: Site, B: Taker<L>, G: Gate, K: Link, S: Seconds, R: Wait>(
     moment: &mut Second,
     work: &Work,
 ) -> Result<(), LinkFault>
+    ensures serves { OnOk result (Serves
+        (senses_of K.gives K.hears S.shows B.offers B.took (known_to port.old.asker)
+        port.old.number) moment.old work.now
+        (record { link = link.old; clock = clock.old; events = port.old.share.amount }) moment.new
+        (record { link = link.new; clock = clock.new; events = port.new.share.amount })) }
+    ensures number { port.new.number ≡ port.old.number }
+    ensures known { IsPrefix (known_to port.old.asker) (known_to port.new.asker) }
     ensures fine { OnOk result (K.faults link.new ≡ K.faults link.old) }
     ensures fault { OnErr result (K.faults link.old < K.faults link.new) }
 {
-    let Ok(turned) = tried(rt, hub, port, gate, clock, moment, work) else {
-        return Ok(());
-    };
-    send_all(link, &turned)
+    match tried(rt, hub, port, gate, clock, moment, work) {
+        Ok(turned) => send_all(link, &turned),
+        Err(_) => Ok(()),
+    }
 }
 
 /// A turn at the moment. Where the clock of the router is ahead of this one it is tried again, at
 /// most three times, each time at a new moment, which asks the programs anew. What it gives and how
 /// it is refused is as the last [`turn`] says; the moment is that of this last one then.
+#[tactic(auto, using(crate::proofs::Living::not_again, crate::proofs::Living::once_more, crate::proofs::Living::at_last, crate::proofs::Tries::turned_first, crate::proofs::Tries::known_still, crate::proofs::Tries::known_first))]
 pub fn tried<L: Site, B: Taker<L>, G: Gate, S: Seconds, R: Wait>(
     rt: &R,
     hub: &Hub<L, B>,
@@ -135,15 +249,14 @@ pub fn tried<L: Site, B: Taker<L>, G: Gate, S: Seconds, R: Wait>(
     moment: &mut Second,
     work: &Work,
 ) -> Result<Turned, TurnError>
-    ensures outs { IfOk result (λ r.
-        TakesFor B.offers B.took moment.new work.now r.outs.items) }
-    ensures refreshed { IfOk result (λ r. MatchOption r.refreshed
-        (port.new.share.amount ≡ port.old.share.amount + 1)
-        (λ outs. TakesFor B.offers B.took moment.new Work.Refresh outs.items
-        × (port.new.share.amount ≡ port.old.share.amount + 2))) }
+    ensures turned { IfOk result (λ r. IsTurned B.offers B.took (known_to port.old.asker)
+        moment.new work.now port.old.share.amount port.new.share.amount r) }
     ensures err { OnErr result (port.new.share.amount ≡ port.old.share.amount) }
+    ensures tried { IsTried S.shows clock.old moment.old clock.new moment.new result }
+    ensures number { port.new.number ≡ port.old.number }
+    ensures known { IsPrefix (known_to port.old.asker) (known_to port.new.asker) }
 {
-    for _again in 0..3u32 {
+    for _tries in 0..3u32 {
         match turn(rt, hub, port, gate, *moment, work) {
             Err(TurnError::Book(BookError::Core(CoreError::ClockBack))) => {
                 *moment = clock.second();

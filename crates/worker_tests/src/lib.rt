@@ -18,3 +18,5 @@ mod side_by_side;
 mod stage;
 #[cfg(test)]
 mod steps;
+#[cfg(test)]
+mod times;

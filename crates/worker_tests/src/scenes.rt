@@ -7,6 +7,7 @@ use crate::failing_links::serve;
 use crate::samples::{destination, first};
 use crate::side_by_side::{hold, tick};
 use crate::stage::{Stage, Step};
+use crate::times::{follow, try_again};
 use hooks::{HookError, Loader};
 use std::alloc::Global;
 use std::marker::Brand;
@@ -27,6 +28,11 @@ pub enum Scene<'a> {
     FailingLink(usize),
     /// Port 1 makes a Tick's turn at each moment below this.
     Ticks(u64),
+    /// After a Tick at moment 6 a Tick is tried by a clock that shows these moments.
+    Tries(&'a [u64]),
+    /// The worker at interface 1 runs by a clock that shows these moments, one a round, and hears
+    /// nothing.
+    Clock(&'a [u64]),
     /// A Hello at moment 5 is held at the gate of port 1, until port 2 has ticked at each moment
     /// from 5 to below this.
     Held(u64),
@@ -74,6 +80,8 @@ fn act<L: Site + Send + Sync, R: Threads + Wait + Clock + Abort + Sync, Q: Wait 
         }
         Scene::FailingLink(fails) => Ok(serve(rt, alloc, hub, &mut stage.first, fails)?),
         Scene::Ticks(until) => Ok((tick(rt, hub, &mut stage.first, 0, until), 0)),
+        Scene::Tries(moments) => Ok((try_again(rt, alloc, hub, &mut stage.first, moments)?, 0)),
+        Scene::Clock(moments) => Ok(follow(rt, alloc, hub, &mut stage.first, moments)?),
         Scene::Held(until) => Ok((hold(rt, alloc, hub, stage, until)?, 0)),
     }
 }

@@ -1,6 +1,7 @@
 use Rattle.std.specs.Prelude.{◌≡◌, take}
+use mathlib.Core.List.{IsPrefix}
 use Rattle.maps.specs.Words.{IsOf}
-use Rattle.hooks.specs.Known.{asks_of}
+use Rattle.hooks.specs.Known.{asks_of, known_to}
 use Rattle.turns.specs.Turns.{AreVetoes}
 use Rattle.turns.proofs.questions.vetoes.Given as goal
 
@@ -8,5 +9,6 @@ abbrev pub invariant-loop-route : goal.invariant-loop-route
 invariant-loop-route l = record {
   seat : IsOf l.shared l.seat;
   history : asks_of l.asker ≡ asks_of l.initial.asker;
-  answers : AreVetoes l.moment l.offered.rows.items (take l.route-index l.offered.candidates.items) l.answers.items;
+  known : IsPrefix (known_to l.initial.asker) (known_to l.asker);
+  answers : AreVetoes (known_to l.initial.asker) l.moment l.offered.rows.items (take l.route-index l.offered.candidates.items) l.answers.items;
 }

@@ -1,4 +1,11 @@
+use Rattle.hooks.specs.Known.{known_to}
+use Rattle.turns.proofs.Longer.{follows}
 use Rattle.turns.proofs.turns.turn.Goals as goal
 
-pub returns-clause-outs : goal.returns-clause-outs
-returns-clause-outs g c = (c.in_ok-event.event, c.in_ok-event.ensures.event, c.in_ok-taken.ensures.ok)
+pub returns-clause-turned : goal.returns-clause-turned
+returns-clause-turned g c = record {
+  outs = (c.in_ok-event.event, c.in_ok-event.ensures.event, c.in_ok-taken.ensures.ok);
+  refreshed =
+      follows (known_to c.args.port.now.asker) _ c.in_ok-event.ensures.known (λ outs. outs.items) g.B.Taker.offers g.B.Taker.took c.args.moment
+      _ _ _ c.follow-refreshed.result c.in_ok-taken.ensures.share c.follow-refreshed.ensures.refreshed;
+}

@@ -1,5 +1,13 @@
 use Rattle.std.specs.Prelude.{◌≡◌}
+use mathlib.Core.List.{IsPrefix}
+use Rattle.hooks.specs.Known.{known_to}
+use Rattle.worker.proofs.Living.{IsTriedSo}
 use Rattle.worker.proofs.serving.tried.Given as goal
 
-abbrev pub invariant-loop-again : goal.invariant-loop-again
-invariant-loop-again g l = l.port.share.amount ≡ l.initial.port.share.amount
+abbrev pub invariant-loop-tries : goal.invariant-loop-tries
+invariant-loop-tries g l = record {
+  events : l.port.share.amount ≡ l.initial.port.share.amount;
+  number : l.port.number ≡ l.initial.port.number;
+  known : IsPrefix (known_to l.initial.port.asker) (known_to l.port.asker);
+  so : IsTriedSo g.S.Seconds.shows l.initial.clock l.initial.moment l.clock l.moment l._tries;
+}

@@ -3,8 +3,9 @@ use Rattle.events.specs.Events.{Happens}
 use Rattle.flood.specs.declared.event.Event.{Event}
 use Rattle.flood.specs.Occurrences.{occurrence_of}
 use Rattle.book.specs.declared.entry.Entry.{Entry}
+use Rattle.book.specs.Bytes.{bytes_of, with_event}
 use Rattle.book.specs.Replay.{Replays, entry}
-use Rattle.book.proofs.Replayed.{replays_on}
+use Rattle.book.proofs.Replayed.{bytes_with, replays_on}
 use Rattle.book.proofs.book.Book.apply.Goals as goal
 
 pub invariant_of-self-2 : goal.invariant_of-self-2
@@ -21,6 +22,10 @@ invariant_of-self-2 g c =
       replays =
           (let P : List Entry → Type 0 = λ l. Replays c.self.inside.start l after in
           subst P (sym grown) (replays_on _ journal _ _ (entry c.args.moment copy) _ kept.replays happened));
+      weighed =
+          c.with_event-self-inside.ensures ∙ (ap (λ n. with_event n c.args.event.now) kept.weighed
+          ∙ (ap (λ (e : Event). with_event (bytes_of journal) e) (sym c.in_ok-event_copy.ensures)
+          ∙ (sym (bytes_with journal (entry c.args.moment copy)) ∙ ap bytes_of (sym grown))));
       room = search rules;
       few = search rules;
       counted = ap (λ n. n + 1) kept.counted ∙ sym c.add.ensures.total;

@@ -1,5 +1,0 @@
-use Rattle.annotations.specs.Annotated.{IsAnnotated}
-use Rattle.annotations.proofs.trimming.without_idle_bits.Given as goal
-
-abbrev pub invariant-loop-place : goal.invariant-loop-place
-invariant-loop-place l = IsAnnotated l.hook l.bytes l.annotated.object l.annotated.bytes.items l.annotated.accepted

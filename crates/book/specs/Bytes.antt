@@ -1,0 +1,23 @@
+-- How many bytes a journal takes.
+use Rattle.std.specs.Prelude.{ℕ, ◌+◌, ◌*◌, List, fold, length, min}
+use Rattle.flood.specs.declared.event.Event.{Event}
+use Rattle.flood.specs.declared.event.Event.TheVariants as event
+use Rattle.book.specs.declared.entry.Entry.{Entry}
+
+-- what an event holds outside of itself: the bytes of a packet, 64 for each answer of an Install
+abbrev pub held_by : Event → ℕ
+held_by (event.Packet number bytes) = length bytes
+held_by event.Tick = 0
+held_by (event.Redistribute tag price) = 0
+held_by (event.Withdraw prefix) = 0
+held_by (event.Install answers) = length answers * 64
+held_by (event.LinkDown number) = 0
+
+-- so many bytes, and those that an event takes: what it holds, and 256 beside. Where they are 2^64
+-- or more, 2^64 - 1
+abbrev pub with_event : ℕ → Event → ℕ
+with_event bytes e = min (bytes + held_by e + 256) 18446744073709551615
+
+-- the bytes that a journal's events take
+abbrev pub bytes_of : List Entry → ℕ
+bytes_of journal = fold (λ bytes (e : Entry). with_event bytes e.event) 0 journal

@@ -1,0 +1,16 @@
+use Rattle.std.proofs.Common.{rules, ◌≡◌, ◌+◌, ◌-◌, length, map, sym, subst, arith}
+use Rattle.links.specs.Descending.{CountDownTo}
+use Rattle.links.proofs.Counted.{counted_more}
+use Rattle.sockets.proofs.socket_links.listening.Goals as goal
+
+pub loop-before-preserved : goal.loop-before-preserved
+loop-before-preserved g c =
+    let interface = length c.args.wires.now - c.loop-before.before in
+    let same : c.in_ok-link.link.own ≡ interface = search rules in
+    let more = counted_more (λ link. link.own) interface c.loop-before.links.items c.in_ok-link.link same c.loop-before.invariant.interfaces in
+    let next : length c.args.wires.now - (c.loop-before.before + 1) + 1 ≡ interface = omega (arith, c.loop-before-test) in
+    record {
+      each = search rules;
+      interfaces = subst (λ n. CountDownTo n (map (λ link. link.own) c.push.new.self.items)) (sym next)
+          (subst (λ items. CountDownTo interface (map (λ link. link.own) items)) (sym c.in_ok-push.ensures.items) more);
+    }

@@ -1,0 +1,47 @@
+//! A socket of datagrams.
+ghost use Rattle.std.specs.Prelude.{ℕ, ◌≤◌, List, IfOk, take, ⊤};
+
+use mio::net::UdpSocket;
+use std::io;
+use std::net::{Ipv4Addr, SocketAddr};
+
+/// A socket of datagrams whose calls don't wait.
+///
+/// What it says of bytes that it was handed for a port of 127.0.0.1, and of a datagram that it gave,
+/// is left open here: a link, proved for any socket, can say it only by the call itself.
+pub trait DatagramSocket {
+    ghost takes: { Self → (port : ℕ) → List ℕ → Type 0 };
+
+    ghost hands: { Self → List ℕ → Type 0 };
+
+    /// Sends the bytes to this port of 127.0.0.1.
+    fn send(&self, bytes: &[u8], port: u16) -> io::Result<usize>
+        ensures { takes self.now port bytes.now };
+
+    /// Puts a datagram that is there at the buffer's front, and tells its length. One that is longer
+    /// than the buffer is cut.
+    fn receive(&self, buffer: &mut [u8; 8193]) -> io::Result<usize>
+        ensures length { IfOk result (λ n. n ≤ 8193) }
+        ensures handed { IfOk result (λ n. hands self.now (take n buffer.new)) };
+}
+
+// No contract says what the system's socket takes or gives.
+impl DatagramSocket for UdpSocket {
+    ghost takes = { λ _ _ _. ⊤ };
+
+    ghost hands = { λ _ _. ⊤ };
+
+    fn send(&self, bytes: &[u8], port: u16) -> io::Result<usize> {
+        self.send_to(bytes, address_of(port))
+    }
+
+    fn receive(&self, buffer: &mut [u8; 8193]) -> io::Result<usize> {
+        let (length, _sender) = self.recv_from(buffer)?;
+        Ok(length)
+    }
+}
+
+/// A port of 127.0.0.1.
+pub fn address_of(port: u16) -> SocketAddr {
+    SocketAddr::from((Ipv4Addr::LOCALHOST, port))
+}

@@ -1,0 +1,85 @@
+-- What begins with a longer list begins with a shorter one.
+use Rattle.std.proofs.Common.{◌≡◌, ◌∙◌, ℕ, ◌+◌, List, Option, None, Some, arith}
+use Rattle.std.specs.Prelude.{MatchOption}
+use Rattle.std.specs.List.{All}
+use mathlib.Core.List.{IsPrefix}
+use Rattle.words.specs.Numbers.{Moment}
+use Rattle.words.specs.declared.route.External.{External}
+use Rattle.words.specs.declared.route.Route.{Route}
+use Rattle.words.specs.declared.route.TableRow.{TableRow}
+use Rattle.machine.specs.Given.{Given}
+use Rattle.events.specs.declared.model.Out.{Out}
+use Rattle.hooks.specs.declared.operation.Operation.{Operation}
+use Rattle.hooks.specs.Questions.{ExternalAnswer, RouteAnswer}
+use Rattle.hooks.proofs.Fronts.{prefix_trans}
+use Rattle.book.specs.Event.{Event}
+use Rattle.turns.specs.Turns.{AreVetoes, IsFor, IsInstall, IsPriceOn, IsRedistribute, IsTagOn, IsTurned, IsVetoOn, IsWordOn, Offers, TakesFor, Took}
+use Rattle.turns.specs.declared.turned.Turned.{Turned}
+use Rattle.turns.specs.declared.work.Work.{Work}
+use Rattle.turns.specs.declared.work.Work.TheVariants as work
+
+module _ (known more : List Operation) (longer : IsPrefix known more) where
+  pub word_longer : (input : Given) (word : ℕ) → IsWordOn more input word → IsWordOn known input word
+  word_longer input word (operations, labels, begins, answers) =
+      (operations, labels, prefix_trans known more operations longer begins, answers)
+
+  pub tag_longer : (external : External) (moment : Moment) (rows : List TableRow) (a : ExternalAnswer)
+      → IsTagOn more external moment rows a → IsTagOn known external moment rows a
+  tag_longer external moment rows a h =
+      record { destination = h.destination; asked = h.asked; answered = word_longer _ _ h.answered }
+
+  pub price_longer : (external : External) (moment : Moment) (rows : List TableRow) (a : ExternalAnswer)
+      → IsPriceOn more external moment rows a → IsPriceOn known external moment rows a
+  price_longer external moment rows a h =
+      record { destination = h.destination; asked = h.asked; answered = word_longer _ _ h.answered }
+
+  pub veto_longer : (moment : Moment) (rows : List TableRow) (a : RouteAnswer)
+      → IsVetoOn more moment rows a → IsVetoOn known moment rows a
+  veto_longer moment rows a h = record { asked = h.asked; answered = word_longer _ _ h.answered }
+
+  pub vetoes_longer : (moment : Moment) (rows : List TableRow) (routes : List Route) (answers : List RouteAnswer)
+      → AreVetoes more moment rows routes answers → AreVetoes known moment rows routes answers
+  vetoes_longer moment rows routes answers h = (h.0, λ k d low. veto_longer moment rows _ (h.1 k d low))
+
+  pub install_longer : (offers : Offers) (moment : Moment) (e : Event) → IsInstall offers more moment e → IsInstall offers known moment e
+  install_longer offers moment e (candidates, rows, answers, offered, vetoes, is) =
+      (candidates, rows, answers, offered, vetoes_longer moment rows candidates answers vetoes, is)
+
+  pub redistribute_longer : (offers : Offers) (external : External) (moment : Moment) (e : Event)
+      → IsRedistribute offers more external moment e → IsRedistribute offers known external moment e
+  redistribute_longer offers external moment e (candidates, rows, tag, price, offered, tagged, priced, is) =
+      (candidates, rows, tag, price, offered, tag_longer external moment rows tag tagged, price_longer external moment rows price priced, is)
+
+  pub for_longer : (offers : Offers) (w : Work) (moment : Moment) (e : Event) → IsFor offers more w moment e → IsFor offers known w moment e
+  for_longer offers (work.Datagram number bytes) moment e h = h
+  for_longer offers work.Tick moment e h = h
+  for_longer offers (work.Add external) moment e h = redistribute_longer offers external moment e h
+  for_longer offers (work.Withdraw prefix) moment e h = h
+  for_longer offers (work.Down number) moment e h = h
+  for_longer offers work.Refresh moment e h = install_longer offers moment e h
+
+  pub takes_longer : (offers : Offers) (took : Took) (moment : Moment) (w : Work) (outs : List Out)
+      → TakesFor offers took more moment w outs → TakesFor offers took known moment w outs
+  takes_longer offers took moment w outs (e, is, taken) = (e, for_longer offers w moment e is, taken)
+
+  refreshed_longer : {X : Type 0} (items : X → List Out) (offers : Offers) (took : Took) (moment : Moment) (none : Type 0) (some : Type 0) (o : Option X)
+      → MatchOption o none (λ x. TakesFor offers took more moment work.Refresh (items x) × some)
+      → MatchOption o none (λ x. TakesFor offers took known moment work.Refresh (items x) × some)
+  refreshed_longer items offers took moment none some None h = h
+  refreshed_longer items offers took moment none some (Some x) h = (takes_longer offers took moment work.Refresh (items x) h.0, h.1)
+
+  pub turned_longer : (offers : Offers) (took : Took) (moment : Moment) (w : Work) (before after : ℕ) (turned : Turned)
+      → IsTurned offers took more moment w before after turned → IsTurned offers took known moment w before after turned
+  turned_longer offers took moment w before after turned h = record {
+    outs = takes_longer offers took moment w turned.outs.items h.outs;
+    refreshed = refreshed_longer (λ outs. outs.items) offers took moment _ _ turned.refreshed h.refreshed;
+  }
+
+  -- what follows an event that counts once
+  pub follows : {X : Type 0} (items : X → List Out) (offers : Offers) (took : Took) (moment : Moment) (before between after : ℕ) (o : Option X)
+      → between ≡ before + 1
+      → MatchOption o (after ≡ between) (λ x. TakesFor offers took more moment work.Refresh (items x) × (after ≡ between + 1))
+      → MatchOption o (after ≡ before + 1) (λ x. TakesFor offers took known moment work.Refresh (items x) × (after ≡ before + 2))
+  follows items offers took moment before between after None one h = h ∙ one
+  follows items offers took moment before between after (Some x) one h =
+      (takes_longer offers took moment work.Refresh (items x) h.0, omega (arith, h.1, one))

@@ -1,0 +1,5 @@
+use Rattle.turns.specs.Turns.{AreNeighbors}
+use Rattle.turns.proofs.hub.neighbors_of.Given as goal
+
+abbrev pub invariant-loop-interface : goal.invariant-loop-interface
+invariant-loop-interface g l = AreNeighbors (g.B.Taker.neighbor_at l.book) l.interface l.neighbors.items

@@ -1,0 +1,33 @@
+-- A turn that is tried again, by a port that has learnt more.
+use Rattle.std.proofs.Common.{◌≡◌, ℕ, List, Result, Ok, Err, IfOk, subst}
+use mathlib.Core.List.{IsPrefix}
+use Rattle.words.specs.Numbers.{Moment}
+use Rattle.hooks.specs.declared.operation.Operation.{Operation}
+use Rattle.hooks.proofs.Fronts.{prefix_self, prefix_trans}
+use Rattle.turns.specs.Turns.{IsTurned, Offers, Took}
+use Rattle.turns.specs.declared.turned.Turned.{Turned}
+use Rattle.turns.specs.declared.turned.TurnError.{TurnError}
+use Rattle.turns.specs.declared.work.Work.{Work}
+use Rattle.turns.proofs.Longer.{turned_longer}
+
+-- what it gives begins with what the port knew at first
+pub turned_first : (offers : Offers) (took : Took) (known more : List Operation) (moment : Moment) (w : Work) (before now after : ℕ)
+    (turned : Turned) → IsPrefix known more → now ≡ before → IsTurned offers took more moment w now after turned
+    → IsTurned offers took known moment w before after turned
+turned_first offers took known more moment w before now after turned longer same h =
+    subst (λ n. IsTurned offers took known moment w n after turned) same (turned_longer known more longer offers took moment w now after turned h)
+
+-- so it is of what was answered
+pub answered_first : (offers : Offers) (took : Took) (known more : List Operation) (moment : Moment) (w : Work) (before now after : ℕ)
+    (outcome : Result Turned TurnError) → IsPrefix known more → now ≡ before
+    → IfOk outcome (λ turned. IsTurned offers took more moment w now after turned)
+    → IfOk outcome (λ turned. IsTurned offers took known moment w before after turned)
+answered_first offers took known more moment w before now after (Ok turned) longer same h =
+    turned_first offers took known more moment w before now after turned longer same h
+answered_first offers took known more moment w before now after (Err error) longer same h = h
+
+pub known_first : (known : List Operation) → IsPrefix known known
+known_first known = prefix_self known
+
+pub known_still : (known more most : List Operation) → IsPrefix known more → IsPrefix more most → IsPrefix known most
+known_still known more most first then = prefix_trans known more most first then

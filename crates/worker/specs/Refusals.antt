@@ -1,0 +1,9 @@
+-- The refusal after which a turn is tried again.
+use Rattle.events.specs.declared.model.CoreError.TheVariants.{ClockBack}
+use Rattle.book.specs.declared.error.BookError.TheVariants.{Core}
+use Rattle.turns.specs.declared.turned.TurnError.{TurnError}
+use Rattle.turns.specs.declared.turned.TurnError.TheVariants.{Book}
+
+-- the moment is before the router's last event
+abbrev pub clock_back : TurnError
+clock_back = Book (Core ClockBack)

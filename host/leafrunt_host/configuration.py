@@ -1,0 +1,584 @@
+"""The configuration of a box: one TOML file, and one more for its authentication keys.
+
+Everything that can be wrong with them is found before anything is started, all of it at once, and
+told with its key, what was found there and what is allowed.
+"""
+from __future__ import annotations
+
+import os
+import re
+import stat
+import subprocess
+from collections.abc import Callable, Mapping
+from dataclasses import dataclass
+from ipaddress import IPv4Address, IPv4Interface, IPv4Network
+from pathlib import Path
+
+from leafrunt_host.authentication import MD5_KEY_LENGTH, Algorithm, Key, Lifetime
+from leafrunt_host.kernel import KernelInterface
+from leafrunt_host.statuses import Status, Stopped
+from leafrunt_host.tables import Mistake, Table, shown, toml_of
+
+LONGEST_FILE = 1 << 20
+LONGEST_OBJECT = 16 << 20
+MOST_INTERFACES = 63
+MOST_EXTERNALS = 4096
+LEAST_MTU, MOST_MTU = 576, 65535
+LONGEST_SECRET = 256
+LARGEST_METRIC = 16_777_214
+BOX_NAME = re.compile(r"[A-Za-z0-9][A-Za-z0-9._-]{0,63}")
+INTERFACE_NAME = re.compile(r"(?!\.{1,2}$)[^\s/:%]{1,15}")
+KEY_NAME = re.compile(r"[A-Za-z0-9_-]{1,64}")
+HOOKS = ("count", "tag", "price", "veto")
+OBJECT_HEAD = b"BPFH\x01"
+ROUTERD = "/usr/local/bin/routerd"
+SECONDS_TO_VERIFY = 60
+
+
+@dataclass(frozen=True)
+class InterfaceSettings:
+    """An interface of the file, with its address and MTU as the kernel has them. Times are in
+    seconds (RFC 2328, C.3)."""
+
+    name: str
+    address: IPv4Interface
+    mtu: int
+    cost: int
+    hello_interval: int
+    dead_interval: int
+    retransmit_interval: int
+    transmit_delay: int
+    passive: bool
+    keys: tuple[Key, ...]
+
+
+@dataclass(frozen=True)
+class Announcement:
+    """A destination that the router announces as an external one (RFC 2328, 12.4.4)."""
+
+    prefix: IPv4Network
+    metric: int
+    type: int
+    tag: int
+
+    def line(self) -> str:
+        """The line of `routerd`'s console that announces it."""
+        return f"add {self.prefix} {self.metric} {self.type} {self.tag}"
+
+
+@dataclass(frozen=True)
+class Program:
+    """An object file, to be attached at its hook."""
+
+    object: Path
+    hook: str
+
+
+@dataclass(frozen=True)
+class Configuration:
+    """What a box is started with: everything in it has been checked."""
+
+    name: str
+    path: Path
+    router_id: IPv4Address
+    routerd: Path
+    kernel: bool
+    interfaces: tuple[InterfaceSettings, ...]
+    announcements: tuple[Announcement, ...]
+    programs: tuple[Program, ...]
+    advice: tuple[str, ...]
+    """What isn't wrong, and yet should be known."""
+
+    def text(self, ports: list[tuple[int, int]]) -> str:
+        """The configuration of `routerd`: an interface's datagrams come to the first port of its
+        pair, and go to the second."""
+        lines = [f"router {self.router_id}"]
+        for number, (each, (port, peer)) in enumerate(zip(self.interfaces, ports, strict=True), 1):
+            lines.append(
+                f"interface {number} {each.address} cost {each.cost} hello {each.hello_interval} "
+                f"dead {each.dead_interval} rxmt {each.retransmit_interval} delay {each.transmit_delay} "
+                f"port {port} peer {peer}"
+            )
+        return "\n".join(lines) + "\n"
+
+
+class Mistaken(Stopped):
+    """The configuration has these mistakes."""
+
+    def __init__(self, mistakes: list[Mistake]) -> None:
+        super().__init__("\n".join(map(str, mistakes)), Status.REFUSED)
+        self.mistakes = mistakes
+
+
+def verdict_of(routerd: Path, path: Path) -> str:
+    """What `routerd verify` says of an object: `accepted bound N`, or why it isn't accepted."""
+    words = [str(routerd), "verify", str(path)]
+    try:
+        ran = subprocess.run(
+            words,
+            stdin=subprocess.DEVNULL,
+            capture_output=True,
+            timeout=SECONDS_TO_VERIFY,
+            check=False,
+        )
+    except (OSError, subprocess.TimeoutExpired) as error:
+        return f"{words[0]} can't be run: {error}"
+    said = (ran.stdout or ran.stderr).decode(errors="replace").split("\n", 1)[0]
+    return said or f"status {ran.returncode} of {words[0]}, and no word"
+
+
+Judge = Callable[[Path, Path], str]
+
+
+def read_bytes(path: Path) -> bytes:
+    """A file of the operator's, which may be any file: a regular one, not too long, that others
+    can't change."""
+    try:
+        with open(os.open(path, os.O_RDONLY | os.O_NONBLOCK | os.O_CLOEXEC), "rb") as it:
+            status = os.fstat(it.fileno())
+            if not stat.S_ISREG(status.st_mode):
+                raise Stopped(f"cannot read {path}: it is no regular file")
+            if status.st_mode & stat.S_IWOTH:
+                raise Stopped(
+                    f"{path}: others can change it (mode {mode_of(status)}): chmod o-w it",
+                    Status.REFUSED,
+                )
+            data = it.read(LONGEST_FILE + 1)
+    except OSError as error:
+        raise Stopped(f"cannot read {path}: {error.strerror}") from error
+    if len(data) > LONGEST_FILE:
+        raise Stopped(f"cannot read {path}: it has more than {LONGEST_FILE} bytes")
+    return data
+
+
+def mode_of(status: os.stat_result) -> str:
+    return f"{stat.S_IMODE(status.st_mode):04o}"
+
+
+def read_configuration(
+    path: Path, kernel: Mapping[str, KernelInterface], judge: Judge = verdict_of
+) -> Configuration:
+    """Reads a file and all that it names, and starts nothing. `Mistaken` where anything is wrong
+    with them, `Stopped` where the file can't be read. `kernel` are the kernel's interfaces, `judge`
+    says whether an object is accepted.
+    """
+    path = path.absolute()
+    data = read_bytes(path)
+    mistakes: list[Mistake] = []
+    items = toml_of(path.name, data, mistakes)
+    if mistakes:
+        raise Mistaken(mistakes)
+    read = _Reader(path, Table(path.name, "", items, mistakes), mistakes, kernel, judge).read()
+    if mistakes or read is None:
+        raise Mistaken(mistakes)
+    return read
+
+
+def router_id_of(text: str) -> IPv4Address:
+    address = IPv4Address(text)
+    if address == IPv4Address(0):
+        raise ValueError(text)
+    return address
+
+
+class _Reader:
+    """Reads one file. Each part is read even where an earlier one is mistaken, so that all mistakes
+    are told at once."""
+
+    def __init__(
+        self,
+        path: Path,
+        top: Table,
+        mistakes: list[Mistake],
+        kernel: Mapping[str, KernelInterface],
+        judge: Judge,
+    ) -> None:
+        self._path, self._top, self._mistakes, self._kernel, self._judge = (
+            path,
+            top,
+            mistakes,
+            kernel,
+            judge,
+        )
+        self._folder = path.parent
+        self._advice: list[str] = []
+
+    def read(self) -> Configuration | None:
+        self._box_name()
+        router_id = self._top.parsed(
+            "router_id", "an address of four numbers that isn't 0.0.0.0, in quotes", router_id_of
+        )
+        routerd = self._routerd()
+        keeps_kernel = self._top.truth("kernel", True)
+        keys = self._keys()
+        interfaces = self._interfaces(keys)
+        announcements = self._announcements()
+        programs = self._programs(routerd)
+        self._top.end()
+        if self._mistakes or router_id is None or routerd is None:
+            return None
+        return Configuration(
+            self._path.stem,
+            self._path,
+            router_id,
+            routerd,
+            keeps_kernel,
+            tuple(interfaces),
+            tuple(announcements),
+            tuple(programs),
+            tuple(self._advice),
+        )
+
+    def _box_name(self) -> None:
+        """The file's name without its ending is the box's, and those of its folders and its socket."""
+        if not BOX_NAME.fullmatch(self._path.stem):
+            allowed = "letters, digits, `.`, `_` and `-`, at most 64, first a letter or a digit, then .toml"
+            self._mistakes.append(
+                Mistake(self._path.name, "the file's name", shown(self._path.name), allowed)
+            )
+
+    def _in_folder(self, text: str) -> Path:
+        return self._folder / text
+
+    def _routerd(self) -> Path | None:
+        """The program, which must be there."""
+        allowed = "the path of the program `routerd`"
+        text = self._top.text("routerd", allowed, ROUTERD)
+        if text is None:
+            return None
+        path = self._in_folder(text)
+        why = why_no_program(path)
+        if why:
+            self._top.note("routerd", f"{shown(text)}, {why}", allowed)
+            return None
+        return path
+
+    # -- keys
+
+    def _keys(self) -> dict[str, Key] | None:
+        """The keys by their names; None where their file is mistaken."""
+        if not self._top.has("keys"):
+            return {}
+        allowed = "a file of keys that only its owner can read"
+        text = self._top.text("keys", allowed)
+        if text is None:
+            return None
+        path = self._in_folder(text)
+        try:
+            with open(os.open(path, os.O_RDONLY | os.O_NONBLOCK | os.O_CLOEXEC), "rb") as it:
+                why = why_not_private(os.fstat(it.fileno()))
+                data = b"" if why else it.read(LONGEST_FILE)
+        except (OSError, ValueError) as error:
+            why, data = str(getattr(error, "strerror", None) or error), b""
+        if why:
+            self._top.note("keys", f"{shown(text)}: {why}", allowed)
+            return None
+        before = len(self._mistakes)
+        items = toml_of(path.name, data, self._mistakes)
+        keys = {}
+        for name, each in items.items():
+            key = self._key(path, name, each)
+            if key:
+                keys[name] = key
+        return keys if len(self._mistakes) == before else None
+
+    def _key(self, path: Path, name: str, items: object) -> Key | None:
+        where = name if KEY_NAME.fullmatch(name) else shown(name)
+        if not isinstance(items, dict) or not KEY_NAME.fullmatch(name):
+            found = "no table" if not isinstance(items, dict) else "this name"
+            allowed = "a table for each key, begun with its name: [letters, digits, `_`, `-`]"
+            self._mistakes.append(Mistake(path.name, where, found, allowed))
+            return None
+        table = Table(path.name, where, items, self._mistakes)
+        number = table.whole("id", 0, 255)
+        algorithms = {each.value[0]: each for each in Algorithm}
+        algorithm = algorithms.get(table.one_of("algorithm", algorithms) or "")
+        most = MD5_KEY_LENGTH if algorithm is Algorithm.KEYED_MD5 else LONGEST_SECRET
+        secret = table.secret("secret", most, f"a text of 1 to {most} bytes")
+        lifetime = self._lifetime(table)
+        table.end()
+        if not table.is_sound or algorithm is None or secret is None:
+            return None
+        try:
+            key = Key(number, algorithm, secret, lifetime)
+        except ValueError as error:
+            table.note("", str(error), "a key as docs/HOST.md describes it")
+            return None
+        advice = key.advice()
+        if advice:
+            self._advice.append(f"{path.name}: {where}: {advice}")
+        return key
+
+    @staticmethod
+    def _lifetime(table: Table) -> Lifetime:
+        moments = {
+            each: table.moment(each)
+            for each in ("generate_from", "generate_to", "accept_from", "accept_to")
+        }
+        for verb in ("generate", "accept"):
+            first, last = moments[f"{verb}_from"], moments[f"{verb}_to"]
+            if first is not None and last is not None and first >= last:
+                table.note(
+                    f"{verb}_to",
+                    f"a moment that isn't after {verb}_from",
+                    f"a moment after {verb}_from",
+                )
+                return Lifetime()
+        return Lifetime(**moments)
+
+    # -- interfaces
+
+    def _interfaces(self, keys: dict[str, Key] | None) -> list[InterfaceSettings]:
+        tables = self._top.tables("interface", interface_title)
+        if tables is not None and not 1 <= len(tables) <= MOST_INTERFACES:
+            self._top.note(
+                "interface",
+                str(len(tables) or "nothing"),
+                f"1 to {MOST_INTERFACES} tables [[interface]]",
+            )
+        read: list[InterfaceSettings] = []
+        for table in tables or []:
+            one = self._interface(table, keys)
+            table.end()
+            if one is None:
+                continue
+            for other in read:
+                if one.name == other.name:
+                    table.note(
+                        "name",
+                        f"{shown(one.name)}, as in an earlier [[interface]]",
+                        "each interface once",
+                    )
+                elif one.address.ip == other.address.ip:
+                    found = f"{one.address}, which {other.name} has too"
+                    table.note("address", found, "an address of each interface's own")
+            read.append(one)
+        return read
+
+    def _interface(self, table: Table, keys: dict[str, Key] | None) -> InterfaceSettings | None:
+        inside = self._kernel_interface(table)
+        passive = table.truth("passive", False)
+        address = self._address(table, inside)
+        cost = table.whole("cost", 1, 65535, 10)
+        hello = table.whole("hello_interval", 1, 65535, 10)
+        dead = table.whole("dead_interval", 1, 4294967295, 4 * hello)
+        retransmit = table.whole("retransmit_interval", 1, 65535, 5)
+        delay = table.whole("transmit_delay", 1, 3600, 1)
+        chosen = self._chosen_keys(table, keys, passive)
+        if dead <= hello and not table.is_wrong("hello_interval"):
+            table.note("dead_interval", str(dead), f"more than hello_interval, which is {hello}")
+        if inside and not passive and not LEAST_MTU <= inside.mtu <= MOST_MTU:
+            found = f"{shown(inside.name)}, whose MTU is {inside.mtu}"
+            table.note(
+                "name",
+                found,
+                f"an interface with an MTU of {LEAST_MTU} to {MOST_MTU}, or passive = true",
+            )
+        if not table.is_sound or inside is None or address is None or chosen is None:
+            return None
+        return InterfaceSettings(
+            inside.name, address, inside.mtu, cost, hello, dead, retransmit, delay, passive, chosen
+        )
+
+    def _kernel_interface(self, table: Table) -> KernelInterface | None:
+        """The kernel's interface of this name."""
+        allowed = f"the name of an interface of the kernel: {', '.join(sorted(self._kernel)) or 'there is none'}"
+        name = table.text("name", allowed)
+        if name is None:
+            return None
+        if not INTERFACE_NAME.fullmatch(name) or name not in self._kernel:
+            table.note("name", f"{shown(name)}, which the kernel doesn't have", allowed)
+            return None
+        return self._kernel[name]
+
+    @staticmethod
+    def _address(table: Table, inside: KernelInterface | None) -> IPv4Interface | None:
+        """The address that is asked for, or the only one that the kernel's interface has."""
+        everything = inside.addresses + inside.secondary if inside else ()
+        those = ", ".join(map(str, everything))
+        if table.has("address"):
+            allowed = (
+                f"an address of the interface with its prefix length: {those}"
+                if those
+                else "A.B.C.D/L"
+            )
+            address = table.parsed("address", allowed, IPv4Interface)
+            if address is not None and inside and address not in everything:
+                table.note("address", shown(str(address)), allowed)
+                return None
+            return address
+        table.text("address", "", "none")
+        if inside is None:
+            return None
+        if not everything:
+            table.note(
+                "name",
+                f"{shown(inside.name)}, which has no IPv4 address",
+                "an interface that has one",
+            )
+            return None
+        if len(inside.addresses) != 1:
+            table.note(
+                "address", f"nothing, and the interface has {those}", f"one of these: {those}"
+            )
+            return None
+        return inside.addresses[0]
+
+    def _chosen_keys(
+        self, table: Table, keys: dict[str, Key] | None, passive: bool
+    ) -> tuple[Key, ...] | None:
+        """The keys of an interface, of which the first signs."""
+        known = (
+            f"names of keys: {', '.join(keys) or 'none, as there is no file of keys'}"
+            if keys is not None
+            else "names of keys"
+        )
+        names = table.texts("keys", known)
+        if names is None or keys is None:
+            return None
+        chosen: list[Key] = []
+        for name in names:
+            key = keys.get(name)
+            if key is None:
+                table.note("keys", shown(name), known)
+                return None
+            if any(key.id == other.id for other in chosen):
+                table.note(
+                    "keys",
+                    f"{shown(name)}, whose ID {key.id} an earlier one has",
+                    "keys with different IDs",
+                )
+                return None
+            chosen.append(key)
+        if chosen and passive:
+            table.note(
+                "keys",
+                f"a list of {len(chosen)}",
+                "none where passive = true, as no packet is sent there",
+            )
+            return None
+        return tuple(chosen)
+
+    # -- destinations and programs
+
+    def _announcements(self) -> list[Announcement]:
+        tables = self._top.tables("announce", announce_title)
+        if tables is not None and len(tables) > MOST_EXTERNALS:
+            self._top.note(
+                "announce", str(len(tables)), f"at most {MOST_EXTERNALS} tables [[announce]]"
+            )
+        prefixes: dict[IPv4Address, IPv4Network] = {}
+        read: list[Announcement] = []
+        for table in tables or []:
+            allowed = "A.B.C.D/L whose bits after the first L are 0"
+            prefix = table.parsed("prefix", allowed, prefix_of)
+            metric = table.whole("metric", 0, LARGEST_METRIC, 20)
+            kind = table.whole("type", 1, 2, 2)
+            tag = table.whole("tag", 0, 0xFFFFFFFF, 0)
+            table.end()
+            if prefix is not None and prefix.network_address in prefixes:
+                other = prefixes[prefix.network_address]
+                found = f"{prefix}, and {other} in an earlier [[announce]]"
+                table.note(
+                    "prefix",
+                    found,
+                    "one destination for each address (their Link State ID would be the same)",
+                )
+            elif prefix is not None:
+                prefixes[prefix.network_address] = prefix
+            if table.is_sound and prefix is not None:
+                read.append(Announcement(prefix, metric, kind, tag))
+        return read
+
+    def _programs(self, routerd: Path | None) -> list[Program]:
+        read: list[Program] = []
+        for table in self._top.tables("program", lambda at, _: f"program {at}") or []:
+            program = self._program(table, routerd)
+            table.end()
+            if program is None:
+                continue
+            if any(program.hook == other.hook for other in read):
+                found = (
+                    f"{shown(program.object.name)}, for the hook {program.hook}, as an earlier one"
+                )
+                table.note("object", found, "one program for each hook")
+            read.append(program)
+        return read
+
+    def _program(self, table: Table, routerd: Path | None) -> Program | None:
+        allowed = "the path of an object file that `routerd verify` accepts, without a space in it"
+        text = table.text("object", allowed)
+        if text is None:
+            return None
+        path = self._in_folder(text)
+        found, hook = object_hook(path)
+        if hook and routerd:
+            verdict = self._judge(routerd, path)
+            found = "" if verdict.startswith("accepted bound ") else verdict
+        if found:
+            table.note("object", f"{shown(text)}: {found}", allowed)
+            return None
+        return Program(path, hook)
+
+
+def interface_title(at: int, items: dict) -> str:
+    name = items.get("name")
+    is_name = isinstance(name, str) and INTERFACE_NAME.fullmatch(name)
+    return f"interface {at} ({shown(name)[1:-1]})" if is_name else f"interface {at}"
+
+
+def announce_title(at: int, _items: dict) -> str:
+    return f"announce {at}"
+
+
+def prefix_of(text: str) -> IPv4Network:
+    """A prefix with its length, in the form that `routerd` reads."""
+    prefix = IPv4Network(text)
+    if str(prefix) != text:
+        raise ValueError(text)
+    return prefix
+
+
+def why_no_program(path: Path) -> str | None:
+    """Why a path is no program that may be run; None where it is one."""
+    try:
+        status = path.stat()
+    except OSError as error:
+        return f"which can't be had: {error.strerror}"
+    except ValueError as error:
+        return f"which can't be had: {error}"
+    if not stat.S_ISREG(status.st_mode) or not os.access(path, os.X_OK):
+        return "which is no program that can be run"
+    if status.st_mode & stat.S_IWOTH:
+        return f"which others can change (mode {mode_of(status)})"
+    return None
+
+
+def why_not_private(status: os.stat_result) -> str | None:
+    """Why a file may be read by others than its owner and this process; None where it may not."""
+    if not stat.S_ISREG(status.st_mode):
+        return "it is no regular file"
+    if status.st_uid not in (0, os.geteuid()):
+        return f"its owner is the user {status.st_uid}"
+    if status.st_mode & 0o077:
+        return f"others can use it (mode {mode_of(status)}): chmod 600 it"
+    return None
+
+
+def object_hook(path: Path) -> tuple[str, str]:
+    """Why a file is no object, and the hook of one that is (docs/FORMATS.md, 'Object files')."""
+    if re.search(r"\s", str(path)) or not str(path).isprintable():
+        return "a path with spaces, which `routerd`'s console can't be given", ""
+    try:
+        with open(os.open(path, os.O_RDONLY | os.O_NONBLOCK | os.O_CLOEXEC), "rb") as it:
+            status = os.fstat(it.fileno())
+            head = it.read(16) if stat.S_ISREG(status.st_mode) else b""
+    except (OSError, ValueError) as error:
+        return str(getattr(error, "strerror", None) or error), ""
+    if not head.startswith(OBJECT_HEAD) or len(head) < 16 or not 1 <= head[5] <= len(HOOKS):
+        return "no object file", ""
+    if status.st_size > LONGEST_OBJECT:
+        return f"more than {LONGEST_OBJECT} bytes", ""
+    if status.st_mode & stat.S_IWOTH:
+        return f"others can change it (mode {mode_of(status)})", ""
+    return "", HOOKS[head[5] - 1]

@@ -1,0 +1,238 @@
+"""What a line of the console is answered: `routerd`'s own lines are passed on, the box's are
+answered from what it knows."""
+from __future__ import annotations
+
+import json
+import logging
+import re
+import threading
+from collections.abc import Callable
+from ipaddress import IPv4Address, IPv4Network
+
+from leafrunt_host.area import area_of
+from leafrunt_host.area_map import Destination, map_lines
+from leafrunt_host.bridge import Bridge
+from leafrunt_host.capture import Capture
+from leafrunt_host.configuration import Announcement
+from leafrunt_host.journal import Kept, where_it_failed
+from leafrunt_host.kernel import KernelRoute, kernel_route
+from leafrunt_host.router import Router, RouterGone
+from leafrunt_host.server import Answer, Asked
+from leafrunt_host.status import Known, neighbors_of, status_lines, status_of
+from leafrunt_host.statuses import Stopped
+from leafrunt_host.topology import Topology, database_lines, whole_lines
+
+log = logging.getLogger("leafrunt.console")
+LOG_LINES = 40
+CHANGES = ("attach", "detach", "add", "withdraw")
+ADDED = re.compile(r"add (\S+) (\d+) ([12]) (\d+)")
+ATTACHED = re.compile(r"attached (\w+) bound (\d+)")
+
+
+class Refused(Exception):
+    """A word of the box's own can't be answered; the text says why."""
+
+
+class Desk:
+    """Answers lines, for any number of clients at once."""
+
+    def __init__(
+        self,
+        known: Known,
+        router: Router,
+        bridge: Bridge,
+        topology: Topology,
+        log: Kept,
+        end: Callable[[], None],
+    ) -> None:
+        self._known, self._router, self._bridge = known, router, bridge
+        self._topology, self._log, self._end = topology, log, end
+        self._changing = threading.Lock()
+        self._capture: Capture | None = None
+        self._own: dict[str, Callable[[str], list[str]]] = {
+            "status": self._status,
+            "interfaces": self._interfaces,
+            "announced": self._announced,
+            "programs": self._programs,
+            "database": self._database,
+            "map": self._map,
+            "log": self._last_of_log,
+        }
+
+    def answer(self, asked: Asked) -> Answer:
+        """The answer to a line: of a list the last line is `end`, as `routerd`'s are."""
+        word, _, rest = asked.line.partition(" ")
+        try:
+            if word in self._own:
+                return Answer([*self._own[word](rest), "end"])
+            if word == "capture":
+                return Answer([self._captured(rest, asked)])
+            if asked.line == "down":
+                self._end()
+                return Answer(["ending"], stays=True)
+            return Answer(self.passed_on(asked.line))
+        except (Refused, Stopped) as why:
+            return Answer([f"refused: {why}"])
+        except RouterGone as why:
+            return Answer([f"refused: {why}: the box is ending"])
+        except Exception as error:
+            # a mistake in this program: the client gets an answer all the same
+            log.error("console: %.80r: %s", asked.line, where_it_failed(error))
+            return Answer([f"refused: {where_it_failed(error)}"])
+
+    def passed_on(self, line: str) -> list[str]:
+        """`routerd`'s answer, as it is. What it changes is noted, in the order in which `routerd`
+        was asked."""
+        word = line.partition(" ")[0]
+        if word == "quit":
+            return ["unknown"]
+        if word not in CHANGES:
+            return self._router.ask(line)
+        with self._changing:
+            answer = self._router.ask(line)
+            self._note(line, answer[0])
+            return answer
+
+    def _note(self, line: str, answer: str) -> None:
+        added, attached = ADDED.fullmatch(line), ATTACHED.fullmatch(answer)
+        if added and answer in ("originated", "withheld"):
+            prefix = IPv4Network(added[1])
+            one = Announcement(prefix, int(added[2]), int(added[3]), int(added[4]))
+            self._known.announced = {**self._known.announced, prefix: (one, answer)}
+        if answer == "withdrawn":
+            gone = IPv4Network(line.split(" ")[1])
+            self._known.announced = {
+                each: said for each, said in self._known.announced.items() if each != gone
+            }
+        if attached:
+            path = line.partition(" ")[2]
+            self._known.programs = {**self._known.programs, attached[1]: (path, int(attached[2]))}
+        if answer.startswith("detached "):
+            hook = answer.partition(" ")[2]
+            self._known.programs = {
+                each: said for each, said in self._known.programs.items() if each != hook
+            }
+
+    # -- words of the box's own
+
+    def _status(self, rest: str) -> list[str]:
+        if rest not in ("", "json"):
+            raise Refused("after `status` comes nothing, or `json`")
+        neighbors = self._router.ask_list("neighbors")
+        if neighbors is not None:
+            self._known.neighbors = neighbors_of(neighbors)
+        status = status_of(self._known)
+        return [json.dumps(status)] if rest else status_lines(status)
+
+    def _interfaces(self, rest: str) -> list[str]:
+        none_after("interfaces", rest)
+        lines = []
+        for number, each in enumerate(self._known.configuration.interfaces, 1):
+            link = self._known.links.get(number)
+            counted = (
+                "".join(f", {what} {count}" for what, count in sorted(link.counters.items()))
+                if link
+                else ""
+            )
+            keys = f" keys {','.join(str(key.id) for key in each.keys)}" if each.keys else ""
+            lines.append(
+                f"interface {number} {each.name} {each.address} mtu {each.mtu} cost {each.cost} "
+                f"hello {each.hello_interval} dead {each.dead_interval} rxmt {each.retransmit_interval} "
+                f"delay {each.transmit_delay}{keys}{' passive' if each.passive else ''}{counted}"
+            )
+        return lines
+
+    def _announced(self, rest: str) -> list[str]:
+        none_after("announced", rest)
+        announced = self._known.announced
+        return [
+            f"{announced[each][0].line().removeprefix('add ')} {announced[each][1]}"
+            for each in sorted(announced)
+        ]
+
+    def _programs(self, rest: str) -> list[str]:
+        none_after("programs", rest)
+        return [
+            f"{hook} bound {bound} {path}"
+            for hook, (path, bound) in sorted(self._known.programs.items())
+        ]
+
+    def _database(self, rest: str) -> list[str]:
+        if not rest:
+            return database_lines(self._topology)
+        try:
+            identity = IPv4Address(rest)
+        except ValueError:
+            raise Refused("after `database` comes nothing, or a Link State ID: A.B.C.D") from None
+        lines = whole_lines(self._topology, identity)
+        if not lines:
+            raise Refused(f"no LSA has the Link State ID {identity}")
+        return lines
+
+    def _map(self, rest: str) -> list[str]:
+        area = area_of((header.key, entry.body) for header, entry in self._topology.entries())
+        if not rest:
+            return map_lines(area, self._known.configuration.router_id)
+        try:
+            prefix = IPv4Network(rest)
+        except ValueError:
+            raise Refused(
+                "after `map` comes nothing, or a destination: A.B.C.D/L whose other bits are 0, or A.B.C.D"
+            ) from None
+        route = kernel_route(prefix)
+        if route is None:
+            raise Refused(f"the kernel has no route to {prefix}")
+        return map_lines(area, self._known.configuration.router_id, self._destination(route))
+
+    def _destination(self, route: KernelRoute) -> Destination:
+        """The kernel's route, by the addresses of the interfaces that it leaves by."""
+        addresses = {each.name: each.address.ip for each in self._known.configuration.interfaces}
+        ways = [f"{each.address or 'its own network'} {each.interface}" for each in route.ways]
+        said = f"the kernel's route to {route.prefix}: {' and '.join(ways) or 'none of its interfaces'}"
+        foreign = [each.interface for each in route.ways if each.interface not in addresses]
+        if foreign:
+            said += f" ({', '.join(foreign)} isn't this router's)"
+        own = tuple(
+            addresses[each.interface]
+            for each in route.ways
+            if each.interface in addresses and each.address
+        )
+        return Destination(route.prefix, own, said)
+
+    def _last_of_log(self, rest: str) -> list[str]:
+        if rest and not (rest.isascii() and rest.isdigit() and len(rest) <= 6):
+            raise Refused("after `log` comes nothing, or how many lines")
+        return self._log.last(int(rest) if rest else LOG_LINES)
+
+    def _captured(self, rest: str, asked: Asked) -> str:
+        if rest == "off":
+            return self.end_capture() or "refused: there is no capture"
+        if not rest:
+            raise Refused("after `capture` comes a new file's path, or `off`")
+        if asked.descriptor is None:
+            raise Refused("no file came with the line: `leafrunt console` makes it")
+        descriptor, asked.descriptor = asked.descriptor, None
+        with self._changing:
+            try:
+                capture = Capture(descriptor, rest)
+            except ValueError as error:
+                raise Refused(f"{rest}: {error}") from None
+            if self._capture:
+                capture.end()
+                raise Refused(
+                    f"a capture to {self._capture.name} is under way: `capture off` ends it"
+                )
+            self._capture = capture
+            self._bridge.tap = lambda _interface, packet: capture.take(packet)
+        return f"capturing to {rest}"
+
+    def end_capture(self) -> str | None:
+        """Ends the capture that is under way, and says how many packets it has."""
+        with self._changing:
+            capture, self._capture, self._bridge.tap = self._capture, None, None
+        return capture.end() if capture else None
+
+
+def none_after(word: str, rest: str) -> None:
+    if rest:
+        raise Refused(f"after `{word}` comes nothing")

@@ -1,0 +1,88 @@
+"""The box's log: lines on standard error, and the last of them for the console."""
+from __future__ import annotations
+
+import logging
+import os
+import sys
+import threading
+import time
+from collections import deque
+
+MOST_KEPT = 2000
+PRIORITIES = {
+    logging.DEBUG: 7,
+    logging.INFO: 6,
+    logging.WARNING: 4,
+    logging.ERROR: 3,
+    logging.CRITICAL: 2,
+}
+"""syslog(3), as sd-daemon(3) writes them before a line."""
+
+
+def one_line(text: str) -> str:
+    """The text without anything that would act on a terminal or begin another line."""
+    return "".join(each if each.isprintable() else " " for each in text)
+
+
+class Line(logging.Formatter):
+    """A record as a line: with its moment, or, for systemd's journal, which has its own, with its
+    priority."""
+
+    def __init__(self, for_journal: bool) -> None:
+        super().__init__()
+        self._for_journal = for_journal
+
+    def format(self, record: logging.LogRecord) -> str:
+        text = one_line(record.getMessage())
+        if self._for_journal:
+            return f"<{PRIORITIES.get(record.levelno, 6)}>{text}"
+        moment = time.strftime("%Y-%m-%d %H:%M:%S", time.localtime(record.created))
+        return f"{moment} {record.levelname.lower()}: {text}"
+
+
+class Kept(logging.Handler):
+    """Keeps the last lines."""
+
+    def __init__(self) -> None:
+        super().__init__()
+        self.setFormatter(Line(for_journal=False))
+        self._lines: deque[str] = deque(maxlen=MOST_KEPT)
+
+    def emit(self, record: logging.LogRecord) -> None:
+        self._lines.append(self.format(record))
+
+    def last(self, count: int) -> list[str]:
+        """The last so many lines, the oldest first."""
+        lines = list(self._lines)
+        return lines[-count:] if count else []
+
+
+def where_it_failed(error: Exception) -> str:
+    """One line on an error that nobody expected: what it was, and where."""
+    at = error.__traceback__
+    while at and at.tb_next:
+        at = at.tb_next
+    where = (
+        f" ({os.path.basename(at.tb_frame.f_code.co_filename)}, line {at.tb_lineno})" if at else ""
+    )
+    return f"a mistake in this program: {type(error).__name__}: {error}{where}"
+
+
+def told_of_thread(failed: threading.ExceptHookArgs) -> None:
+    """What a thread that nobody waits for failed with: in one line, as everything is."""
+    if isinstance(failed.exc_value, Exception):
+        logging.getLogger("leafrunt").error("%s", where_it_failed(failed.exc_value))
+
+
+def start_log(level: int = logging.INFO) -> Kept:
+    """Sends the log of this package to standard error, and keeps its last lines."""
+    log = logging.getLogger("leafrunt")
+    log.setLevel(level)
+    log.propagate = False
+    shown = logging.StreamHandler(sys.stderr)
+    shown.setFormatter(Line("JOURNAL_STREAM" in os.environ))
+    kept = Kept()
+    log.handlers = [shown, kept]
+    logging.raiseExceptions = False
+    threading.excepthook = told_of_thread
+    return kept

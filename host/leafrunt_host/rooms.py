@@ -1,0 +1,143 @@
+"""Where a running box keeps its files, and that it is the only one of its name."""
+from __future__ import annotations
+
+import fcntl
+import os
+import socket
+import stat
+from collections.abc import Iterable
+from dataclasses import dataclass, field
+from pathlib import Path
+from typing import TextIO
+
+from leafrunt_host.statuses import Status, Stopped
+
+RUN = Path("/run/leafrunt")
+STATE = Path("/var/lib/leafrunt")
+LONGEST_SOCKET_PATH = 107
+"""unix(7): `sun_path` has 108 bytes with the zero at its end."""
+
+
+def socket_path(run: Path, name: str) -> Path:
+    """The socket of a box's console."""
+    return run / name / "socket"
+
+
+def own_folder(path: Path) -> None:
+    """Makes a folder that only its owner may use. One that is there must be like that."""
+    try:
+        path.mkdir(mode=0o700, parents=True, exist_ok=True)
+        status = path.stat(follow_symlinks=False)
+    except OSError as error:
+        raise Stopped(f"cannot make the folder {path}: {error.strerror}") from error
+    if not stat.S_ISDIR(status.st_mode) or status.st_uid != os.geteuid():
+        raise Stopped(f"{path} is no folder of this user's", Status.REFUSED)
+    if status.st_mode & 0o077:
+        try:
+            path.chmod(0o700)
+        except OSError as error:
+            raise Stopped(
+                f"{path} is open to others, and can't be closed: {error.strerror}"
+            ) from error
+
+
+@dataclass
+class Room:
+    """The folders of a running box. While it's held no other box of the name can be started."""
+
+    name: str
+    run: Path
+    state: Path
+    _lock: TextIO | None = None
+    _claims: list[socket.socket] = field(default_factory=list)
+
+    @property
+    def socket(self) -> Path:
+        return self.run / "socket"
+
+    @property
+    def configuration(self) -> Path:
+        return self.run / "routerd.conf"
+
+    def enter(self) -> None:
+        """Makes the folders and takes the lock, which the kernel gives back however this process
+        ends. What an earlier box left is removed."""
+        if len(os.fsencode(self.socket)) > LONGEST_SOCKET_PATH:
+            raise Stopped(
+                f"{self.socket}: a socket's path has at most {LONGEST_SOCKET_PATH} bytes",
+                Status.REFUSED,
+            )
+        own_folder(self.run)
+        own_folder(self.state)
+        path = self.run / "lock"
+        try:
+            lock = open(
+                os.open(path, os.O_RDWR | os.O_CREAT | os.O_NOFOLLOW | os.O_CLOEXEC, 0o600),
+                "r+",
+                encoding="ascii",
+            )
+        except OSError as error:
+            raise Stopped(f"cannot open {path}: {error.strerror}") from error
+        try:
+            fcntl.flock(lock, fcntl.LOCK_EX | fcntl.LOCK_NB)
+        except OSError as error:
+            holder = lock.read(20).strip()
+            lock.close()
+            process = f" (process {holder})" if holder.isdigit() else ""
+            raise Stopped(
+                f"the box {self.name} runs already{process}: `leafrunt down` ends it",
+                Status.REFUSED,
+            ) from error
+        lock.truncate(0)
+        lock.write(f"{os.getpid()}\n")
+        lock.flush()
+        self._lock = lock
+        self.socket.unlink(missing_ok=True)
+
+    def claim(self, names: Iterable[str]) -> None:
+        """Claims interfaces and the kernel's table for this box, in this network namespace, by
+        abstract sockets (unix(7)): two boxes that share one would undo each other's work."""
+        for name in names:
+            claim = socket.socket(socket.AF_UNIX, socket.SOCK_DGRAM)
+            try:
+                claim.bind(f"\0leafrunt {name}")
+            except OSError as error:
+                claim.close()
+                raise Stopped(
+                    f"another box has the {name} in this network namespace", Status.REFUSED
+                ) from error
+            self._claims.append(claim)
+
+    def leave(self) -> None:
+        """Removes what nobody needs any more, and gives the name back. The state's folder stays,
+        for the next start."""
+        for claim in self._claims:
+            claim.close()
+        self._claims.clear()
+        if self._lock is None:
+            return
+        for path in (self.socket, self.configuration):
+            path.unlink(missing_ok=True)
+        self._lock.truncate(0)
+        self._lock.close()
+        self._lock = None
+
+
+def running(run: Path) -> list[str]:
+    """The names of the boxes that take connections."""
+    try:
+        return sorted(each.name for each in run.iterdir() if is_listening(each / "socket"))
+    except OSError:
+        return []
+
+
+def is_listening(path: Path) -> bool:
+    """Whether a box takes connections at a socket: one that was killed leaves its socket behind."""
+    if len(os.fsencode(path)) > LONGEST_SOCKET_PATH:
+        return False
+    with socket.socket(socket.AF_UNIX, socket.SOCK_STREAM) as tried:
+        try:
+            tried.connect(str(path))
+        except OSError:
+            return False
+    return True

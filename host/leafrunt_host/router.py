@@ -1,0 +1,163 @@
+"""`routerd route` as a child: one answer to one line of its console, for any number of threads."""
+from __future__ import annotations
+
+import logging
+import queue
+import re
+import subprocess
+import threading
+from collections.abc import Callable
+from dataclasses import dataclass
+from pathlib import Path
+
+log = logging.getLogger("leafrunt.router")
+LISTS = ("table", "neighbors", "counters")
+"""The commands whose answer is a list of lines and then `end`."""
+NO_LISTS = re.compile(r"unknown|out of memory|refused \d+")
+"""What such a command may be answered in place of a list."""
+LONGEST_LINE = 4096
+SECONDS_TO_ANSWER = 120
+SECONDS_TO_END = 30
+ENVIRONMENT = {"PATH": "/usr/sbin:/usr/bin:/sbin:/bin", "LANG": "C.UTF-8"}
+
+
+class RouterGone(Exception):
+    """`routerd` has ended, or doesn't answer any more."""
+
+
+@dataclass(frozen=True)
+class Ended:
+    """How `routerd` ended: its status, negative for a signal's number; its exact counters, which it
+    prints last; the last line that it printed, which says why where it didn't start."""
+
+    status: int
+    counters: tuple[str, ...]
+    said: str = ""
+
+    @property
+    def words(self) -> str:
+        return f"killed by signal {-self.status}" if self.status < 0 else f"status {self.status}"
+
+
+class Router:
+    """The child. Its standard error is logged, line by line."""
+
+    def __init__(
+        self, program: Path, configuration: Path, told: Callable[[str], None] = lambda line: None
+    ) -> None:
+        self._told = told
+        self._lines: queue.SimpleQueue[str | None] = queue.SimpleQueue()
+        self._one_at_a_time = threading.Lock()
+        self._is_gone = False
+        self._said = ""
+        self._ran: subprocess.Popen[bytes] = subprocess.Popen(
+            [str(program), "route", str(configuration)],
+            stdin=subprocess.PIPE,
+            stdout=subprocess.PIPE,
+            stderr=subprocess.PIPE,
+            cwd="/",
+            env=ENVIRONMENT,
+            start_new_session=True,
+        )
+        assert self._ran.stdin and self._ran.stdout and self._ran.stderr  # each is a pipe
+        self._input, self._output, self._errors = (
+            self._ran.stdin,
+            self._ran.stdout,
+            self._ran.stderr,
+        )
+        self._readers = [
+            threading.Thread(target=self._read_answers, daemon=True),
+            threading.Thread(target=self._read_errors, daemon=True),
+        ]
+        for each in self._readers:
+            each.start()
+
+    @property
+    def pid(self) -> int:
+        return self._ran.pid
+
+    def _read_answers(self) -> None:
+        for line in self._output:
+            self._said = line.decode("utf-8", "replace").rstrip("\n")
+            self._lines.put(self._said)
+        self._lines.put(None)
+
+    def _read_errors(self) -> None:
+        for line in self._errors:
+            text = line.decode("utf-8", "replace").rstrip()
+            log.warning("routerd: %s", text)
+            self._told(text)
+
+    def status(self) -> int | None:
+        """The status that it ended with by itself; None while it runs."""
+        return self._ran.poll()
+
+    def is_silent(self) -> bool:
+        """Whether it was given up, since it didn't answer."""
+        return self._is_gone and self._ran.poll() is None
+
+    def _next(self, seconds: float) -> str:
+        try:
+            line = self._lines.get(timeout=seconds)
+        except queue.Empty:
+            self._is_gone = True
+            raise RouterGone(f"routerd has not answered for {seconds} seconds") from None
+        if line is None:
+            self._is_gone = True
+            raise RouterGone("routerd has ended")
+        return line
+
+    def ask(self, line: str, seconds: float = SECONDS_TO_ANSWER) -> list[str]:
+        """The lines of the answer as they are; `end`, which closes a list, is one of them."""
+        data = line.encode("utf-8")
+        if b"\n" in data or len(data) > LONGEST_LINE:
+            return ["unknown"]
+        with self._one_at_a_time:
+            if self._is_gone:
+                raise RouterGone("routerd has ended")
+            self._write(data + b"\n")
+            answer = [self._next(seconds)]
+            if line in LISTS and not NO_LISTS.fullmatch(answer[0]):
+                while answer[-1] != "end":
+                    answer.append(self._next(seconds))
+            return answer
+
+    def _write(self, data: bytes) -> None:
+        try:
+            self._input.write(data)
+            self._input.flush()
+        except (OSError, ValueError) as error:
+            self._is_gone = True
+            raise RouterGone("routerd has ended") from error
+
+    def ask_list(self, line: str) -> list[str] | None:
+        """The lines of a list without its end; None where it was refused."""
+        answer = self.ask(line)
+        return answer[:-1] if answer[-1] == "end" else None
+
+    def quit(self, seconds: float = SECONDS_TO_END) -> Ended:
+        """Ends it, if it hasn't ended, and waits for it. One that doesn't end by itself is killed,
+        and that is logged."""
+        with self._one_at_a_time:
+            was_gone, self._is_gone = self._is_gone, True
+            try:
+                if not was_gone:
+                    self._input.write(b"quit\n")
+                self._input.close()
+            except (OSError, ValueError):
+                pass  # it has ended already
+            try:
+                status = self._ran.wait(seconds)
+            except subprocess.TimeoutExpired:
+                log.error("routerd didn't end within %d seconds of `quit`: it is killed", seconds)
+                self._ran.kill()
+                status = self._ran.wait()
+        for each in self._readers:
+            each.join(5)
+        lines = []
+        while not self._lines.empty():
+            lines.append(self._lines.get())
+        counters = tuple(each for each in lines if each and each.startswith("counter "))
+        self._output.close()
+        self._errors.close()
+        return Ended(status, counters, self._said)

@@ -1,0 +1,200 @@
+"""What `leafrunt status` says: the same for a program, as JSON, and for a reader, as lines."""
+from __future__ import annotations
+
+import re
+import time
+from dataclasses import dataclass, field
+from ipaddress import IPv4Address, IPv4Network
+
+from leafrunt_host.bridge import Link
+from leafrunt_host.configuration import Announcement, Configuration, InterfaceSettings
+from leafrunt_host.forwarding import host_warnings
+from leafrunt_host.observing import Adjacencies
+
+NEIGHBOR = re.compile(r"neighbor (\d+) (\S+) (\w+)")
+
+
+@dataclass(frozen=True)
+class Neighbor:
+    """A line of `neighbors`."""
+
+    number: int
+    router_id: IPv4Address
+    state: str
+
+
+def neighbors_of(lines: list[str]) -> dict[int, Neighbor]:
+    """The neighbors by the numbers of their interfaces. A line that is none is left out."""
+    found = {}
+    for line in lines:
+        read = NEIGHBOR.fullmatch(line)
+        if read:
+            found[int(read[1])] = Neighbor(int(read[1]), IPv4Address(read[2]), read[3])
+    return found
+
+
+@dataclass
+class Kept:
+    """What became of the kernel's table at the last look."""
+
+    routes: int = 0
+    refused: tuple[str, ...] = ()
+    without_hop: tuple[IPv4Network, ...] = ()
+    error: str | None = None
+
+
+@dataclass
+class Known:
+    """What a running box knows of itself; its threads change it, so each value is replaced whole."""
+
+    configuration: Configuration
+    links: dict[int, Link]
+    adjacencies: Adjacencies
+    routerd: int
+    started: float = field(default_factory=time.time)
+    neighbors: dict[int, Neighbor] = field(default_factory=dict)
+    announced: dict[IPv4Network, tuple[Announcement, str]] = field(default_factory=dict)
+    """The destinations that were given, each with `routerd`'s answer."""
+    programs: dict[str, tuple[str, int]] = field(default_factory=dict)
+    """By hook the object file and the bound."""
+    kept: Kept = field(default_factory=Kept)
+    stopped: tuple[str, ...] = ()
+    """Interfaces that `routerd` serves no longer."""
+
+
+def originated(known: Known) -> frozenset[IPv4Network]:
+    """The destinations that this router announces: those that a price withholds aren't."""
+    announced = known.announced.items()
+    return frozenset(prefix for prefix, (_, answer) in announced if answer == "originated")
+
+
+def warnings_of(configuration: Configuration) -> list[str]:
+    """What isn't wrong with the configuration or with the kernel's settings, as they are now, and
+    yet should be known."""
+    names = [each.name for each in configuration.interfaces]
+    return [*configuration.advice, *host_warnings(names)]
+
+
+def moment_text(moment: float) -> str:
+    return time.strftime("%Y-%m-%d %H:%M:%S", time.localtime(moment))
+
+
+def since(known: Known, number: int) -> float | None:
+    """The moment, in seconds since 1970, from which on a neighbor has been in its state."""
+    began = known.adjacencies.since(number)
+    return None if began is None else time.time() - (time.monotonic() - began)
+
+
+def interface_status(known: Known, number: int, each: InterfaceSettings) -> dict:
+    """What is said of one interface."""
+    said: dict = {
+        "number": number,
+        "name": each.name,
+        "address": str(each.address),
+        "mtu": each.mtu,
+        "cost": each.cost,
+        "passive": each.passive,
+        "neighbor": None,
+        "remarks": [],
+        "counters": {},
+    }
+    link = known.links.get(number)
+    if link is None:
+        return said
+    neighbor = known.neighbors.get(number)
+    if neighbor:
+        address, began = link.next_hop(neighbor.router_id), since(known, number)
+        said["neighbor"] = {
+            "router_id": str(neighbor.router_id),
+            "address": str(address) if address else None,
+            "state": neighbor.state,
+            "since": began,
+        }
+    said["remarks"] = [
+        {
+            "router_id": str(report.router_id) if report.router_id else None,
+            "address": str(report.source) if report.source else None,
+            "heard_ago": report.heard_ago,
+            "reasons": list(report.reasons),
+        }
+        for report in link.reports(time.monotonic())
+    ]
+    said["counters"] = dict(link.counters)
+    return said
+
+
+def status_of(known: Known) -> dict:
+    """The whole, as values that JSON has."""
+    configuration = known.configuration
+    kept = known.kept
+    return {
+        "box": configuration.name,
+        "router_id": str(configuration.router_id),
+        "since": known.started,
+        "routerd": {"pid": known.routerd, "stopped": list(known.stopped)},
+        "kernel": {
+            "kept": configuration.kernel,
+            "routes": kept.routes,
+            "refused": list(kept.refused),
+            "without_next_hop": list(map(str, kept.without_hop)),
+            "error": kept.error,
+        },
+        "warnings": warnings_of(configuration),
+        "interfaces": [
+            interface_status(known, number, each)
+            for number, each in enumerate(configuration.interfaces, 1)
+        ],
+    }
+
+
+def kernel_line(kernel: dict) -> str:
+    if not kernel["kept"]:
+        return "kernel: its table is left alone (kernel = false)"
+    if kernel["error"]:
+        return f"kernel: its table isn't kept: {kernel['error']}"
+    said = f"kernel: {kernel['routes']} route{'' if kernel['routes'] == 1 else 's'}"
+    if kernel["refused"]:
+        said += f", {len(kernel['refused'])} refused: {kernel['refused'][0]}"
+    if kernel["without_next_hop"]:
+        said += f", {len(kernel['without_next_hop'])} without a known next hop"
+    return said
+
+
+def remark_lines(name: str, remarks: list[dict]) -> list[str]:
+    """Why a neighbor isn't heard, a line for each that was seen; nothing of those with which all is
+    well."""
+    lines = []
+    for each in remarks:
+        who = " ".join(
+            filter(None, [each["router_id"], f"({each['address']})" if each["address"] else None])
+        )
+        if each["reasons"]:
+            lines.append(f"  {name}:{f' {who}:' if who else ''} {'; '.join(each['reasons'])}")
+    return lines
+
+
+def interface_lines(each: dict) -> list[str]:
+    head = f"{each['name']}: {each['address']}, MTU {each['mtu']}"
+    if each["passive"]:
+        return [f"{head}: passive"]
+    neighbor = each["neighbor"]
+    if neighbor is None:
+        return [f"{head}: no neighbor", *remark_lines(each["name"], each["remarks"])]
+    at = f" ({neighbor['address']})" if neighbor["address"] else ""
+    began = f" since {moment_text(neighbor['since'])}" if neighbor["since"] else ""
+    state = f"{neighbor['router_id']}{at} {neighbor['state']}{began}"
+    return [f"{head}: {state}", *remark_lines(each["name"], each["remarks"])]
+
+
+def status_lines(status: dict) -> list[str]:
+    """The same for a reader."""
+    began = moment_text(status["since"])
+    lines = [
+        f"box {status['box']}: router {status['router_id']}, since {began}, routerd is process {status['routerd']['pid']}"
+    ]
+    lines += [f"routerd: {each}" for each in status["routerd"]["stopped"]]
+    lines.append(kernel_line(status["kernel"]))
+    lines += [f"warning: {each}" for each in status["warnings"]]
+    for each in status["interfaces"]:
+        lines += interface_lines(each)
+    return lines

@@ -1,0 +1,255 @@
+"""The link-state database as the packets that passed through the bridge show it.
+
+Each LSA that a neighbor is given or gives passes through the bridge whole, so once a neighbor is
+Full nothing is missing here. What comes from the wire counts once `routerd` acknowledged it (RFC
+2328, 13.5), and what `routerd` sends counts at once: so this is its database, and nothing that it
+refused.
+"""
+from __future__ import annotations
+
+import logging
+import queue
+import threading
+import time
+from collections import OrderedDict
+from collections.abc import Callable
+from dataclasses import dataclass, replace
+from ipaddress import IPv4Address
+
+from leafrunt_host.exchange import Side
+from leafrunt_host.journal import where_it_failed
+from leafrunt_host.lsas import (
+    MAX_AGE,
+    Body,
+    ExternalBody,
+    LinkType,
+    LsHeader,
+    LsType,
+    NetworkBody,
+    RouterBody,
+    RouterFlags,
+    RouterLink,
+    SummaryBody,
+    body_of,
+    header_of,
+    is_newer,
+    is_whole,
+)
+from leafrunt_host.packets import LSA_HEADER_LENGTH, Malformed, Packet, PacketType, chunks, lsas_of
+
+log = logging.getLogger("leafrunt.topology")
+KINDS = frozenset(LsType)
+MOST_WAITING = 50_000
+SECONDS_WAITING = 60
+MOST_UNREAD = 8_192
+"""Packets that may wait to be read. Beyond that they are left out and counted, since the bridge may
+not wait for this."""
+SECONDS_TO_READ = 5
+SECONDS_UNSETTLED = 0.5
+"""Packets of two interfaces may be read here in another order than `routerd` sent them in, this
+long at most."""
+KEY, INSTANCE = slice(3, 12), slice(3, 18)
+"""Of an LSA's header: type, Link State ID and advertising router; and sequence number and checksum
+after them (RFC 2328, A.4.1)."""
+
+
+@dataclass(frozen=True)
+class Entry:
+    """An LSA, the age that it had when it was seen, and when that was."""
+
+    data: bytes
+    age: int
+    moment: float
+
+    def age_at(self, now: float) -> int:
+        return min(MAX_AGE, self.age + int(now - self.moment))
+
+    def header_at(self, now: float) -> LsHeader:
+        """The header with the age that the LSA has by now."""
+        header = header_of(self.data)
+        assert header is not None  # it was looked at before it was kept
+        return replace(header, age=self.age_at(now))
+
+    @property
+    def body(self) -> Body | None:
+        return body_of(self.data)
+
+
+def age_of(data: bytes) -> int:
+    return min(MAX_AGE, int.from_bytes(data[:2], "big"))
+
+
+class Topology:
+    """The database. The bridge hands it packets, a thread of its own reads them, and others ask, in
+    threads of theirs."""
+
+    def __init__(self, clock: Callable[[], float] = time.monotonic) -> None:
+        self._clock = clock
+        self._one_at_a_time = threading.Lock()
+        self._entries: dict[bytes, Entry] = {}
+        self._waiting: OrderedDict[bytes, Entry] = OrderedDict()
+        self._unread: queue.SimpleQueue[
+            tuple[Side, Packet, float] | threading.Event
+        ] = queue.SimpleQueue()
+        self.left_out = 0
+        threading.Thread(target=self._read, name="topology", daemon=True).start()
+
+    def watch(self, side: Side, packet: Packet, now: float) -> None:
+        """Takes note of a packet that the bridge took: from the wire, or from `routerd`."""
+        is_update = packet.type == PacketType.LINK_STATE_UPDATE
+        if not is_update and (
+            side is Side.WIRE or packet.type != PacketType.LINK_STATE_ACKNOWLEDGMENT
+        ):
+            return
+        if self._unread.qsize() >= MOST_UNREAD:
+            self.left_out += 1
+        else:
+            self._unread.put((side, packet, now))
+
+    def _read(self) -> None:
+        """Reads the packets, in their order."""
+        while True:
+            given = self._unread.get()
+            if isinstance(given, threading.Event):
+                given.set()
+                continue
+            try:
+                with self._one_at_a_time:
+                    self._read_one(*given)
+            except Exception as error:
+                # a mistake in this program: the next packet is read all the same
+                log.error("database: %s", where_it_failed(error))
+
+    def _read_one(self, side: Side, packet: Packet, now: float) -> None:
+        if packet.type == PacketType.LINK_STATE_UPDATE:
+            self._updated(side, packet, now)
+        else:
+            for header in chunks(packet.body, LSA_HEADER_LENGTH):
+                self._acknowledged(header, now)
+
+    def _updated(self, side: Side, packet: Packet, now: float) -> None:
+        try:
+            lsas = lsas_of(packet.body)
+        except Malformed:
+            return
+        for data in lsas:
+            entry = Entry(data, age_of(data), now)
+            if data[3] not in KINDS:
+                continue
+            if side is Side.ROUTER:
+                self._put(entry, now)
+            else:
+                self._wait(entry, now)
+
+    def _wait(self, entry: Entry, now: float) -> None:
+        """An LSA from the wire waits until `routerd` acknowledges it, which takes it a second, or
+        refuses it in silence."""
+        instance = entry.data[INSTANCE]
+        self._waiting[instance] = entry
+        self._waiting.move_to_end(instance)
+        while self._waiting:
+            oldest = next(iter(self._waiting.values()))
+            if len(self._waiting) <= MOST_WAITING and now - oldest.moment < SECONDS_WAITING:
+                break
+            self._waiting.popitem(last=False)
+
+    def _acknowledged(self, header: bytes, now: float) -> None:
+        """An acknowledgment of `routerd` has the header that it received, age and all (13.5)."""
+        entry = self._waiting.pop(header[INSTANCE], None)
+        if entry:
+            self._put(replace(entry, age=age_of(header)), now)
+
+    def _put(self, entry: Entry, now: float) -> None:
+        """An older instance than the one here comes late, or, where that one was flushed, begins
+        anew (12.1.6, 14.1)."""
+        if not is_whole(entry.data):
+            return
+        before = self._entries.get(entry.data[KEY])
+        if before and is_newer(before.header_at(now), entry.header_at(now)):
+            is_flushed = before.age_at(now) == MAX_AGE
+            if not is_flushed or now - before.moment < SECONDS_UNSETTLED:
+                return
+        self._entries[entry.data[KEY]] = entry
+
+    def entries(self) -> list[tuple[LsHeader, Entry]]:
+        """The LSAs with their headers of now, in the order of their keys; those that are flushed or
+        ran out aren't in it. What the bridge has handed over by now is read first."""
+        is_read = threading.Event()
+        self._unread.put(is_read)
+        is_read.wait(SECONDS_TO_READ)
+        now = self._clock()
+        with self._one_at_a_time:
+            for key, entry in list(self._entries.items()):
+                if entry.age_at(now) == MAX_AGE and now - entry.moment > MAX_AGE:
+                    del self._entries[key]
+            found = sorted(self._entries.items())
+        return [(entry.header_at(now), entry) for _, entry in found if entry.age_at(now) < MAX_AGE]
+
+
+HEADING = (
+    f"{'Type':<12} {'Link State ID':<15} {'Router':<15} {'Sequence':<8} {'Age':>4} {'Checksum':>8}"
+)
+
+
+def database_line(header: LsHeader) -> str:
+    """A line of `leafrunt database`, with the columns that BIRD's `show ospf lsadb` has."""
+    key, sequence, checksum = header.key, header.sequence & 0xFFFFFFFF, f"{header.checksum:04x}"
+    title = LsType(key.type).title
+    return f"{title:<12} {key.id!s:<15} {key.router!s:<15} {sequence:08x} {header.age:>4} {checksum:>8}"
+
+
+def database_lines(topology: Topology) -> list[str]:
+    """All LSAs, a line each, below a heading."""
+    lines = [HEADING, *(database_line(header) for header, _ in topology.entries())]
+    if topology.left_out:
+        lines.append(
+            f"({topology.left_out} packets came too fast to be read here: what they had is missing until it is sent again)"
+        )
+    return lines
+
+
+def whole_lines(topology: Topology, identity: IPv4Address) -> list[str]:
+    """The LSAs with this Link State ID, each with what its body says."""
+    found = [(header, entry) for header, entry in topology.entries() if header.key.id == identity]
+    lines = [HEADING] if found else []
+    for header, entry in found:
+        lines += [database_line(header), *(f"  {each}" for each in body_lines(header, entry.body))]
+    return lines
+
+
+def body_lines(header: LsHeader, body: Body | None) -> list[str]:
+    """What an LSA's body says, in words."""
+    match body:
+        case RouterBody(flags, links):
+            titles = {
+                RouterFlags.B: "area border router",
+                RouterFlags.E: "AS boundary router",
+                RouterFlags.V: "virtual link",
+            }
+            said = [title for flag, title in titles.items() if flags & flag]
+            return [f"flags: {', '.join(said) or 'none'}", *map(link_line, links)]
+        case NetworkBody(mask, routers):
+            return [f"mask {mask}", *(f"attached router {each}" for each in routers)]
+        case SummaryBody(mask, metric):
+            return [f"mask {mask}, metric {metric}"]
+        case ExternalBody(mask, kind, metric, forwarding, tag):
+            return [
+                f"mask {mask}, type {kind}, metric {metric}, forwarding address {forwarding}, tag {tag}"
+            ]
+    return [f"a body of {header.length - LSA_HEADER_LENGTH} bytes that can't be read"]
+
+
+def link_line(link: RouterLink) -> str:
+    """A link of a router-LSA in words."""
+    match link.type:
+        case LinkType.POINT_TO_POINT:
+            return f"link to the router {link.id}, own address {link.data}, metric {link.metric}"
+        case LinkType.TRANSIT:
+            return (
+                f"link to the network of {link.id}, own address {link.data}, metric {link.metric}"
+            )
+        case LinkType.STUB:
+            return f"stub network {link.id}, mask {link.data}, metric {link.metric}"
+        case LinkType.VIRTUAL:
+            return f"virtual link to the router {link.id}, own address {link.data}, metric {link.metric}"
+    return f"link of type {link.type} to {link.id}, data {link.data}, metric {link.metric}"

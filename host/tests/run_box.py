@@ -1,0 +1,26 @@
+"""Runs a box whose kernel has one made-up interface, since a test may open no raw socket:
+`run_box.py CONFIG RUN STATE`."""
+import sys
+from ipaddress import IPv4Interface
+from pathlib import Path
+
+sys.path.insert(0, str(Path(__file__).parents[1]))
+
+from leafrunt_host.box import Box  # noqa: E402
+from leafrunt_host.configuration import read_configuration  # noqa: E402
+from leafrunt_host.journal import start_log  # noqa: E402
+from leafrunt_host.kernel import KernelInterface  # noqa: E402
+from leafrunt_host.rooms import Room  # noqa: E402
+from leafrunt_host.statuses import Stopped  # noqa: E402
+
+KERNEL = {"lan0": KernelInterface("lan0", 1500, (IPv4Interface("10.0.1.1/24"),))}
+
+if __name__ == "__main__":
+    log = start_log()
+    try:
+        configuration = read_configuration(Path(sys.argv[1]), KERNEL)
+    except Stopped as why:
+        print(why, file=sys.stderr)
+        sys.exit(why.status)
+    run, state = Path(sys.argv[2]) / configuration.name, Path(sys.argv[3]) / configuration.name
+    sys.exit(Box(configuration, Room(configuration.name, run, state), log).run())

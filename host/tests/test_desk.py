@@ -1,0 +1,218 @@
+"""What a box says of itself where it has neighbors, and its parts that no whole box shows in a test."""
+import json
+import os
+import struct
+import sys
+import tempfile
+import unittest
+from collections import Counter
+from dataclasses import dataclass, field
+from ipaddress import IPv4Address, IPv4Interface, IPv4Network
+from pathlib import Path
+
+from leafrunt_host.box import kept_routes
+from leafrunt_host.capture import Capture
+from leafrunt_host.configuration import Announcement, Configuration, InterfaceSettings
+from leafrunt_host.journal import Kept as KeptLog
+from leafrunt_host.journal import one_line
+from leafrunt_host.observing import Adjacencies, Report
+from leafrunt_host.router import Router, RouterGone
+from leafrunt_host.status import (
+    Kept,
+    Known,
+    kernel_line,
+    neighbors_of,
+    originated,
+    status_lines,
+    status_of,
+)
+
+TWO = IPv4Address("2.2.2.2")
+THERE = IPv4Address("10.0.1.2")
+
+
+@dataclass
+class StandInLink:
+    """What a status asks of a link."""
+
+    said: list[Report]
+    counters: Counter = field(default_factory=lambda: Counter({"in": 3}))
+
+    def reports(self, _now: float) -> list[Report]:
+        return self.said
+
+    def next_hop(self, router_id: IPv4Address) -> IPv4Address | None:
+        return THERE if router_id == TWO else None
+
+
+def interface(name: str, address: str, passive: bool = False) -> InterfaceSettings:
+    return InterfaceSettings(name, IPv4Interface(address), 1500, 10, 10, 40, 5, 1, passive, ())
+
+
+def known(*reports: Report, neighbors: tuple[str, ...] = (), kernel: bool = True) -> Known:
+    interfaces = (interface("eth1", "10.0.1.1/24"), interface("lan0", "10.0.2.1/24", True))
+    one = IPv4Address("1.1.1.1")
+    configuration = Configuration(
+        "one", Path("/one.toml"), one, Path("/routerd"), kernel, interfaces, (), (), ("take care",)
+    )
+    adjacencies = Adjacencies()
+    adjacencies.look(neighbors, {1: "eth1"}, 0)
+    it = Known(configuration, {1: StandInLink(list(reports))}, adjacencies, 77)
+    it.neighbors = neighbors_of(list(neighbors))
+    return it
+
+
+class Statuses(unittest.TestCase):
+    def lines(self, it: Known) -> list[str]:
+        """The lines, by way of JSON, without the first one and what this very host is warned of."""
+        status = json.loads(json.dumps(status_of(it)))
+        status["warnings"] = [each for each in status["warnings"] if each == "take care"]
+        return status_lines(status)[1:]
+
+    def test_full(self) -> None:
+        it = known(Report("eth1", TWO, THERE, 1.0), neighbors=("neighbor 1 2.2.2.2 Full",))
+        it.kept = Kept(7)
+        lines = self.lines(it)
+        self.assertEqual(lines[:2], ["kernel: 7 routes", "warning: take care"])
+        self.assertRegex(
+            lines[2],
+            r"^eth1: 10\.0\.1\.1/24, MTU 1500: 2\.2\.2\.2 \(10\.0\.1\.2\) Full since \d{4}-",
+        )
+        self.assertEqual(lines[3:], ["lan0: 10.0.2.1/24, MTU 1500: passive"])
+
+    def test_why_not(self) -> None:
+        reports = [
+            Report("eth1", reasons=("down: no carrier",)),
+            Report("eth1", TWO, THERE, 1.0, ("HelloInterval 3 there and 2 here", "area 0.0.0.1")),
+        ]
+        self.assertEqual(
+            self.lines(known(*reports))[2:5],
+            [
+                "eth1: 10.0.1.1/24, MTU 1500: no neighbor",
+                "  eth1: down: no carrier",
+                "  eth1: 2.2.2.2 (10.0.1.2): HelloInterval 3 there and 2 here; area 0.0.0.1",
+            ],
+        )
+
+    def test_a_worker_that_stopped(self) -> None:
+        it = known()
+        it.stopped = ("[WARN  route::labor] worker 1 stopped",)
+        self.assertIn("routerd: [WARN  route::labor] worker 1 stopped", self.lines(it))
+
+    def test_of_the_kernel(self) -> None:
+        for kept, line in (
+            (Kept(1), "kernel: 1 route"),
+            (
+                Kept(2, ("route add 10.0.0.0/8: File exists",)),
+                "kernel: 2 routes, 1 refused: route add 10.0.0.0/8: File exists",
+            ),
+            (
+                Kept(0, (), (IPv4Network("10.0.0.0/8"),)),
+                "kernel: 0 routes, 1 without a known next hop",
+            ),
+            (Kept(error="no ip"), "kernel: its table isn't kept: no ip"),
+        ):
+            it = known()
+            it.kept = kept
+            with self.subTest(line):
+                self.assertEqual(kernel_line(status_of(it)["kernel"]), line)
+        self.assertIn("left alone", self.lines(known(kernel=False))[0])
+
+    def test_lines_of_neighbors(self) -> None:
+        found = neighbors_of(["neighbor 3 2.2.2.2 ExStart", "end", "neighbor x 2.2.2.2 Full"])
+        self.assertEqual(
+            [(each.number, each.router_id, each.state) for each in found.values()],
+            [(3, TWO, "ExStart")],
+        )
+
+    def test_what_is_announced_is_left_out(self) -> None:
+        """What a price withholds isn't announced, so another's route to it is the kernel's."""
+        it = known()
+        for prefix, answer in (("10.0.0.0/8", "originated"), ("11.0.0.0/8", "withheld")):
+            net = IPv4Network(prefix)
+            it.announced[net] = (Announcement(net, 1, 2, 0), answer)
+        self.assertEqual(originated(it), frozenset([IPv4Network("10.0.0.0/8")]))
+        table = [
+            "10.0.1.0/24 intra 10 via 0",
+            "10.0.0.0/8 ext2 1 via 1",
+            "11.0.0.0/8 ext2 1 via 1,2",
+        ]
+        self.assertEqual(kept_routes(table, originated(it)), 1)
+
+
+class Captures(unittest.TestCase):
+    def test_packets(self) -> None:
+        with tempfile.TemporaryDirectory() as folder:
+            path = Path(folder, "it.pcap")
+            capture = Capture(os.open(path, os.O_WRONLY | os.O_CREAT, 0o600), str(path))
+            packets = [b"\x45" + bytes(63), b"\x45" + bytes(1499)]
+            for each in packets:
+                capture.take(each)
+            self.assertEqual(capture.end(), f"captured 2 packets to {path}")
+            capture.take(b"late")
+            data = path.read_bytes()
+        self.assertEqual(
+            struct.unpack("=IHHiIII", data[:24]), (0xA1B2C3D4, 2, 4, 0, 0, 65535, 101)
+        )
+        at = 24
+        for each in packets:
+            seconds, micros, kept, length = struct.unpack("=IIII", data[at : at + 16])
+            self.assertEqual(
+                (kept, length, data[at + 16 : at + 16 + kept]), (len(each), len(each), each)
+            )
+            self.assertLess(micros, 1_000_000)
+            at += 16 + kept
+        self.assertEqual(at, len(data))
+
+    def test_a_file_that_can_not_be_written(self) -> None:
+        with tempfile.TemporaryDirectory() as folder:
+            path = Path(folder, "it.pcap")
+            path.touch()
+            capture = Capture(os.open(path, os.O_RDONLY), str(path))
+            capture.take(b"x")
+            self.assertEqual(
+                capture.end(),
+                f"captured 0 packets to {path}, then writing failed: Bad file descriptor",
+            )
+
+
+class Logs(unittest.TestCase):
+    def test_one_line(self) -> None:
+        self.assertEqual(one_line("a\x1b[2J\nb\u2028c\xe9"), "a [2J b c\xe9")
+
+    def test_nothing_is_asked_for(self) -> None:
+        self.assertEqual(KeptLog().last(0), [])
+
+
+class Routers(unittest.TestCase):
+    def setUp(self) -> None:
+        folder = tempfile.TemporaryDirectory()
+        self.addCleanup(folder.cleanup)
+        self.program = Path(folder.name, "routerd")
+        stand_in = Path(__file__).with_name("stand_in.py").read_text()
+        self.program.write_text(f"#!{sys.executable} -IS\n{stand_in}")
+        self.program.chmod(0o755)
+        self.configuration = Path(folder.name, "routerd.conf")
+        self.configuration.write_text("router 1.1.1.1\n")
+
+    def test_one_that_does_not_answer_is_killed(self) -> None:
+        router = Router(self.program, self.configuration)
+        self.assertEqual(router.ask("neighbors"), ["neighbor 1 2.2.2.2 Full", "end"])
+        self.assertRaises(RouterGone, router.ask, "attach /silent", 0.1)
+        self.assertTrue(router.is_silent())
+        self.assertRaises(RouterGone, router.ask, "table")
+        with self.assertLogs("leafrunt.router", "ERROR"):
+            ended = router.quit(0.1)
+        self.assertEqual((ended.status, ended.words), (-9, "killed by signal 9"))
+
+    def test_lines_that_are_none(self) -> None:
+        router = Router(self.program, self.configuration)
+        self.assertEqual(router.ask("table\ntable"), ["unknown"])
+        self.assertEqual(router.ask("x" * 5000), ["unknown"])
+        self.assertEqual(router.ask("counters"), ["counter 5 6", "end"])
+        ended = router.quit()
+        self.assertEqual((ended.status, ended.counters), (0, ("counter 5 7", "counter 6 1")))
+
+
+if __name__ == "__main__":
+    unittest.main()
