@@ -2,6 +2,7 @@
 meet. See `try-network`."""
 from __future__ import annotations
 
+import re
 import sys
 import time
 from collections.abc import Callable
@@ -45,6 +46,7 @@ class Line:
         mtu: int = 1500,
         has_keys: bool = False,
         is_wired: bool = False,
+        dead: int = DEAD_INTERVAL,
     ) -> None:
         self.network = given.network
         bird, box, frr = (self.network.namespace(each) for each in ("bird", "box", "frr"))
@@ -57,14 +59,21 @@ class Line:
             self.network.link(End(name, "d0", address), End(name, "d1", "172.31.0.1/32"))
         to_bird, to_frr = ((SHA,), (MD5,)) if has_keys else ((), ())
         self.bird = Bird(
-            self.network, bird, "2.2.2.2", [Side("eth1", to_bird), Side("d0", is_passive=True)]
+            self.network,
+            bird,
+            "2.2.2.2",
+            [Side("eth1", to_bird, dead=dead), Side("d0", is_passive=True)],
         )
         self.frr = Frr(
-            self.network, frr, "3.3.3.3", [Side("eth1", to_frr), Side("d0", is_passive=True)]
+            self.network,
+            frr,
+            "3.3.3.3",
+            [Side("eth1", to_frr, dead=dead), Side("d0", is_passive=True)],
         )
         self.frr.gateway = "172.16.2.9"
-        sides = [Side("to-bird", to_bird), Side("to-frr", to_frr)]
+        sides = [Side("to-bird", to_bird, dead=dead), Side("to-frr", to_frr, dead=dead)]
         self.box = Box(self.network, given.routerd, box, "box", router_id, sides)
+        self._started = 0.0
 
     def give(self, count: int) -> None:
         """So many externals for each of the three."""
@@ -77,6 +86,17 @@ class Line:
         self.is_started()
         self.bird.start()
         self.frr.start()
+        self._started = time.time()
+
+    def full_after(self) -> float | None:
+        """How many seconds after all were started the box logged its second neighbor as Full; None
+        before. On a busy machine it takes seconds to ask BIRD and FRR."""
+        moments = {}
+        for line in self.box.log_lines():
+            found = re.fullmatch(r"(\S+ \S+) info: (\S+): \S+ \S+ -> Full", line)
+            if found:
+                moments[found[2]] = datetime.fromisoformat(found[1]).timestamp()
+        return max(0.0, max(moments.values()) - self._started) if len(moments) == 2 else None
 
     def is_started(self) -> bool:
         return within(60, lambda: self.box.ask("neighbors")) is not None
@@ -133,8 +153,12 @@ def described(given: Try, what: str, router_id: str, mtu: int, has_keys: bool, c
     it.give(count)
     it.start()
     looks = given.looks
-    if not looks.timed(f"{what}: both neighbors Full within 10 s", 10, it.is_up):
-        print(f"     {it.box.neighbors()} {it.bird.neighbors()} {it.frr.neighbors()}")
+    within(60, lambda: it.full_after() is not None)
+    took = it.full_after()
+    measured = "never" if took is None else f"after {took:.0f} s, by the box's log"
+    good = took is not None and took <= 10
+    looks.look(f"{what}: both neighbors Full within 10 s", good, measured)
+    looks.timed("and so BIRD and FRR say", 60, it.is_up)
     looks.timed(
         f"the same {3 * count + 3} LSAs, with equal sequence numbers, at all three",
         60,
@@ -149,13 +173,14 @@ def described(given: Try, what: str, router_id: str, mtu: int, has_keys: bool, c
 
 
 def losing(given: Try) -> None:
-    """3,000 LSAs at each of the three over links that lose a fifth of all packets."""
+    """3,000 LSAs at each of the three over links that lose a fifth of all packets; RouterDeadInterval
+    20, since of four Hellos in a row all are lost too often."""
     for mtu, router_id, role in ((1500, "1.1.1.1", "slave"), (9000, "9.9.9.9", "master")):
         anew(given, lambda: lossy(given, mtu, router_id, role))
 
 
 def lossy(given: Try, mtu: int, router_id: str, role: str) -> None:
-    it, count, looks = Line(given, router_id, mtu, True, True), 3_000, given.looks
+    it, count, looks = Line(given, router_id, mtu, True, True, 20), 3_000, given.looks
     it.give(count)
     it.network.wire("loss", 20)
     it.start()
