@@ -1,8 +1,8 @@
 -- Rows of the routing table, read of words.
 use Rattle.std.proofs.Common.{◌≡◌, ◌∙◌, ◌+◌, ◌<◌, ◌≤◌, ℕ, List, [], ◌∷◌, ◌++◌, Option, Some, None, ap, sym, subst, length, get_or, drop, lit<, append_assoc, arith}
 use Rattle.std.specs.Global.{Vec}
-use Rattle.std.specs.Prelude.{MatchOption, decimal, map, slice_index_or}
-use Rattle.std.proofs.lemmas.List.{at_drop_more}
+use Rattle.std.specs.Prelude.{MatchOption, decimal, map}
+use Rattle.std.proofs.lemmas.List.{append-nil, drop_all, drop_more}
 use Rattle.std.proofs.lemmas.Str.Pattern.{IsSplitOnceResult, split_after, split_parts}
 use Rattle.address_texts.proofs.Addresses.{high_in_prefix}
 use Rattle.clap.specs.Walk.{Text}
@@ -54,31 +54,37 @@ first_of_rows : (word : Text) (words : List Text) (rows : List TableRow) → Are
 first_of_rows word words [] are = absurd are
 first_of_rows word words (row ∷ rest) are = (row, rest, are.0, are.1)
 
-pub read_more : (words : List (Bor Text)) (i : ℕ) (w : Bor Text) (rows : List TableRow) (row : TableRow) → i < length words → w ≡ slice_index_or words i w
-    → IsRow w.now row → HasRead words i rows → HasRead words (i + 1) (rows ++ row ∷ [])
-read_more words i w rows row lt at is has = record {
+-- what is left before one more word
+cut_here : (words : List (Bor Text)) (i : ℕ) (d : Bor Text) (rest : List TableRow) → i < length words → AreRows (texts (drop i words)) rest
+    → AreRows ((get_or words i d).now ∷ texts (drop (i + 1) words)) rest
+cut_here words i d rest lt are = subst (λ (xs : List (Bor Text)). AreRows (texts xs) rest) (drop_more words i d lt) are
+
+pub read_more : (words : List (Bor Text)) (i : ℕ) (d : Bor Text) (rows : List TableRow) (row : TableRow) → i < length words
+    → IsRow (get_or words i d).now row → HasRead words i rows → HasRead words (i + 1) (rows ++ row ∷ [])
+read_more words i d rows row lt is has = record {
   ahead = λ rest are.
-      let here : IsRow (slice_index_or words i w).now row = subst (λ (x : Bor Text). IsRow x.now row) at is in
-      let step : AreRows (texts (slice_index_or words i w ∷ drop (i + 1) words)) (row ∷ rest) = (here, are) in
+      let step : AreRows (texts (get_or words i d ∷ drop (i + 1) words)) (row ∷ rest) = (is, are) in
       let more : AreRows (texts (drop i words)) (row ∷ rest) =
-      subst (λ (X : Type 0). X) (sym (at_drop_more (λ (xs : List (Bor Text)). AreRows (texts xs) (row ∷ rest)) words i w lt)) step in
+      subst (λ (xs : List (Bor Text)). AreRows (texts xs) (row ∷ rest)) (sym (drop_more words i d lt)) step in
       subst (λ (xs : List TableRow). AreRows (texts words) xs) (sym (append_assoc rows (row ∷ []) rest)) (has.ahead (row ∷ rest) more);
   back = λ whole are.
-      let (rest, left) = has.back whole are in
-      let step : AreRows (texts (slice_index_or words i w ∷ drop (i + 1) words)) rest =
-      subst (λ (X : Type 0). X) (at_drop_more (λ (xs : List (Bor Text)). AreRows (texts xs) rest) words i w lt) left in
-      let (row', rest', is', more) = first_of_rows _ _ rest step in
-      (rest', more);
+      let left = has.back whole are in
+      let first = first_of_rows _ _ left.0 (cut_here words i d left.0 lt left.1) in
+      (first.1, first.3);
 }
 
-pub read_wrong : (words : List (Bor Text)) (i : ℕ) (w : Bor Text) (rows : List TableRow) → i < length words → w ≡ slice_index_or words i w
-    → ((row : TableRow) → IsRow w.now row → ⊥) → HasRead words i rows → (whole : List TableRow) → AreRows (texts words) whole → ⊥
-read_wrong words i w rows lt at none has whole are =
-    let (rest, left) = has.back whole are in
-    let step : AreRows (texts (slice_index_or words i w ∷ drop (i + 1) words)) rest =
-    subst (λ (X : Type 0). X) (at_drop_more (λ (xs : List (Bor Text)). AreRows (texts xs) rest) words i w lt) left in
-    let (row, rest', is, more) = first_of_rows _ _ rest step in
-    none row (subst (λ (x : Bor Text). IsRow x.now row) (sym at) is)
+pub read_wrong : (words : List (Bor Text)) (i : ℕ) (d : Bor Text) (rows : List TableRow) → i < length words
+    → ((row : TableRow) → IsRow (get_or words i d).now row → ⊥) → HasRead words i rows → (whole : List TableRow) → AreRows (texts words) whole → ⊥
+read_wrong words i d rows lt none has whole are =
+    let left = has.back whole are in
+    let first = first_of_rows _ _ left.0 (cut_here words i d left.0 lt left.1) in
+    none first.0 first.2
+
+pub read_all : (words : List (Bor Text)) (i : ℕ) (rows : List TableRow) → length words ≤ i → HasRead words i rows → AreRows (texts words) rows
+read_all words i rows le has =
+    let none : AreRows (texts []) [] = tt in
+    let left : AreRows (texts (drop i words)) [] = subst (λ (xs : List (Bor Text)). AreRows (texts xs) []) (sym (drop_all i words le)) none in
+    subst (λ (xs : List TableRow). AreRows (texts words) xs) (append-nil rows) (has.ahead [] left)
 
 -- ---- the rows of an option
 

@@ -71,10 +71,10 @@ const ROWS: &[Row] = &[
         words: &["8 bytes at r1 + 60: context, byte 60", "allowed: 0..56"],
     },
     Row {
-        text: "hook tag; rank 0; r2 = *u8 r1 8; r6 = map 1 0; r6 += r2; r0 = *u64 r6 0; exit",
-        refusal: "refused slot 4 rule 7 Bounds\n",
+        text: "hook tag; rank 0; r2 = *u8 r1 8; r2 <<= 3; r6 = map 1 0; r6 += r2; r0 = *u64 r6 0; exit",
+        refusal: "refused slot 5 rule 7 Bounds\n",
         words: &[
-            "8 bytes at r6 + 0: map 1, offset 0..255",
+            "8 bytes at r6 + 0: map 1, offset 0..2040",
             "allowed: 0..504",
             "&= 63",
         ],

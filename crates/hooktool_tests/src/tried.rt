@@ -44,7 +44,7 @@ const LINES: &[Line] = &[
             "3",
         ],
         status: 0,
-        told: "run 1: answer 1, which isn't used, used 9 of 10\nrun 2: answer 2, which isn't used, used 9 of 10\nrun 3: answer 3, which isn't used, used 9 of 10\ncounter 7 3\ncell 1 3\n",
+        told: "run 1: answer 1, which isn't used, used 8 of 9\nrun 2: answer 2, which isn't used, used 8 of 9\nrun 3: answer 3, which isn't used, used 8 of 9\ncounter 7 3\ncell 1 3\n",
     },
     Line {
         words: &[

@@ -36,10 +36,11 @@ fn run_once(
     ensures refuses { IfErr result (IsRefusal bytes.now) }
 {
     let halt = run_object_to_halt(alloc, bytes, Limit::Own, input, shared, seat)?;
+    let registers = halt.state.registers;
     Ok(Ending {
         outcome: halt.outcome,
         slot: halt.state.slot,
-        registers: halt.state.registers,
+        registers,
     })
 }
 

@@ -1,5 +1,5 @@
 //! A trial: a program's runs on one question, and what they left.
-ghost use Rattle.std.specs.Prelude.{◌×◌, IfOk, IfErr};
+ghost use Rattle.std.specs.Prelude.{IfOk, IfErr};
 ghost use Rattle.trial_runs.specs.Trials.{IsRefusal, IsTrialOn};
 
 use crate::error::TrialError;
@@ -25,20 +25,21 @@ pub struct Trial {
 /// # Errors
 ///
 /// `Program` where the bytes are no object file or its code doesn't decode; want of memory is told by it or by `Memory`.
-pub fn try_object(
+pub fn try_object<'x>(
     alloc: Global,
     bytes: &[u8],
     asked: &Asked,
-    packet: &[u8],
-    rows: &[TableRow],
+    packet: &'x [u8],
+    rows: &'x [TableRow],
     times: u32,
 ) -> Result<Trial, TrialError>
     ensures trial { IfOk result (IsTrialOn bytes.now asked.now packet.now rows.now times) }
     ensures refuses { IfErr result (IsRefusal bytes.now) }
 {
     let object = object::read(alloc, bytes)?;
+    let context = context_of(object.hook(), asked, packet);
     let input = Input {
-        context: context_of(object.hook(), asked, packet),
+        context,
         packet,
         rows,
     };
@@ -49,9 +50,10 @@ pub fn try_object(
     let mut last = Vec::new(alloc);
     last.push(seat)?;
     let totals = shared.close(last);
+    let counters = totals.sums;
     Ok(Trial {
         endings,
-        counters: totals.sums,
+        counters,
         cells,
     })
 }

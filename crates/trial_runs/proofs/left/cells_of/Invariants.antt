@@ -1,4 +1,4 @@
-use Rattle.std.proofs.Common.{◌≡◌, ◌<◌, ℕ, slice_index}
+use Rattle.std.proofs.Common.{◌≡◌, ◌<◌, ℕ, length, slice_index}
 use Rattle.maps.specs.Access.{last_stored}
 use Rattle.maps.specs.Words.{IsOf}
 use Rattle.trial_runs.proofs.left.cells_of.Given as goal
@@ -6,5 +6,5 @@ use Rattle.trial_runs.specs.Trials.{SameNumbers}
 
 -- the seat knows what it knew, and the cells below the index are read
 abbrev pub invariant-loop-index : goal.invariant-loop-index
-invariant-loop-index l = IsOf l.shared l.seat × SameNumbers l.fn.seat l.seat
+invariant-loop-index l = IsOf l.shared l.seat × SameNumbers l.fn.seat l.seat × (length l.cells ≡ 64)
     × ((j : ℕ) → j < l.index → slice_index l.cells j ≡ last_stored j l.fn.seat.accesses)
