@@ -1,7 +1,7 @@
 //! What breaks a rule where a statement is entered.
 ghost use Rattle.std.specs.Prelude.{◌<◌};
 
-use crate::words::{Value, push_kind, push_rank};
+use crate::phrases::{Value, push_kind, push_rank};
 use isa::{Instruction, Register, Source, Test, Width};
 use kinds::{Entry, Kind, State, Target, kind_within};
 use object::RankTerm;

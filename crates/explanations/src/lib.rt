@@ -5,11 +5,11 @@ mod edges;
 mod explaining;
 mod lines;
 mod page;
+mod phrases;
 mod reasons;
 mod replay;
 mod rules;
 mod walk;
-mod words;
 
 pub use explaining::{ExplainError, Explanation, explain};
 pub use lines::{instruction_lines, line_at};

@@ -1,6 +1,6 @@
 //! What breaks a rule at an instruction, and what is allowed.
 
-use crate::words::{Value, push_kind, push_place};
+use crate::phrases::{Value, push_kind, push_place};
 use absdom::Domain;
 use isa::{Hook, Instruction, Operation, Register, Width};
 use kinds::{Entry, Kind, Place, State, kind_at};

@@ -1,6 +1,6 @@
 //! What is known at a slot, in words.
 
-use crate::words::{Value, push_fact, push_kind, push_rank, push_stack};
+use crate::phrases::{Value, push_fact, push_kind, push_rank, push_stack};
 use kinds::{Entry, Fact, Kind, Place, State, Target};
 use liveness::{Registers, has};
 use object::{Kind as Stated, Rank, StackBytes, Statement};

@@ -5,9 +5,9 @@ ghost use Rattle.segments.specs.Places.{IsWellPlaced};
 
 use crate::edges::{push_start, push_ways};
 use crate::page::Page;
+use crate::phrases::Value;
 use crate::reasons::push_reason;
 use crate::replay::{copy_of, entry_kinds, entry_statement, push_known, push_statement, start};
-use crate::words::Value;
 use isa::{Code, Hook, Instruction, Slot};
 use kinds::{State, Target, reset};
 use liveness::Registers;
