@@ -1,9 +1,7 @@
 -- The worked topology in which two interfaces of the middle router have one address: its candidates, premises, and the packet that comes back.
-use Rattle.std.proofs.Common.{◌≡◌, ◌≢◌, ℕ, ◌+◌, ◌⊎◌, inl, inr, cond, IsTrue, nat_eq, List, [], ◌∷◌, Some, slice_get, arith, refl, sym, ◌∙◌, ap, subst}
+use Rattle.std.proofs.Common.{◌≡◌, ◌≢◌, ℕ, ◌+◌, inl, inr, cond, IsTrue, nat_eq, List, [], ◌∷◌, Some, slice_get, arith, refl, sym, ◌∙◌, ap, subst}
 use Rattle.words.specs.Interfaces.{has_interface}
-use Rattle.words.specs.declared.key.Key.{Key}
 use Rattle.lsa.specs.declared.body.Body.TheVariants as body
-use Rattle.lsa.specs.declared.body.ExternalLsa.{ExternalLsa}
 use Rattle.area_routes.specs.Offers.{root_by}
 use Rattle.events.specs.Originations.{router_body, router_key}
 use Rattle.routes.specs.Candidates.{AreCandidates}

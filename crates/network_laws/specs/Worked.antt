@@ -1,6 +1,6 @@
 -- Worked topologies (RFC 2328, sections 11 and 16.1): three routers in a row, along which a packet
 -- is handed on; and three ways in which packets do come back: where two databases differ, where a
--- link leads elsewhere than the routers know, and where two interfaces of a router have one address.
+-- link leads elsewhere than the routers know, and where interfaces of a router have one address.
 use Rattle.std.specs.Prelude.{◌≢◌, ℕ, ◌&&◌, Bool, List, [], ◌∷◌, Option, Some, None, map, nat_eq}
 use Rattle.std.specs.Prelude.{if◌then◌else◌}
 use Rattle.std.specs.FinMap as finite
@@ -229,8 +229,8 @@ pub record EqualAddressesMayLoop : Type 0 where
   -- of the middle router, all but that its interfaces have addresses of their own
   pub is_current : IsCurrentForwarder equal_middle
   pub costs : HaveCosts equal_links
-  pub others : (place : ℕ) (forwarder : Forwarder) → StandsAt with_equal_addresses place forwarder
-      → place ≢ 1 → IsUpToDate forwarder
+  pub others : (place : ℕ) (other : Forwarder) → StandsAt with_equal_addresses place other
+      → place ≢ 1 → IsUpToDate other
   pub agree : SayTheSame with_equal_addresses
   pub joined : AreJoined with_equal_addresses
   pub comes_back : IsHandedAlong with_equal_addresses address (0 ∷ 1 ∷ 0 ∷ [])
