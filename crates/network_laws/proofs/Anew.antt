@@ -115,7 +115,7 @@ abbrev it : Forwarder
 it = forwarder middle_id anew_links anew anew_routes
 
 is_up_to_date : IsUpToDate it
-is_up_to_date = up_to_date anew middle_id anew_links anew_routes its_says refl refl refl candidates_are
+is_up_to_date = up_to_date anew middle_id anew_links anew_routes its_says refl refl candidates_are
 
 are_joined : AreJoined differing
 are_joined =

@@ -6,3 +6,4 @@ mod Arrived
 mod Found
 mod Row
 mod Anew
+mod Equal

@@ -26,8 +26,8 @@ pub record IsMember (said : Said) (f : Forwarder) : Type 0 where
 
 its_own : (f : Forwarder) → IsUpToDate f → IsMember (says_of f.router) f
 its_own f u = record {
-  current = u.current;
-  candidates = record { each = λ r. (λ t. ((u.is_table.each r).0 t).0, λ k. (u.is_table.each r).1 (k, u.let_in r k)); ascending = u.is_table.ascending };
+  current = u.is_current.current;
+  candidates = (let c = u.is_current in record { each = λ r. (λ t. ((c.is_table.each r).0 t).0, λ k. (c.is_table.each r).1 (k, c.let_in r k)); ascending = c.is_table.ascending });
 }
 
 pub one_forwarder : (topology : Topology) (place : ℕ) (a b : Forwarder) → StandsAt topology place a → StandsAt topology place b → a ≡ b

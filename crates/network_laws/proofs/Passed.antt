@@ -35,7 +35,7 @@ module _ (topology : Topology) (converged : HasConverged topology) (hop : EachHo
 
   longest_is : (place : ℕ) (a : Forwarder) → StandsAt topology place a → (r s : Route) → IsLongest a.table address r → IsLongest a.table address s → r ≡ s
   longest_is place a p r s x y =
-      let table = (converged.up_to_date place a p).is_table in
+      let table = (converged.up_to_date place a p).is_current.is_table in
       let long : r.prefix.length ≡ s.prefix.length = omega (arith, x.longest s y.among y.under, y.longest r x.among x.under) in
       one_candidate (says_of a.router) (root_of a.router) r s ((table.each r).0 x.among).0 ((table.each s).0 y.among).0 (same_prefix address r.prefix s.prefix x.under y.under long)
 

@@ -28,13 +28,14 @@ use Rattle.routes.specs.declared.offer.Offer.{Offer}
 use Rattle.routes.specs.declared.root.Root.{Root}
 use Rattle.route_laws.specs.Worked.{Entries, database, dotted, network_24, router_lsa}
 use Rattle.route_laws.proofs.Alone.{Known, StubOffer, is_stub}
-use Rattle.route_laws.proofs.Entries.{links_of, mapped, sayings}
+use Rattle.route_laws.proofs.Entries.{is_no_network, links_of, mapped, sayings}
 use Rattle.route_laws.proofs.Labels.{AreChecked}
 use Rattle.route_laws.proofs.Made.{back, from_other, from_root, linked, only_one, says}
+use Rattle.route_laws.proofs.NoSummaries.{is_no_summary}
 use Rattle.forwarding_premises.specs.Laws.{HaveCosts, HaveOwnAddresses}
 use Rattle.network_laws.specs.Laws.IsAttached.{ToNetwork}
 use Rattle.network_laws.specs.Laws.IsThere.{Attached}
-use Rattle.network_laws.specs.Topologies.{AreJoined, Forwarder, HandsTo, IsAcross, IsAnnouncedAt, IsUpToDate, Topology, says_of}
+use Rattle.network_laws.specs.Topologies.{AreJoined, Forwarder, HandsTo, IsAcross, IsAnnouncedAt, IsCurrentForwarder, IsUpToDate, Topology, says_of}
 use Rattle.network_laws.specs.Worked.{CrossedLinksMayLoop, WorkedTopology, address, between, crossed, forwarder, full, in_a_row, interface_at, left, left_id, left_links, left_routes, link_with, middle, middle_id, middle_links, middle_routes, narrow, right, right_id, right_links, right_routes, row, wide, wide_network}
 use Rattle.network_laws.proofs.Found.{candidates_of, is_router, no_external, only_within, stub_offered, three_in_order, way_to}
 
@@ -58,7 +59,7 @@ of_three P a b c at_a at_b at_c r t =
       | inr later ↦ of_two P b c at_b at_c r later
     ]
 
-three_places : {X : Type 0} (P : ℕ → X → Type 0) (a b c : X) → P 0 a → P 1 b → P 2 c → (k : ℕ) (x : X) → slice_get (a ∷ b ∷ c ∷ []) k ≡ Some x → P k x
+pub three_places : {X : Type 0} (P : ℕ → X → Type 0) (a b c : X) → P 0 a → P 1 b → P 2 c → (k : ℕ) (x : X) → slice_get (a ∷ b ∷ c ∷ []) k ≡ Some x → P k x
 three_places P a b c at_a at_b at_c zero x e = let same : a ≡ x = cc in subst (P 0) same at_a
 three_places P a b c at_a at_b at_c (suc zero) x e = let same : b ≡ x = cc in subst (P 1) same at_b
 three_places P a b c at_a at_b at_c (suc (suc zero)) x e = let same : c ≡ x = cc in subst (P 2) same at_c
@@ -77,13 +78,13 @@ row_says = said_at 0 (database row)
 abbrev pub lsa_of : List Link → List RouterLink
 lsa_of links = flat_map links_made links
 
-abbrev at_left : Root
+abbrev pub at_left : Root
 at_left = root_by left_id left_links
 
 abbrev at_middle : Root
 at_middle = root_by middle_id middle_links
 
-abbrev at_right : Root
+abbrev pub at_right : Root
 at_right = root_by right_id right_links
 
 left_says : IsRouterLsa row_says left_id (router_lsa (lsa_of left_links))
@@ -184,7 +185,7 @@ right_right = way_to row at_right (by_router 10 5 0) (by_router 2 2 0) right_che
 -- ---- candidates
 
 -- the hops of an offer by the way to this router
-abbrev HopsTo : Root → ℕ → ℕ → ℕ → Type 0
+abbrev pub HopsTo : Root → ℕ → ℕ → ℕ → Type 0
 HopsTo root router hops own = (router ≡ root.router → own ≡ 1) × ((router ≡ root.router → ⊥) → own ≡ hops)
 
 pub hops_at : (root : Root) (router : ℕ) → router ≡ root.router → (hops : ℕ) → HopsTo root router hops 1
@@ -199,7 +200,7 @@ between_offer cost hops = intra (network_24 10 0 0) cost hops
 abbrev pub wide_offer : ℕ → ℕ → Offer
 wide_offer cost hops = intra wide_network cost hops
 
-abbrev narrow_offer : ℕ → ℕ → Offer
+abbrev pub narrow_offer : ℕ → ℕ → Offer
 narrow_offer cost hops = intra (network_24 192 0 2) cost hops
 
 abbrev pub wide_stub : RouterLink
@@ -211,101 +212,125 @@ first_stub = stub (interface_at (dotted 10 0 0 1) 24)
 abbrev pub second_stub : RouterLink
 second_stub = stub (interface_at (dotted 10 0 0 2) 24)
 
-abbrev narrow_stub : RouterLink
+abbrev pub narrow_stub : RouterLink
 narrow_stub = stub (interface_at (dotted 192 0 2 1) 24)
 
-module _ (root : Root) (l m r : Way) (to_l : IsWayFrom root left_id l) (to_m : IsWayFrom root middle_id m) (to_r : IsWayFrom root right_id r) (hl hm hr : ℕ) (of_l : HopsTo root left_id l.hops hl) (of_m : HopsTo root middle_id m.hops hm)
-    (of_r : HopsTo root right_id r.hops hr) where
-  abbrev offers : List Offer
-  offers = between_offer (m.distance + 5) hm ∷ wide_offer (l.distance + 5) hl ∷ narrow_offer (r.distance + 5) hr ∷ []
+-- databases of the three routers' LSAs, with these links of the middle one
+abbrev pub row_stubs : List (ℕ × RouterLink)
+row_stubs = (left_id, wide_stub) ∷ (middle_id, first_stub) ∷ (middle_id, second_stub) ∷ (right_id, narrow_stub) ∷ []
 
-  abbrev Among : Offer → Type 0
-  Among o = Contains offers o
+pub record IsRow (es : Entries) (links : List RouterLink) : Type 0 where
+  pub stubs : filter is_stub (links_of (sayings es)) ≡ row_stubs
+  pub routers : list_all is_router (sayings es) ≡ true
+  pub networks : list_all is_no_network (sayings es) ≡ true
+  pub summaries : list_all is_no_summary (sayings es) ≡ true
+  pub left : IsRouterLsa (said_at 0 (database es)) left_id (router_lsa (lsa_of left_links))
+  pub middle : IsRouterLsa (said_at 0 (database es)) middle_id (router_lsa links)
+  pub has_stub : Contains links first_stub
+  pub right : IsRouterLsa (said_at 0 (database es)) right_id (router_lsa (lsa_of right_links))
 
-  between_stub : StubOffer row_says root middle_id first_stub 24 (between_offer (m.distance + 5) hm)
-  between_stub = record { way = m; reached = to_m; within = omega arith; mask = refl; hops = hm; by_root = of_m.0; by_others = of_m.1; is = refl }
+module _ (es : Entries) (links : List RouterLink) (its : IsRow es links) (root : Root) where
+  abbrev said : Said
+  said = said_at 0 (database es)
 
-  wide_is : StubOffer row_says root left_id wide_stub 23 (wide_offer (l.distance + 5) hl)
-  wide_is = record { way = l; reached = to_l; within = omega arith; mask = refl; hops = hl; by_root = of_l.0; by_others = of_l.1; is = refl }
+  abbrev ByWay : ℕ → Way → Type 0
+  ByWay router w = IsWay (Leads said root) (ARouter root.router) (ARouter router) w
 
-  narrow_is : StubOffer row_says root right_id narrow_stub 24 (narrow_offer (r.distance + 5) hr)
-  narrow_is = record { way = r; reached = to_r; within = omega arith; mask = refl; hops = hr; by_root = of_r.0; by_others = of_r.1; is = refl }
+  module _ (l m r : Way) (to_l : ByWay left_id l) (to_m : ByWay middle_id m) (to_r : ByWay right_id r) (hl hm hr : ℕ) (of_l : HopsTo root left_id l.hops hl) (of_m : HopsTo root middle_id m.hops hm) (of_r : HopsTo root right_id r.hops hr) where
+    abbrev offers : List Offer
+    offers = between_offer (m.distance + 5) hm ∷ wide_offer (l.distance + 5) hl ∷ narrow_offer (r.distance + 5) hr ∷ []
 
-  known : (router : ℕ) (link : RouterLink) → Contains (filter is_stub (links_of (sayings row))) (router, link) → Known 0 row root Among router link
-  known router link t =
-      let P : ℕ × RouterLink → Type 0 = λ x. Known 0 row root Among x.0 x.1 in
-      elim (of_cons {X = ℕ × RouterLink} (left_id, wide_stub) ((middle_id, first_stub) ∷ (middle_id, second_stub) ∷ (right_id, narrow_stub) ∷ []) (router, link) t) [
-        | inl e ↦ subst P e (23, wide_offer (l.distance + 5) hl, wide_is, (1, omega arith, refl))
-        | inr later ↦
-            elim (of_cons {X = ℕ × RouterLink} (middle_id, first_stub) ((middle_id, second_stub) ∷ (right_id, narrow_stub) ∷ []) (router, link) later) [
-              | inl e ↦ subst P e (24, between_offer (m.distance + 5) hm, between_stub, (0, omega arith, refl))
-              | inr third ↦
-                  elim (of_cons {X = ℕ × RouterLink} (middle_id, second_stub) ((right_id, narrow_stub) ∷ []) (router, link) third) [
-                    | inl e ↦
-                        subst P e (24, between_offer (m.distance + 5) hm, record { way = m; reached = to_m; within = omega arith; mask = refl; hops = hm; by_root = of_m.0; by_others = of_m.1; is = refl }, (0, omega arith, refl))
-                    | inr fourth ↦
-                        elim (of_cons {X = ℕ × RouterLink} (right_id, narrow_stub) [] (router, link) fourth) [
-                          | inl e ↦ subst P e (24, narrow_offer (r.distance + 5) hr, narrow_is, (2, omega arith, refl))
-                          | inr none ↦ absurd (of_empty {X = ℕ × RouterLink} (router, link) none)
-                        ]
-                  ]
-            ]
-      ]
+    abbrev Among : Offer → Type 0
+    Among o = Contains offers o
 
-  offered : (o : Offer) → Among o → Offers row_says root o
-  offered o t =
-      let P : Offer → Type 0 = λ x. Offers row_says root x in
-      elim (of_cons (between_offer (m.distance + 5) hm) (wide_offer (l.distance + 5) hl ∷ narrow_offer (r.distance + 5) hr ∷ []) o t) [
-        | inl e ↦ subst P e (stub_offered row root middle_id (lsa_of middle_links) middle_says first_stub (1, omega arith, refl) refl 24 (between_offer (m.distance + 5) hm) between_stub)
-        | inr later ↦
-            elim (of_cons (wide_offer (l.distance + 5) hl) (narrow_offer (r.distance + 5) hr ∷ []) o later) [
-              | inl e ↦ subst P e (stub_offered row root left_id (lsa_of left_links) left_says wide_stub (1, omega arith, refl) refl 23 (wide_offer (l.distance + 5) hl) wide_is)
-              | inr third ↦
-                  elim (of_cons (narrow_offer (r.distance + 5) hr) [] o third) [
-                    | inl e ↦ subst P e (stub_offered row root right_id (lsa_of right_links) right_says narrow_stub (1, omega arith, refl) refl 24 (narrow_offer (r.distance + 5) hr) narrow_is)
-                    | inr none ↦ absurd (of_empty o none)
-                  ]
-            ]
-      ]
+    between_stub : StubOffer said root middle_id first_stub 24 (between_offer (m.distance + 5) hm)
+    between_stub = record { way = m; reached = to_m; within = omega arith; mask = refl; hops = hm; by_root = of_m.0; by_others = of_m.1; is = refl }
 
-  candidates_are : AreCandidates row_says root (between (m.distance + 5) hm ∷ wide (l.distance + 5) hl ∷ narrow (r.distance + 5) hr ∷ [])
-  candidates_are =
-      candidates_of row_says root offers
-      (three_in_order (λ (o : Offer). o.prefix) (between_offer (m.distance + 5) hm) (wide_offer (l.distance + 5) hl) (narrow_offer (r.distance + 5) hr) (ByAddress (omega arith)) (ByAddress (omega arith)) (ByLength refl (omega arith)))
-      offered (only_within row root offers refl refl refl known)
-      (three_in_order (λ (x : Route). x.prefix) (between (m.distance + 5) hm) (wide (l.distance + 5) hl) (narrow (r.distance + 5) hr) (ByAddress (omega arith)) (ByAddress (omega arith)) (ByLength refl (omega arith)))
+    wide_is : StubOffer said root left_id wide_stub 23 (wide_offer (l.distance + 5) hl)
+    wide_is = record { way = l; reached = to_l; within = omega arith; mask = refl; hops = hl; by_root = of_l.0; by_others = of_l.1; is = refl }
+
+    narrow_is : StubOffer said root right_id narrow_stub 24 (narrow_offer (r.distance + 5) hr)
+    narrow_is = record { way = r; reached = to_r; within = omega arith; mask = refl; hops = hr; by_root = of_r.0; by_others = of_r.1; is = refl }
+
+    known : (router : ℕ) (link : RouterLink) → Contains (filter is_stub (links_of (sayings es))) (router, link) → Known 0 es root Among router link
+    known router link t =
+        let P : ℕ × RouterLink → Type 0 = λ x. Known 0 es root Among x.0 x.1 in
+        let Has : List (ℕ × RouterLink) → Type 0 = λ xs. Contains xs (router, link) in
+        elim (of_cons {X = ℕ × RouterLink} (left_id, wide_stub) ((middle_id, first_stub) ∷ (middle_id, second_stub) ∷ (right_id, narrow_stub) ∷ []) (router, link) (subst Has its.stubs t)) [
+          | inl e ↦ subst P e (23, wide_offer (l.distance + 5) hl, wide_is, (1, omega arith, refl))
+          | inr later ↦
+              elim (of_cons {X = ℕ × RouterLink} (middle_id, first_stub) ((middle_id, second_stub) ∷ (right_id, narrow_stub) ∷ []) (router, link) later) [
+                | inl e ↦ subst P e (24, between_offer (m.distance + 5) hm, between_stub, (0, omega arith, refl))
+                | inr third ↦
+                    elim (of_cons {X = ℕ × RouterLink} (middle_id, second_stub) ((right_id, narrow_stub) ∷ []) (router, link) third) [
+                      | inl e ↦
+                          subst P e (24, between_offer (m.distance + 5) hm, record { way = m; reached = to_m; within = omega arith; mask = refl; hops = hm; by_root = of_m.0; by_others = of_m.1; is = refl }, (0, omega arith, refl))
+                      | inr fourth ↦
+                          elim (of_cons {X = ℕ × RouterLink} (right_id, narrow_stub) [] (router, link) fourth) [
+                            | inl e ↦ subst P e (24, narrow_offer (r.distance + 5) hr, narrow_is, (2, omega arith, refl))
+                            | inr none ↦ absurd (of_empty {X = ℕ × RouterLink} (router, link) none)
+                          ]
+                    ]
+              ]
+        ]
+
+    offered : (o : Offer) → Among o → Offers said root o
+    offered o t =
+        let P : Offer → Type 0 = λ x. Offers said root x in
+        elim (of_cons (between_offer (m.distance + 5) hm) (wide_offer (l.distance + 5) hl ∷ narrow_offer (r.distance + 5) hr ∷ []) o t) [
+          | inl e ↦ subst P e (stub_offered es root middle_id links its.middle first_stub its.has_stub refl 24 (between_offer (m.distance + 5) hm) between_stub)
+          | inr later ↦
+              elim (of_cons (wide_offer (l.distance + 5) hl) (narrow_offer (r.distance + 5) hr ∷ []) o later) [
+                | inl e ↦ subst P e (stub_offered es root left_id (lsa_of left_links) its.left wide_stub (1, omega arith, refl) refl 23 (wide_offer (l.distance + 5) hl) wide_is)
+                | inr third ↦
+                    elim (of_cons (narrow_offer (r.distance + 5) hr) [] o third) [
+                      | inl e ↦ subst P e (stub_offered es root right_id (lsa_of right_links) its.right narrow_stub (1, omega arith, refl) refl 24 (narrow_offer (r.distance + 5) hr) narrow_is)
+                      | inr none ↦ absurd (of_empty o none)
+                    ]
+              ]
+        ]
+
+    pub candidates_are : AreCandidates said root (between (m.distance + 5) hm ∷ wide (l.distance + 5) hl ∷ narrow (r.distance + 5) hr ∷ [])
+    candidates_are =
+        candidates_of said root offers
+        (three_in_order (λ (o : Offer). o.prefix) (between_offer (m.distance + 5) hm) (wide_offer (l.distance + 5) hl) (narrow_offer (r.distance + 5) hr) (ByAddress (omega arith)) (ByAddress (omega arith)) (ByLength refl (omega arith)))
+        offered (only_within es root offers its.routers its.networks its.summaries known)
+        (three_in_order (λ (x : Route). x.prefix) (between (m.distance + 5) hm) (wide (l.distance + 5) hl) (narrow (r.distance + 5) hr) (ByAddress (omega arith)) (ByAddress (omega arith)) (ByLength refl (omega arith)))
+
+is_row : IsRow row (lsa_of middle_links)
+is_row = record { stubs = refl; routers = refl; networks = refl; summaries = refl; left = left_says; middle = middle_says; has_stub = (1, omega arith, refl); right = right_says }
 
 left_candidates : AreCandidates row_says at_left left_routes
-left_candidates = candidates_are at_left (way 0 0) (way 5 2) (way 10 2) left_left left_middle left_right 1 2 2 (hops_at at_left left_id refl 0) (hops_from at_left middle_id (λ e. omega (arith, e)) 2) (hops_from at_left right_id (λ e. omega (arith, e)) 2)
+left_candidates = candidates_are row (lsa_of middle_links) is_row at_left (way 0 0) (way 5 2) (way 10 2) left_left left_middle left_right 1 2 2 (hops_at at_left left_id refl 0) (hops_from at_left middle_id (λ e. omega (arith, e)) 2) (hops_from at_left right_id (λ e. omega (arith, e)) 2)
 
 middle_candidates : AreCandidates row_says at_middle middle_routes
 middle_candidates =
-    candidates_are at_middle (way 5 2) (way 0 0) (way 5 4) middle_left middle_middle middle_right 2 1 4 (hops_from at_middle left_id (λ e. omega (arith, e)) 2) (hops_at at_middle middle_id refl 0) (hops_from at_middle right_id (λ e. omega (arith, e)) 4)
+    candidates_are row (lsa_of middle_links) is_row at_middle (way 5 2) (way 0 0) (way 5 4) middle_left middle_middle middle_right 2 1 4 (hops_from at_middle left_id (λ e. omega (arith, e)) 2) (hops_at at_middle middle_id refl 0) (hops_from at_middle right_id (λ e. omega (arith, e)) 4)
 
 right_candidates : AreCandidates row_says at_right right_routes
 right_candidates =
-    candidates_are at_right (way 10 2) (way 5 2) (way 0 0) right_left right_middle right_right 2 2 1 (hops_from at_right left_id (λ e. omega (arith, e)) 2) (hops_from at_right middle_id (λ e. omega (arith, e)) 2) (hops_at at_right right_id refl 0)
+    candidates_are row (lsa_of middle_links) is_row at_right (way 10 2) (way 5 2) (way 0 0) right_left right_middle right_right 2 2 1 (hops_from at_right left_id (λ e. omega (arith, e)) 2) (hops_from at_right middle_id (λ e. omega (arith, e)) 2) (hops_at at_right right_id refl 0)
 
 -- ---- each router for itself
 
-pub up_to_date : (es : Entries) (id : ℕ) (links : List Link) (routes : List Route) → Says (said_at 0 (database es)) (router_key id) (router_body links) → HaveOwnAddresses links → HaveCosts links → list_all is_router (sayings es) ≡ true
-    → AreCandidates (said_at 0 (database es)) (root_by id links) routes → IsUpToDate (forwarder id links es routes)
-up_to_date es id links routes current apart costs alone are = record {
+pub is_current : (es : Entries) (id : ℕ) (links : List Link) (routes : List Route) → Says (said_at 0 (database es)) (router_key id) (router_body links) → AreCandidates (said_at 0 (database es)) (root_by id links) routes → IsCurrentForwarder (forwarder id links es routes)
+is_current es id links routes current are = record {
   current = current;
-  addresses = apart;
-  costs = costs;
   is_table = record { each = λ r. (λ t. ((are.each r).0 t, mapped (λ (x : Route). (x, 0)) routes r t), λ k. (are.each r).1 k.0); ascending = are.ascending };
   let_in = λ r k. mapped (λ (x : Route). (x, 0)) routes r ((are.each r).1 k);
 }
 
+pub up_to_date : (es : Entries) (id : ℕ) (links : List Link) (routes : List Route) → Says (said_at 0 (database es)) (router_key id) (router_body links) → HaveOwnAddresses links → HaveCosts links → AreCandidates (said_at 0 (database es)) (root_by id links) routes → IsUpToDate (forwarder id links es routes)
+up_to_date es id links routes current apart costs are = record { is_current = is_current es id links routes current are; addresses = apart; costs = costs }
+
 pub left_is : IsUpToDate left
-left_is = up_to_date row left_id left_links left_routes left_says refl refl refl left_candidates
+left_is = up_to_date row left_id left_links left_routes left_says refl refl left_candidates
 
 middle_is : IsUpToDate middle
-middle_is = up_to_date row middle_id middle_links middle_routes middle_says refl refl refl middle_candidates
+middle_is = up_to_date row middle_id middle_links middle_routes middle_says refl refl middle_candidates
 
 right_is : IsUpToDate right
-right_is = up_to_date row right_id right_links right_routes right_says refl refl refl right_candidates
+right_is = up_to_date row right_id right_links right_routes right_says refl refl right_candidates
 
 row_is : (place : ℕ) (f : Forwarder) → slice_get (left ∷ middle ∷ right ∷ []) place ≡ Some f → IsUpToDate f
 row_is = three_places (λ place f. IsUpToDate f) left middle right left_is middle_is right_is
@@ -324,7 +349,7 @@ module _ (topology : Topology) (place : ℕ) where
   one_joined i n across (suc zero) neighbor e t = let same : n ≡ neighbor = cc in let P : Neighbor → Type 0 = λ x. IsAcross topology place 1 x.router in subst P same across
   one_joined i n across (suc (suc k)) neighbor e t = absurd (cc)
 
-  two_joined : (i j : Interface) (n o : Neighbor) → IsAcross topology place 1 n.router → IsAcross topology place 2 o.router → EachJoined (link_with i (Some n) ∷ link_with j (Some o) ∷ [])
+  pub two_joined : (i j : Interface) (n o : Neighbor) → IsAcross topology place 1 n.router → IsAcross topology place 2 o.router → EachJoined (link_with i (Some n) ∷ link_with j (Some o) ∷ [])
   two_joined i j n o first second zero neighbor e t = absurd (cc)
   two_joined i j n o first second (suc zero) neighbor e t = let same : n ≡ neighbor = cc in let P : Neighbor → Type 0 = λ x. IsAcross topology place 1 x.router in subst P same first
   two_joined i j n o first second (suc (suc zero)) neighbor e t = let same : o ≡ neighbor = cc in let P : Neighbor → Type 0 = λ x. IsAcross topology place 2 x.router in subst P same second

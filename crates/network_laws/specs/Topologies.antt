@@ -51,15 +51,11 @@ abbrev pub external_key : ℕ → RouterNumber → Key
 external_key id router =
     record { ls_type = 5; link_state_id = id; advertising_router = router }
 
--- what each router owes alone
-pub record IsUpToDate (forwarder : Forwarder) : Type 0 where
+-- its LSAs and its table are those of now
+pub record IsCurrentForwarder (forwarder : Forwarder) : Type 0 where
   -- its database has the router-LSA that its interfaces and neighbors make now
   pub current : (let router = forwarder.router in
       IsCurrent (says_of router) router.id router.area.links)
-  -- no two of its interfaces have one address, and each costs at least 1, as in each configuration
-  -- that a router takes
-  pub addresses : HaveOwnAddresses forwarder.router.area.links
-  pub costs : HaveCosts forwarder.router.area.links
   -- its table is that of its candidates and of its program's answers, which `Core::rows` answers
   -- (the `IsTableNow` of `flood`)
   pub is_table : (let router = forwarder.router in
@@ -68,6 +64,14 @@ pub record IsUpToDate (forwarder : Forwarder) : Type 0 where
   pub let_in : (route : Route)
       → IsCandidate (says_of forwarder.router) (root_of forwarder.router) route
       → IsLetIn forwarder.router.answers route
+
+-- what each router owes alone
+pub record IsUpToDate (forwarder : Forwarder) : Type 0 where
+  pub is_current : IsCurrentForwarder forwarder
+  -- no two of its interfaces have one address, and each costs at least 1, as in each configuration
+  -- that a router takes
+  pub addresses : HaveOwnAddresses forwarder.router.area.links
+  pub costs : HaveCosts forwarder.router.area.links
 
 -- the router at the other end of the interface has this Router ID
 pub record IsAcross (topology : Topology) (place : ℕ) (interface : InterfaceNumber)

@@ -1,7 +1,7 @@
 -- Worked topologies (RFC 2328, sections 11 and 16.1): three routers in a row, along which a packet
--- is handed on; and two ways in which packets do come back: where two databases differ, and where
--- a link leads elsewhere than the routers know.
-use Rattle.std.specs.Prelude.{ℕ, ◌&&◌, Bool, List, [], ◌∷◌, Option, Some, None, map, nat_eq}
+-- is handed on; and three ways in which packets do come back: where two databases differ, where a
+-- link leads elsewhere than the routers know, and where interfaces of a router have one address.
+use Rattle.std.specs.Prelude.{◌≢◌, ℕ, ◌&&◌, Bool, List, [], ◌∷◌, Option, Some, None, map, nat_eq}
 use Rattle.std.specs.Prelude.{if◌then◌else◌}
 use Rattle.std.specs.FinMap as finite
 use Rattle.std.specs.FinSet as set
@@ -15,11 +15,13 @@ use Rattle.adjacency.specs.Neighbors.{Neighbor, fresh}
 use Rattle.adjacency.specs.declared.interface.Interface.{Interface}
 use Rattle.adjacency.specs.declared.state.State.TheVariants.{Full}
 use Rattle.events.specs.Originations.{router_body, router_key}
+use Rattle.forwarding_premises.specs.Laws.{HaveCosts}
 use Rattle.received.specs.Links.{Link}
 use Rattle.route_laws.specs.Worked.{Entries, copy_of, database, dotted, network_24}
 use Rattle.network_laws.specs.Laws.{IsThere}
 use Rattle.network_laws.specs.Topologies.{AreJoined, AreUpToDate, Forwarder, HasConverged}
-use Rattle.network_laws.specs.Topologies.{IsHandedAlong, SayTheSame, Topology}
+use Rattle.network_laws.specs.Topologies.{IsCurrentForwarder, IsHandedAlong, IsUpToDate}
+use Rattle.network_laws.specs.Topologies.{SayTheSame, StandsAt, Topology}
 
 -- ---- three routers in a row, on links of cost 5; the interface of the left one lies in
 -- 192.0.2.0/23, that of the right one in 192.0.2.0/24, and both of the middle one in 10.0.0.0/24
@@ -193,3 +195,42 @@ pub record DifferingDatabasesMayLoop : Type 0 where
   pub up_to_date : AreUpToDate differing
   pub joined : AreJoined differing
   pub comes_back : IsHandedAlong differing address (0 ∷ 1 ∷ 0 ∷ [])
+
+-- ---- the same routers in their row, where both interfaces of the middle one have one address
+
+abbrev pub equal_links : List Link
+equal_links =
+    link_with (interface_at (dotted 10 0 0 1) 24) (Some (full left_id))
+    ∷ link_with (interface_at (dotted 10 0 0 1) 24) (Some (full right_id)) ∷ []
+
+abbrev pub equal : Entries
+equal =
+    its_copy left_id left_links ∷ its_copy middle_id equal_links ∷ its_copy right_id right_links
+    ∷ []
+
+-- each of its two links leaves by both interfaces, since the address that it has is that of both
+abbrev pub equal_routes : List Route
+equal_routes = between 5 1 ∷ wide 10 6 ∷ narrow 10 6 ∷ []
+
+abbrev pub equal_middle : Forwarder
+equal_middle = forwarder middle_id equal_links equal equal_routes
+
+abbrev pub with_equal_addresses : Topology
+with_equal_addresses = record {
+  routers =
+      forwarder left_id left_links equal left_routes ∷ equal_middle
+      ∷ forwarder right_id right_links equal right_routes ∷ [];
+  across = across_row 2;
+}
+
+-- the middle router knows the right one by both interfaces, and sends the packet by the first one,
+-- back to the left router
+pub record EqualAddressesMayLoop : Type 0 where
+  -- of the middle router, all but that its interfaces have addresses of their own
+  pub is_current : IsCurrentForwarder equal_middle
+  pub costs : HaveCosts equal_links
+  pub others : (place : ℕ) (other : Forwarder) → StandsAt with_equal_addresses place other
+      → place ≢ 1 → IsUpToDate other
+  pub agree : SayTheSame with_equal_addresses
+  pub joined : AreJoined with_equal_addresses
+  pub comes_back : IsHandedAlong with_equal_addresses address (0 ∷ 1 ∷ 0 ∷ [])

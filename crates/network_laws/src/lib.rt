@@ -8,7 +8,7 @@
 ghost use Rattle.network_laws.specs.Laws.{EachHopLeadsOn, PacketsArrive};
 ghost use Rattle.network_laws.specs.Laws.{RoutersForwardWithoutLoops};
 ghost use Rattle.network_laws.specs.Worked.{CrossedLinksMayLoop, DifferingDatabasesMayLoop};
-ghost use Rattle.network_laws.specs.Worked.{WorkedTopology};
+ghost use Rattle.network_laws.specs.Worked.{EqualAddressesMayLoop, WorkedTopology};
 
 use candidate_laws::{candidates_are_cheapest_walks, every_offer_has_a_candidate};
 use forwarding_laws::{
@@ -67,4 +67,11 @@ pub fn crossed_links_may_loop()
 /// doesn't know the right one yet, a packet goes back and forth between two routers.
 pub fn differing_databases_may_loop()
     ensures { DifferingDatabasesMayLoop }
+{}
+
+/// Interfaces of one router with one address are outside of the laws: where the middle router has
+/// two, each of its links leaves by both, and by one of them a packet comes back. No router takes
+/// such a configuration.
+pub fn equal_addresses_may_loop()
+    ensures { EqualAddressesMayLoop }
 {}
