@@ -1,4 +1,4 @@
-use Rattle.hooktool_commands.proofs.Found.{found}
+use Rattle.hooktool_commands.proofs.Found.{found, refused}
 use Rattle.hooktool_commands.proofs.annotating.annotate.Goals as goal
 
 pub written-requires : goal.written-requires
@@ -6,3 +6,6 @@ written-requires g c = c.in-Ok.ensures.accepted.accepts
 
 pub returns-in-Ok : goal.returns-in-Ok
 returns-in-Ok g c = found c.args.hook c.args.fuel _ _ _ _ c.written.result c.in-Ok.ensures.accepted c.written.ensures.told c.written.ensures.done
+
+pub returns : goal.returns
+returns g c = refused c.args.hook c.args.fuel c.in_ok-file.file.items c.shortfall.result c.shortfall.ensures

@@ -6,4 +6,4 @@ pub returns-in-Err : goal.returns-in-Err
 returns-in-Err g c =
     let words = map (λ word. word.now) c.args.words.now in
     let refused = told words c.in-Err.error c.from.result c.in-Err.ensures c.from.ensures in
-    inr (c.from.result, refused, c.end.ensures)
+    record { ended = inr (c.from.result, refused, c.end.ensures) }
