@@ -2,6 +2,8 @@
 //! stands in `commands` and `route`. Its tests are of routers that run.
 #![tactic(auto)]
 
+ghost use Rattle.std.specs.Prelude.{◌≤◌};
+
 #[cfg(test)]
 mod failing_sockets;
 #[cfg(test)]
@@ -48,7 +50,9 @@ impl Routing for Asked {
 }
 
 // Tells why there is no router, and answers the status.
-fn tell<O: Write>(error: &RouteError, output: &mut O) -> u8 {
+fn tell<O: Write>(error: &RouteError, output: &mut O) -> u8
+    ensures { result ≤ 4 }
+{
     match writeln!(output, "{error}") {
         Ok(()) => error.status(),
         Err(_) => RouteError::Output.status(),
