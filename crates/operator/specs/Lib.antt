@@ -1,3 +1,4 @@
 pub mod Texts
 pub mod Shown
+pub mod Reasons
 pub mod Answers

@@ -1,18 +1,25 @@
 //! Lines in, answers out, at port 0.
-ghost use Rattle.std.specs.Prelude.{◌≡◌};
-ghost use Rattle.hooks.specs.Known.{history_of};
+ghost use Rattle.std.specs.Prelude.{◌≡◌, ℕ, MatchBool};
+ghost use mathlib.Core.List.{IsPrefix};
+ghost use Rattle.hooks.specs.Known.{history_of, known_to, operations_of};
 ghost use Rattle.operator.specs.Answers.{
   IsAnswerToAdd,
   IsAnswerToAttach,
   IsAnswerToDetach,
   IsAnswerToWithdraw,
+  IsAnyFile,
   IsCarriedOut,
+  IsDone,
   IsObeyed,
+  IsPublished,
+  ListedBy,
+  change,
+  sources,
 };
 
 use crate::lists::{counters, lines, neighbors, table};
 use crate::outlet::Outlet;
-use crate::programs::read_program;
+use crate::programs::{ReadsFiles, SystemFiles, read_program, reason};
 use crate::told::Told;
 use console::{Command, read_command};
 use hooks::Loader;
@@ -24,7 +31,7 @@ use std::rt::Files;
 use std::sync::Wait;
 use verifier::Accepted;
 use words::{External, Prefix};
-use worker::{Book, Hub, Port, Site, Work};
+use worker::{Hub, Port, Site, Taker, Work};
 
 /// What an operator has: the loader of the programs, and where port 0 sends.
 #[derive(Drop)]
@@ -40,14 +47,15 @@ pub struct Desk<L: Site, Q: Wait + Drop, K: Link + Drop, C: Seconds + Drop> {
 }
 
 // A destination is announced, if no price keeps it back.
-fn add<L: Site, R: Wait, K: Link + Drop, C: Seconds + Drop>(
+fn add<L: Site, B: Taker<L>, R: Wait, K: Link + Drop, C: Seconds + Drop>(
     rt: &R,
-    hub: &Hub<L, Book<L>>,
+    hub: &Hub<L, B>,
     port: &mut Port<L>,
     outlet: &mut Outlet<K, C>,
     external: External,
 ) -> Told
-    ensures { IsAnswerToAdd result }
+    ensures { IsAnswerToAdd B.offers B.took B.wanted external
+        port.old.share.amount port.new.share.amount result }
 {
     let prefix = external.prefix;
     match outlet.take(rt, hub, port, &Work::Add(external)) {
@@ -63,14 +71,15 @@ fn add<L: Site, R: Wait, K: Link + Drop, C: Seconds + Drop>(
 }
 
 // A destination is announced no longer.
-fn withdraw<L: Site, R: Wait, K: Link + Drop, C: Seconds + Drop>(
+fn withdraw<L: Site, B: Taker<L>, R: Wait, K: Link + Drop, C: Seconds + Drop>(
     rt: &R,
-    hub: &Hub<L, Book<L>>,
+    hub: &Hub<L, B>,
     port: &mut Port<L>,
     outlet: &mut Outlet<K, C>,
     prefix: Prefix,
 ) -> Told
-    ensures { IsAnswerToWithdraw result }
+    ensures { IsAnswerToWithdraw B.offers B.took prefix
+        port.old.share.amount port.new.share.amount result }
 {
     match outlet.take(rt, hub, port, &Work::Withdraw(prefix)) {
         Ok(()) => Told::Withdrawn,
@@ -80,16 +89,26 @@ fn withdraw<L: Site, R: Wait, K: Link + Drop, C: Seconds + Drop>(
 
 impl<L: Site, Q: Wait + Drop, K: Link + Drop, C: Seconds + Drop> Desk<L, Q, K, C> {
     // The table is made anew. Where that is refused, it is tried again before the next line.
-    fn refresh<R: Wait>(&mut self, rt: &R, hub: &Hub<L, Book<L>>, port: &mut Port<L>)
-        ensures { self.new.interfaces ≡ self.old.interfaces }
+    fn refresh<B: Taker<L>, R: Wait>(&mut self, rt: &R, hub: &Hub<L, B>, port: &mut Port<L>)
+        ensures done { MatchBool self.new.unrefreshed
+            (port.new.share.amount ≡ port.old.share.amount)
+            (IsDone B.offers B.took Work.Refresh) }
+        ensures known { IsPrefix (known_to port.old.asker) (known_to port.new.asker) }
+        ensures loader { self.new.loader ≡ self.old.loader }
+        ensures interfaces { self.new.interfaces ≡ self.old.interfaces }
     {
         self.unrefreshed = self.outlet.take(rt, hub, port, &Work::Refresh).is_err();
     }
 
     // After the programs were changed: workers install no answer of the earlier ones any more, the
     // port's are no older, and the table is made anew.
-    fn follow<R: Wait>(&mut self, rt: &R, hub: &Hub<L, Book<L>>, port: &mut Port<L>)
-        ensures { self.new.interfaces ≡ self.old.interfaces }
+    fn follow<B: Taker<L>, R: Wait>(&mut self, rt: &R, hub: &Hub<L, B>, port: &mut Port<L>)
+        ensures learnt { IsPrefix (operations_of self.old.loader) (known_to port.new.asker) }
+        ensures done { MatchBool self.new.unrefreshed
+            (port.new.share.amount ≡ port.old.share.amount)
+            (IsDone B.offers B.took Work.Refresh) }
+        ensures loader { self.new.loader ≡ self.old.loader }
+        ensures interfaces { self.new.interfaces ≡ self.old.interfaces }
     {
         hub.programs_changed();
         port.learn(self.loader.notice());
@@ -97,14 +116,15 @@ impl<L: Site, Q: Wait + Drop, K: Link + Drop, C: Seconds + Drop> Desk<L, Q, K, C
     }
 
     // Publishes a program.
-    fn publish<R: Wait>(
+    fn publish<B: Taker<L>, R: Wait>(
         &mut self,
         rt: &R,
-        hub: &Hub<L, Book<L>>,
+        hub: &Hub<L, B>,
         port: &mut Port<L>,
         program: Accepted,
     ) -> Told
-        ensures told { IsAnswerToAttach result }
+        ensures told { IsPublished (operations_of self.old.loader) (operations_of self.new.loader)
+            (known_to port.new.asker) program result }
         ensures interfaces { self.new.interfaces ≡ self.old.interfaces }
     {
         let hook = program.hook();
@@ -116,30 +136,33 @@ impl<L: Site, Q: Wait + Drop, K: Link + Drop, C: Seconds + Drop> Desk<L, Q, K, C
         Told::Attached(hook, bound)
     }
 
-    fn attach<R: Wait + Files + AllocGlobal>(
+    fn attach<B: Taker<L>, R: Wait, F: ReadsFiles>(
         &mut self,
         rt: &R,
-        hub: &Hub<L, Book<L>>,
+        files: &F,
+        hub: &Hub<L, B>,
         port: &mut Port<L>,
         path: &str,
     ) -> Told
-        ensures told { IsAnswerToAttach result }
+        ensures told { IsAnswerToAttach F.holds (operations_of self.old.loader)
+            (operations_of self.new.loader) path.now result }
         ensures interfaces { self.new.interfaces ≡ self.old.interfaces }
     {
-        match read_program(rt, path) {
+        match read_program(self.alloc, files, path) {
             Ok(program) => self.publish(rt, hub, port, program),
-            Err(error) => lines(format!(in self.alloc; "{error}\n")),
+            Err(error) => lines(reason(self.alloc, path, error)),
         }
     }
 
-    fn detach<R: Wait>(
+    fn detach<B: Taker<L>, R: Wait>(
         &mut self,
         rt: &R,
-        hub: &Hub<L, Book<L>>,
+        hub: &Hub<L, B>,
         port: &mut Port<L>,
         hook: Hook,
     ) -> Told
-        ensures told { IsAnswerToDetach hook result }
+        ensures told { IsAnswerToDetach (operations_of self.old.loader)
+            (operations_of self.new.loader) hook result }
         ensures interfaces { self.new.interfaces ≡ self.old.interfaces }
     {
         if self.loader.detach(hook).is_err() {
@@ -150,18 +173,24 @@ impl<L: Site, Q: Wait + Drop, K: Link + Drop, C: Seconds + Drop> Desk<L, Q, K, C
     }
 
     // Carries out a command. None where it ends the console.
-    fn carry_out<R: Wait + Files + AllocGlobal>(
+    fn carry_out<B: Taker<L>, R: Wait, F: ReadsFiles>(
         &mut self,
         rt: &R,
-        hub: &Hub<L, Book<L>>,
+        files: &F,
+        hub: &Hub<L, B>,
         port: &mut Port<L>,
         command: &Command<'_>,
     ) -> Option<Told>
-        ensures told { IsCarriedOut self.old.interfaces command.now result }
+        ensures told { IsCarriedOut
+            (sources B.offers B.took B.wanted (ListedBy B.neighbor_at) F.holds)
+            self.old.interfaces
+            (change (operations_of self.old.loader) (operations_of self.new.loader)
+            port.old.share.amount port.new.share.amount)
+            command.now result }
         ensures interfaces { self.new.interfaces ≡ self.old.interfaces }
     {
         Some(match command {
-            Command::Attach(path) => self.attach(rt, hub, port, path),
+            Command::Attach(path) => self.attach(rt, files, hub, port, path),
             Command::Detach(hook) => self.detach(rt, hub, port, *hook),
             Command::Add(external) => add(rt, hub, port, &mut self.outlet, *external),
             Command::Withdraw(prefix) => withdraw(rt, hub, port, &mut self.outlet, *prefix),
@@ -173,31 +202,87 @@ impl<L: Site, Q: Wait + Drop, K: Link + Drop, C: Seconds + Drop> Desk<L, Q, K, C
     }
 
     /// Before the first line: a Tick's turn.
-    pub fn tick<R: Wait>(&mut self, rt: &R, hub: &Hub<L, Book<L>>, port: &mut Port<L>)
+    pub fn tick<B: Taker<L>, R: Wait>(&mut self, rt: &R, hub: &Hub<L, B>, port: &mut Port<L>)
         ensures { self.new.interfaces ≡ self.old.interfaces }
     {
         let _ticked = self.outlet.take(rt, hub, port, &Work::Tick);
     }
 
-    /// Does what a line asks for. None where it ends the console.
-    pub fn obey<R: Wait + Files + AllocGlobal>(
-        &mut self,
-        rt: &R,
-        hub: &Hub<L, Book<L>>,
-        port: &mut Port<L>,
-        line: &str,
-    ) -> Option<Told>
-        ensures told { IsObeyed self.old.interfaces line.now result }
+    // Makes the table anew where that is due.
+    fn make_up<B: Taker<L>, R: Wait>(&mut self, rt: &R, hub: &Hub<L, B>, port: &mut Port<L>)
+        ensures loader { self.new.loader ≡ self.old.loader }
         ensures interfaces { self.new.interfaces ≡ self.old.interfaces }
     {
         if self.unrefreshed {
             self.refresh(rt, hub, port);
         }
+    }
+
+    // What a line asks for, done.
+    #[tactic(auto, using(crate::proofs::Answered::obeyed))]
+    fn answer<B: Taker<L>, R: Wait, F: ReadsFiles>(
+        &mut self,
+        rt: &R,
+        files: &F,
+        hub: &Hub<L, B>,
+        port: &mut Port<L>,
+        line: &str,
+    ) -> Option<Told>
+        ensures told { IsObeyed
+            (sources B.offers B.took B.wanted (ListedBy B.neighbor_at) F.holds)
+            self.old.interfaces
+            (change (operations_of self.old.loader) (operations_of self.new.loader)
+            port.old.share.amount port.new.share.amount)
+            line.now result }
+        ensures interfaces { self.new.interfaces ≡ self.old.interfaces }
+    {
         let read = read_command(self.alloc, line);
         match &read {
-            Ok(Some(command)) => self.carry_out(rt, hub, port, command),
+            Ok(Some(command)) => self.carry_out(rt, files, hub, port, command),
             Ok(None) => Some(Told::Unknown),
             Err(_) => Some(Told::Memory),
         }
+    }
+
+    /// Does what a line asks for, with the files that these give. None where it ends the console.
+    ///
+    /// Where the table couldn't be made anew after the programs were changed, that is tried first.
+    pub fn obey_with<B: Taker<L>, R: Wait, F: ReadsFiles>(
+        &mut self,
+        rt: &R,
+        files: &F,
+        hub: &Hub<L, B>,
+        port: &mut Port<L>,
+        line: &str,
+    ) -> Option<Told>
+        ensures told { (counted : ℕ) × IsObeyed
+            (sources B.offers B.took B.wanted (ListedBy B.neighbor_at) F.holds)
+            self.old.interfaces
+            (change (operations_of self.old.loader) (operations_of self.new.loader)
+            counted port.new.share.amount)
+            line.now result }
+        ensures interfaces { self.new.interfaces ≡ self.old.interfaces }
+    {
+        self.make_up(rt, hub, port);
+        self.answer(rt, files, hub, port, line)
+    }
+
+    /// The same with the files of the system.
+    pub fn obey<B: Taker<L>, R: Wait + Files + AllocGlobal>(
+        &mut self,
+        rt: &R,
+        hub: &Hub<L, B>,
+        port: &mut Port<L>,
+        line: &str,
+    ) -> Option<Told>
+        ensures told { (counted : ℕ) × IsObeyed
+            (sources B.offers B.took B.wanted (ListedBy B.neighbor_at) IsAnyFile)
+            self.old.interfaces
+            (change (operations_of self.old.loader) (operations_of self.new.loader)
+            counted port.new.share.amount)
+            line.now result }
+        ensures interfaces { self.new.interfaces ≡ self.old.interfaces }
+    {
+        self.obey_with(rt, &SystemFiles { rt }, hub, port, line)
     }
 }

@@ -5,6 +5,7 @@
 #![tactic(auto)]
 
 mod desk;
+pub mod laws;
 mod lists;
 mod outlet;
 mod programs;
@@ -12,4 +13,5 @@ mod told;
 
 pub use desk::Desk;
 pub use outlet::Outlet;
+pub use programs::{AttachError, ReadsFiles, SystemFiles};
 pub use told::Told;

@@ -2,7 +2,8 @@
 ghost use Rattle.std.specs.Prelude.{◌≡◌, List, IfOk, MatchResult, string_bytes, vec_len};
 ghost use Rattle.words.specs.declared.route.Route.{Route};
 ghost use Rattle.tables.specs.Rows.{rows_of};
-ghost use Rattle.operator.specs.Shown.{IsCountersText, IsNeighborsText, IsPartOf, IsTableText};
+ghost use Rattle.operator.specs.Answers.{ListedBy};
+ghost use Rattle.operator.specs.Shown.{IsCountersText, IsPartOf, ShowsNeighbors, ShowsTable};
 ghost use Rattle.operator.specs.declared.told.Told.TheVariants as told;
 
 use crate::told::Told;
@@ -10,7 +11,7 @@ use console::{counters_text, neighbors_text, table_text};
 use std::alloc::{AllocError, Global};
 use std::sync::Wait;
 use words::{Route, TableRow};
-use worker::{Book, Hub, Port, Site};
+use worker::{Hub, Port, Site, Taker};
 
 /// The answer of these lines.
 pub fn lines(made: Result<String, AllocError>) -> Told
@@ -42,12 +43,12 @@ fn routes_of(
 }
 
 /// The routing table.
-pub fn table<L: Site, R: Wait>(
+pub fn table<L: Site, B: Taker<L>, R: Wait>(
     rt: &R,
     alloc: Global,
-    hub: &Hub<L, Book<L>>,
+    hub: &Hub<L, B>,
 ) -> Result<String, AllocError>
-    ensures { IfOk result (λ text. IsTableText (string_bytes text)) }
+    ensures { IfOk result (λ text. ShowsTable B.offers (string_bytes text)) }
 {
     let offered = hub.offered(rt)?;
     let routes = routes_of(
@@ -59,30 +60,29 @@ pub fn table<L: Site, R: Wait>(
     Ok(text)
 }
 
-/// The neighbors at so many interfaces.
-pub fn neighbors<L: Site, R: Wait>(
+/// The neighbors at so many interfaces, of one moment.
+pub fn neighbors<L: Site, B: Taker<L>, R: Wait>(
     rt: &R,
     alloc: Global,
-    hub: &Hub<L, Book<L>>,
+    hub: &Hub<L, B>,
     interfaces: u16,
 ) -> Result<String, AllocError>
-    ensures { IfOk result (λ text. IsNeighborsText interfaces (string_bytes text)) }
+    ensures { IfOk result (λ text.
+        ShowsNeighbors (ListedBy B.neighbor_at interfaces) (string_bytes text)) }
 {
-    let mut neighbors = Vec::new(alloc);
-    for interface in 0..interfaces {
-        neighbors.push(hub.neighbor(rt, interface + 1))?;
-    }
+    let neighbors = hub.neighbors(rt, alloc, interfaces)?;
     let text = neighbors_text(alloc, &neighbors)?;
     Ok(text)
 }
 
 /// The counters that the programs share.
-pub fn counters<L: Site>(
+pub fn counters<L: Site, B: Taker<L>>(
     alloc: Global,
-    hub: &Hub<L, Book<L>>,
+    hub: &Hub<L, B>,
     port: &mut Port<L>,
 ) -> Result<String, AllocError>
-    ensures { IfOk result (λ text. IsCountersText (string_bytes text)) }
+    ensures text { IfOk result (λ text. IsCountersText (string_bytes text)) }
+    ensures share { port.new.share ≡ port.old.share }
 {
     let mut sums = Vec::new(alloc);
     for index in 0..256usize {

@@ -1,72 +1,108 @@
 //! Programs from object files.
+ghost use Rattle.std.specs.Prelude.{◌≡◌, List, ℕ, IfErr, IfOk, string_bytes};
+ghost use Rattle.object_verdicts.specs.Verdicts.{Accepts};
+ghost use Rattle.operator.specs.Reasons.{IsReason, reason_text};
+
+use isa::DecodeFault;
 use object_verdicts::{VerifyError, verify_object};
-use std::alloc::{AllocError, AllocFailed};
+use std::alloc::{AllocError, Global};
 use std::rt::Files;
-use thiserror::Error;
 use verifier::{Accepted, Rule};
 use whole_files::{ReadFault, read};
 
-/// Why no program is attached. The text is the line that is printed.
-#[derive(Debug, Drop, Error)]
-pub enum AttachError<'a> {
+/// Gives the bytes of files.
+///
+/// What is so of the bytes that stand at a path is left open here: who reads by this trait alone can
+/// say it only of bytes that were read there.
+pub trait ReadsFiles {
+    ghost holds: { List ℕ → List ℕ → Type 0 };
+
+    /// The bytes of the file at the path.
+    fn bytes(&self, path: &str) -> Result<Vec<u8>, ReadFault>
+        ensures { IfOk result (λ bytes. holds path.now bytes.items) };
+}
+
+/// The files of the system, of which nothing is known.
+#[derive(Drop)]
+pub struct SystemFiles<'a, R> {
+    pub rt: &'a R,
+}
+
+impl<'a, R: Files + AllocGlobal> ReadsFiles for SystemFiles<'a, R> {
+    ghost holds = { λ path bytes. Unit {0} };
+
+    fn bytes(&self, path: &str) -> Result<Vec<u8>, ReadFault> {
+        read(self.rt, path)
+    }
+}
+
+/// Why no program is attached.
+#[derive(Clone, Copy, Debug, PartialEq, Eq)]
+pub enum AttachError {
     /// The file can't be opened or read, or is longer than 16 MiB.
-    #[error("cannot read {0}")]
-    Read(&'a str),
+    Read,
     /// It is no object file: the number of the refusal.
-    #[error("object refusal {0}")]
     Object(u8),
     /// Its code doesn't decode: the number of the refusal, and the slot.
-    #[error("code refusal {number} slot {slot}")]
-    Code { number: u8, slot: u64 },
+    Code(u8, u64),
     /// The verifier refuses it: the slot, and the number of the rule.
-    #[error("refused slot {slot} rule {rule}")]
-    Refused { slot: u64, rule: u8 },
+    Refused(u64, u8),
     /// Memory was refused.
-    #[error("out of memory")]
     Memory,
 }
 
-impl<'a> From<AllocError> for AttachError<'a> {
-    fn from(_error: AllocError) -> AttachError<'a> {
-        AttachError::Memory
-    }
-}
+impl From<VerifyError> for AttachError {
+    ghost use Rattle.operator.specs.Reasons.{error_of};
 
-impl<'a, T: Drop> From<AllocFailed<T>> for AttachError<'a> {
-    fn from(_error: AllocFailed<T>) -> AttachError<'a> {
-        AttachError::Memory
-    }
-}
+    ghost from_gives = { λ verdict error. error ≡ error_of verdict };
 
-impl<'a> From<VerifyError> for AttachError<'a> {
-    fn from(error: VerifyError) -> AttachError<'a> {
+    fn from(error: VerifyError) -> AttachError {
         match error {
             VerifyError::Object(object::ReadError::Memory) => AttachError::Memory,
             VerifyError::Object(error) => AttachError::Object(error.number()),
-            VerifyError::Code(error) if error.kind == isa::DecodeFault::Memory => {
-                AttachError::Memory
-            }
-            VerifyError::Code(error) => AttachError::Code {
-                number: error.kind.number(),
-                slot: error.slot as u64,
+            VerifyError::Code(error) => match error.kind {
+                DecodeFault::Memory => AttachError::Memory,
+                kind => AttachError::Code(kind.number(), error.slot as u64),
             },
-            VerifyError::Refused(refusal) if refusal.rule == Rule::Memory => AttachError::Memory,
-            VerifyError::Refused(refusal) => AttachError::Refused {
-                slot: refusal.slot as u64,
-                rule: refusal.rule.number(),
+            VerifyError::Refused(refusal) => match refusal.rule {
+                Rule::Memory => AttachError::Memory,
+                rule => AttachError::Refused(refusal.slot as u64, rule.number()),
             },
         }
     }
 }
 
+/// The line that says why no program of the file at the path is attached.
+pub fn reason(alloc: Global, path: &str, error: AttachError) -> Result<String, AllocError>
+    ensures { IfOk result (λ text. string_bytes text ≡ reason_text path.now error) }
+{
+    match error {
+        AttachError::Read => format!(in alloc; "cannot read {path}\n"),
+        AttachError::Object(number) => format!(in alloc; "object refusal {number}\n"),
+        AttachError::Code(number, slot) => {
+            format!(in alloc; "code refusal {number} slot {slot}\n")
+        }
+        AttachError::Refused(slot, rule) => format!(in alloc; "refused slot {slot} rule {rule}\n"),
+        AttachError::Memory => format!(in alloc; "out of memory\n"),
+    }
+}
+
 /// The program of the object file at this path, once it is verified.
-pub fn read_program<'a, R: Files + AllocGlobal>(
-    rt: &R,
-    path: &'a str,
-) -> Result<Accepted, AttachError<'a>> {
-    match read(rt, path) {
-        Ok(bytes) => Ok(verify_object(rt.alloc(), &bytes)?),
-        Err(ReadFault::Unreadable) => Err(AttachError::Read(path)),
+pub fn read_program<F: ReadsFiles>(
+    alloc: Global,
+    files: &F,
+    path: &str,
+) -> Result<Accepted, AttachError>
+    ensures ok { IfOk result (λ program.
+        (bytes : List ℕ) × F.holds path.now bytes × Accepts bytes program) }
+    ensures err { IfErr result (IsReason F.holds path.now) }
+{
+    match files.bytes(path) {
+        Ok(bytes) => match verify_object(alloc, &bytes) {
+            Ok(program) => Ok(program),
+            Err(error) => Err(error.into()),
+        },
+        Err(ReadFault::Unreadable) => Err(AttachError::Read),
         Err(ReadFault::Memory) => Err(AttachError::Memory),
     }
 }
