@@ -123,6 +123,7 @@ Statuses:
   3  the file can't be read, or the output can't be written
   4  memory was refused
 
+hooktool explain OBJECT tells which register and value break the rule, and what is allowed.
 For each rule docs/VERIFIER.md has the smallest program that breaks it, and how to mend it.
 docs/FORMATS.md has the format of object files and of statements, and each other refusal.";
 
