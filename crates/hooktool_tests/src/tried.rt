@@ -9,7 +9,7 @@ const LESS: &str = "hook price; rank 0; r0 = *u32 r1 12; r0 += -30; exit";
 const RUNS: &str =
     "hook count; rank 0; r1 = *u8 r1 8; r2 = 1; call 1; r6 = map 1 8; r0 = *u64 r6 0; r0 += 1; *u64 r6 0 = r0; exit";
 
-// The cost of the row 10.0.0.0/8.
+// What the test's map gives as the cost of 10.0.0.0/8.
 const COST: &str = "hook tag; rank 0; r1 = wide 167772160; r2 = 8; call 4; exit";
 
 // Whether the route's prefix is longer than 24 bits.
