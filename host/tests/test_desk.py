@@ -96,8 +96,8 @@ class Statuses(unittest.TestCase):
 
     def test_a_worker_that_stopped(self) -> None:
         it = known()
-        it.stopped = ("[WARN  route::labor] worker 1 stopped",)
-        self.assertIn("routerd: [WARN  route::labor] worker 1 stopped", self.lines(it))
+        it.stopped = ("[WARN  daemon::labor] worker 1 stopped",)
+        self.assertIn("routerd: [WARN  daemon::labor] worker 1 stopped", self.lines(it))
 
     def test_of_the_kernel(self) -> None:
         for kept, line in (

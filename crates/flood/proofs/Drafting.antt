@@ -11,7 +11,7 @@ use Rattle.events.specs.Packing.{outs_at}
 use Rattle.flood_laws.specs.Keeping.{AreTextsAt}
 use Rattle.flooding.specs.Drafted.{drafted, drafted_from}
 use Rattle.flooding.specs.Links.{present}
-use Rattle.outs.specs.Drafts.{IsDraftAt, nothing_drafted}
+use Rattle.packing.specs.Drafts.{IsDraftAt, nothing_drafted}
 use Rattle.self_originated.specs.Making.{interfaces_of}
 use Rattle.self_originated.proofs.Drafts.{drafted_same}
 use Rattle.flood.specs.Drafts.{AreDrafts, AreDraftsFrom, nothing_at}

@@ -3,7 +3,7 @@ use Rattle.std.specs.Prelude.{ℕ, ◌+◌, List, [], ◌∷◌, map}
 use Rattle.adjacency.specs.Drafts.{Drafted}
 use Rattle.received.specs.Links.{Link}
 use Rattle.received.specs.Outcomes.{Send}
-use Rattle.outs.specs.Drafts.{IsDraftAt, nothing_drafted}
+use Rattle.packing.specs.Drafts.{IsDraftAt, nothing_drafted}
 
 -- nothing was sent yet at any of these links
 abbrev pub nothing_at : List Link → List Drafted

@@ -4,13 +4,13 @@ ghost use Rattle.received.specs.Links.{Link as LinkOfArea};
 ghost use Rattle.received.specs.Outcomes.{Send};
 ghost use Rattle.events.specs.Packing.{outs_of};
 ghost use Rattle.flood_laws.specs.Keeping.{AreTexts};
-ghost use Rattle.outs.specs.Drafts.{nothing_drafted};
+ghost use Rattle.packing.specs.Drafts.{nothing_drafted};
 ghost use Rattle.flood.specs.Drafts.{AreDrafts, nothing_at};
 
 use adjacency::Draft;
 use events::Out;
 use flooding::Link;
-use outs::put_outs;
+use packing::put_outs;
 use self_originated::Router;
 use std::alloc::{AllocError, Global};
 use words::RouterId;

@@ -1,8 +1,8 @@
 //! A router one of whose sockets fails. Nothing can be sent to port 0, which no configuration says.
 use console::ConfiguredInterface;
+use daemon::{RouteError, operate};
 use events::{Config, Interface};
 use log::Log;
-use route::{RouteError, operate};
 use sockets::{SocketError, Sockets, Wire, bind_each, listening};
 use std::alloc::{AllocError, Global};
 use std::io::{self, Cursor, Write};

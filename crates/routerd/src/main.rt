@@ -1,5 +1,5 @@
 //! `routerd`: runs a router, and assembles, lists, verifies and runs its programs. What it does
-//! stands in `commands` and `route`. Its tests are of routers that run.
+//! stands in `commands` and `daemon`. Its tests are of routers that run.
 #![tactic(auto)]
 
 ghost use Rattle.std.specs.Prelude.{◌≤◌};
@@ -16,8 +16,8 @@ mod refused_sends;
 mod sessions;
 
 use commands::{Routing, program};
+use daemon::RouteError;
 use log::Log;
-use route::RouteError;
 use std::alloc::{AllocError, Global};
 use std::cell::OnceCell;
 use std::fs::File;
@@ -80,7 +80,7 @@ fn run<R: Input + Net + Threads + Wait + Clock + Log + Files + AllocGlobal + Syn
     output: &mut O,
 ) -> u8 {
     match BufReader::new(rt.alloc(), rt.reader()) {
-        Ok(mut input) => route::route(rt, configuration, &mut input, output),
+        Ok(mut input) => daemon::route(rt, configuration, &mut input, output),
         Err(_) => tell(&RouteError::Memory, output),
     }
 }

@@ -1,7 +1,7 @@
 //! Routers over loopback sockets in one process, until each prints what it is to learn from the
 //! others.
+use daemon::run_router;
 use log::Log;
-use route::run_router;
 use std::alloc::Global;
 use std::io::{self, BufReader, ErrorKind, Read, Write};
 use std::net::Net;

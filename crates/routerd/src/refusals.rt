@@ -1,5 +1,5 @@
 //! Routers that don't run.
-use route::{RouteError, run_router};
+use daemon::{RouteError, run_router};
 use std::io::Cursor;
 use std::test::Fail;
 

@@ -1,6 +1,6 @@
 //! One router with a console: what each line is answered.
+use daemon::route;
 use log::Log;
-use route::route;
 use std::alloc::{AllocError, Global};
 use std::fs;
 use std::io::{self, BufReader, Cursor, ErrorKind, Read};

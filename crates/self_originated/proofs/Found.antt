@@ -13,7 +13,7 @@ use Rattle.events.specs.Routers.{Router}
 use Rattle.originations.proofs.Decided.{are_the_rules}
 use Rattle.originations.specs.Decisions.{after_origination, origination}
 use Rattle.originations.specs.declared.origination.Origination.{Origination}
-use Rattle.router.specs.Owned.{AreOwn}
+use Rattle.router_state.specs.Owned.{AreOwn}
 use Rattle.self_originated.specs.Wanted.{originate_wanted, wanted_origination}
 use Rattle.self_originated.proofs.Keys.{tied_key}
 

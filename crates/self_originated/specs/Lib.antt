@@ -1,3 +1,3 @@
 -- what a part of an event makes of the router, for those above
-pub use Rattle.router.specs.Making
+pub use Rattle.router_state.specs.Making
 pub mod Wanted

@@ -9,4 +9,4 @@ mod wanted;
 pub use due::{due_keys, originate_due};
 pub use origination::{originate_anyway, originate_or_wait, receive_self_originated};
 // What each of these calls changes.
-pub use router::Router;
+pub use router_state::Router;

@@ -7,14 +7,14 @@ ghost use Rattle.events.specs.Originations.{
 };
 ghost use Rattle.lsdb.specs.Headers.{Lsa};
 ghost use Rattle.originations.specs.Decisions.{after_origination};
-ghost use Rattle.router.specs.Making.{Makes};
+ghost use Rattle.router_state.specs.Making.{Makes};
 ghost use Rattle.self_originated.specs.Wanted.{originate_wanted};
 
 use crate::wanted::{is_wanted, wanted_origination};
 use adjacency::Draft;
 use lsa::{Header, Lsa};
 use originations::Origination;
-use router::Router;
+use router_state::Router;
 use std::alloc::{AllocError, Global};
 use words::{Key, Second};
 

@@ -5,7 +5,7 @@ ghost use Rattle.events.specs.Originations.{is_wanted, router_key, wanted_body};
 ghost use Rattle.self_originated.specs.Wanted.{wanted_origination};
 
 use originations::{Origination, originate_external, originate_router};
-use router::Router;
+use router_state::Router;
 use std::alloc::{AllocError, Global};
 use words::{Key, LinkStateId, RouterId, Second};
 

@@ -1,6 +1,6 @@
 use Rattle.std.proofs.Common.{◌≡◌, length, take}
 use Rattle.events.specs.Originations.{originate_due}
-use Rattle.router.specs.Making.{Makes}
+use Rattle.router_state.specs.Making.{Makes}
 use Rattle.self_originated.proofs.due.originate_due.Given as goal
 
 abbrev pub invariant-loop-key : goal.invariant-loop-key

@@ -1,6 +1,6 @@
 use Rattle.std.proofs.Common.{sym, ◌∙◌}
 use Rattle.keyed_map.proofs.Helds.{on_ok}
-use Rattle.router.proofs.Making.{makes_same}
+use Rattle.router_state.proofs.Making.{makes_same}
 use Rattle.self_originated.proofs.Found.{done_as_found}
 use Rattle.self_originated.proofs.origination.originate.Goals as goal
 

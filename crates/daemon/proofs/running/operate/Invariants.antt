@@ -1,0 +1,10 @@
+use Rattle.hooks.specs.Known.{history_of}
+use Rattle.daemon.proofs.running.operate.Given as goal
+
+-- the ledger is that of the setup
+abbrev pub ghosts-run_all-L-Ledger : goal.ghosts-run_all-L-Ledger
+ghosts-run_all-L-Ledger g a = record { name = a.setup.blank.name; parts = a.setup.blank.parts }
+
+-- and the workers share its words, and ask the programs of the loader
+abbrev pub ghosts-run_all-L-Site : goal.ghosts-run_all-L-Site
+ghosts-run_all-L-Site g a = record { words = a.setup.shared; history = history_of a.loader }

@@ -1,0 +1,85 @@
+//! Why a router doesn't run.
+ghost use Rattle.std.specs.Prelude.{◌≡◌};
+ghost use Rattle.daemon.specs.Statuses.{status_of};
+
+use console::ConfigurationError;
+use hooks::HookError;
+use sockets::SocketError;
+use std::alloc::{AllocError, AllocFailed};
+use thiserror::Error;
+
+/// Why a router doesn't run. The text is the line that is printed.
+#[derive(Debug, Drop, Error)]
+pub enum RouteError {
+    /// The first line of the configuration that is wrong or missing.
+    #[error("config refusal line {0}")]
+    Configuration(u64),
+    /// The UDP port of 127.0.0.1 can't be had.
+    #[error("cannot bind {0}")]
+    Bind(u16),
+    /// A socket can't be waited at.
+    #[error("cannot wait at the sockets")]
+    Socket,
+    /// There were no places for those who ask the programs: the number of the refusal.
+    #[error("hook refusal {0}")]
+    Hooks(u8),
+    /// The output can't be written.
+    #[error("cannot write the output")]
+    Output,
+    /// Memory was refused.
+    #[error("out of memory")]
+    Memory,
+}
+
+impl RouteError {
+    /// The status that the program ends with: 1 refused, 3 a socket or a stream, 4 memory.
+    pub fn status(&self) -> u8
+        ensures { result ≡ status_of self.now }
+    {
+        match self {
+            RouteError::Configuration(_) | RouteError::Hooks(_) => 1,
+            RouteError::Bind(_) | RouteError::Socket | RouteError::Output => 3,
+            RouteError::Memory => 4,
+        }
+    }
+}
+
+impl From<AllocError> for RouteError {
+    fn from(_error: AllocError) -> RouteError {
+        RouteError::Memory
+    }
+}
+
+impl<T: Drop> From<AllocFailed<T>> for RouteError {
+    fn from(_error: AllocFailed<T>) -> RouteError {
+        RouteError::Memory
+    }
+}
+
+impl From<ConfigurationError> for RouteError {
+    fn from(error: ConfigurationError) -> RouteError {
+        match error {
+            ConfigurationError::Line(line) => RouteError::Configuration(line),
+            ConfigurationError::Memory => RouteError::Memory,
+        }
+    }
+}
+
+impl From<SocketError> for RouteError {
+    fn from(error: SocketError) -> RouteError {
+        match error {
+            SocketError::Bind(port) => RouteError::Bind(port),
+            SocketError::Wait => RouteError::Socket,
+            SocketError::Memory => RouteError::Memory,
+        }
+    }
+}
+
+impl From<HookError> for RouteError {
+    fn from(error: HookError) -> RouteError {
+        match error {
+            HookError::Memory => RouteError::Memory,
+            other => RouteError::Hooks(other.number()),
+        }
+    }
+}

@@ -1,0 +1,119 @@
+//! As many items in a packet as have room.
+ghost use Rattle.std.specs.Prelude.{◌≡◌, ◌≤◌, ◌+◌, List, [], ◌∷◌, ◌++◌};
+ghost use Rattle.std.specs.Prelude.{IfOk, OnOk};
+ghost use Rattle.std.specs.List.{AllByRecursion};
+ghost use Rattle.events.specs.Packing.{packed};
+ghost use Rattle.packing.specs.Fillings.{IsFilling, finished};
+
+use crate::contents::HasSize;
+use std::alloc::{AllocError, Global};
+use words::Sequence;
+
+// The most bytes that a packet has.
+const LARGEST_PACKET: usize = 8192;
+
+// The items of the packets that are full, and of the one that is being filled.
+#[derive(Drop)]
+struct Filling<X> {
+    packets: Vec<Sequence<X>>,
+    taken: Vec<X>,
+    // what a packet has before its first item, and what the one that is being filled has by now
+    start: usize,
+    used: usize,
+}
+
+impl<X: HasSize + Drop> Filling<X> {
+    fn new(alloc: Global, start: usize) -> Self
+        ensures packets { result.packets.items ≡ [] }
+        ensures taken { result.taken.items ≡ [] }
+        ensures start { result.start ≡ start }
+        ensures used { result.used ≡ start }
+    {
+        Filling {
+            packets: Vec::new(alloc),
+            taken: Vec::new(alloc),
+            start,
+            used: start,
+        }
+    }
+
+    // The packet is full.
+    fn close(&mut self, alloc: Global) -> Result<(), AllocError>
+        ensures packets { OnOk result (self.new.packets.items
+            ≡ self.old.packets.items ++ self.old.taken.items ∷ []) }
+        ensures taken { OnOk result (self.new.taken.items ≡ []) }
+        ensures start { OnOk result (self.new.start ≡ self.old.start) }
+        ensures used { OnOk result (self.new.used ≡ self.old.start) }
+    {
+        let taken = std::mem::replace(&mut self.taken, Vec::new(alloc));
+        self.packets.push(Sequence::from_vec(taken))?;
+        self.used = self.start;
+        Ok(())
+    }
+
+    // The item goes into the packet that is being filled.
+    fn add(&mut self, item: X) -> Result<(), AllocError>
+        requires { self.old.used + X.size item ≤ 8192 }
+        ensures packets { OnOk result (self.new.packets.items ≡ self.old.packets.items) }
+        ensures taken { OnOk result (self.new.taken.items ≡ self.old.taken.items ++ item ∷ []) }
+        ensures start { OnOk result (self.new.start ≡ self.old.start) }
+        ensures used { OnOk result (self.new.used ≡ self.old.used + X.size item) }
+    {
+        self.used += item.size();
+        self.taken.push(item)?;
+        Ok(())
+    }
+
+    // The item goes into the packet that is being filled, or into the next one, where it has no
+    // room.
+    fn take(&mut self, alloc: Global, item: X) -> Result<(), AllocError>
+        requires filling { IsFilling self.old.start self.old.used self.old.taken.items }
+        requires room { self.old.start + X.size item ≤ 8192 }
+        ensures filling { OnOk result
+            (IsFilling self.new.start self.new.used self.new.taken.items) }
+        ensures start { OnOk result (self.new.start ≡ self.old.start) }
+        ensures packed { OnOk result ((rest : List X)
+            → finished X.size self.new.start self.new.used
+            self.new.packets.items self.new.taken.items rest
+            ≡ finished X.size self.old.start self.old.used
+            self.old.packets.items self.old.taken.items (item ∷ rest)) }
+    {
+        if self.used + item.size() <= LARGEST_PACKET {
+            return self.add(item);
+        }
+        self.close(alloc)?;
+        self.add(item)
+    }
+
+    // All packets, the one that is being filled too.
+    fn finish(mut self, alloc: Global) -> Result<Vec<Sequence<X>>, AllocError>
+        ensures { IfOk result (λ packets. packets.items
+            ≡ finished X.size self.start self.used self.packets.items self.taken.items []) }
+    {
+        if !self.taken.is_empty() {
+            self.close(alloc)?;
+        }
+        Ok(self.packets)
+    }
+}
+
+/// The items in their order, as many in each packet as have room behind the bytes that it begins
+/// with.
+///
+/// The only error is that an allocation was refused.
+pub fn packed<X: HasSize + Drop>(
+    alloc: Global,
+    start: usize,
+    items: Vec<X>,
+) -> Result<Vec<Sequence<X>>, AllocError>
+    requires start { start ≤ 8192 }
+    // Each has room in a packet of its own.
+    requires room { AllByRecursion (λ item. start + X.size item ≤ 8192) items.items }
+    ensures { IfOk result (λ packets. packets.items ≡ packed X.size start items.items) }
+{
+    let mut filling = Filling::new(alloc, start);
+    for item in items {
+        filling.take(alloc, item)?;
+    }
+    filling.finish(alloc)
+}

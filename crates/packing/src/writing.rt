@@ -1,0 +1,67 @@
+//! Packets as bytes.
+ghost use Rattle.std.specs.Prelude.{◌≡◌, ◌∷◌, [], ◌++◌, List, OnOk};
+ghost use Rattle.received.specs.Links.{Link};
+ghost use Rattle.received.specs.Outcomes.{Send};
+ghost use Rattle.std.specs.List.{AllByRecursion, filter_map};
+ghost use Rattle.packet.specs.Ranges.{LsasAreWhole};
+ghost use Rattle.events.specs.Packing.{at_interface, bodies, out_of, outs_at};
+ghost use Rattle.event_rooms.specs.PackingLaws.{HasPacketRoom};
+ghost use Rattle.packing.specs.Drafts.{IsDraftAt};
+ghost use Rattle.packing.specs.Texts.{IsSentText};
+
+use crate::bodies::bodies;
+use adjacency::Draft;
+use events::Out;
+use packet::{Body, Packet, write};
+use std::alloc::{AllocError, Global};
+use words::{RouterId, Sequence};
+
+// One packet more.
+fn put_out(
+    alloc: Global,
+    outs: &mut Vec<Out>,
+    own: RouterId,
+    interface: u16,
+    body: Body,
+) -> Result<(), AllocError>
+    requires room { HasPacketRoom body }
+    requires whole { LsasAreWhole body }
+    ensures out { OnOk result (outs.new.items ≡ outs.old.items ++ out_of own interface body ∷ []) }
+    ensures text { OnOk result (IsSentText own body) }
+{
+    let packet = Packet { router: own, body };
+    let bytes = write(alloc, &packet)?;
+    outs.push(Out {
+        interface,
+        bytes: Sequence::from_vec(bytes),
+    })?;
+    Ok(())
+}
+
+/// Puts behind the others what the router of this Router ID sends at the interface of this number:
+/// Hellos, Database Descriptions, Link State Requests, Updates, Acknowledgments. Requests stand in
+/// the order of their first keys, LSAs and acknowledged headers in that of their keys, those of one
+/// key as they arose; each Update and each Acknowledgment has as many as fit into 8,192 bytes.
+///
+/// The only error is that an allocation was refused: some of the packets may be there then.
+pub fn put_outs(
+    alloc: Global,
+    outs: &mut Vec<Out>,
+    own: RouterId,
+    interface: u16,
+    draft: Draft,
+) -> Result<(), AllocError>
+    // The draft is that of what an event sends, each thing of which has room in a packet.
+    requires { (link : Link) × (sends : List Send) × IsDraftAt interface link sends draft }
+    ensures outs { (link : Link) (sends : List Send) → IsDraftAt interface link sends draft
+        → OnOk result (outs.new.items ≡ outs.old.items ++ outs_at own sends interface link) }
+    // The bytes of each are a text of a packet from this router that says so.
+    ensures texts { (link : Link) (sends : List Send) → IsDraftAt interface link sends draft
+        → OnOk result (AllByRecursion (IsSentText own)
+        (bodies link.interface.delay (filter_map (at_interface interface) sends))) }
+{
+    for body in bodies(alloc, draft)? {
+        put_out(alloc, outs, own, interface, body)?;
+    }
+    Ok(())
+}

@@ -1,0 +1,93 @@
+-- What packets of a neighbor make of links and database: what is sent comes after what was sent before,
+-- and the interfaces stay.
+use Rattle.std.proofs.Common.{◌≡◌, ℕ, Bool, true, false, cond, List, map, refl}
+use Rattle.std.specs.Prelude.{Option, None, Some}
+use Rattle.std.specs.List.{list_all}
+use Rattle.words.specs.declared.key.Key.{Key}
+use Rattle.lsdb.specs.Copies.{Database}
+use Rattle.lsdb.specs.Headers.{Header}
+use Rattle.packet.specs.declared.model.Description.{Description}
+use Rattle.packet.specs.declared.model.Hello.{Hello}
+use Rattle.adjacency.specs.Adjacencies as adjacencies
+use Rattle.adjacency.specs.Adjacencies.{mismatched}
+use Rattle.adjacency.specs.Contents.{Step, Updates, no_sends}
+use Rattle.adjacency.specs.Descriptions.{after_description}
+use Rattle.adjacency.specs.Retransmissions.{after_acknowledgment}
+use Rattle.received.specs.Links.{Area, Link, link_at}
+use Rattle.received.specs.Outcomes.{Outcome, numbered, one_neighbor, only_at, sending}
+use Rattle.events.specs.Hellos.{accepts, names}
+use Rattle.events.specs.Packets.{acknowledged_by, after_hello, describe_to, hear, heard_on, is_there, requested_from, requested_lsas, with_neighbor}
+use Rattle.flooding.specs.Links.{start}
+use Rattle.timers.specs.Aging.{followed}
+use Rattle.router_state.specs.Making.{interfaces_of}
+use Rattle.router_state.proofs.Making.{Appends, KeepsInterfaces}
+use Rattle.router_state.proofs.Areas.{appends_nothing, change_interfaces, keeps_neighbors}
+
+-- ---- Hellos
+
+module _ (own moment number from : ℕ) (h : Hello) where
+  abbrev heard : Link → Step
+  heard l = adjacencies.after_hello moment from (names own h) l.neighbor
+
+  accepted_after : (s : Step) (o : Outcome) (b : Bool) → cond b (hear moment number s o) o ≡ followed o (cond b (hear moment number s (start o.area)) (start o.area))
+  accepted_after s o true = refl
+  accepted_after s o false = appends_nothing o
+
+  heard_after : (l : Option Link) (o : Outcome) → heard_on own moment number from h l o ≡ followed o (heard_on own moment number from h l (start o.area))
+  heard_after None o = appends_nothing o
+  heard_after (Some l) o = accepted_after (heard l) o (accepts own from h l)
+
+  pub appends_hello : Appends (after_hello own moment number from h)
+  appends_hello o = heard_after (link_at number o.area.links) o
+
+  accepted_keeps : (s : Step) (a : Area) (b : Bool) → interfaces_of (cond b (hear moment number s (start a)) (start a)).area.links ≡ interfaces_of a.links
+  accepted_keeps s a true = change_interfaces number (with_neighbor s.neighbor) (λ l. refl) a.links
+  accepted_keeps s a false = refl
+
+  heard_keeps : (l : Option Link) (a : Area) → interfaces_of (heard_on own moment number from h l (start a)).area.links ≡ interfaces_of a.links
+  heard_keeps None a = refl
+  heard_keeps (Some l) a = accepted_keeps (heard l) a (accepts own from h l)
+
+  pub keeps_hello : KeepsInterfaces (after_hello own moment number from h)
+  keeps_hello a = heard_keeps (link_at number a.links) a
+
+-- ---- Database Descriptions
+
+module _ (own moment number : ℕ) (d : Description) where
+  pub appends_description : Appends (describe_to own moment number d)
+  appends_description o = refl
+
+  pub keeps_description : KeepsInterfaces (describe_to own moment number d)
+  keeps_description a = keeps_neighbors moment (only_at number (after_description own moment a.database d)) a
+
+-- ---- Requests
+
+module _ (moment number : ℕ) (keys : List Key) where
+  abbrev sent : Database → Outcome → Outcome
+  sent db o = sending moment (numbered number (map Updates (requested_lsas moment db keys))) o
+
+  requested_after : (o : Outcome) (b : Bool)
+      → cond b (sent o.area.database o) (one_neighbor moment number (mismatched moment) o)
+      ≡ followed o (cond b (sent o.area.database (start o.area)) (one_neighbor moment number (mismatched moment) (start o.area)))
+  requested_after o true = refl
+  requested_after o false = refl
+
+  pub appends_request : Appends (requested_from moment number keys)
+  appends_request o = requested_after o (list_all (is_there o.area.database) keys)
+
+  requested_keeps : (a : Area) (b : Bool)
+      → interfaces_of (cond b (sent a.database (start a)) (one_neighbor moment number (mismatched moment) (start a))).area.links ≡ interfaces_of a.links
+  requested_keeps a true = refl
+  requested_keeps a false = keeps_neighbors moment (only_at number (mismatched moment)) a
+
+  pub keeps_request : KeepsInterfaces (requested_from moment number keys)
+  keeps_request a = requested_keeps a (list_all (is_there a.database) keys)
+
+-- ---- Acknowledgments
+
+module _ (moment number : ℕ) (headers : List Header) where
+  pub appends_acknowledgment : Appends (acknowledged_by moment number headers)
+  appends_acknowledgment o = refl
+
+  pub keeps_acknowledgment : KeepsInterfaces (acknowledged_by moment number headers)
+  keeps_acknowledgment a = keeps_neighbors moment (only_at number (λ n. no_sends (after_acknowledgment moment headers n))) a

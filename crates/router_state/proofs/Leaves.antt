@@ -1,0 +1,200 @@
+-- The changes of links and database that a router takes: what each sends comes after what was sent
+-- before, and the interfaces stay.
+use Rattle.std.proofs.Common.{◌≡◌, ℕ, Bool, true, false, cond, List, [], ◌∷◌, map, refl, ◌∙◌}
+use Rattle.std.specs.Prelude.{Option, None, Some}
+use Rattle.std.specs.List.{fold}
+use Rattle.std.specs.FinMap as finite
+use Rattle.words.specs.Constants.{max_age}
+use Rattle.words.specs.declared.key.Key.{Key}
+use Rattle.lsdb.specs.Headers.{Lsa, lsa_aged, lsa_key}
+use Rattle.lsdb.specs.Copies.{DatabaseCopy, age_out, has_just_aged_out, is_aged_out, lsa_now}
+use Rattle.adjacency.specs.Adjacencies.{mismatched}
+use Rattle.adjacency.specs.Contents.{no_sends}
+use Rattle.adjacency.specs.Requests.{request_next}
+use Rattle.adjacency.specs.Retransmissions.{remove_retransmission}
+use Rattle.received.specs.Cases.{Case}
+use Rattle.received.specs.Flooding.{flood_to}
+use Rattle.received.specs.Links.{Area, acknowledge_later, any_exchange_or_loading, change_link}
+use Rattle.received.specs.Outcomes.{Outcome, on_database, on_links, only_at, stepped}
+use Rattle.received.specs.Updates.{after_case, copy_of, send_copy}
+use Rattle.events.specs.Commands.{taken_down}
+use Rattle.events.specs.Endings.{link_loading_done, remove_aged, request_all, stays, with_age, with_ages}
+use Rattle.events.specs.EventState.{flood_from_nobody}
+use Rattle.events.specs.Originations.{flush_copy, install_and_flood}
+use Rattle.events.specs.Ticks.{acknowledge_all, again, run_out, send_all_again, send_hellos, with_hello_sent, without_acknowledgments}
+use Rattle.flooding.specs.Links.{flushed_copy, start}
+use Rattle.timers.specs.Aging.{followed}
+use Rattle.router_state.specs.Making.{interfaces_of}
+use Rattle.router_state.proofs.Making.{Appends, KeepsInterfaces}
+use Rattle.router_state.proofs.Areas.{appends_links, appends_nothing, appends_then, change_interfaces, keeps_neighbors, map_interfaces}
+
+-- ---- own LSAs
+
+pub appends_install : (moment : ℕ) (lsa : Lsa) → Appends (install_and_flood moment lsa)
+appends_install moment lsa o = refl
+
+pub keeps_install : (moment : ℕ) (lsa : Lsa) → KeepsInterfaces (install_and_flood moment lsa)
+keeps_install moment lsa a = keeps_neighbors moment (flood_to moment None lsa) a
+
+module _ (moment : ℕ) (key : Key) where
+  abbrev aged_and_flooded : DatabaseCopy → Outcome → Outcome
+  aged_and_flooded c o = flood_from_nobody moment (lsa_aged max_age c.lsa) (on_database (age_out moment key) o)
+
+  flush_by : (c : DatabaseCopy) (o : Outcome) (b : Bool) → cond b o (aged_and_flooded c o) ≡ followed o (cond b (start o.area) (aged_and_flooded c (start o.area)))
+  flush_by c o true = appends_nothing o
+  flush_by c o false = refl
+
+  pub appends_flush : (copy : Option DatabaseCopy) → Appends (flush_copy moment key copy)
+  appends_flush None o = appends_nothing o
+  appends_flush (Some c) o = flush_by c o (is_aged_out moment c)
+
+  kept_by : (c : DatabaseCopy) (a : Area) (b : Bool) → interfaces_of (cond b (start a) (aged_and_flooded c (start a))).area.links ≡ interfaces_of a.links
+  kept_by c a true = refl
+  kept_by c a false = keeps_neighbors moment (flood_to moment None (lsa_aged max_age c.lsa)) a
+
+  pub keeps_flush : (copy : Option DatabaseCopy) → KeepsInterfaces (flush_copy moment key copy)
+  keeps_flush None a = refl
+  keeps_flush (Some c) a = kept_by c a (is_aged_out moment c)
+
+  pub flushed_is : (copy : Option DatabaseCopy) (o : Outcome) → flushed_copy moment key copy o ≡ flush_copy moment key copy o
+  flushed_is None o = refl
+  flushed_is (Some c) o = refl
+
+-- ---- received LSAs
+
+module _ (moment number : ℕ) (lsa : Lsa) where
+  appends_copy : (copy : Option DatabaseCopy) (o : Outcome) → send_copy moment number copy o ≡ followed o (send_copy moment number copy (start o.area))
+  appends_copy None o = appends_nothing o
+  appends_copy (Some c) o = refl
+
+  pub appends_case : (c : Case) → Appends (after_case c moment number lsa)
+  appends_case Case.Unreadable o = appends_nothing o
+  appends_case Case.NothingToFlush o = refl
+  appends_case Case.TooSoon o = appends_nothing o
+  appends_case Case.Newer o = refl
+  appends_case Case.BadRequest o = refl
+  appends_case Case.ImpliedAcknowledgment o = refl
+  appends_case Case.Duplicate o = refl
+  appends_case Case.SequenceWraps o = appends_nothing o
+  appends_case Case.SentJustNow o = appends_nothing o
+  appends_case Case.Older o = appends_copy (copy_of lsa o.area) o
+
+  keeps_copy : (copy : Option DatabaseCopy) (a : Area) → interfaces_of (send_copy moment number copy (start a)).area.links ≡ interfaces_of a.links
+  keeps_copy None a = refl
+  keeps_copy (Some c) a = refl
+
+  pub keeps_case : (c : Case) → KeepsInterfaces (after_case c moment number lsa)
+  keeps_case Case.Unreadable a = refl
+  keeps_case Case.NothingToFlush a = refl
+  keeps_case Case.TooSoon a = refl
+  keeps_case Case.Newer a =
+      change_interfaces number (acknowledge_later lsa.header) (λ l. refl) (stepped (flood_to moment (Some number) lsa) a.links)
+      ∙ keeps_neighbors moment (flood_to moment (Some number) lsa) a
+  keeps_case Case.BadRequest a = keeps_neighbors moment (only_at number (mismatched moment)) a
+  keeps_case Case.ImpliedAcknowledgment a = keeps_neighbors moment (only_at number (λ n. no_sends (remove_retransmission (lsa_key lsa) n))) a
+  keeps_case Case.Duplicate a = refl
+  keeps_case Case.SequenceWraps a = refl
+  keeps_case Case.SentJustNow a = refl
+  keeps_case Case.Older a = keeps_copy (copy_of lsa a) a
+
+-- ---- ages
+
+module _ (before moment : ℕ) where
+  abbrev aged : (Key × DatabaseCopy) → Outcome → Outcome
+  aged e o = with_age before moment o e
+
+  abbrev all_aged : List (Key × DatabaseCopy) → Outcome → Outcome
+  all_aged es o = fold (with_age before moment) o es
+
+  age_by : (e : Key × DatabaseCopy) (o : Outcome) (b : Bool)
+      → cond b (flood_from_nobody moment (lsa_now moment e.1) o) o ≡ followed o (cond b (flood_from_nobody moment (lsa_now moment e.1) (start o.area)) (start o.area))
+  age_by e o true = refl
+  age_by e o false = appends_nothing o
+
+  appends_each : (es : List (Key × DatabaseCopy)) → Appends (all_aged es)
+  appends_each [] o = appends_nothing o
+  appends_each (e ∷ es) o = appends_then (aged e) (all_aged es) (λ p. age_by e p (has_just_aged_out before moment e.1)) (appends_each es) o
+
+  pub appends_ages : Appends (with_ages before moment)
+  appends_ages o = appends_each (finite.entries o.area.database) o
+
+  keeps_by : (e : Key × DatabaseCopy) (o : Outcome) (b : Bool) → interfaces_of (cond b (flood_from_nobody moment (lsa_now moment e.1) o) o).area.links ≡ interfaces_of o.area.links
+  keeps_by e o true = keeps_neighbors moment (flood_to moment None (lsa_now moment e.1)) o.area
+  keeps_by e o false = refl
+
+  keeps_each : (es : List (Key × DatabaseCopy)) (o : Outcome) → interfaces_of (all_aged es o).area.links ≡ interfaces_of o.area.links
+  keeps_each [] o = refl
+  keeps_each (e ∷ es) o = keeps_each es (aged e o) ∙ keeps_by e o (has_just_aged_out before moment e.1)
+
+  pub keeps_ages : KeepsInterfaces (with_ages before moment)
+  keeps_ages a = keeps_each (finite.entries a.database) (start a)
+
+-- ---- times
+
+module _ (moment : ℕ) where
+  pub appends_requests : Appends (request_all moment)
+  appends_requests o = refl
+
+  pub keeps_requests : KeepsInterfaces (request_all moment)
+  keeps_requests a = keeps_neighbors moment (λ number link n. request_next moment n) a
+
+  pub appends_again : Appends (send_all_again moment)
+  appends_again o = refl
+
+  pub keeps_again : KeepsInterfaces (send_all_again moment)
+  keeps_again a = keeps_neighbors moment (again moment (start a)) a
+
+  pub appends_acknowledgments : Appends (acknowledge_all moment)
+  appends_acknowledgments o = refl
+
+  pub keeps_acknowledgments : KeepsInterfaces (acknowledge_all moment)
+  keeps_acknowledgments a = map_interfaces without_acknowledgments (λ l. refl) a.links
+
+  pub appends_hellos : Appends (send_hellos moment)
+  appends_hellos o = refl
+
+  pub keeps_hellos : KeepsInterfaces (send_hellos moment)
+  keeps_hellos a = map_interfaces (with_hello_sent moment) (λ l. refl) a.links
+
+  abbrev without_aged : Area → Outcome → Outcome
+  without_aged a o = on_database (λ db. finite.retain_keys db (stays moment a)) o
+
+  removed_by : (o : Outcome) (b : Bool) → cond b o (without_aged o.area o) ≡ followed o (cond b (start o.area) (without_aged o.area (start o.area)))
+  removed_by o true = appends_nothing o
+  removed_by o false = appends_nothing (without_aged o.area o)
+
+  pub appends_removal : Appends (remove_aged moment)
+  appends_removal o = removed_by o (any_exchange_or_loading o.area.links)
+
+  remains_by : (a : Area) (b : Bool) → interfaces_of (cond b (start a) (without_aged a (start a))).area.links ≡ interfaces_of a.links
+  remains_by a true = refl
+  remains_by a false = refl
+
+  pub keeps_removal : KeepsInterfaces (remove_aged moment)
+  keeps_removal a = remains_by a (any_exchange_or_loading a.links)
+
+  -- nothing is sent
+  removes_by : (a : Area) (b : Bool) → (cond b (start a) (without_aged a (start a))).sends ≡ []
+  removes_by a true = refl
+  removes_by a false = refl
+
+  pub removal_sends_nothing : (a : Area) → (remove_aged moment (start a)).sends ≡ []
+  removal_sends_nothing a = removes_by a (any_exchange_or_loading a.links)
+
+  pub appends_expiry : Appends (on_links (map (run_out moment)))
+  appends_expiry o = appends_links (map (run_out moment)) o
+
+  pub keeps_expiry : KeepsInterfaces (on_links (map (run_out moment)))
+  keeps_expiry a = map_interfaces (run_out moment) (λ l. refl) a.links
+
+pub appends_loading : Appends (on_links (map link_loading_done))
+appends_loading o = appends_links (map link_loading_done) o
+
+pub keeps_loading : KeepsInterfaces (on_links (map link_loading_done))
+keeps_loading a = map_interfaces link_loading_done (λ l. refl) a.links
+
+pub appends_down : (number : ℕ) → Appends (on_links (change_link number taken_down))
+appends_down number o = appends_links (change_link number taken_down) o
+
+pub keeps_down : (number : ℕ) → KeepsInterfaces (on_links (change_link number taken_down))
+keeps_down number a = change_interfaces number taken_down (λ l. refl) a.links

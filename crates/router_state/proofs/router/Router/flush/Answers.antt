@@ -1,0 +1,44 @@
+use Rattle.std.proofs.Common.{sym, ap, ◌∙◌}
+use Rattle.std.specs.Prelude.{Option}
+use Rattle.std.specs.FinMap as finite
+use Rattle.lsdb.specs.Copies.{DatabaseCopy}
+use Rattle.received.specs.Links.{Area}
+use Rattle.received.specs.Outcomes.{Outcome}
+use Rattle.flooding.specs.Drafted.{drafted}
+use Rattle.flooding.specs.Links.{start}
+use Rattle.events.specs.EventState.{on_area}
+use Rattle.events.specs.Originations.{flush_copy}
+use Rattle.events.specs.Routers.{Router}
+use Rattle.router_state.proofs.Answered.{both, drafts_are, makes_are}
+use Rattle.router_state.proofs.Leaves.{appends_flush, flushed_is, keeps_flush}
+use Rattle.router_state.proofs.Making.{makes_same}
+use Rattle.router_state.proofs.router.Router.flush.Goals as goal
+
+pub returns-clause-makes : goal.returns-clause-makes
+returns-clause-makes c =
+    let m = c.args.moment in
+    let k = c.args.key.now in
+    let a : Area = c.self.inside.area.present in
+    let copy = finite.get a.database k in
+    let view = ap (λ q. q.present) c.self.view_is in
+    let flushed = flushed_is m k copy (start a) in
+    both c.flush.result
+    (λ to drafts.
+    makes_same (λ p is. ap (λ (d : Option DatabaseCopy). on_area (flush_copy m k d) p) (ap (λ (r : Router). finite.get r.area.database k) (view ∙ sym is)))
+    (makes_are (flush_copy m k copy) (keeps_flush m k copy) _ c.args.self.now.present c.flush.new.self.present c.args.drafts.now c.flush.new.drafts (appends_flush m k copy) view
+    (to ∙ ap (λ (o : Outcome). o.area) flushed) (drafts ∙ ap (λ (o : Outcome). drafted o.sends a.links c.args.drafts.now) flushed)))
+    c.flush.ensures.ok c.flush.ensures.drafts
+
+pub returns-clause-drafts : goal.returns-clause-drafts
+returns-clause-drafts c =
+    let m = c.args.moment in
+    let k = c.args.key.now in
+    let a : Area = c.self.inside.area.present in
+    let copy = finite.get a.database k in
+    let view = ap (λ q. q.present) c.self.view_is in
+    let flushed = flushed_is m k copy (start a) in
+    both c.flush.result
+    (λ to drafts.
+    drafts_are (flush_copy m k copy) (keeps_flush m k copy) _ c.args.self.now.present c.flush.new.self.present c.args.drafts.now c.flush.new.drafts view c.requires.drafts
+    (to ∙ ap (λ (o : Outcome). o.area) flushed) (drafts ∙ ap (λ (o : Outcome). drafted o.sends a.links c.args.drafts.now) flushed))
+    c.flush.ensures.ok c.flush.ensures.drafts

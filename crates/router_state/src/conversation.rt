@@ -1,0 +1,142 @@
+//! What packets of a neighbor make of the conversation with it (RFC 2328, sections 10.5 to 10.7 and
+//! 13.7).
+ghost use Rattle.std.specs.Prelude.{◌≡◌, ◌≤◌, OnOk, length, true};
+ghost use Rattle.received.specs.Links.{neighbor_at};
+ghost use Rattle.events.specs.EventState.{on_area};
+ghost use Rattle.events.specs.Packets.{acknowledged_by, after_hello, describe_to, is_in_exchange};
+ghost use Rattle.events.specs.Packets.{requested_from};
+ghost use Rattle.router_state.specs.Making.{Makes};
+
+use crate::router::Router;
+use adjacency::Draft;
+use lsa::Header;
+use neighbor_packets::{acknowledged, answer, describe, hear};
+use packet::{Description, Hello};
+use std::alloc::{AllocError, Global};
+use words::{Key, RouterId, Second};
+
+impl Router {
+    /// A Hello of the router `from` came in at the interface of this number (RFC 2328, section
+    /// 10.5). It is discarded where the interface and it differ in HelloInterval,
+    /// RouterDeadInterval or the E bit, and where another neighbor is heard there.
+    ///
+    /// `AllocError` comes where memory was refused; the router is to be rolled back then, and the
+    /// drafts are of no use.
+    pub fn hear(
+        &mut self,
+        alloc: Global,
+        moment: Second,
+        number: usize,
+        from: RouterId,
+        hello: &Hello,
+        drafts: &mut [Draft],
+    ) -> Result<(), AllocError>
+        requires first { 1 ≤ number }
+        requires last { number ≤ length self.old.present.area.links }
+        requires drafts { length drafts.old ≡ length self.old.present.area.links }
+        ensures makes { OnOk result (Makes
+            (on_area (after_hello self.old.present.id moment number from
+            hello.now))
+            self.old.present self.new.present drafts.old drafts.new) }
+        ensures drafts { OnOk result (length drafts.new ≡ length self.new.present.area.links) }
+        ensures settled { self.new.settled ≡ self.old.settled }
+    {
+        hear(
+            &mut self.area,
+            alloc,
+            self.id,
+            moment,
+            number,
+            from,
+            hello,
+            drafts,
+        )
+    }
+
+    /// A Database Description came from the neighbor at the interface of this number (RFC 2328,
+    /// section 10.6).
+    ///
+    /// `AllocError` comes where memory was refused; the router is to be rolled back then, and the
+    /// drafts are of no use.
+    pub fn describe(
+        &mut self,
+        alloc: Global,
+        moment: Second,
+        number: usize,
+        description: &Description,
+        drafts: &mut [Draft],
+    ) -> Result<(), AllocError>
+        requires first { 1 ≤ number }
+        requires last { number ≤ length self.old.present.area.links }
+        requires drafts { length drafts.old ≡ length self.old.present.area.links }
+        ensures makes { OnOk result (Makes
+            (on_area (describe_to self.old.present.id moment number
+            description.now))
+            self.old.present self.new.present drafts.old drafts.new) }
+        ensures drafts { OnOk result (length drafts.new ≡ length self.new.present.area.links) }
+        ensures settled { self.new.settled ≡ self.old.settled }
+    {
+        describe(
+            &mut self.area,
+            alloc,
+            self.id,
+            moment,
+            number,
+            description,
+            drafts,
+        )
+    }
+
+    /// A Link State Request for these keys came from the neighbor at the interface of this number,
+    /// which is in Exchange or later (RFC 2328, section 10.7): the copies are sent and count as
+    /// sent, or, where one is missing, none is, and it is BadLSReq.
+    ///
+    /// `AllocError` comes where memory was refused; the router is to be rolled back then, and the
+    /// drafts are of no use.
+    pub fn answer(
+        &mut self,
+        alloc: Global,
+        moment: Second,
+        number: usize,
+        keys: &[Key],
+        drafts: &mut [Draft],
+    ) -> Result<(), AllocError>
+        requires first { 1 ≤ number }
+        requires last { number ≤ length self.old.present.area.links }
+        requires exchange { is_in_exchange
+            (neighbor_at number self.old.present.area.links) ≡ true }
+        requires drafts { length drafts.old ≡ length self.old.present.area.links }
+        ensures makes { OnOk result (Makes
+            (on_area (requested_from moment number keys.now))
+            self.old.present self.new.present drafts.old drafts.new) }
+        ensures drafts { OnOk result (length drafts.new ≡ length self.new.present.area.links) }
+        ensures settled { self.new.settled ≡ self.old.settled }
+    {
+        answer(&mut self.area, alloc, moment, number, keys, drafts)
+    }
+
+    /// An Acknowledgment of these instances came from the neighbor at the interface of this number
+    /// (RFC 2328, section 13.7).
+    ///
+    /// `AllocError` comes where memory was refused; the router is to be rolled back then, and the
+    /// drafts are of no use.
+    pub fn acknowledged(
+        &mut self,
+        alloc: Global,
+        moment: Second,
+        number: usize,
+        headers: &[Header],
+        drafts: &mut [Draft],
+    ) -> Result<(), AllocError>
+        requires first { 1 ≤ number }
+        requires last { number ≤ length self.old.present.area.links }
+        requires drafts { length drafts.old ≡ length self.old.present.area.links }
+        ensures makes { OnOk result (Makes
+            (on_area (acknowledged_by moment number headers.now))
+            self.old.present self.new.present drafts.old drafts.new) }
+        ensures drafts { OnOk result (length drafts.new ≡ length self.new.present.area.links) }
+        ensures settled { self.new.settled ≡ self.old.settled }
+    {
+        acknowledged(&mut self.area, alloc, moment, number, headers, drafts)
+    }
+}

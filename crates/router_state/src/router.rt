@@ -1,0 +1,227 @@
+//! The router.
+ghost use Rattle.std.specs.Prelude.{◌≡◌, ◌≤◌, [], length, map, IfOk};
+ghost use Rattle.std.specs.FinMap as finite;
+ghost use Rattle.std.specs.FinSet as set;
+ghost use Rattle.events.specs.Routers.{with_links};
+ghost use Rattle.flooding.specs.Links.{present, settled};
+ghost use Rattle.router_state.specs.Owned.{AreOwn};
+
+use adjacency::Saved;
+use flooding::{Area, Link};
+use keyed_map::KeyedMap;
+use std::alloc::{AllocError, Global};
+use std::marker::Model;
+use words::{External, Key, Route, RouterId, Second, Sequence};
+
+/// A router between and within events, and what it was when it was last settled.
+#[derive(Drop)]
+pub struct Router {
+    pub(crate) id: RouterId,
+    pub(crate) area: Area,
+    // the external destinations that are announced, by the keys of their LSAs
+    pub(crate) announced: KeyedMap<External>,
+    // the own LSAs that wait for a Tick
+    pub(crate) waiting: KeyedMap<()>,
+    // when an own LSA was last originated, for five seconds
+    pub(crate) originated: KeyedMap<Second>,
+    // the routes that the last Install was asked for, with the words that answer
+    pub(crate) answers: Saved<Sequence<(Route, u64)>>,
+    pub(crate) moment: Saved<Second>,
+}
+
+impl Model for Router {
+    ghost use Rattle.std.specs.Prelude.{◌≡◌, ◌≤◌, ℕ, length};
+    ghost use Rattle.std.specs.Coded.{codes};
+    ghost use Rattle.std.specs.FinMap as finite;
+    ghost use Rattle.words.specs.declared.route.External.{External as Destination};
+    ghost use Rattle.lsdb.specs.Copies.{DatabaseCopy};
+    ghost use Rattle.lsdb.specs.Keys.{coded_key, key_cmp};
+    ghost use Rattle.adjacency.specs.Codes.{coded_headers, coded_kept, coded_keys, coded_lists};
+    ghost use Rattle.adjacency.specs.Kept.{Kept};
+    ghost use Rattle.adjacency.specs.Views.{keys_of};
+    ghost use Rattle.events.specs.Routers.{Router as Shown};
+    ghost use Rattle.router_state.specs.Owned.{AreOwn};
+
+    ghost Value = { Kept Shown };
+
+    ghost coded = { coded_kept (Prim.hlevel (
+      codes,
+      coded_lists,
+      coded_keys,
+      coded_headers,
+      finite.code {X = DatabaseCopy} {R = key_cmp} coded_key (Prim.hlevel codes),
+      finite.code {X = Destination} {R = key_cmp} coded_key (Prim.hlevel codes),
+      finite.code {X = ℕ} {R = key_cmp} coded_key (Prim.hlevel codes),
+    )) };
+
+    ghost view = { λ a. record {
+      present = record {
+        id = a.id;
+        area = a.area.present;
+        announced = a.announced.present;
+        waiting = keys_of a.waiting.present;
+        originated = a.originated.present;
+        answers = a.answers.present;
+        moment = a.moment.present;
+      };
+      settled = record {
+        id = a.id;
+        area = a.area.settled;
+        announced = a.announced.settled;
+        waiting = keys_of a.waiting.settled;
+        originated = a.originated.settled;
+        answers = a.answers.settled;
+        moment = a.moment.settled;
+      };
+    } };
+
+    ghost invariant = { λ a.
+        (a.area.router ≡ a.id)
+        × (length a.area.settled.links ≤ 63)
+        × AreOwn a.id a.announced.present
+        × AreOwn a.id a.announced.settled };
+}
+
+impl Router {
+    /// A router that keeps nothing but its links, interface n at place n - 1. It wants no memory.
+    pub fn new(alloc: Global, id: RouterId, links: Vec<Link>, moment: Second) -> Self
+        requires few { length links.items ≤ 63 }
+        ensures present { result.present ≡ with_links id (map present links.items) moment }
+        ensures settled { result.settled ≡ with_links id (map settled links.items) moment }
+    {
+        Router {
+            id,
+            area: Area::new(alloc, id, links),
+            announced: KeyedMap::new(alloc),
+            waiting: KeyedMap::new(alloc),
+            originated: KeyedMap::new(alloc),
+            answers: Saved::new(Sequence::from_vec(Vec::new(alloc))),
+            moment: Saved::new(moment),
+        }
+    }
+
+    /// The own Router ID.
+    pub fn id(&self) -> RouterId
+        ensures { result ≡ self.now.present.id }
+    {
+        self.id
+    }
+
+    /// The links and the database.
+    pub fn area(&self) -> &Area
+        ensures parts { result.now ≡ record {
+          router = self.now.present.id;
+          present = self.now.present.area;
+          settled = self.now.settled.area;
+        } }
+        ensures few { length self.now.present.area.links ≤ 63 }
+    {
+        let _links = self.area.links();
+        &self.area
+    }
+
+    /// The external destinations that are announced, by the keys of their LSAs.
+    pub fn announced(&self) -> &KeyedMap<External>
+        ensures parts { result.now ≡ record {
+          present = self.now.present.announced;
+          settled = self.now.settled.announced;
+        } }
+        ensures own { AreOwn self.now.present.id self.now.present.announced }
+    {
+        &self.announced
+    }
+
+    /// Tells whether the own LSA of this key waits for a Tick.
+    pub fn is_waiting(&self, key: &Key) -> bool
+        ensures { result ≡ set.contains self.now.present.waiting key.now }
+    {
+        self.waiting.contains(key)
+    }
+
+    /// When the own LSA of this key was last originated, if that was in the last five seconds.
+    pub fn originated(&self, key: &Key) -> Option<Second>
+        ensures { result ≡ finite.get self.now.present.originated key.now }
+    {
+        match self.originated.get(key) {
+            None => None,
+            Some(moment) => Some(*moment),
+        }
+    }
+
+    /// The routes that the last Install was asked for, with the words that answer.
+    pub fn answers(&self) -> &[(Route, u64)]
+        ensures { result.now ≡ self.now.present.answers }
+    {
+        self.answers.get().as_slice()
+    }
+
+    /// The moment of the last event.
+    pub fn moment(&self) -> Second
+        ensures { result ≡ self.now.present.moment }
+    {
+        *self.moment.get()
+    }
+
+    /// An event is over: its moment is the last one. It wants no memory.
+    pub fn set_moment(&mut self, moment: Second)
+        ensures { self.new ≡ record self.old {
+          present = record self.old.present { moment = moment };
+        } }
+    {
+        self.moment.set(moment);
+    }
+
+    /// The routes that an Install was asked for, with the words that answer, in the place of those
+    /// of the last one. It wants no memory.
+    pub fn install(&mut self, answers: Sequence<(Route, u64)>)
+        ensures { self.new ≡ record self.old {
+          present = record self.old.present { answers = answers };
+        } }
+    {
+        self.answers.set(answers);
+    }
+
+    /// Makes the changes so far final. It wants no memory.
+    pub fn settle(&mut self)
+        ensures { self.new ≡ record { present = self.old.present; settled = self.old.present } }
+    {
+        let _links = self.area.links();
+        self.area.settle();
+        self.announced.settle();
+        self.waiting.settle();
+        self.originated.settle();
+        self.answers.settle();
+        self.moment.settle();
+    }
+
+    /// As `settle`, and the database looks at each copy if one may have come of age by this moment,
+    /// so that the next event needn't. Where memory for what it finds is refused it looks again the
+    /// next time.
+    pub fn settle_at(&mut self, alloc: Global, moment: Second)
+        ensures { self.new ≡ record { present = self.old.present; settled = self.old.present } }
+    {
+        let _links = self.area.links();
+        self.area.settle_at(alloc, moment);
+        self.announced.settle();
+        self.waiting.settle();
+        self.originated.settle();
+        self.answers.settle();
+        self.moment.settle();
+    }
+
+    /// Takes all changes back that were made since it was last settled. It wants no memory.
+    pub fn roll_back(&mut self)
+        ensures { self.new ≡ record { present = self.old.settled; settled = self.old.settled } }
+    {
+        self.area.roll_back();
+        self.announced.roll_back();
+        self.waiting.roll_back();
+        self.originated.roll_back();
+        self.answers.roll_back();
+        self.moment.roll_back();
+    }
+
+    /// Lets the router go. A function above that lets one go by itself has the letting-go of each
+    /// of its parts to prove once more.
+    pub fn close(self) {}
+}

@@ -1,0 +1,180 @@
+//! What runs out, what is requested and what is sent again (RFC 2328, sections 9.5, 10.3, 10.8,
+//! 10.9, 13.5, 13.6 and 14).
+ghost use Rattle.std.specs.Prelude.{◌≡◌, List, OnOk, length, map};
+ghost use Rattle.adjacency.specs.Drafts.{Drafted};
+ghost use Rattle.received.specs.Outcomes.{on_links};
+ghost use Rattle.events.specs.Commands.{after_link_down};
+ghost use Rattle.events.specs.EventState.{on_area};
+ghost use Rattle.events.specs.Endings.{loading_done, remove_aged, request_all, with_ages};
+ghost use Rattle.events.specs.Ticks.{acknowledge_all, run_out, send_all_again, send_hellos};
+ghost use Rattle.router_state.specs.Making.{Makes};
+
+use crate::router::Router;
+use adjacency::Draft;
+use std::alloc::{AllocError, Global};
+use words::Second;
+
+impl Router {
+    /// Each copy that has come to MaxAge since the moment before is flooded as if from nobody (RFC
+    /// 2328, section 14).
+    ///
+    /// `AllocError` comes where memory was refused; the router is to be rolled back then, and the
+    /// drafts are of no use.
+    pub fn age(
+        &mut self,
+        alloc: Global,
+        before: Second,
+        moment: Second,
+        drafts: &mut [Draft],
+    ) -> Result<(), AllocError>
+        requires drafts { length drafts.old ≡ length self.old.present.area.links }
+        ensures makes { OnOk result (Makes
+            (on_area (with_ages before moment))
+            self.old.present self.new.present drafts.old drafts.new) }
+        ensures drafts { OnOk result (length drafts.new ≡ length self.new.present.area.links) }
+        ensures settled { self.new.settled ≡ self.old.settled }
+    {
+        timers::with_ages(&mut self.area, alloc, before, moment, drafts)
+    }
+
+    /// What is next is requested of each neighbor of which nothing is outstanding (RFC 2328,
+    /// section 10.9).
+    ///
+    /// `AllocError` comes where memory was refused; the router is to be rolled back then, and the
+    /// drafts are of no use.
+    pub fn request_all(
+        &mut self,
+        alloc: Global,
+        moment: Second,
+        drafts: &mut [Draft],
+    ) -> Result<(), AllocError>
+        requires drafts { length drafts.old ≡ length self.old.present.area.links }
+        ensures makes { OnOk result (Makes
+            (on_area (request_all moment))
+            self.old.present self.new.present drafts.old drafts.new) }
+        ensures drafts { OnOk result (length drafts.new ≡ length self.new.present.area.links) }
+        ensures settled { self.new.settled ≡ self.old.settled }
+    {
+        timers::request_all(&mut self.area, alloc, moment, drafts)
+    }
+
+    /// What a Tick sends again where RxmtInterval has passed (RFC 2328, sections 10.8, 10.9 and
+    /// 13.6).
+    ///
+    /// `AllocError` comes where memory was refused; the router is to be rolled back then, and the
+    /// drafts are of no use.
+    pub fn send_all_again(
+        &mut self,
+        alloc: Global,
+        moment: Second,
+        drafts: &mut [Draft],
+    ) -> Result<(), AllocError>
+        requires drafts { length drafts.old ≡ length self.old.present.area.links }
+        ensures makes { OnOk result (Makes
+            (on_area (send_all_again moment))
+            self.old.present self.new.present drafts.old drafts.new) }
+        ensures drafts { OnOk result (length drafts.new ≡ length self.new.present.area.links) }
+        ensures settled { self.new.settled ≡ self.old.settled }
+    {
+        timers::send_all_again(&mut self.area, alloc, moment, drafts)
+    }
+
+    /// Each link's delayed acknowledgments are sent (RFC 2328, section 13.5).
+    ///
+    /// `AllocError` comes where memory was refused; the router is to be rolled back then, and the
+    /// drafts are of no use.
+    pub fn acknowledge_all(
+        &mut self,
+        alloc: Global,
+        moment: Second,
+        drafts: &mut [Draft],
+    ) -> Result<(), AllocError>
+        requires drafts { length drafts.old ≡ length self.old.present.area.links }
+        ensures makes { OnOk result (Makes
+            (on_area (acknowledge_all moment))
+            self.old.present self.new.present drafts.old drafts.new) }
+        ensures drafts { OnOk result (length drafts.new ≡ length self.new.present.area.links) }
+        ensures settled { self.new.settled ≡ self.old.settled }
+    {
+        timers::acknowledge_all(&mut self.area, alloc, moment, drafts)
+    }
+
+    /// A Hello is sent at each interface at which none was sent for HelloInterval (RFC 2328,
+    /// section 9.5).
+    ///
+    /// `AllocError` comes where memory was refused; the router is to be rolled back then, and the
+    /// drafts are of no use.
+    pub fn send_hellos(
+        &mut self,
+        alloc: Global,
+        moment: Second,
+        drafts: &mut [Draft],
+    ) -> Result<(), AllocError>
+        requires drafts { length drafts.old ≡ length self.old.present.area.links }
+        ensures makes { OnOk result (Makes
+            (on_area (send_hellos moment))
+            self.old.present self.new.present drafts.old drafts.new) }
+        ensures drafts { OnOk result (length drafts.new ≡ length self.new.present.area.links) }
+        ensures settled { self.new.settled ≡ self.old.settled }
+    {
+        timers::send_hellos(&mut self.area, alloc, moment, drafts)
+    }
+
+    /// Copies at MaxAge that are on no retransmission list leave the database, unless some neighbor
+    /// is in Exchange or Loading (RFC 2328, section 14).
+    ///
+    /// `AllocError` comes where memory was refused; the router is to be rolled back then, and the
+    /// drafts are of no use.
+    pub fn remove_aged(
+        &mut self,
+        alloc: Global,
+        moment: Second,
+        drafts: &mut [Draft],
+    ) -> Result<(), AllocError>
+        requires drafts { length drafts.old ≡ length self.old.present.area.links }
+        ensures makes { OnOk result (Makes
+            (on_area (remove_aged moment))
+            self.old.present self.new.present drafts.old drafts.new) }
+        ensures drafts { OnOk result (length drafts.new ≡ length self.new.present.area.links) }
+        ensures settled { self.new.settled ≡ self.old.settled }
+    {
+        let _drafts = drafts;
+        timers::remove_aged(&mut self.area, alloc, moment)
+    }
+
+    /// What runs out at a Tick: a neighbor that wasn't heard for RouterDeadInterval is Down, and a
+    /// last Description is given up. It wants no memory.
+    pub fn run_out(&mut self, moment: Second)
+        ensures makes { (first : List Drafted)
+            → Makes (on_area (on_links (map (run_out moment)))) self.old.present self.new.present
+            first first }
+        ensures links { length self.new.present.area.links
+            ≡ length self.old.present.area.links }
+        ensures settled { self.new.settled ≡ self.old.settled }
+    {
+        timers::run_out(&mut self.area, moment);
+    }
+
+    /// LoadingDone (RFC 2328, section 10.3): each neighbor in Loading with nothing left to request
+    /// becomes Full. It wants no memory.
+    pub fn end_loading(&mut self)
+        ensures makes { (first : List Drafted)
+            → Makes loading_done self.old.present self.new.present first first }
+        ensures links { length self.new.present.area.links
+            ≡ length self.old.present.area.links }
+        ensures settled { self.new.settled ≡ self.old.settled }
+    {
+        timers::end_loading(&mut self.area);
+    }
+
+    /// The neighbor at the interface of this number is Down. It wants no memory.
+    pub fn take_down(&mut self, number: usize)
+        ensures makes { (first : List Drafted)
+            → Makes (after_link_down number) self.old.present self.new.present first first }
+        ensures links { length self.new.present.area.links
+            ≡ length self.old.present.area.links }
+        ensures settled { self.new.settled ≡ self.old.settled }
+    {
+        self.area.take_down(number);
+    }
+}
