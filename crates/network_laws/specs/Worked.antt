@@ -289,8 +289,8 @@ abbrev pub address_abroad : ℕ
 address_abroad = dotted 203 0 113 5
 
 -- the middle router sends the packet to the left one, toward the forwarding address; that one has
--- no way to the right router, so no route for the address, and hands the packet to nobody, though
--- it isn't where the packet goes
+-- no way to the right router, so no route for the packet, though the forwarding address lies in its
+-- own network: it hands the packet to nobody, and isn't where it goes
 pub record ZeroCostsMayLosePackets : Type 0 where
   -- of the left router, all but that its interface costs at least 1
   pub is_current : IsCurrentForwarder zero_left
