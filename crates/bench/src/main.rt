@@ -16,7 +16,10 @@ fn measure<R: Clock + Print + AllocGlobal + Threads + Wait + Copy + Send + Sync 
     name: &str,
 ) -> anyhow::Result<bool> {
     match name {
-        "run" => bench_code::print_run(rt)?,
+        "run" => {
+            bench_code::print_run(rt)?;
+            bench_code::print_accepted(rt)?;
+        }
         "decode" => bench_code::print_decode(rt)?,
         "encode" => bench_code::print_encode(rt)?,
         "asm" => bench_code::print_asm(rt)?,

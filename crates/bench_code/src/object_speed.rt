@@ -36,7 +36,7 @@ fn statement_at(slot: u32) -> Option<Statement> {
 }
 
 // An object with so many slots, and so many statements: one at each fourth slot.
-fn object_of(alloc: Global, slots: usize, statements: u16) -> Result<Object>
+pub(crate) fn object_of(alloc: Global, slots: usize, statements: u16) -> Result<Object>
     requires { 2 ≤ slots }
     ensures slots { IfOk result (λ object. slots_of object ≡ slots) }
     ensures statements { IfOk result (λ object. length object.statements ≡ statements) }
