@@ -1,6 +1,6 @@
 //! What each example does.
-use crate::runs::{accepted, answers, counts};
-use crate::texts::{
+use crate::example_runs::{accepted, answers, counts};
+use crate::example_texts::{
     COUNT_BURSTS, COUNT_TYPES, FALLING_METRIC, NO_LONG_PREFIXES, NO_PRIVATE, TAG_BY_LENGTH,
 };
 use std::test::Fail;
