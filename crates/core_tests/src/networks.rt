@@ -1,6 +1,6 @@
 //! Two and three routers in a row: they become Full, and their databases the same, whatever is
 //! lost, comes twice or in another order.
-use crate::destinations::announcements;
+use crate::announced::announcements;
 use crate::network::{Act, CALM, Fate, Network};
 use flood::Event;
 use std::alloc::Global;

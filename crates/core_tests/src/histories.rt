@@ -5,7 +5,7 @@
 //! That databases are the same then isn't promised: see `networks`, a flushed LSA that comes back.
 ghost use Rattle.std.specs.Prelude.{◌<◌};
 
-use crate::destinations::announcements;
+use crate::announced::announcements;
 use crate::network::{Act, CALM, Fate, Network};
 use flood::Event;
 use std::alloc::Global;
