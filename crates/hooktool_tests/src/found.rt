@@ -1,12 +1,12 @@
 //! What is found.
 use crate::codes;
-use crate::trials::{file_of, is_accepted};
-use hex::FromHex;
+use crate::session::object_of;
+use annotations::{CountError, Shortfall, annotate_file};
 use isa::Hook;
-use std::test::Fail;
+use std::alloc::Global;
 
 /// A text without statements, and the bound that its code has with those of its own.
-const TEXTS: [(&str, Hook, u64); 10] = [
+const TEXTS: [(&str, Hook, u64); 11] = [
     // the programs of examples/
     (
         "hook count\nrank 0\nr6 = *u64 r1 8\nr7 = *u32 r1 24\nr7 &= 31\nr8 = r7\nr8 <<= 4\nr9 = map 1 0\nr9 += r8\nr2 = *u64 r9 0\nif r2 == r6 goto SAME\n*u64 r9 0 = r6\n*u64 r9 8 = 0\nSAME:\nr2 = *u64 r9 8\nr2 += 1\n*u64 r9 8 = r2\nif r2 <= 100 goto END\nr1 = r7\nr1 += 128\nr2 = 1\ncall 1\nEND:\nr0 = 0\nexit\n",
@@ -61,15 +61,35 @@ const TEXTS: [(&str, Hook, u64); 10] = [
         Hook::Tag,
         4,
     ),
+    // Statements that stand are kept: the range of r1 is wider than what is found, and the rank greater. The one at END lacks.
+    (
+        "hook price\nrank 0\nr1 = 10\nr0 = 0\nL:\nr0 += r1\nr1 += -1\nif r1 != 0 goto L\ngoto END\nEND:\nexit\nstate L rank 3 r1 * 2\nwith r0 number 0 18446744073709551615 0 0\nwith r1 number 1 12 0 0\n",
+        Hook::Price,
+        24 * 7,
+    ),
 ];
 
-#[test]
-fn texts_without_statements_have_the_bounds_of_their_own(rt: HostRuntime) -> Result<(), Fail> {
-    for (text, hook, bound) in TEXTS {
-        let file = file_of(rt.alloc(), text)?;
-        is_accepted(&rt, rt.alloc(), hook, &file, None, bound);
+/// The bound with which the file is accepted, or 0.
+fn bound_of(alloc: Global, hook: Hook, file: &[u8], turns: Option<u32>) -> u64 {
+    match annotate_file(alloc, hook, file, turns) {
+        Ok(annotated) => annotated.accepted.bound(),
+        Err(_) => 0,
     }
-    Ok(())
+}
+
+fn bound_of_text(alloc: Global, hook: Hook, text: &str) -> u64 {
+    match object_of(alloc, text) {
+        Some(file) => bound_of(alloc, hook, &file, None),
+        None => 0,
+    }
+}
+
+#[test]
+fn texts_without_statements_have_the_bounds_of_their_own(rt: HostRuntime) {
+    for row in &TEXTS {
+        let (text, hook, bound) = *row;
+        assert!(&rt; bound_of_text(rt.alloc(), hook, text) == bound, "{text}");
+    }
 }
 
 /// Code of programs in C, how many turns their loops are given, and their bounds: a multiple of the slots.
@@ -89,21 +109,36 @@ const CODES: [(&str, Hook, Option<u32>, u64); 13] = [
     (codes::PER_NEIGHBOR, Hook::Count, None, 24),
 ];
 
-#[test]
-fn programs_in_c_are_accepted(rt: HostRuntime) -> Result<(), Fail> {
-    for (digits, hook, turns, bound) in CODES {
-        let code = hex::decode(rt.alloc(), digits)?;
-        is_accepted(&rt, rt.alloc(), hook, &code, turns, bound);
+fn bound_of_digits(alloc: Global, hook: Hook, digits: &str, turns: Option<u32>) -> u64 {
+    match hex::decode(alloc, digits) {
+        Ok(code) => bound_of(alloc, hook, &code, turns),
+        Err(_) => 0,
     }
-    Ok(())
 }
 
 #[test]
-fn statements_that_stand_are_kept(rt: HostRuntime) -> Result<(), Fail> {
-    // The range of r1 is wider than what is found, and the rank greater. The statement at END lacks.
-    let text =
-        "hook price\nrank 0\nr1 = 10\nr0 = 0\nL:\nr0 += r1\nr1 += -1\nif r1 != 0 goto L\ngoto END\nEND:\nexit\nstate L rank 3 r1 * 2\nwith r0 number 0 18446744073709551615 0 0\nwith r1 number 1 12 0 0\n";
-    let file = file_of(rt.alloc(), text)?;
-    is_accepted(&rt, rt.alloc(), Hook::Price, &file, None, 24 * 7);
-    Ok(())
+fn programs_in_c_are_accepted(rt: HostRuntime) {
+    for row in &CODES {
+        let (digits, hook, turns, bound) = *row;
+        assert!(&rt;
+            bound_of_digits(rt.alloc(), hook, digits, turns) == bound,
+            "{digits}"
+        );
+    }
+}
+
+/// Whether so many turns of the code's loops can't be counted.
+fn are_too_many(alloc: Global, digits: &str, turns: u32) -> bool {
+    match hex::decode(alloc, digits) {
+        Ok(code) => matches!(
+            annotate_file(alloc, Hook::Count, &code, Some(turns)),
+            Err(Shortfall::Uncounted(CountError::TooMany))
+        ),
+        Err(_) => false,
+    }
+}
+
+#[test]
+fn a_million_turns_are_too_many(rt: HostRuntime) {
+    assert!(&rt; are_too_many(rt.alloc(), codes::PLAIN_FOR, 1_000_000));
 }
