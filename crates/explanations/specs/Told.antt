@@ -20,4 +20,5 @@ abbrev pub TellsVerdict : Result Program VerifyError → List ℕ → Type 0
 TellsVerdict (Ok program) text = text ≡ accepted_line program.bound
 TellsVerdict (Err (errors.Refused refusal)) text =
     (more : List ℕ) × (text ≡ refused_words refusal ++ more)
-TellsVerdict (Err other) text = Unit {0}
+TellsVerdict (Err (errors.Object error)) text = Unit {0}
+TellsVerdict (Err (errors.Code error)) text = Unit {0}

@@ -1,5 +1,5 @@
 //! A program and the verifier's word on it, explained.
-ghost use Rattle.std.specs.Prelude.{◌≡◌, ◌++◌, List, ℕ, IfErr, IfOk, string_bytes};
+ghost use Rattle.std.specs.Prelude.{◌≡◌, ◌++◌, IfErr, IfOk, string_bytes};
 ghost use Rattle.explanations.specs.Told.{TellsVerdict, accepted_line, refused_words};
 ghost use Rattle.object_verdicts.specs.Verdicts.{Accepts, Refuses};
 
@@ -91,48 +91,37 @@ fn refused(alloc: Global, refusal: Refusal) -> Result<String, AllocError>
     format!(in alloc; "refused slot {slot} rule {rule}")
 }
 
-/// The same by the rule's name, for which reasons, and a hint.
-fn push_refusal(
-    out: &mut String,
+/// What is told behind that: the rule by its name, the reasons, and a hint.
+fn refusal_words(
+    alloc: Global,
     object: &Object,
     rule: Rule,
     reasons: &str,
-) -> Result<(), AllocError> {
+) -> Result<String, AllocError> {
+    let mut out = String::new(alloc);
     let name = rule_name(rule);
     writeln!(out, " {name}")?;
     if rule == Rule::Budget {
-        push_budget(out, object)?;
+        push_budget(&mut out, object)?;
     } else {
         out.push_str(reasons)?;
     }
     let hint = rule_hint(rule);
-    writeln!(out, "  hint: {hint}")
+    writeln!(out, "  hint: {hint}")?;
+    Ok(out)
 }
 
-/// One text behind the other.
-fn joined(first: String, second: &str) -> Result<String, AllocError>
-    ensures { IfOk result (λ text. string_bytes text ≡ string_bytes first ++ second.now) }
+/// The refusal in words: where and by which rule, and then these.
+fn refusal_told(alloc: Global, refusal: Refusal, more: &str) -> Result<String, AllocError>
+    ensures { IfOk result (λ text. string_bytes text ≡ refused_words refusal ++ more.now) }
 {
-    let mut text = first;
-    text.push_str(second)?;
+    let mut text = refused(alloc, refusal)?;
+    text.push_str(more)?;
     Ok(text)
 }
 
-/// The refusal in words: where, by which rule, for which reasons, and a hint.
-fn refusal_told(
-    alloc: Global,
-    object: &Object,
-    refusal: Refusal,
-    reasons: &str,
-) -> Result<String, AllocError>
-    ensures { IfOk result (λ text. (more : List ℕ) × (string_bytes text ≡ refused_words refusal ++ more)) }
-{
-    let mut more = String::new(alloc);
-    push_refusal(&mut more, object, refusal.rule, reasons)?;
-    joined(refused(alloc, refusal)?, more.as_str())
-}
-
 /// The verdict in words.
+#[tactic(auto, using(crate::proofs::Refusals::tells_refusal))]
 fn verdict_told(
     alloc: Global,
     object: &Object,
@@ -142,9 +131,16 @@ fn verdict_told(
     ensures { IfOk result (λ text. TellsVerdict verdict.now (string_bytes text)) }
 {
     match verdict {
-        Ok(program) => accepted(alloc, program.bound()),
-        Err(VerifyError::Refused(refusal)) => refusal_told(alloc, object, *refusal, reasons),
-        Err(_) => Ok(String::new(alloc)),
+        Ok(program) => {
+            let text = accepted(alloc, program.bound())?;
+            Ok(text)
+        }
+        Err(VerifyError::Refused(refusal)) => {
+            let more = refusal_words(alloc, object, refusal.rule, reasons)?;
+            let text = refusal_told(alloc, *refusal, more.as_str())?;
+            Ok(text)
+        }
+        Err(VerifyError::Object(_)) | Err(VerifyError::Code(_)) => Ok(String::new(alloc)),
     }
 }
 

@@ -99,15 +99,15 @@ fn followed<'a>(
     requires small { slot < 4096 }
     requires here { slice_get code.now slot ≡ Some (Start instruction) }
 {
-    if !here.known.is_live {
-        return Some(here);
-    }
-    if check_places(code, targets, true, slot, &instruction).is_err() {
-        return None;
-    }
     let Here { begun, known } = here;
-    match follow(code, hook, targets, segment, known.state, slot, instruction) {
-        Ok(known) => Some(Here { begun, known }),
+    if !known.is_live {
+        return Some(Here { begun, known });
+    }
+    match check_places(code, targets, true, slot, &instruction) {
+        Ok(()) => match follow(code, hook, targets, segment, known.state, slot, instruction) {
+            Ok(known) => Some(Here { begun, known }),
+            Err(_) => None,
+        },
         Err(_) => None,
     }
 }
