@@ -1,13 +1,18 @@
 //! Tests of the router's book and of its workers, by their public calls. They stand above, since a
 //! crate is proved once more for its tests.
 //!
-//! A test is a list of steps, which a player carries out at a router with three ports.
+//! A test is a list of steps, which a player carries out at a router with three ports; or the life of
+//! two routers on one link, in memory, each by the turns of its worker.
 #![tactic(auto)]
 
 #[cfg(test)]
 mod failing_links;
 #[cfg(test)]
 mod journals;
+#[cfg(test)]
+mod member;
+#[cfg(test)]
+mod pair;
 #[cfg(test)]
 mod samples;
 #[cfg(test)]
@@ -20,3 +25,5 @@ mod stage;
 mod steps;
 #[cfg(test)]
 mod times;
+#[cfg(test)]
+mod watching;

@@ -5,9 +5,10 @@ ghost use Rattle.worker.specs.Opening.{IsSetUpFor};
 
 use crate::failing_links::serve;
 use crate::samples::{destination, first};
-use crate::side_by_side::{hold, tick};
+use crate::side_by_side::{Holds, hold, tick};
 use crate::stage::{Stage, Step};
 use crate::times::{follow, try_again};
+use crate::watching::watch;
 use hooks::{HookError, Loader};
 use std::alloc::Global;
 use std::marker::Brand;
@@ -33,9 +34,11 @@ pub enum Scene<'a> {
     /// The worker at interface 1 runs by a clock that shows these moments, one a round, and hears
     /// nothing.
     Clock(&'a [u64]),
-    /// A Hello at moment 5 is held at the gate of port 1, until port 2 has ticked at each moment
-    /// from 5 to below this.
-    Held(u64),
+    /// A turn of port 1 at moment 5 is held at its gate, until port 2 has ticked at each moment from
+    /// 5 to below this.
+    Held(Holds, u64),
+    /// A datagram at interface 1 is counted before its turn passes the gate.
+    Watched,
 }
 
 /// What is seen in the end.
@@ -82,7 +85,8 @@ fn act<L: Site + Send + Sync, R: Threads + Wait + Clock + Abort + Sync, Q: Wait 
         Scene::Ticks(until) => Ok((tick(rt, hub, &mut stage.first, 0, until), 0)),
         Scene::Tries(moments) => Ok((try_again(rt, alloc, hub, &mut stage.first, moments)?, 0)),
         Scene::Clock(moments) => Ok(follow(rt, alloc, hub, &mut stage.first, moments)?),
-        Scene::Held(until) => Ok((hold(rt, alloc, hub, stage, until)?, 0)),
+        Scene::Held(held, until) => Ok((hold(rt, alloc, hub, stage, held, until)?, 0)),
+        Scene::Watched => Ok((0, 0)),
     }
 }
 
@@ -127,6 +131,9 @@ fn play_on<L: Site + Send + Sync, R: Threads + Wait + Clock + Abort + Sync, Q: W
     requires { history_of loader ≡ L.history }
 {
     let (console, first, second) = three(ports).ok_or("three ports")?;
+    if let Scene::Watched = scene {
+        return Ok((watch(rt, alloc, hub, first, second, loader)?, 0));
+    }
     let mut stage = Stage {
         console,
         first,
@@ -169,23 +176,31 @@ pub fn play<R: Threads + Wait + Clock + Abort + Sync>(
     play_at::<Brand, R, &R>(rt, alloc, setup, loader, core, destination, scene)
 }
 
-/// Plays the scene, which ends so. An allocation may be refused once, as a run of the tests with a
-/// refusal makes it: where the scene doesn't end so, it is played once more, from its start; one of
-/// two threads only where a turn was refused memory.
+/// Plays the scene four times, each from its start: it ends so each time but one at most, in which an
+/// allocation may have been refused, as a run of the tests with a refusal makes it. A scene of two
+/// threads is spared only where a turn was refused memory; a long one is played twice at most.
 pub fn ends<R: Threads + Wait + Clock + Abort + Sync>(
     rt: &R,
     alloc: Global,
     scene: Scene<'_>,
     wanted: End,
 ) -> Result<(), Fail> {
-    let mut end = play(rt, alloc, scene)?;
-    let again = match scene {
-        Scene::Held(_) => end.status == 6,
-        _ => end != wanted,
-    };
-    if again {
-        end = play(rt, alloc, scene)?;
+    let is_long = matches!(scene, Scene::Ticks(_));
+    let mut is_refused = false;
+    for _time in 0..if is_long { 2 } else { 4u32 } {
+        let end = play(rt, alloc, scene)?;
+        let may_differ = match scene {
+            Scene::Held(_, _) => end.status == 6,
+            _ => true,
+        };
+        if end != wanted && may_differ && !is_refused {
+            is_refused = true;
+        } else {
+            assert_eq!(rt; end, wanted, "{scene:?}");
+        }
+        if is_long && !is_refused {
+            break;
+        }
     }
-    assert_eq!(rt; end, wanted, "{scene:?}");
     Ok(())
 }

@@ -2,7 +2,7 @@
 use crate::samples::hello;
 use crate::scenes::{End, Scene, ends};
 use crate::stage::Stage;
-use std::alloc::Global;
+use std::alloc::{AllocError, Global};
 use std::sync::Wait;
 use std::sync::atomic::{AtomicBool, Ordering};
 use std::test::Fail;
@@ -11,23 +11,39 @@ use std::time::{Clock, Duration};
 use words::Second;
 use worker::{Book, Gate, Hub, Open, Port, Site, TurnError, Turned, Work, turn};
 
-// Holds a turn until it is released, or gives up after 10,000 tries of a millisecond.
+/// What is held at the gate: a Hello, or a refresh.
+#[derive(Clone, Copy, Debug)]
+pub enum Holds {
+    Hello,
+    Refresh,
+}
+
+// Waits for the flag. Tells whether it was raised within 10,000 tries of a millisecond.
+fn waited<R: Clock>(rt: &R, flag: &AtomicBool) -> bool {
+    for _attempt in 0..10_000u32 {
+        if flag.load(Ordering::SeqCst) {
+            return true;
+        }
+        sleep(rt, Duration::from_millis(1));
+    }
+    false
+}
+
+// Says that a turn came, and holds it until it is released, or gives up.
 #[derive(Drop)]
 struct Held<'a, R: Clock> {
     rt: &'a R,
+    came: &'a AtomicBool,
     released: &'a AtomicBool,
     gave_up: &'a AtomicBool,
 }
 
 impl<'a, R: Clock> Gate for Held<'a, R> {
     fn pass(&self, _port: u16) {
-        for _attempt in 0..10_000u32 {
-            if self.released.load(Ordering::SeqCst) {
-                return;
-            }
-            sleep(self.rt, Duration::from_millis(1));
+        self.came.store(true, Ordering::SeqCst);
+        if !waited(self.rt, self.released) {
+            self.gave_up.store(true, Ordering::SeqCst);
         }
-        self.gave_up.store(true, Ordering::SeqCst);
     }
 }
 
@@ -55,19 +71,31 @@ pub fn tick<L: Site, R: Wait>(
     refused
 }
 
-/// Holds the Hello of port 1 at moment 5 until port 2 has ticked at each moment from 5 to below
-/// this: what it is answered, or a Tick that was refused; 9 where the gate gave up.
+// What a turn of port 1 is for that is held.
+fn work_of(alloc: Global, held: Holds) -> Result<Work, AllocError> {
+    match held {
+        Holds::Hello => hello(alloc, 1, 0),
+        Holds::Refresh => Ok(Work::Refresh),
+    }
+}
+
+/// Holds a turn of port 1 at moment 5 until port 2 has ticked at each moment from 5 to below this,
+/// which it begins once the other has come to its gate: what that is answered, or a Tick that was
+/// refused; 9 where one of both waited in vain.
 pub fn hold<L: Site + Send + Sync, R: Threads + Wait + Clock + Sync, Q: Wait + Drop>(
     rt: &R,
     alloc: Global,
     hub: &Hub<L, Book<L>>,
     stage: &mut Stage<L, Q>,
+    held: Holds,
     until: u64,
 ) -> Result<u8, Fail> {
-    let work = hello(alloc, 1, 0)?;
-    let (released, gave_up) = (AtomicBool::new(false), AtomicBool::new(false));
+    let work = work_of(alloc, held)?;
+    let (came, released) = (AtomicBool::new(false), AtomicBool::new(false));
+    let gave_up = AtomicBool::new(false);
     let gate = Held {
         rt,
+        came: &came,
         released: &released,
         gave_up: &gave_up,
     };
@@ -76,6 +104,9 @@ pub fn hold<L: Site + Send + Sync, R: Threads + Wait + Clock + Sync, Q: Wait + D
         rt,
         || -> u8 { number_of(turn(rt, hub, first, &gate, Second::new(5), &work)) },
         || -> u8 {
+            if !waited(rt, &came) {
+                return 9;
+            }
             let refused = tick(rt, hub, second, 5, until);
             released.store(true, Ordering::SeqCst);
             refused
@@ -96,7 +127,7 @@ fn a_worker_is_answered_while_another_is_held(rt: HostRuntime) -> Result<(), Fai
         journal: 3,
         taken: 3,
     };
-    ends(&rt, rt.alloc(), Scene::Held(6), wanted)
+    ends(&rt, rt.alloc(), Scene::Held(Holds::Hello, 6), wanted)
 }
 
 // 996 Ticks, and the refresh that follows the first: the Hello's moment has passed.
@@ -108,7 +139,19 @@ fn a_turn_whose_moment_has_passed_is_refused(rt: HostRuntime) -> Result<(), Fail
         journal: 997,
         taken: 997,
     };
-    ends(&rt, rt.alloc(), Scene::Held(1_001), wanted)
+    ends(&rt, rt.alloc(), Scene::Held(Holds::Hello, 1_001), wanted)
+}
+
+// The same Ticks, and then the refresh that was held, at the last Tick's moment.
+#[test]
+fn a_refresh_whose_moment_has_passed_is_taken(rt: HostRuntime) -> Result<(), Fail> {
+    let wanted = End {
+        status: 0,
+        sent: 0,
+        journal: 998,
+        taken: 998,
+    };
+    ends(&rt, rt.alloc(), Scene::Held(Holds::Refresh, 1_001), wanted)
 }
 
 // The first Tick is followed by a refresh; the journal is full after 65,536 events, and starts

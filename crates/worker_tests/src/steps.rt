@@ -141,7 +141,8 @@ fn counted(counted: u64) -> Seen {
     Seen { counted, ..HEARD }
 }
 
-// The program adds 3 for each datagram, a refused one too, and for nothing else.
+// The program adds 3 at counter 5 for each datagram of interface 1, a refused one too, and for
+// nothing else: those of interface 2 count elsewhere.
 #[test]
 fn each_datagram_is_counted_once(rt: HostRuntime) -> Result<(), Fail> {
     let steps = [
@@ -158,18 +159,18 @@ fn each_datagram_is_counted_once(rt: HostRuntime) -> Result<(), Fail> {
         step(5, Deed::Attach(COUNTING), HEARD),
         step(5, Deed::Tick, HEARD),
         step(5, Deed::Hear(1, 0), counted(3)),
-        step(5, Deed::Hear(2, 0), counted(6)),
+        step(5, Deed::Hear(2, 0), counted(3)),
         step(
             5,
             Deed::Hear(1, 1),
             Seen {
-                counted: 9,
+                counted: 6,
                 neighbors: (true, true),
                 ..refused(CoreError::BadPacket(Fault::Length))
             },
         ),
-        step(6, Deed::Tick, counted(9)),
-        step(6, Deed::Refresh, counted(9)),
+        step(6, Deed::Tick, counted(6)),
+        step(6, Deed::Refresh, counted(6)),
     ];
     play_steps(&rt, rt.alloc(), &steps, 8)
 }

@@ -3,7 +3,7 @@ ghost use Rattle.std.specs.Prelude.{◌≡◌};
 ghost use Rattle.worker.specs.Opening.{IsSetUpFor};
 
 use crate::member::{Member, let_go, opened, table_of};
-use crate::samples::{destination, first, second};
+use crate::samples::{destination, interface, router};
 use hooks::Loader;
 use std::alloc::Global;
 use std::marker::Brand;
@@ -63,8 +63,7 @@ fn converse<L: Site, M: Site, R: Wait>(
     taken && !one.is_waiting() && !other.is_waiting()
 }
 
-// At each of these moments the one ticks, the other does this work, and both converse. Whether all
-// was taken.
+// A round at each of these moments: both tick, and converse. Whether all was taken.
 fn live<L: Site, M: Site, R: Wait>(
     rt: &R,
     one_hub: &Hub<L, Book<L>>,
@@ -72,56 +71,67 @@ fn live<L: Site, M: Site, R: Wait>(
     other_hub: &Hub<M, Book<M>>,
     other: &mut Member<M>,
     moments: (u64, u64),
-    work: &Work,
 ) -> bool {
     let mut taken = true;
     for moment in moments.0..moments.1 {
         let moment = Second::new(moment);
         taken = works(rt, one_hub, one, other, moment, &Work::Tick) && taken;
-        taken = works(rt, other_hub, other, one, moment, work) && taken;
+        taken = works(rt, other_hub, other, one, moment, &Work::Tick) && taken;
         taken = converse(rt, one_hub, one, other_hub, other, moment) && taken;
     }
     taken
 }
 
-// Both live for 41 seconds; in second 30 the other does this work, and in each other one it ticks.
+// Thirty rounds and a refresh. Where the other has some work to do, it does it then, and ten more
+// rounds and a refresh follow. Whether all was taken.
 fn live_on<L: Site, M: Site, R: Wait>(
     rt: &R,
     one_hub: &Hub<L, Book<L>>,
     one: &mut Member<L>,
     other_hub: &Hub<M, Book<M>>,
     other: &mut Member<M>,
-    work: &Work,
+    work: Option<&Work>,
 ) -> bool {
-    live(rt, one_hub, one, other_hub, other, (0, 30), &Work::Tick)
-        && live(rt, one_hub, one, other_hub, other, (30, 31), work)
-        && live(rt, one_hub, one, other_hub, other, (31, 41), &Work::Tick)
+    let (last, end) = (Second::new(29), Second::new(39));
+    let taken = live(rt, one_hub, one, other_hub, other, (0, 30))
+        && works(rt, one_hub, one, other, last, &Work::Refresh);
+    match work {
+        None => taken,
+        Some(work) => {
+            taken
+                && works(rt, other_hub, other, one, last, work)
+                && converse(rt, one_hub, one, other_hub, other, last)
+                && live(rt, one_hub, one, other_hub, other, (30, 40))
+                && works(rt, one_hub, one, other, end, &Work::Refresh)
+        }
+    }
 }
 
-// 1.1.1.1 at its worker's port.
+// 1.1.1.1, with 10.0.1.1/24, at its worker's port.
 fn one_at<L: Site>(alloc: Global, setup: Setup) -> Result<(Hub<L, Book<L>>, Member<L>), Fail>
     requires { IsSetUpFor L.name L.parts L.words L.history setup }
 {
-    let core = first(alloc)?;
+    let core = router(alloc, 0x0101_0101, &[interface(0x0a00_0101, 10)])?;
     Ok(opened::<L>(alloc, setup, core)?)
 }
 
-// 2.2.2.2 at its worker's port.
+// 2.2.2.2, with 10.0.1.2/24 and with another network at cost 5, at its worker's port.
 fn other_at<L: Site>(alloc: Global, setup: Setup) -> Result<(Hub<L, Book<L>>, Member<L>), Fail>
     requires { IsSetUpFor L.name L.parts L.words L.history setup }
 {
-    let core = second(alloc)?;
+    let interfaces = [interface(0x0a00_0102, 10), interface(0x0a00_0202, 5)];
+    let core = router(alloc, 0x0202_0202, &interfaces)?;
     Ok(opened::<L>(alloc, setup, core)?)
 }
 
-// The table of 1.1.1.1 after its life beside the other, whose work in second 30 this is.
+// The table of 1.1.1.1 after its life beside the other, whose work after thirty rounds this is.
 fn table_beside<L: Site, M: Site, R: Wait>(
     rt: &R,
     alloc: Global,
     setup: Setup,
     other_hub: &Hub<M, Book<M>>,
     other: &mut Member<M>,
-    work: &Work,
+    work: Option<&Work>,
 ) -> Result<String, Fail>
     requires { IsSetUpFor L.name L.parts L.words L.history setup }
 {
@@ -137,7 +147,7 @@ fn table<L: Site, M: Site, R: Wait, Q: Wait + Drop>(
     alloc: Global,
     one: Setup,
     other: Setup,
-    work: &Work,
+    work: Option<&Work>,
     _one: &Loader<Q>,
     _other: &Loader<Q>,
 ) -> Result<String, Fail>
@@ -152,7 +162,7 @@ fn table<L: Site, M: Site, R: Wait, Q: Wait + Drop>(
 }
 
 #[tactic(auto, using(crate::proofs::Fresh::all_ask))]
-fn found<R: Wait>(rt: &R, alloc: Global, work: &Work) -> Result<String, Fail> {
+fn found<R: Wait>(rt: &R, alloc: Global, work: Option<&Work>) -> Result<String, Fail> {
     let (one_loader, one) = Setup::new(alloc, rt, 1)?;
     let (other_loader, other) = Setup::new(alloc, rt, 1)?;
     table::<Brand, Brand, R, &R>(rt, alloc, one, other, work, &one_loader, &other_loader)
@@ -160,7 +170,7 @@ fn found<R: Wait>(rt: &R, alloc: Global, work: &Work) -> Result<String, Fail> {
 
 #[test]
 fn a_router_has_the_routes_of_its_neighbor(rt: HostRuntime) -> Result<(), Fail> {
-    let lines = found(&rt, rt.alloc(), &Work::Tick)?;
+    let lines = found(&rt, rt.alloc(), None)?;
     assert_eq!(rt;
         lines.as_str(),
         "10.0.1.0/24 intra 10 via 0\n10.0.2.0/24 intra 15 via 1\nend\n"
@@ -176,7 +186,7 @@ fn comes<R: Wait + Abort>(
     line: &str,
 ) -> Result<(), Fail> {
     let work = Work::Add(destination(kind)?);
-    let lines = found(rt, alloc, &work)?;
+    let lines = found(rt, alloc, Some(&work))?;
     let wanted = format!(in alloc;
         "10.0.1.0/24 intra 10 via 0\n10.0.2.0/24 intra 15 via 1\n{line}end\n"
     )?;

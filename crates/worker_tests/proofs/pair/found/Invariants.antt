@@ -1,5 +1,5 @@
 use Rattle.hooks.specs.Known.{history_of}
-use Rattle.pair_tests.proofs.pair.found.Given as goal
+use Rattle.worker_tests.proofs.pair.found.Given as goal
 
 -- each router has the ledger and the words of its setup, and asks the programs of its loader
 abbrev pub ghosts-table-L-Ledger : goal.ghosts-table-L-Ledger
