@@ -1,3 +1,4 @@
 pub mod SeatLaws
 pub mod RefusalLaws
 pub mod RunLaws
+pub mod AnswerLaws

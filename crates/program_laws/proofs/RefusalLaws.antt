@@ -1,6 +1,6 @@
 -- What may be said of small programs.
 use Rattle.std.proofs.Common.{◌≡◌, ℕ, zero, suc, ◌+◌, ◌<◌, true, false, List, [], ◌∷◌, Some, None, inl, inr, ⊎_elim, refl, sym, subst, arith}
-use Rattle.std.specs.Prelude.{ℤ}
+use Rattle.std.specs.Prelude.{ℤ, pos}
 use Rattle.isa.specs.declared.code.Slot.{Slot}
 use Rattle.isa.specs.declared.code.Slot.TheVariants.{Start}
 use Rattle.isa.specs.declared.hook.Hook.{Hook}
@@ -8,13 +8,14 @@ use Rattle.isa.specs.declared.instruction.Instruction.{Instruction}
 use Rattle.isa.specs.declared.instruction.Instruction.TheVariants.{Call, Exit}
 use Rattle.isa.specs.Flow.{Begins, BeginsAt, jump_target, slot_after}
 use Rattle.machine.specs.Faults.{writes_frame}
+use Rattle.machine.specs.Helpers.{helper_of}
 use Rattle.transfer.specs.declared.rule.Rule.{Rule}
 use Rattle.transfer.specs.declared.rule.Rule.TheVariants as rules
 use Rattle.segments.specs.Places.{goes_on}
-use Rattle.segments.specs.Refusals.{FallsOff, IsBadTarget, IsFirst, IsStray, IsUnreached, IsUnstated, IsWellMade, JumpsNowhere, MayRefuse}
+use Rattle.segments.specs.Refusals.{FallsOff, IsBadTarget, IsFirst, IsStray, IsUnreached, IsUnstated, IsWellMade, JumpsNowhere, LacksHelperAt, MayRefuse}
 use Rattle.segments.proofs.Plain.{never}
 use Rattle.verifier.specs.Examples.{ended, seven, test_on}
-use Rattle.program_laws.specs.Refusals.{IsOfSound, LaterRulesDontCount, unstated_code}
+use Rattle.program_laws.specs.Refusals.{HelpersAndBoundAreNamedAptly, IsOfSound, LaterRulesDontCount, unstated_code}
 
 none_is_some : {A : Type 0} {x : A} → None ≡ Some x → ⊥
 none_is_some is = cc
@@ -83,6 +84,34 @@ named_of_sound hook slot rules.Budget may = let more = may.over in absurd (omega
 named_of_sound hook slot rules.ExitKind may = within_code slot may.0 may.1
 named_of_sound hook slot rules.Frame may = writes_not slot may.instruction may.at may.writes
 named_of_sound hook slot rules.Memory may = may
+
+-- ---- `call 1; exit`, and the bound
+
+of_call : (P : Instruction → Type 0) → P (Call (pos 1)) → P Exit → (slot : ℕ) (i : Instruction) → BeginsAt i (ended (Call (pos 1))) slot → P i
+of_call P first second zero i at = subst P (started (Call (pos 1)) i at) first
+of_call P first second (suc zero) i at = subst P (started Exit i at) second
+of_call P first second (suc (suc slot)) i at = absurd (none_is_some at)
+
+call_is : (a b : ℤ) → Call a ≡ Call b → a ≡ b
+call_is a b is = cc
+
+exit_is_no_call : (number : ℤ) → Exit ≡ Call number → ⊥
+exit_is_no_call number is = cc
+
+helper_is_there : (hook : Hook) (slot : ℕ) (lacks : LacksHelperAt (ended (Call (pos 1))) hook slot) → ⊥
+helper_is_there hook slot lacks =
+    of_call (λ i. (number : ℤ) → i ≡ Call number → helper_of hook number ≡ None → ⊥)
+    (λ number is none. none_is_some (sym (subst (λ n. helper_of hook n ≡ None) (sym (call_is (pos 1) number is)) none)))
+    (λ number is none. exit_is_no_call number is)
+    slot (Call lacks.number) lacks.at lacks.number refl lacks.none
+
+pub named_aptly : HelpersAndBoundAreNamedAptly
+named_aptly = record {
+  helper = helper_is_there;
+  within = λ hook slot may. let more = may.over in omega (arith, more);
+  over = λ hook. record { first = refl; over = omega arith };
+  there = λ hook slot may. may.first;
+}
 
 -- ---- `r0 = 7; if r0 == 0 goto L; L: exit`, with nothing stated at L
 

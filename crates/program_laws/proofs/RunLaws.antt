@@ -1,17 +1,23 @@
 -- What runs begin with.
 use Rattle.std.proofs.Common.{◌≡◌, ℕ, ◌<◌, true, false, List, [], ◌∷◌, Some, refl, sym, ◌∙◌, get_or, arith}
-use Rattle.std.specs.Prelude.{slice_get, pos}
+use Rattle.std.specs.Prelude.{slice_get, pos, negsuc}
 use Rattle.std.proofs.lemmas.List.{get_or-replicate}
 use Rattle.isa.specs.declared.hook.Hook.{Hook}
-use Rattle.isa.specs.declared.instruction.Instruction.TheVariants.{Load}
+use Rattle.isa.specs.declared.instruction.Instruction.TheVariants.{Load, LoadMap, Store}
 use Rattle.isa.specs.declared.instruction.LoadSize.TheVariants.{Unsigned64}
+use Rattle.isa.specs.declared.instruction.Source.TheVariants.{Register}
+use Rattle.isa.specs.declared.instruction.StoreSize.TheVariants as stored
+use Rattle.isa.specs.declared.map.Map.{Map}
+use Rattle.isa.specs.declared.map.Map.TheVariants as maps
 use Rattle.machine.specs.declared.state.Content.{Content}
 use Rattle.machine.specs.declared.state.Content.TheVariants as contents
 use Rattle.machine.specs.declared.state.Pointer.TheVariants as pointers
 use Rattle.machine.specs.declared.state.StackByte.{StackByte}
 use Rattle.machine.specs.declared.state.StackByte.TheVariants as stack_bytes
+use Rattle.machine.specs.declared.state.State.{State}
 use Rattle.machine.specs.Given.{blank}
-use Rattle.machine.specs.State.{setting_of, start}
+use Rattle.machine.specs.Label.{Silent}
+use Rattle.machine.specs.State.{filled, setting_of, start}
 use Rattle.machine.specs.Runs.{Run}
 use Rattle.object.specs.declared.kind.Kind.TheVariants.{Context, Empty}
 use Rattle.object.specs.Sets.{no_bytes, with_range}
@@ -19,7 +25,8 @@ use Rattle.kinds.specs.Stated.{GivesStated, any_number}
 use Rattle.regions.specs.declared.Region.{Region}
 use Rattle.regions.specs.declared.Region.TheVariants as regions
 use Rattle.regions.specs.Regions.{AreKeptRegions}
-use Rattle.program_laws.specs.Runs.{StartsAsStated, loads_context, says_first}
+use Rattle.verifier.specs.Examples.{ended, says, seven}
+use Rattle.program_laws.specs.Runs.{LaterSlotsAreAsStated, LoadsAreOfTheirMap, StartsAsStated, loads_context, loads_of_map, says_first, stores_on_stack}
 
 -- the run of no steps
 no_steps : (hook : Hook) → Run (setting_of loads_context hook blank) 0 [] start
@@ -27,6 +34,63 @@ no_steps hook = record { steps = refl; leads = refl }
 
 pub loads_of_context : (hook : Hook) (kept : List Region) → AreKeptRegions loads_context hook kept → slice_get kept 0 ≡ Some regions.Context
 loads_of_context hook kept are = are blank 0 [] start (no_steps hook) (Load Unsigned64 0 1 (pos 0)) 1 (pointers.Context 0) refl refl refl
+
+pub stores_on_its_stack : (hook : Hook) (kept : List Region) → AreKeptRegions stores_on_stack hook kept → slice_get kept 0 ≡ Some regions.Stack
+stores_on_its_stack hook kept are =
+    are blank 0 [] start (record { steps = refl; leads = refl }) (Store stored.Bits64 10 (negsuc 7) (Register 1)) 10 (pointers.Stack 512) refl refl refl
+
+-- the state behind the pointer to a map
+abbrev with_map : Map → State
+with_map map = record (filled start 1 (contents.Address (pointers.Map map 0))) { slot = 2 }
+
+one_is_writable : ◌≡◌ {A = ℕ} 1 10 → ⊥
+one_is_writable is = omega (arith, is)
+
+counters_step : (hook : Hook) → Run (setting_of (loads_of_map 0) hook blank) 1 (Silent ∷ []) (with_map maps.Counters)
+counters_step hook = record {
+  steps = refl;
+  leads = (with_map maps.Counters, record { instruction = LoadMap 1 (pos 0) (pos 0); at = refl; does = (maps.Counters, refl, one_is_writable, refl, refl) }, refl);
+}
+
+cells_step : (hook : Hook) → Run (setting_of (loads_of_map 1) hook blank) 1 (Silent ∷ []) (with_map maps.Cells)
+cells_step hook = record {
+  steps = refl;
+  leads = (with_map maps.Cells, record { instruction = LoadMap 1 (pos 1) (pos 0); at = refl; does = (maps.Cells, refl, one_is_writable, refl, refl) }, refl);
+}
+
+pub loads_of_its_map : LoadsAreOfTheirMap
+loads_of_its_map = record {
+  counters = λ hook kept are. are blank 1 (Silent ∷ []) (with_map maps.Counters) (counters_step hook) (Load Unsigned64 0 1 (pos 0)) 1 (pointers.Map maps.Counters 0) refl refl refl;
+  cells = λ hook kept are. are blank 1 (Silent ∷ []) (with_map maps.Cells) (cells_step hook) (Load Unsigned64 0 1 (pos 0)) 1 (pointers.Map maps.Cells 0) refl refl refl;
+}
+
+-- the state behind `r0 = 7`
+abbrev behind_seven : State
+behind_seven = filled start 0 (contents.Number 7)
+
+zero_is_writable : ◌≡◌ {A = ℕ} 0 10 → ⊥
+zero_is_writable is = omega (arith, is)
+
+seven_step : (hook : Hook) → Run (setting_of (ended seven) hook blank) 1 (Silent ∷ []) behind_seven
+seven_step hook = record {
+  steps = refl;
+  leads = (
+    behind_seven,
+    record {
+      instruction = seven;
+      at = refl;
+      does = record { filling = contents.Number 7; gives = refl; writable = zero_is_writable; silent = refl; after = refl };
+    },
+    refl,
+  );
+}
+
+number_is_no_pointer : contents.Number 7 ≡ contents.Address (pointers.Context 0) → ⊥
+number_is_no_pointer is = cc
+
+pub later_as_stated : {D : Type 0} (contains : D → ℕ → Type 0) (gives : GivesStated D) (hook : Hook) → LaterSlotsAreAsStated contains gives hook
+later_as_stated contains gives hook meet =
+    number_is_no_pointer ((meet blank 1 (Silent ∷ []) behind_seven (says 1 (Context 0) 0) (seven_step hook) refl).registers 0 (omega arith))
 
 offset_is : (a b : ℕ) → contents.Address (pointers.Context a) ≡ contents.Address (pointers.Context b) → a ≡ b
 offset_is a b is = cc

@@ -1,3 +1,4 @@
 pub mod Seats
 pub mod Refusals
 pub mod Runs
+pub mod Answers

@@ -1,9 +1,9 @@
 -- What the definitions of refusals say of small programs.
-use Rattle.std.specs.Prelude.{◌≡◌, ℕ, ◌<◌, List, [], ◌∷◌}
+use Rattle.std.specs.Prelude.{◌≡◌, ℕ, ◌<◌, List, [], ◌∷◌, pos}
 use Rattle.isa.specs.declared.code.Slot.{Slot}
 use Rattle.isa.specs.declared.code.Slot.TheVariants.{Start}
 use Rattle.isa.specs.declared.hook.Hook.{Hook}
-use Rattle.isa.specs.declared.instruction.Instruction.TheVariants.{Exit}
+use Rattle.isa.specs.declared.instruction.Instruction.TheVariants.{Call, Exit}
 use Rattle.transfer.specs.declared.rule.Rule.{Rule}
 use Rattle.transfer.specs.declared.rule.Rule.TheVariants as rules
 use Rattle.segments.specs.Refusals.{IsFirst, MayRefuse}
@@ -28,6 +28,19 @@ abbrev pub SoundCodeIsNotNamed : Type 0
 SoundCodeIsNotNamed =
     (hook : Hook) (slot : ℕ) (rule : Rule) → MayRefuse hook (ended seven) 0 [] slot rule
     → IsOfSound slot rule
+
+-- The rules on helpers and on the bound say what they are called after. No rule says that of
+-- `call 1; exit`, whose helper there is, a helper is missing. With the rank 499,999 at its entry
+-- `r0 = 7; exit` may execute just 1,000,000 instructions, which is within the bound; with the next
+-- rank it is over, and that is told at slot 0.
+pub record HelpersAndBoundAreNamedAptly : Type 0 where
+  pub helper : (hook : Hook) (slot : ℕ) → MayRefuse hook (ended (Call (pos 1))) 0 [] slot rules.Helper
+      → ⊥
+  pub within : (hook : Hook) (slot : ℕ) → MayRefuse hook (ended seven) 499999 [] slot rules.Budget
+      → ⊥
+  pub over : (hook : Hook) → MayRefuse hook (ended seven) 500000 [] 0 rules.Budget
+  pub there : (hook : Hook) (slot : ℕ) → MayRefuse hook (ended seven) 500000 [] slot rules.Budget
+      → slot ≡ 0
 
 -- `r0 = 7; if r0 == 0 goto L; L: exit`, of which nothing is stated at L
 abbrev pub unstated_code : List Slot

@@ -1,9 +1,12 @@
 -- What the definitions of an accepted program say of small ones.
-use Rattle.std.specs.Prelude.{◌≡◌, ℕ, List, [], ◌∷◌, Some, pos, slice_get}
+use Rattle.std.specs.Prelude.{◌≡◌, ℕ, List, [], ◌∷◌, Some, pos, negsuc, slice_get}
 use Rattle.isa.specs.declared.code.Slot.{Slot}
+use Rattle.isa.specs.declared.code.Slot.TheVariants.{SecondHalf, Start}
 use Rattle.isa.specs.declared.hook.Hook.{Hook}
-use Rattle.isa.specs.declared.instruction.Instruction.TheVariants.{Load}
+use Rattle.isa.specs.declared.instruction.Instruction.TheVariants.{Exit, Load, LoadMap, Store}
 use Rattle.isa.specs.declared.instruction.LoadSize.TheVariants.{Unsigned64}
+use Rattle.isa.specs.declared.instruction.Source.TheVariants.{Register}
+use Rattle.isa.specs.declared.instruction.StoreSize.TheVariants as stored
 use Rattle.object.specs.declared.kind.Kind.{Kind}
 use Rattle.object.specs.declared.kind.Kind.TheVariants.{Context, Empty}
 use Rattle.object.specs.Sets.{no_bytes, with_range}
@@ -12,7 +15,7 @@ use Rattle.kinds.specs.Stated.{GivesStated, any_number}
 use Rattle.regions.specs.declared.Region.{Region}
 use Rattle.regions.specs.declared.Region.TheVariants as regions
 use Rattle.regions.specs.Regions.{AreKeptRegions}
-use Rattle.verifier.specs.Examples.{constant_rank, ended}
+use Rattle.verifier.specs.Examples.{constant_rank, ended, says, seven}
 use Rattle.verifier.specs.Stated.{RunsMeetStatements}
 
 -- `r0 = *u64 r1 0; exit`
@@ -24,6 +27,28 @@ abbrev pub LoadsAreOfTheContext : Type 0
 LoadsAreOfTheContext =
     (hook : Hook) (kept : List Region) → AreKeptRegions loads_context hook kept
     → slice_get kept 0 ≡ Some regions.Context
+
+-- `*u64 r10 -8 = r1; exit`
+abbrev pub stores_on_stack : List Slot
+stores_on_stack = ended (Store stored.Bits64 10 (negsuc 7) (Register 1))
+
+-- its store goes to the stack
+abbrev pub StoresAreOfTheStack : Type 0
+StoresAreOfTheStack =
+    (hook : Hook) (kept : List Region) → AreKeptRegions stores_on_stack hook kept
+    → slice_get kept 0 ≡ Some regions.Stack
+
+-- `r1 = map; r0 = *u64 r1 0; exit`, the map by its number
+abbrev pub loads_of_map : ℕ → List Slot
+loads_of_map number =
+    Start (LoadMap 1 (pos number) (pos 0)) ∷ SecondHalf ∷ ended (Load Unsigned64 0 1 (pos 0))
+
+-- its load, which comes after a step, goes into that map
+pub record LoadsAreOfTheirMap : Type 0 where
+  pub counters : (hook : Hook) (kept : List Region) → AreKeptRegions (loads_of_map 0) hook kept
+      → slice_get kept 2 ≡ Some regions.Counters
+  pub cells : (hook : Hook) (kept : List Region) → AreKeptRegions (loads_of_map 1) hook kept
+      → slice_get kept 2 ≡ Some regions.Cells
 
 -- at the first slot this is said of r0 and r1, and of these bytes of the stack
 abbrev pub says_first : Kind → Kind → StatementParts
@@ -44,3 +69,8 @@ pub record StartsAsStated {D : Type 0} (contains : D → ℕ → Type 0) (gives 
       (says_first any_number Empty ∷ []) → ⊥
   pub byte : RunsMeetStatements contains gives loads_context hook
       (record (says_first Empty Empty) { stack = with_range 0 1 no_bytes } ∷ []) → ⊥
+
+-- `r0 = 7; exit` doesn't leave a pointer in r0: so no program is accepted that states one behind it.
+abbrev pub LaterSlotsAreAsStated : {D : Type 0} → (D → ℕ → Type 0) → GivesStated D → Hook → Type 0
+LaterSlotsAreAsStated contains gives hook =
+    RunsMeetStatements contains gives (ended seven) hook (says 1 (Context 0) 0 ∷ []) → ⊥

@@ -3,8 +3,9 @@
 #![tactic(auto)]
 
 ghost use Rattle.isa.specs.declared.hook.Hook.{Hook};
-ghost use Rattle.program_laws.specs.Refusals.{LaterRulesDontCount, SoundCodeIsNotNamed};
-ghost use Rattle.program_laws.specs.Runs.{LoadsAreOfTheContext, StartsAsStated};
+ghost use Rattle.program_laws.specs.Answers.{AnswersAreOfWhatStands};
+ghost use Rattle.program_laws.specs.Refusals.{HelpersAndBoundAreNamedAptly, LaterRulesDontCount, SoundCodeIsNotNamed};
+ghost use Rattle.program_laws.specs.Runs.{LaterSlotsAreAsStated, LoadsAreOfTheContext, LoadsAreOfTheirMap, StartsAsStated, StoresAreOfTheStack};
 ghost use Rattle.program_laws.specs.Seats.{AdditionsAreRefusedLast, SeatsGrow, SeatsStayLawful};
 
 use absdom::Domain;
@@ -25,9 +26,20 @@ pub fn seats_grow()
     ensures { SeatsGrow }
 {}
 
+/// An answer is that of the program that the operations leave at the hook, or the default where they leave none; the seat made just the
+/// accesses of that run, and none without a program; what was known is still known, and what the seat was told still so.
+pub fn answers_are_of_what_stands()
+    ensures { AnswersAreOfWhatStands }
+{}
+
 /// A sound program is named by no rule that the code and its statements alone can break.
 pub fn sound_code_is_not_named()
     ensures { SoundCodeIsNotNamed }
+{}
+
+/// No helper that there is is told as missing, and the bound is told only where it is passed, at slot 0.
+pub fn helpers_and_bound_are_named_aptly()
+    ensures { HelpersAndBoundAreNamedAptly }
 {}
 
 /// Where a slot breaks one of the rules on jumps, statements and the code's end, none behind it counts there, and none at a later slot.
@@ -40,7 +52,22 @@ pub fn loads_are_of_the_context()
     ensures { LoadsAreOfTheContext }
 {}
 
+/// A store by the frame pointer goes to the stack.
+pub fn stores_are_of_the_stack()
+    ensures { StoresAreOfTheStack }
+{}
+
+/// A load by a pointer into a map goes into that map, also behind the first instruction.
+pub fn loads_are_of_their_map()
+    ensures { LoadsAreOfTheirMap }
+{}
+
 /// No program is accepted whose first slot states what a run doesn't begin with.
 pub fn runs_start_as_stated<D: Domain>()
     ensures { (hook : Hook) → StartsAsStated D.contains D.stated_gives hook }
+{}
+
+/// Nor one that states at a later slot what no run leaves there.
+pub fn later_slots_are_as_stated<D: Domain>()
+    ensures { (hook : Hook) → LaterSlotsAreAsStated D.contains D.stated_gives hook }
 {}
