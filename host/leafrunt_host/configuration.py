@@ -13,6 +13,7 @@ from collections.abc import Callable, Mapping
 from dataclasses import dataclass
 from ipaddress import IPv4Address, IPv4Interface, IPv4Network
 from pathlib import Path
+from typing import Any
 
 from leafrunt_host.authentication import MD5_KEY_LENGTH, Algorithm, Key, Lifetime
 from leafrunt_host.kernel import KernelInterface
@@ -521,13 +522,13 @@ class _Reader:
         return Program(path, hook)
 
 
-def interface_title(at: int, items: dict) -> str:
+def interface_title(at: int, items: dict[str, Any]) -> str:
     name = items.get("name")
     is_name = isinstance(name, str) and INTERFACE_NAME.fullmatch(name)
     return f"interface {at} ({shown(name)[1:-1]})" if is_name else f"interface {at}"
 
 
-def announce_title(at: int, _items: dict) -> str:
+def announce_title(at: int, _items: dict[str, Any]) -> str:
     return f"announce {at}"
 
 

@@ -5,6 +5,7 @@ import os
 import sys
 from collections.abc import Iterable
 from pathlib import Path
+from types import ModuleType
 from typing import TextIO
 
 from leafrunt_host.client import REFUSED, Client
@@ -87,7 +88,7 @@ def typed_lines(prompt: str) -> Iterable[str]:
         save_history(readline, history)
 
 
-def save_history(readline, history: Path) -> None:
+def save_history(readline: ModuleType, history: Path) -> None:
     """Keeps the lines for the next time, for their owner alone."""
     try:
         os.close(os.open(history, os.O_WRONLY | os.O_CREAT | os.O_NOFOLLOW | os.O_CLOEXEC, 0o600))

@@ -7,12 +7,16 @@ import shutil
 import subprocess
 from dataclasses import dataclass
 from ipaddress import IPv4Address, IPv4Interface, IPv4Network
+from typing import Any
 
 from leafrunt_host.statuses import Stopped
 
 PLACES = "/usr/sbin:/sbin:/usr/bin:/bin"
 """Where programs of the system are looked for: never where the caller's PATH says."""
 SECONDS = 30
+
+Json = dict[str, Any]
+"""An object of JSON."""
 
 
 @dataclass(frozen=True)
@@ -50,7 +54,7 @@ def ip_program() -> str:
     return found
 
 
-def ip_says(*words: str) -> list[dict]:
+def ip_says(*words: str) -> list[Json]:
     """What `ip -json` says to these words, each of which is passed on as one, never through a
     shell."""
     try:
@@ -65,10 +69,11 @@ def ip_says(*words: str) -> list[dict]:
         raise Stopped(f"`ip {' '.join(words)}` failed: {error}") from error
     if ran.returncode:
         raise Stopped(f"`ip {' '.join(words)}` failed: {' '.join(ran.stderr.split())}")
-    return json.loads(ran.stdout or "[]")
+    said: list[Json] = json.loads(ran.stdout or "[]")
+    return said
 
 
-def interface_of(said: dict) -> KernelInterface:
+def interface_of(said: Json) -> KernelInterface:
     """An interface from what `ip -json address show` says of it."""
     main: list[IPv4Interface] = []
     secondary: list[IPv4Interface] = []
@@ -90,7 +95,7 @@ def kernel_interfaces() -> dict[str, KernelInterface]:
     }
 
 
-def route_of(said: list[dict]) -> KernelRoute | None:
+def route_of(said: list[Json]) -> KernelRoute | None:
     """The route that is taken, from what `ip -json route show match` says: the longest prefix, then
     the least metric."""
     routes = []

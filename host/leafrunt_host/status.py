@@ -9,6 +9,7 @@ from ipaddress import IPv4Address, IPv4Network
 from leafrunt_host.bridge import Link
 from leafrunt_host.configuration import Announcement, Configuration, InterfaceSettings
 from leafrunt_host.forwarding import host_warnings
+from leafrunt_host.kernel import Json
 from leafrunt_host.observing import Adjacencies
 
 NEIGHBOR = re.compile(r"neighbor (\d+) (\S+) (\w+)")
@@ -85,9 +86,9 @@ def since(known: Known, number: int) -> float | None:
     return None if began is None else time.time() - (time.monotonic() - began)
 
 
-def interface_status(known: Known, number: int, each: InterfaceSettings) -> dict:
+def interface_status(known: Known, number: int, each: InterfaceSettings) -> Json:
     """What is said of one interface."""
-    said: dict = {
+    said: Json = {
         "number": number,
         "name": each.name,
         "address": str(each.address),
@@ -123,7 +124,7 @@ def interface_status(known: Known, number: int, each: InterfaceSettings) -> dict
     return said
 
 
-def status_of(known: Known) -> dict:
+def status_of(known: Known) -> Json:
     """The whole, as values that JSON has."""
     configuration = known.configuration
     kept = known.kept
@@ -147,7 +148,7 @@ def status_of(known: Known) -> dict:
     }
 
 
-def kernel_line(kernel: dict) -> str:
+def kernel_line(kernel: Json) -> str:
     if not kernel["kept"]:
         return "kernel: its table is left alone (kernel = false)"
     if kernel["error"]:
@@ -160,7 +161,7 @@ def kernel_line(kernel: dict) -> str:
     return said
 
 
-def remark_lines(name: str, remarks: list[dict]) -> list[str]:
+def remark_lines(name: str, remarks: list[Json]) -> list[str]:
     """Why a neighbor isn't heard, a line for each that was seen; nothing of those with which all is
     well."""
     lines = []
@@ -173,7 +174,7 @@ def remark_lines(name: str, remarks: list[dict]) -> list[str]:
     return lines
 
 
-def interface_lines(each: dict) -> list[str]:
+def interface_lines(each: Json) -> list[str]:
     head = f"{each['name']}: {each['address']}, MTU {each['mtu']}"
     if each["passive"]:
         return [f"{head}: passive"]
@@ -186,7 +187,7 @@ def interface_lines(each: dict) -> list[str]:
     return [f"{head}: {state}", *remark_lines(each["name"], each["remarks"])]
 
 
-def status_lines(status: dict) -> list[str]:
+def status_lines(status: Json) -> list[str]:
     """The same for a reader."""
     began = moment_text(status["since"])
     lines = [

@@ -216,7 +216,7 @@ class Table:
             texts.append(each)
         return None if value is None else texts
 
-    def tables(self, key: str, title: Callable[[int, dict], str]) -> list[Table] | None:
+    def tables(self, key: str, title: Callable[[int, dict[str, Any]], str]) -> list[Table] | None:
         """The tables of a list, `[[key]]` in the file, empty where there is none; `title` says
         where one of them stands."""
         allowed = f"tables, each begun with [[{key}]]"

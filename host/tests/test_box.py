@@ -15,6 +15,7 @@ import time
 import unittest
 from collections.abc import Callable
 from pathlib import Path
+from typing import IO
 
 from leafrunt_host.box import SIGNALS, Box
 from leafrunt_host.client import Client
@@ -32,6 +33,12 @@ LEAFRUNT = HERE.parent / "leafrunt"
 TEXT = 'router_id = "{}"\nrouterd = "routerd"\nkernel = false\n[[interface]]\nname = "lan0"\npassive = true\n'
 MANY = 3
 NOBODY = 65534
+
+
+def errors_of(box: subprocess.Popen[str]) -> IO[str]:
+    """What a box writes on standard error."""
+    assert box.stderr
+    return box.stderr
 
 
 def within(seconds: float, test: Callable[[], bool]) -> bool:
@@ -67,7 +74,7 @@ class Boxes(unittest.TestCase):
             if box.poll() is None:
                 box.kill()
             box.wait()
-            box.stderr.close()
+            errors_of(box).close()
 
     def begin(
         self, router_id: str = "1.1.1.1", more: str = "", name: str = "one"
@@ -99,7 +106,7 @@ class Boxes(unittest.TestCase):
         self.assertTrue(
             within(30, lambda: name in running(self.run_folder) or box.poll() is not None)
         )
-        self.assertIsNone(box.poll(), box.stderr.read() if box.poll() is not None else "")
+        self.assertIsNone(box.poll(), errors_of(box).read() if box.poll() is not None else "")
         return box
 
     def client(self, name: str | None = None) -> Client:
@@ -115,7 +122,7 @@ class Boxes(unittest.TestCase):
             with contextlib.redirect_stdout(output), contextlib.redirect_stderr(errors):
                 status = main([words[0], "--run-directory", str(self.run_folder), *words[1:]])
         except SystemExit as ended:
-            status = ended.code
+            status = int(ended.code or 0)
         finally:
             sys.stdin = before
         return status, output.getvalue(), errors.getvalue()
@@ -127,7 +134,7 @@ class Boxes(unittest.TestCase):
     def ended(self, box: subprocess.Popen[str]) -> tuple[int, str]:
         """The status of a box that has to end, and its log."""
         status = box.wait(60)
-        return status, box.stderr.read()
+        return status, errors_of(box).read()
 
 
 class Consoles(Boxes):
@@ -577,12 +584,12 @@ class Starts(Boxes):
         for words, status in ((["/none.toml"], 3), ([], 2), (["--help"], 0)):
             with contextlib.redirect_stdout(io.StringIO()), contextlib.redirect_stderr(
                 io.StringIO()
-            ) as said:
+            ) as errors:
                 try:
                     self.assertEqual(main(["check", *words]), status)
                 except SystemExit as ended:
                     self.assertEqual(ended.code, status)
-            self.assertNotIn("Traceback", said.getvalue())
+            self.assertNotIn("Traceback", errors.getvalue())
 
     def script(self, *words: str) -> tuple[int, str]:
         """Status and errors of the command as a process of its own."""

@@ -36,7 +36,7 @@ class StandInLink:
     """What a status asks of a link."""
 
     said: list[Report]
-    counters: Counter = field(default_factory=lambda: Counter({"in": 3}))
+    counters: Counter[str] = field(default_factory=lambda: Counter({"in": 3}))
 
     def reports(self, _now: float) -> list[Report]:
         return self.said

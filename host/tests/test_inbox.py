@@ -42,7 +42,7 @@ def taken(inbox: Inbox) -> list[bytes]:
 class Merging(unittest.TestCase):
     def test_two_updates(self) -> None:
         one = merged(update(lsa(1, 36), lsa(2, 48)), update(lsa(3, 36)), ROUTER_MTU)
-        self.assertEqual(lsas_of(read(one).body), [lsa(1, 36), lsa(2, 48), lsa(3, 36)])
+        self.assertEqual(lsas_of(read(one or b"").body), [lsa(1, 36), lsa(2, 48), lsa(3, 36)])
 
     def test_what_is_not_merged(self) -> None:
         for one, other in (

@@ -5,7 +5,7 @@ import signal
 import subprocess
 import sys
 import time
-from collections.abc import Iterable
+from collections.abc import Callable, Iterable
 from dataclasses import replace
 from pathlib import Path
 
@@ -145,31 +145,28 @@ def ring(given: Try) -> None:
     it.stop()
 
 
-def externals(given: Try) -> None:
-    """10,000 externals of BIRD come and leave."""
+def in_a_ring(given: Try, act: Callable[[Ring, Looks], None], seconds: float) -> None:
+    """What is done once the ring is up, which takes so many seconds at most."""
     it = Ring(given)
     it.start()
-    given.looks.timed("the ring is up", 2 * COMES_UP, it.is_up)
-    ring_externals(it, given.looks)
+    given.looks.timed("the ring is up", seconds, it.is_up)
+    act(it, given.looks)
     it.stop()
+
+
+def externals(given: Try) -> None:
+    """10,000 externals of BIRD come and leave."""
+    in_a_ring(given, ring_externals, 2 * COMES_UP)
 
 
 def replays(given: Try) -> None:
     """Packets of BIRD are sent again by somebody else."""
-    it = Ring(given)
-    it.start()
-    given.looks.timed("the ring is up", COMES_UP, it.is_up)
-    ring_replays(it, given.looks)
-    it.stop()
+    in_a_ring(given, ring_replays, COMES_UP)
 
 
 def refusals(given: Try) -> None:
     """BIRD's interface differs in one thing at a time."""
-    it = Ring(given)
-    it.start()
-    given.looks.timed("the ring is up", COMES_UP, it.is_up)
-    ring_refusals(it, given.looks)
-    it.stop()
+    in_a_ring(given, ring_refusals, COMES_UP)
 
 
 def ring_up(it: Ring, looks: Looks) -> None:

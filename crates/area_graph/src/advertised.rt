@@ -11,16 +11,7 @@ use words::{Key, LinkStateId, RouterId, Second};
 fn body_of<'a>(db: &'a Lsdb, moment: Second, key: &Key) -> Option<&'a Body>
     ensures { option_copied result ≡ said_at moment db.now.present key.now }
 {
-    match db.get(key) {
-        None => None,
-        Some(copy) => {
-            if copy.is_aged_out(moment) {
-                None
-            } else {
-                Some(copy.lsa.body())
-            }
-        }
-    }
+    db.body_at(moment, key)
 }
 
 /// The router-LSA of a router.

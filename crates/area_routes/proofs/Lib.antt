@@ -1,3 +1,4 @@
 pub mod Roots
 pub mod Limits
 pub mod Candidates
+pub mod Following

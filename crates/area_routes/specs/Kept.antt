@@ -1,5 +1,5 @@
 -- The routes of a router as they are kept from one event to the next (RFC 2328, section 16).
-use Rattle.std.specs.Prelude.{◌≡◌, ℕ, ◌+◌, min, Bool, true, IfSome, Option, Some}
+use Rattle.std.specs.Prelude.{◌≡◌, ℕ, Bool, true, false, IfSome, Option, Some}
 use Rattle.std.specs.Global.{Vec}
 use Rattle.words.specs.Numbers.{Moment, RouterNumber}
 use Rattle.words.specs.declared.route.Route.{Route}
@@ -10,24 +10,31 @@ use Rattle.kept_routes.specs.Sameness.{AreLeft}
 use Rattle.routes.specs.Candidates.{AreCandidates}
 use Rattle.routes.specs.Said.{Said, said_at}
 use Rattle.routes.specs.Tables.{Answers, IsStale}
+use Rattle.routes.specs.declared.root.Root.{Root}
 
 pub record KeptRoutes : Type 0 where
   -- the walk
   pub walk : KeptWalk
+  -- whether the walk may be that of an earlier event: it is made again before anything rests on it
+  pub behind : Bool
   -- the candidates, where they were calculated since an LSA last said something else
   pub candidates : Option (Vec Route)
   -- whether each candidate is known to stand among the answers
   pub answered : Bool
 
+-- unless it is behind, the walk is that of what the LSAs say, from this root
+pub record KnowsWalk (said : Said) (start : Root) (kept : KeptRoutes) : Type 0 where
+  pub walk : kept.behind ≡ false → IsWalkOf said kept.walk
+  pub root : kept.behind ≡ false → kept.walk.root ≡ start
+
 -- where candidates are kept, they are those of what the LSAs say
-abbrev pub KnowsCandidates : Said → KeptRoutes → Type 0
-KnowsCandidates said kept =
-    IfSome kept.candidates (λ candidates. AreCandidates said kept.walk.root candidates.items)
+abbrev pub KnowsCandidates : Said → Root → KeptRoutes → Type 0
+KnowsCandidates said root kept =
+    IfSome kept.candidates (λ candidates. AreCandidates said root candidates.items)
 
 -- where each candidate is known to stand among the answers, each does
-abbrev pub KnowsAnswered : Said → Answers → KeptRoutes → Type 0
-KnowsAnswered said answers kept =
-    kept.answered ≡ true → IsStale said kept.walk.root answers → ⊥
+abbrev pub KnowsAnswered : Said → Root → Answers → KeptRoutes → Type 0
+KnowsAnswered said root answers kept = kept.answered ≡ true → IsStale said root answers → ⊥
 
 -- All that a walk rests on has stayed since the moment before: it begins where it began, and of
 -- the LSAs of the types up to this one, of all types where there is none, none came, left or has
@@ -37,17 +44,25 @@ pub record HasStayed (last_type : Option ℕ) (before : Moment) (moment : Moment
   pub root : walk.root ≡ root_by router new.links
   pub lsas : AreLeft last_type before moment old.database new.database
 
--- the walk stays where that has, and elsewhere it is another one, and counted
-pub record WalksAgainOnlyThen (before : Moment) (moment : Moment) (router : RouterNumber)
-    (old : Area) (new : Area) (walk : KeptWalk) (next : KeptWalk) : Type 0 where
-  pub stays : HasStayed (Some 2) before moment router old new walk → next ≡ walk
-  pub again : (HasStayed (Some 2) before moment router old new walk → ⊥)
-      → next.walks ≡ min (walk.walks + 1) 18446744073709551615
+-- over an event nothing is walked, and a walk serves on exactly where all that it rests on has
+-- stayed
+pub record ServesOnlyThen (before : Moment) (moment : Moment) (router : RouterNumber)
+    (old : Area) (new : Area) (kept : KeptRoutes) (next : KeptRoutes) : Type 0 where
+  pub walk : next.walk ≡ kept.walk
+  pub serves : kept.behind ≡ false → HasStayed (Some 2) before moment router old new kept.walk
+      → next.behind ≡ false
+  pub falls : (HasStayed (Some 2) before moment router old new kept.walk → ⊥) → next.behind ≡ true
+  pub lags : kept.behind ≡ true → next.behind ≡ true
 
--- they are the router's at the moment
+-- walk and candidates are the router's at the moment
+pub record AreRoutesOf (router : RouterNumber) (area : Area) (moment : Moment)
+    (kept : KeptRoutes) : Type 0 where
+  pub walk : KnowsWalk (said_at moment area.database) (root_by router area.links) kept
+  pub candidates : KnowsCandidates (said_at moment area.database) (root_by router area.links) kept
+
+-- and so is what is known of the answers
 pub record AreKept (router : RouterNumber) (area : Area) (moment : Moment) (answers : Answers)
     (kept : KeptRoutes) : Type 0 where
-  pub walk : IsWalkOf (said_at moment area.database) kept.walk
-  pub root : kept.walk.root ≡ root_by router area.links
-  pub candidates : KnowsCandidates (said_at moment area.database) kept
-  pub answered : KnowsAnswered (said_at moment area.database) answers kept
+  pub routes : AreRoutesOf router area moment kept
+  pub answered : KnowsAnswered (said_at moment area.database) (root_by router area.links) answers
+      kept

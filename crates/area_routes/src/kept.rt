@@ -2,14 +2,13 @@
 ghost use Rattle.std.specs.Prelude.{◌≡◌, ◌+◌, ◌≤◌, ◌↔◌, None, false, length, min, IfOk, IsSome};
 ghost use Rattle.std.specs.Prelude.{IsTrue, OnErr, OnOk, true};
 ghost use Rattle.std.specs.FinMap as finite;
-ghost use Rattle.area_routes.specs.Kept.{HasStayed, KnowsAnswered, KnowsCandidates};
-ghost use Rattle.area_routes.specs.Kept.{WalksAgainOnlyThen};
-ghost use Rattle.area_routes.specs.Offers.{AreOfferedBy, root_by};
-ghost use Rattle.kept_routes.specs.Kept.{IsWalkOf};
+ghost use Rattle.area_routes.specs.Kept.{AreKept, AreRoutesOf, HasStayed, KnowsAnswered};
+ghost use Rattle.area_routes.specs.Kept.{KnowsCandidates, KnowsWalk, ServesOnlyThen};
+ghost use Rattle.area_routes.specs.Offers.{AreCandidatesOf, AreOffered, IsStaleOf, IsTableOf};
+ghost use Rattle.area_routes.specs.Offers.{root_by};
 ghost use Rattle.kept_routes.specs.Sameness.{AreLeft, SayTheSame};
-ghost use Rattle.routes.specs.Candidates.{AreCandidates};
 ghost use Rattle.routes.specs.Said.{said_at};
-ghost use Rattle.routes.specs.Tables.{Answers, IsStale, IsTable};
+ghost use Rattle.routes.specs.Tables.{Answers};
 
 use crate::root::{is_root_of, root_of};
 use flooding::Area;
@@ -29,13 +28,16 @@ pub struct Offered {
 
 /// The routes of a router from one event to the next. The walk of its database stays for as long as
 /// the LSAs of types 1 and 2 say the same (RFC 2328, section 16.1); candidates that were looked at,
-/// and that all of them stand among the answers, for as long as all LSAs do.
+/// and that all of them stand among the answers, for as long as all LSAs do. An event makes no walk:
+/// where it leaves none that serves, one is made once candidates are asked for.
 ///
 /// Links, database and answers aren't part of it. Each call is handed them, and a clause says of
 /// which moment they are.
 #[derive(Drop)]
 pub struct AreaRoutes {
     walk: Routes,
+    // the walk may be that of an earlier event
+    behind: bool,
     // the candidates, where they were looked at since an LSA last said something else
     candidates: Option<Vec<Route>>,
     // each candidate stands among the answers
@@ -49,6 +51,7 @@ impl Model for AreaRoutes {
 
     ghost view = { λ a. record {
       walk = a.walk;
+      behind = a.behind;
       candidates = a.candidates;
       answered = a.answered;
     } };
@@ -87,11 +90,9 @@ impl AreaRoutes {
     ) -> Result<AreaRoutes, AllocError>
         requires few { length area.now.present.links ≤ 63 }
         requires size { finite.len area.now.present.database ≤ 16384 }
-        ensures walk { IfOk result (λ made.
-            IsWalkOf (said_at moment area.now.present.database) made.walk) }
-        ensures root { IfOk result (λ made.
-            made.walk.root ≡ root_by router area.now.present.links) }
+        ensures routes { IfOk result (λ made. AreRoutesOf router area.now.present moment made) }
         ensures walks { IfOk result (λ made. made.walk.walks ≡ 1) }
+        ensures behind { IfOk result (λ made. made.behind ≡ false) }
         ensures candidates { IfOk result (λ made. made.candidates ≡ None) }
         ensures answered { IfOk result (λ made. made.answered ≡ false) }
     {
@@ -100,19 +101,20 @@ impl AreaRoutes {
         let walk = Routes::new(alloc, db, &root, moment)?;
         Ok(AreaRoutes {
             walk,
+            behind: false,
             candidates: None,
             answered: false,
         })
     }
 
     /// Follows a router over an event, from what its area was when it was last settled, at the
-    /// moment before, to what it is at this moment. It walks again only where the router's
-    /// addresses are others, or an LSA of type 1 or 2 came, left, has come to MaxAge or says
-    /// something else; another instance below MaxAge that says the same doesn't count (RFC 2328,
-    /// section 13.2). There are at most 63 links and 16,384 LSAs.
+    /// moment before, to what it is at this moment. It doesn't walk: the walk serves on where the
+    /// router's addresses are the same and no LSA of type 1 or 2 came, left, has come to MaxAge or
+    /// says something else; another instance below MaxAge that says the same doesn't count (RFC
+    /// 2328, section 13.2).
     ///
     /// # Errors
-    /// Where memory for the walk, or for the keys of the LSAs at MaxAge, is refused; the routes
+    /// Where memory for the keys of the LSAs at MaxAge, or to compare texts, is refused; the routes
     /// stay as they were then.
     pub fn follow(
         &mut self,
@@ -122,34 +124,31 @@ impl AreaRoutes {
         before: Second,
         moment: Second,
     ) -> Result<(), AllocError>
-        requires few { length area.now.present.links ≤ 63 }
-        requires size { finite.len area.now.present.database ≤ 16384 }
         requires order { before ≤ moment }
-        requires walk { IsWalkOf (said_at before area.now.settled.database) self.old.walk }
-        requires candidates { KnowsCandidates (said_at before area.now.settled.database) self.old }
-        ensures walk { OnOk result
-            (IsWalkOf (said_at moment area.now.present.database) self.new.walk) }
-        ensures root { OnOk result
-            (self.new.walk.root ≡ root_by router area.now.present.links) }
-        // What was known of the candidates and of the answers before is known still, or not known
-        // any more.
-        ensures candidates { OnOk result
-            (KnowsCandidates (said_at moment area.now.present.database) self.new) }
+        requires routes { AreRoutesOf router area.now.settled before self.old }
+        ensures routes { OnOk result (AreRoutesOf router area.now.present moment self.new) }
+        // What was known of the answers before is known still, or not known any more.
         ensures answered { OnOk result ((answers : Answers)
-            → KnowsAnswered (said_at before area.now.settled.database) answers self.old
-            → KnowsAnswered (said_at moment area.now.present.database) answers self.new) }
-        // It walks again only where the router's addresses are others, or an LSA of type 1 or 2
-        // came, left, has come to MaxAge or says something else.
-        ensures walks { OnOk result (WalksAgainOnlyThen before moment router
-            area.now.settled area.now.present self.old.walk self.new.walk) }
+            → AreKept router area.now.settled before answers self.old
+            → AreKept router area.now.present moment answers self.new) }
+        // It walks again later only where the router's addresses are others, or an LSA of type 1 or
+        // 2 came, left, has come to MaxAge or says something else.
+        ensures walks { OnOk result (ServesOnlyThen before moment router
+            area.now.settled area.now.present self.old self.new) }
         // Where that holds of LSAs of all types, what is known of the candidates and of the answers
         // stays too.
-        ensures all { OnOk result (HasStayed None before moment router
+        ensures all { OnOk result (self.old.behind ≡ false
+            → HasStayed None before moment router
             area.now.settled area.now.present self.old.walk → self.new ≡ self.old) }
         ensures err { OnErr result (self.new ≡ self.old) }
     {
         walks_are_kept();
         routes_are_kept();
+        if self.behind {
+            self.candidates = None;
+            self.answered = false;
+            return Ok(());
+        }
         if is_root_of(self.walk.root(), router, area) {
             if says_the_same(alloc, area, None, before, moment)? {
                 return Ok(());
@@ -160,11 +159,14 @@ impl AreaRoutes {
                 return Ok(());
             }
         }
-        self.walk_again(alloc, router, area, moment)
+        self.behind = true;
+        self.candidates = None;
+        self.answered = false;
+        Ok(())
     }
 
-    // Another walk in place of the one that was kept.
-    fn walk_again(
+    // Makes the walk that serves now, where the one that is kept doesn't.
+    fn catch_up(
         &mut self,
         alloc: Global,
         router: RouterId,
@@ -173,41 +175,47 @@ impl AreaRoutes {
     ) -> Result<(), AllocError>
         requires few { length area.now.present.links ≤ 63 }
         requires size { finite.len area.now.present.database ≤ 16384 }
-        ensures walk { OnOk result
-            (IsWalkOf (said_at moment area.now.present.database) self.new.walk) }
-        ensures root { OnOk result
-            (self.new.walk.root ≡ root_by router area.now.present.links) }
-        ensures candidates { OnOk result (self.new.candidates ≡ None) }
-        ensures answered { OnOk result (self.new.answered ≡ false) }
-        ensures walks { OnOk result
-            (self.new.walk.walks ≡ min (self.old.walk.walks + 1) 18446744073709551615) }
+        requires walk { KnowsWalk (said_at moment area.now.present.database)
+            (root_by router area.now.present.links) self.old }
+        ensures walk { KnowsWalk (said_at moment area.now.present.database)
+            (root_by router area.now.present.links) self.new }
+        ensures behind { OnOk result (self.new.behind ≡ false) }
+        ensures stays { self.old.behind ≡ false → self.new.walk ≡ self.old.walk }
+        ensures counts { OnOk result (self.old.behind ≡ true → self.new.walk.walks
+            ≡ min (self.old.walk.walks + 1) 18446744073709551615) }
+        ensures candidates { self.new.candidates ≡ self.old.candidates }
+        ensures answered { self.new.answered ≡ self.old.answered }
         ensures err { OnErr result (self.new ≡ self.old) }
     {
-        let root = root_of(alloc, router, area)?;
-        let db = area.database();
-        self.walk.walk(alloc, db, &root, moment)?;
-        self.candidates = None;
-        self.answered = false;
+        if self.behind {
+            let root = root_of(alloc, router, area)?;
+            let db = area.database();
+            self.walk.walk(alloc, db, &root, moment)?;
+            self.behind = false;
+        }
         Ok(())
     }
 
     /// Takes note of other answers: looks whether each candidate stands among them. The candidates
-    /// are kept. Where memory for that is refused, it isn't known.
+    /// are kept. Where the walk doesn't serve, or memory for that is refused, it isn't known.
     pub fn take_answers(
         &mut self,
         alloc: Global,
+        router: RouterId,
         area: &Area,
         moment: Second,
         answers: &[(Route, u64)],
     )
-        requires walk { IsWalkOf (said_at moment area.now.present.database) self.old.walk }
-        requires candidates { KnowsCandidates (said_at moment area.now.present.database) self.old }
+        requires routes { AreRoutesOf router area.now.present moment self.old }
         ensures walk { self.new.walk ≡ self.old.walk }
-        ensures candidates { KnowsCandidates (said_at moment area.now.present.database) self.new }
-        ensures answered { KnowsAnswered (said_at moment area.now.present.database)
-            answers.now self.new }
+        ensures behind { self.new.behind ≡ self.old.behind }
+        ensures kept { AreKept router area.now.present moment answers.now self.new }
     {
-        self.answered = match self.lacks_answers(alloc, area, moment, answers) {
+        if self.behind {
+            self.answered = false;
+            return;
+        }
+        self.answered = match self.lacks_answers(alloc, router, area, moment, answers) {
             Ok(lacks) => !lacks,
             Err(_) => false,
         };
@@ -215,26 +223,35 @@ impl AreaRoutes {
 
     /// The candidates at a moment: for each prefix that anything in the database offers one route,
     /// in the order of the prefixes (RFC 2328, section 16). Where they are kept, it is a copy of
-    /// them.
+    /// them. Where no walk serves, one is made for them alone. There are at most 63 links and 16,384
+    /// LSAs.
     ///
     /// # Errors
-    /// Where memory for the offers or the routes is refused.
+    /// Where memory for the walk, the offers or the routes is refused.
     pub fn candidates(
         &self,
         alloc: Global,
+        router: RouterId,
         area: &Area,
         moment: Second,
     ) -> Result<Vec<Route>, AllocError>
-        requires walk { IsWalkOf (said_at moment area.now.present.database) self.now.walk }
-        requires candidates { KnowsCandidates (said_at moment area.now.present.database) self.now }
-        ensures { IfOk result (λ candidates. AreCandidates
-            (said_at moment area.now.present.database) self.now.walk.root candidates.items) }
+        requires few { length area.now.present.links ≤ 63 }
+        requires size { finite.len area.now.present.database ≤ 16384 }
+        requires routes { AreRoutesOf router area.now.present moment self.now }
+        ensures { IfOk result (λ candidates.
+            AreCandidatesOf router area.now.present moment candidates.items) }
     {
         if let Some(candidates) = &self.candidates {
             let copy = Vec::from_slice(alloc, candidates)?;
             return Ok(copy);
         }
         let db = area.database();
+        if self.behind {
+            let root = root_of(alloc, router, area)?;
+            let walk = Routes::new(alloc, db, &root, moment)?;
+            let candidates = walk.candidates(alloc, db, moment)?;
+            return Ok(candidates);
+        }
         let candidates = self.walk.candidates(alloc, db, moment)?;
         Ok(candidates)
     }
@@ -247,16 +264,18 @@ impl AreaRoutes {
     pub fn table(
         &self,
         alloc: Global,
+        router: RouterId,
         area: &Area,
         moment: Second,
         answers: &[(Route, u64)],
     ) -> Result<Vec<Route>, AllocError>
-        requires walk { IsWalkOf (said_at moment area.now.present.database) self.now.walk }
-        requires candidates { KnowsCandidates (said_at moment area.now.present.database) self.now }
-        ensures { IfOk result (λ table. IsTable
-            (said_at moment area.now.present.database) self.now.walk.root answers.now table.items) }
+        requires few { length area.now.present.links ≤ 63 }
+        requires size { finite.len area.now.present.database ≤ 16384 }
+        requires routes { AreRoutesOf router area.now.present moment self.now }
+        ensures { IfOk result (λ table.
+            IsTableOf router area.now.present moment answers.now table.items) }
     {
-        let candidates = self.candidates(alloc, area, moment)?;
+        let candidates = self.candidates(alloc, router, area, moment)?;
         let table = table(alloc, &candidates, answers)?;
         Ok(table)
     }
@@ -268,17 +287,18 @@ impl AreaRoutes {
     pub fn offered(
         &self,
         alloc: Global,
+        router: RouterId,
         area: &Area,
         moment: Second,
         answers: &[(Route, u64)],
     ) -> Result<Offered, AllocError>
-        requires walk { IsWalkOf (said_at moment area.now.present.database) self.now.walk }
-        requires candidates { KnowsCandidates (said_at moment area.now.present.database) self.now }
-        ensures { IfOk result (λ offered. AreOfferedBy
-            (said_at moment area.now.present.database) self.now.walk.root answers.now
+        requires few { length area.now.present.links ≤ 63 }
+        requires size { finite.len area.now.present.database ≤ 16384 }
+        requires routes { AreRoutesOf router area.now.present moment self.now }
+        ensures { IfOk result (λ offered. AreOffered router area.now.present moment answers.now
             offered.candidates.items offered.rows.items) }
     {
-        let candidates = self.candidates(alloc, area, moment)?;
+        let candidates = self.candidates(alloc, router, area, moment)?;
         let table = table(alloc, &candidates, answers)?;
         let rows = rows_of(alloc, &table)?;
         Ok(Offered { candidates, rows })
@@ -289,16 +309,19 @@ impl AreaRoutes {
     fn lacks_answers(
         &mut self,
         alloc: Global,
+        router: RouterId,
         area: &Area,
         moment: Second,
         answers: &[(Route, u64)],
     ) -> Result<bool, AllocError>
-        requires walk { IsWalkOf (said_at moment area.now.present.database) self.old.walk }
-        requires candidates { KnowsCandidates (said_at moment area.now.present.database) self.old }
-        ensures lacks { IfOk result (λ lacks. IsTrue lacks ↔ IsStale
-            (said_at moment area.now.present.database) self.old.walk.root answers.now) }
+        requires behind { self.old.behind ≡ false }
+        requires routes { AreRoutesOf router area.now.present moment self.old }
+        ensures lacks { IfOk result (λ lacks. IsTrue lacks
+            ↔ IsStaleOf router area.now.present moment answers.now) }
         ensures walk { self.new.walk ≡ self.old.walk }
-        ensures candidates { KnowsCandidates (said_at moment area.now.present.database) self.new }
+        ensures behind { self.new.behind ≡ self.old.behind }
+        ensures candidates { KnowsCandidates (said_at moment area.now.present.database)
+            (root_by router area.now.present.links) self.new }
         ensures kept { OnOk result (IsSome self.new.candidates) }
         ensures answered { self.new.answered ≡ self.old.answered }
         ensures err { OnErr result (self.new ≡ self.old) }
@@ -307,7 +330,8 @@ impl AreaRoutes {
             let lacks = is_stale(alloc, candidates, answers)?;
             return Ok(lacks);
         }
-        let candidates = self.candidates(alloc, area, moment)?;
+        let db = area.database();
+        let candidates = self.walk.candidates(alloc, db, moment)?;
         let lacks = is_stale(alloc, &candidates, answers)?;
         self.candidates = Some(candidates);
         Ok(lacks)
@@ -316,40 +340,39 @@ impl AreaRoutes {
     /// Tells whether some candidate stands in none of the answers, so that they are to be asked for
     /// again. Where it is known that none does, no candidate is looked at. That none does is
     /// remembered, and so are the candidates that it looked at, until an LSA says something else.
+    /// Where no walk serves, one is made. There are at most 63 links and 16,384 LSAs.
     ///
     /// # Errors
-    /// Where memory for the candidates, or for answers in order, is refused; the routes stay as
-    /// they were then.
+    /// Where memory for the walk, the candidates, or answers in order is refused; what is known of
+    /// candidates and answers stays as it was then.
     pub fn is_stale(
         &mut self,
         alloc: Global,
+        router: RouterId,
         area: &Area,
         moment: Second,
         answers: &[(Route, u64)],
     ) -> Result<bool, AllocError>
-        requires walk { IsWalkOf (said_at moment area.now.present.database) self.old.walk }
-        requires candidates { KnowsCandidates (said_at moment area.now.present.database) self.old }
-        requires answered { KnowsAnswered (said_at moment area.now.present.database)
-            answers.now self.old }
-        ensures stale { IfOk result (λ stale. IsTrue stale ↔ IsStale
-            (said_at moment area.now.present.database) self.old.walk.root answers.now) }
-        ensures walk { self.new.walk ≡ self.old.walk }
-        ensures answered { KnowsAnswered (said_at moment area.now.present.database)
-            answers.now self.new }
+        requires few { length area.now.present.links ≤ 63 }
+        requires size { finite.len area.now.present.database ≤ 16384 }
+        requires kept { AreKept router area.now.present moment answers.now self.old }
+        ensures stale { IfOk result (λ stale. IsTrue stale
+            ↔ IsStaleOf router area.now.present moment answers.now) }
+        ensures kept { AreKept router area.now.present moment answers.now self.new }
+        ensures walk { self.old.behind ≡ false → self.new.walk ≡ self.old.walk }
         ensures noted { IfOk result (λ stale. stale ≡ false → self.new.answered ≡ true) }
-        ensures candidates { KnowsCandidates (said_at moment area.now.present.database) self.new }
-        ensures kept { OnOk result (self.old.answered ≡ false → IsSome self.new.candidates) }
-        ensures err { OnErr result (self.new ≡ self.old) }
+        ensures looked { OnOk result (self.old.answered ≡ false → IsSome self.new.candidates) }
     {
         if self.answered {
             return Ok(false);
         }
-        let lacks = self.lacks_answers(alloc, area, moment, answers)?;
+        self.catch_up(alloc, router, area, moment)?;
+        let lacks = self.lacks_answers(alloc, router, area, moment, answers)?;
         self.answered = !lacks;
         Ok(lacks)
     }
 
-    /// How many walks were made; it stays at its greatest value.
+    /// How many walks were made and kept; it stays at its greatest value.
     pub fn walks(&self) -> u64
         ensures { result ≡ self.now.walk.walks }
     {

@@ -1,6 +1,22 @@
 //! Figures of speed, printed on demand: `bench run`, and so with the other names. With no words it prints nothing.
 #![tactic(auto)]
 
+mod again;
+mod core_speed;
+mod exchange;
+mod jobs;
+mod load;
+mod lsas;
+mod measuring;
+mod packets;
+mod pair;
+mod routers;
+mod single;
+mod steps;
+mod telling;
+mod timing;
+mod turn_speed;
+
 use std::env;
 use std::process::ExitCode;
 use std::rt::Clock;
@@ -22,13 +38,13 @@ fn measure<R: Clock + Print + AllocGlobal + Threads + Wait + Copy + Send + Sync 
         "asm" => bench_code::print_asm(rt)?,
         "objects" => bench_code::print_objects(rt)?,
         "maps" => bench_code::print_maps(*rt)?,
-        "texts" => bench_texts::print(rt)?,
-        "core" => bench_core::print(rt)?,
-        "database" => bench_database::print(rt)?,
-        "hooks" => bench_hooks::print(*rt)?,
-        "turn" => bench_turn::print(rt)?,
-        "walk" => bench_walk::print(rt)?,
-        "verify" => bench_verify::print(rt)?,
+        "texts" => bench_lsas::print_texts(rt)?,
+        "core" => core_speed::print(rt)?,
+        "database" => bench_lsas::print_database(rt)?,
+        "hooks" => bench_code::print_hooks(*rt)?,
+        "turn" => turn_speed::print(rt)?,
+        "walk" => bench_lsas::print_walk(rt)?,
+        "verify" => bench_code::print_verify(rt)?,
         _ => return Ok(false),
     }
     Ok(true)

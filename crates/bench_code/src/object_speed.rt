@@ -35,8 +35,8 @@ fn statement_at(slot: u32) -> Option<Statement> {
     Statement::new(slot, rank, kinds, stack)
 }
 
-// An object with so many slots, and so many statements: one at each fourth slot.
-fn object_of(alloc: Global, slots: usize, statements: u16) -> Result<Object>
+/// An object with so many slots, and so many statements: one at each fourth slot.
+pub fn object_of(alloc: Global, slots: usize, statements: u16) -> Result<Object>
     requires { 2 ≤ slots }
     ensures slots { IfOk result (λ object. slots_of object ≡ slots) }
     ensures statements { IfOk result (λ object. length object.statements ≡ statements) }
@@ -95,18 +95,16 @@ fn print_figures<R: Clock + Print + AllocGlobal>(
     Ok(())
 }
 
-fn print_each<R: Clock + Print + AllocGlobal>(rt: &R, slots: usize, statements: u16) -> Result<()>
-    requires { 2 ≤ slots }
-{
-    println!(rt; "an object of {slots} slots and {statements} statements")?;
-    let object = object_of(rt.alloc(), slots, statements)?;
+// How many slots the object has.
+const SLOTS: usize = 4_096;
+
+// How many of them have a statement.
+const STATEMENTS: u16 = 1_000;
+
+/// Prints how long an object of 4,096 slots and 1,000 statements takes to read and to write.
+pub fn print<R: Clock + Print + AllocGlobal>(rt: &R) -> Result<()> {
+    println!(rt; "an object of {SLOTS} slots and {STATEMENTS} statements")?;
+    let object = object_of(rt.alloc(), SLOTS, STATEMENTS)?;
     let bytes = object::write(rt.alloc(), &object)?;
     print_figures(rt, &object, &bytes)
-}
-
-/// Prints how long objects of up to 4,096 slots and 1,000 statements take to read and to write.
-pub fn print<R: Clock + Print + AllocGlobal>(rt: &R) -> Result<()> {
-    print_each(rt, 1_024, 250)?;
-    print_each(rt, 4_096, 0)?;
-    print_each(rt, 4_096, 1_000)
 }

@@ -2,7 +2,7 @@
 ghost use Rattle.std.specs.Prelude.{◌≡◌};
 ghost use Rattle.maps.specs.Words.{IsOf};
 
-use crate::programs;
+use crate::{accepted_speed, programs};
 use anyhow::{Result, anyhow};
 use bench_figures::{Figure, Round, report};
 use interp::run_checked;
@@ -138,12 +138,13 @@ fn print_loops<R: Clock + Print + AllocGlobal>(rt: &R) -> Result<()> {
         .print(rt, "a load is dearer by", "each")
 }
 
-/// Prints how long straight-line code, a loop, and programs with accesses of the maps take.
+/// Prints how long straight-line code, a loop, and programs with accesses of the maps take, and straight-line code that is accepted.
 pub fn print<R: Clock + Print + AllocGlobal>(rt: &R) -> Result<()> {
     print_short(rt)?;
     let long = programs::straight_line(rt.alloc(), 4_000);
     print_code(rt, "straight-line arithmetic, 4,000 slots", long, 1_000)?;
     let counting = programs::counting_loop(rt.alloc());
     print_code(rt, "counting loop", counting, 4)?;
-    print_loops(rt)
+    print_loops(rt)?;
+    accepted_speed::print(rt)
 }

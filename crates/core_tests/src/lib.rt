@@ -1,11 +1,15 @@
-//! Tests of the router as a whole by its public calls: bytes and moments in, bytes out. Each is a
-//! list of steps that one loop plays.
+//! Tests of the router as a whole by its public calls: bytes and moments in, bytes out. Each of one router is a list of steps that one loop
+//! plays; those of two and three routers in memory are in `networks` and `histories`.
 #![tactic(auto)]
 
+#[cfg(test)]
+mod announced;
 #[cfg(test)]
 mod destinations;
 #[cfg(test)]
 mod exchanges;
+#[cfg(test)]
+mod flooded;
 #[cfg(test)]
 mod floods;
 #[cfg(test)]
@@ -13,9 +17,19 @@ mod hello_packets;
 #[cfg(test)]
 mod hellos;
 #[cfg(test)]
+mod histories;
+#[cfg(test)]
 mod limits;
 #[cfg(test)]
 mod made;
+#[cfg(test)]
+mod member;
+#[cfg(test)]
+mod named;
+#[cfg(test)]
+mod network;
+#[cfg(test)]
+mod networks;
 #[cfg(test)]
 mod operator;
 #[cfg(test)]

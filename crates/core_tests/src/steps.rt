@@ -67,7 +67,8 @@ pub enum Step {
     Metric(u32, Option<u32>),
     /// Whether the destination of this address and length is announced.
     Wants(u32, u8, bool),
-    /// So many walks were made since this was last looked at, or the walks from here on count.
+    /// Where the router is asked whether it is stale, it walks so often, and events since this was
+    /// last looked at made no walk; or the walks from here on count.
     Walks(u64),
     CountWalks,
     /// There are so many candidates, those of a router that walks anew.
@@ -186,16 +187,22 @@ fn rows(core: &Core) -> Option<usize> {
 }
 
 impl<R: Wait + Drop> Trial<R> {
-    fn walked(&mut self) -> u64 {
-        let before = self.walks;
+    // How many walks the router makes where it is asked whether it is stale, twice where an
+    // allocation is refused; None where it had walked before, in an event.
+    fn walked(&mut self) -> Option<u64> {
+        let before = self.core.walks();
+        let rested = before == self.walks;
+        if self.core.stale().is_err() {
+            let _again = self.core.stale();
+        }
         self.walks = self.core.walks();
-        self.walks.wrapping_sub(before)
+        rested.then_some(self.walks.wrapping_sub(before))
     }
 
     // One allocation may be refused: then it is asked once more.
     fn shows_routes(&mut self, step: Step) -> bool {
         match step {
-            Step::Walks(count) => self.walked() == count,
+            Step::Walks(count) => self.walked() == Some(count),
             Step::CountWalks => {
                 self.walked();
                 true

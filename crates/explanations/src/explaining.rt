@@ -1,15 +1,21 @@
 //! A program and the verifier's word on it, explained.
-ghost use Rattle.std.specs.Prelude.{IfErr, IfOk};
+ghost use Rattle.std.specs.Prelude.{◌≡◌, ◌++◌, IfErr, IfOk, string_bytes};
+ghost use Rattle.explanations.specs.Told.{TellsVerdict, accepted_line, refused_words};
 ghost use Rattle.object_verdicts.specs.Verdicts.{Accepts, Refuses};
 
+use crate::edges::push_start;
 use crate::lines::instruction_lines;
 use crate::page::Page;
+use crate::phrases::Value;
+use crate::replay::{entry_kinds, entry_statement, start};
 use crate::rules::{rule_hint, rule_name};
 use crate::walk::{Program, push_pass};
 use isa::{Code, DecodeError, decode};
+use kinds::Target;
 use liveness::live_registers;
-use object::{Object, ReadError};
+use object::{Object, ReadError, Statement};
 use object_verdicts::{VerifyError, verify_object};
+use segments::target::targets_of;
 use std::alloc::{AllocError, AllocFailed, Global};
 use verifier::{Accepted, Refusal, Rule};
 
@@ -27,7 +33,7 @@ pub struct Explanation {
 }
 
 /// Why nothing can be told.
-#[derive(Clone, Copy, Debug, PartialEq, Eq)]
+#[derive(Clone, Copy)]
 pub enum ExplainError {
     Object(ReadError),
     Code(DecodeError),
@@ -69,58 +75,144 @@ fn push_budget(out: &mut String, object: &Object) -> Result<(), AllocError> {
     out.push_str("  allowed: up to 1000000\n")
 }
 
-/// The refusal: where, by which rule, for which reasons, and a hint.
-fn push_refusal(
-    out: &mut String,
-    object: &Object,
-    refusal: Refusal,
-    reasons: &str,
-) -> Result<(), AllocError> {
+/// The line for a program that is accepted with this bound.
+fn accepted(alloc: Global, bound: u64) -> Result<String, AllocError>
+    ensures { IfOk result (λ text. string_bytes text ≡ accepted_line bound) }
+{
+    format!(in alloc; "accepted bound {bound}\n")
+}
+
+/// Where a program is refused, and by which rule.
+fn refused(alloc: Global, refusal: Refusal) -> Result<String, AllocError>
+    ensures { IfOk result (λ text. string_bytes text ≡ refused_words refusal) }
+{
     let slot = refusal.slot;
     let rule = refusal.rule.number();
-    let name = rule_name(refusal.rule);
-    writeln!(out, "refused slot {slot} rule {rule} {name}")?;
-    if refusal.rule == Rule::Budget {
-        push_budget(out, object)?;
+    format!(in alloc; "refused slot {slot} rule {rule}")
+}
+
+/// What is told behind that: the rule by its name, the reasons, and a hint.
+fn refusal_words(
+    alloc: Global,
+    object: &Object,
+    rule: Rule,
+    reasons: &str,
+) -> Result<String, AllocError> {
+    let mut out = String::new(alloc);
+    let name = rule_name(rule);
+    writeln!(out, " {name}")?;
+    if rule == Rule::Budget {
+        push_budget(&mut out, object)?;
     } else {
         out.push_str(reasons)?;
     }
-    let hint = rule_hint(refusal.rule);
-    writeln!(out, "  hint: {hint}")
+    let hint = rule_hint(rule);
+    writeln!(out, "  hint: {hint}")?;
+    Ok(out)
 }
 
-fn push_verdict(
-    out: &mut String,
+/// The refusal in words: where and by which rule, and then these.
+fn refusal_told(alloc: Global, refusal: Refusal, more: &str) -> Result<String, AllocError>
+    ensures { IfOk result (λ text. string_bytes text ≡ refused_words refusal ++ more.now) }
+{
+    let mut text = refused(alloc, refusal)?;
+    text.push_str(more)?;
+    Ok(text)
+}
+
+/// The verdict in words.
+#[tactic(auto, using(crate::proofs::Refusals::tells_refusal))]
+fn verdict_told(
+    alloc: Global,
     object: &Object,
     verdict: &Result<Accepted, VerifyError>,
     reasons: &str,
-) -> Result<(), AllocError> {
+) -> Result<String, AllocError>
+    ensures { IfOk result (λ text. TellsVerdict verdict.now (string_bytes text)) }
+{
     match verdict {
-        Ok(accepted) => {
-            let bound = accepted.bound();
-            writeln!(out, "accepted bound {bound}")
+        Ok(program) => {
+            let text = accepted(alloc, program.bound())?;
+            Ok(text)
         }
-        Err(VerifyError::Refused(refusal)) => push_refusal(out, object, *refusal, reasons),
-        Err(_) => Ok(()),
+        Err(VerifyError::Refused(refusal)) => {
+            let more = refusal_words(alloc, object, refusal.rule, reasons)?;
+            let text = refusal_told(alloc, *refusal, more.as_str())?;
+            Ok(text)
+        }
+        Err(VerifyError::Object(_)) | Err(VerifyError::Code(_)) => Ok(String::new(alloc)),
     }
 }
 
+/// Where the pass ends. Of the budget and of memory no slot says anything.
+fn refusal_in(verdict: &Result<Accepted, VerifyError>) -> Option<Refusal> {
+    match verdict {
+        Err(VerifyError::Refused(refusal)) => match refusal.rule {
+            Rule::Budget | Rule::Memory => None,
+            _ => Some(*refusal),
+        },
+        _ => None,
+    }
+}
+
+/// What the verifier knows where a run begins, and then at each slot, up to the one that it refuses.
+fn push_known_by<'a>(
+    alloc: Global,
+    page: &mut Page,
+    program: &Program<'_>,
+    targets: &[Option<Target<'a, Value>>],
+    statement: &'a Statement,
+) -> Result<(), AllocError> {
+    let entry = Target {
+        statement,
+        kinds: entry_kinds(alloc)?,
+    };
+    let first = start(alloc)?;
+    if push_start(&mut page.reasons, targets, &entry, &first)? {
+        return page.turn(0, program.lines);
+    }
+    push_pass(page, program, targets, &entry, first)
+}
+
+/// The same of an object's program.
+fn push_object(
+    alloc: Global,
+    page: &mut Page,
+    program: &Program<'_>,
+    object: &Object,
+) -> Result<(), AllocError> {
+    if object.slots() != program.code.len() {
+        return Ok(());
+    }
+    let Some(statement) = entry_statement(object.entry_rank()) else {
+        return Ok(());
+    };
+    let targets = targets_of::<Value>(alloc, program.code.len(), object.statements())?;
+    push_known_by(alloc, page, program, &targets, &statement)
+}
+
 /// What the verifier knows at each slot, up to the one that it refuses.
-fn page_of(alloc: Global, object: &Object, code: &Code) -> Result<Page, ExplainError> {
+fn page_of(
+    alloc: Global,
+    object: &Object,
+    code: &Code,
+    refusal: Option<Refusal>,
+) -> Result<Page, ExplainError> {
     let live = live_registers(alloc, code, object.hook())?;
     let listed = instruction_lines(alloc, object)?;
     let lines: Vec<&str> = listed.as_str().lines().collect(alloc)?;
     let program = Program {
-        alloc,
         code,
         hook: object.hook(),
         live: &live,
+        lines: &lines,
+        refusal,
     };
     let mut page = Page::new(alloc);
     let hook = object.hook().name();
     let rank = object.entry_rank();
     writeln!(page.here, "hook {hook}, rank {rank} at the entry")?;
-    push_pass(&mut page, &program, object, &lines)?;
+    push_object(alloc, &mut page, &program, object)?;
     Ok(page)
 }
 
@@ -129,6 +221,7 @@ fn page_of(alloc: Global, object: &Object, code: &Code) -> Result<Page, ExplainE
 pub fn explain(alloc: Global, bytes: &[u8]) -> Result<Explanation, ExplainError>
     ensures accepts { IfOk result (λ explanation. IfOk explanation.verdict (Accepts bytes.now)) }
     ensures refuses { IfOk result (λ explanation. IfErr explanation.verdict (Refuses bytes.now)) }
+    ensures told { IfOk result (λ explanation. TellsVerdict explanation.verdict (string_bytes explanation.told)) }
 {
     let object = object::read(alloc, bytes)?;
     let code = decode(alloc, object.code())?;
@@ -137,9 +230,9 @@ pub fn explain(alloc: Global, bytes: &[u8]) -> Result<Explanation, ExplainError>
         before,
         here,
         reasons,
-    } = page_of(alloc, &object, &code)?;
-    let mut told = String::new(alloc);
-    push_verdict(&mut told, &object, &verdict, reasons.as_str())?;
+        ..
+    } = page_of(alloc, &object, &code, refusal_in(&verdict))?;
+    let told = verdict_told(alloc, &object, &verdict, reasons.as_str())?;
     Ok(Explanation {
         before,
         last: here,

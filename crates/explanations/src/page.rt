@@ -8,6 +8,8 @@ pub(crate) struct Page {
     pub before: String,
     pub here: String,
     pub reasons: String,
+    /// How many instructions were told of.
+    told: usize,
 }
 
 impl Page {
@@ -16,13 +18,16 @@ impl Page {
             before: String::new(alloc),
             here: String::new(alloc),
             reasons: String::new(alloc),
+            told: 0,
         }
     }
 
-    /// Begins to tell of the next slot.
-    pub fn turn(&mut self) -> Result<(), AllocError> {
+    /// Begins to tell of the next slot, by the next instruction's line.
+    pub fn turn(&mut self, slot: usize, lines: &[&str]) -> Result<(), AllocError> {
         self.before.push_str(self.here.as_str())?;
         self.here.clear();
-        Ok(())
+        let line = lines.get(self.told).copied().unwrap_or("");
+        self.told = self.told.saturating_add(1);
+        writeln!(self.here, "slot {slot}: {line}")
     }
 }

@@ -10,13 +10,14 @@ use std::alloc::AllocError;
 /// The values that the verifier of object files works with.
 pub(crate) type Value = Pair<Interval, KnownBits>;
 
-/// The bits of the numbers from 0 to this one.
+/// The bits of the numbers from 0 to this one: its highest bit that is set, and all below it.
 fn span(high: u64) -> u64 {
-    if high == 0 {
-        0
-    } else {
-        u64::MAX >> high.leading_zeros()
-    }
+    let two = high | high >> 1;
+    let four = two | two >> 2;
+    let eight = four | four >> 4;
+    let sixteen = eight | eight >> 8;
+    let half = sixteen | sixteen >> 16;
+    half | half >> 32
 }
 
 /// A range of numbers.

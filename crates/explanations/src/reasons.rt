@@ -1,4 +1,5 @@
 //! What breaks a rule at an instruction, and what is allowed.
+ghost use Rattle.std.specs.Prelude.{◌<◌};
 
 use crate::phrases::{Value, push_kind, push_place};
 use absdom::Domain;
@@ -6,6 +7,7 @@ use isa::{Hook, Instruction, Operation, Register, Width};
 use kinds::{Entry, Kind, Place, State, kind_at};
 use liveness::{has, reads};
 use machine::Helper;
+use segments::places::jump_of;
 use std::alloc::AllocError;
 use transfer::load::{load_length, map_length};
 use transfer::place::reached;
@@ -267,4 +269,40 @@ pub(crate) fn push_reason(
         ),
         _ => Ok(()),
     }
+}
+
+/// What is wrong with the slots that may come after the instruction.
+pub(crate) fn push_misplaced(
+    out: &mut String,
+    slot: usize,
+    instruction: &Instruction,
+    rule: Rule,
+) -> Result<(), AllocError>
+    requires { slot < 4096 }
+{
+    match (rule, jump_of(slot, instruction)) {
+        (Rule::Target, Some(to)) => writeln!(
+            out,
+            "  it jumps to slot {to}, where no instruction begins\n  allowed: a slot of the code where one begins"
+        ),
+        (Rule::Unstated, Some(to)) => writeln!(
+            out,
+            "  it jumps to slot {to}, which has no statement\n  allowed: a slot that is stated"
+        ),
+        (Rule::FallsOff, _) => out.push_str(
+            "  behind it the code ends\n  allowed: an exit or a goto as the last instruction\n",
+        ),
+        _ => writeln!(
+            out,
+            "  slot {slot} has no statement, and nothing comes from the slot before\n  allowed: a slot that is stated"
+        ),
+    }
+}
+
+/// What is wrong with a statement where no instruction begins.
+pub(crate) fn push_stray(out: &mut String, slot: usize) -> Result<(), AllocError> {
+    writeln!(
+        out,
+        "  slot {slot} is stated, and is the second half of a wide instruction\n  allowed: a slot where an instruction begins"
+    )
 }

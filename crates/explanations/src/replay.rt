@@ -29,14 +29,6 @@ pub(crate) fn start(alloc: Global) -> Result<State<Value>, AllocError> {
     })
 }
 
-pub(crate) fn copy_of(alloc: Global, state: &State<Value>) -> Result<State<Value>, AllocError> {
-    Ok(State {
-        kinds: Vec::from_slice(alloc, &state.kinds)?,
-        facts: Vec::from_slice(alloc, &state.facts)?,
-        entries: Vec::from_slice(alloc, &state.entries)?,
-    })
-}
-
 /// Whether the register isn't as it was at the last statement.
 fn has_moved(register: usize, fact: Fact) -> bool {
     usize::from(fact.origin) != register || fact.up != fact.down

@@ -1,32 +1,33 @@
-//! The verifier's pass, with words for what it knows.
+//! The verifier's pass, with words for what it knows, up to the slot that it refuses.
 ghost use Rattle.std.specs.Prelude.{◌≡◌, ◌<◌, slice_get, Some};
 ghost use Rattle.isa.specs.declared.code.Slot.TheVariants.{Start};
-ghost use Rattle.segments.specs.Places.{IsWellPlaced};
 
-use crate::edges::{push_start, push_ways};
+use crate::edges::push_ways;
 use crate::page::Page;
 use crate::phrases::Value;
-use crate::reasons::push_reason;
-use crate::replay::{copy_of, entry_kinds, entry_statement, push_known, push_statement, start};
+use crate::reasons::{push_misplaced, push_reason, push_stray};
+use crate::replay::{push_known, push_statement};
 use isa::{Code, Hook, Instruction, Slot};
 use kinds::{State, Target, reset};
 use liveness::Registers;
-use object::Object;
 use segments::follow::follow;
 use segments::known::Known;
-use segments::places::{check_places, falls_through, jump_of};
-use segments::target::{is_stated, stated_at, targets_of};
-use std::alloc::{AllocError, Global};
+use segments::places::check_places;
+use segments::target::stated_at;
+use std::alloc::AllocError;
 use transfer::straight::straight;
-use verifier::Rule;
+use verifier::{Refusal, Rule};
 
 /// A program, and what doesn't change from slot to slot.
 #[derive(Clone, Copy)]
 pub(crate) struct Program<'a> {
-    pub alloc: Global,
     pub code: &'a Code,
     pub hook: Hook,
     pub live: &'a [Registers],
+    /// The line of each instruction.
+    pub lines: &'a [&'a str],
+    /// Where and by which rule the verifier refuses it, if it does.
+    pub refusal: Option<Refusal>,
 }
 
 impl<'a> Program<'a> {
@@ -34,32 +35,13 @@ impl<'a> Program<'a> {
     fn live_at(&self, slot: usize) -> Registers {
         self.live.get(slot).copied().unwrap_or(0)
     }
-}
 
-fn push_misplaced(
-    out: &mut String,
-    slot: usize,
-    instruction: &Instruction,
-    rule: Rule,
-) -> Result<(), AllocError>
-    requires { slot < 4096 }
-{
-    match (rule, jump_of(slot, instruction)) {
-        (Rule::Target, Some(to)) => writeln!(
-            out,
-            "  it jumps to slot {to}, where no instruction begins\n  allowed: a slot of the code where one begins"
-        ),
-        (Rule::Unstated, Some(to)) => writeln!(
-            out,
-            "  it jumps to slot {to}, which has no statement\n  allowed: a slot that is stated"
-        ),
-        (Rule::FallsOff, _) => out.push_str(
-            "  behind it the code ends\n  allowed: an exit or a goto as the last instruction\n",
-        ),
-        _ => writeln!(
-            out,
-            "  slot {slot} has no statement, and nothing comes from the slot before\n  allowed: a slot that is stated"
-        ),
+    /// The rule by which the verifier refuses it at the slot, if it does.
+    fn rule_at(&self, slot: usize) -> Option<Rule> {
+        match self.refusal {
+            Some(refusal) if refusal.slot == slot => Some(refusal.rule),
+            _ => None,
+        }
     }
 }
 
@@ -68,20 +50,88 @@ fn push_misplaced(
 struct Here {
     begun: Option<usize>,
     known: Known<Value>,
-    is_passed_to: bool,
 }
 
-/// An instruction that is refused, and by which rule.
-#[derive(Clone, Copy)]
-struct Fault {
+/// What is known at the slot. A statement there begins a segment.
+fn arrived<'a>(targets: &[Option<Target<'a, Value>>], slot: usize, here: Here) -> Here {
+    match stated_at(targets, slot) {
+        Some(target) => Here {
+            begun: Some(slot),
+            known: Known {
+                state: reset(here.known.state, target),
+                is_live: true,
+            },
+        },
+        None => here,
+    }
+}
+
+/// Tells of a slot: its instruction, a statement there, and what is known.
+fn push_slot<'a>(
+    page: &mut Page,
+    program: &Program<'_>,
+    targets: &[Option<Target<'a, Value>>],
+    here: &Here,
+    slot: usize,
+) -> Result<(), AllocError> {
+    page.turn(slot, program.lines)?;
+    if let Some(target) = stated_at(targets, slot) {
+        push_statement(&mut page.here, target)?;
+    }
+    if here.known.is_live {
+        let live = program.live_at(slot);
+        push_known(&mut page.here, live, here.begun, &here.known.state)
+    } else {
+        page.here.push_str("    no run comes here\n")
+    }
+}
+
+/// What is known behind the instruction, in this segment. None where it is refused.
+fn followed<'a>(
+    code: &Code,
+    hook: Hook,
+    targets: &[Option<Target<'a, Value>>],
+    segment: &Target<'a, Value>,
+    here: Here,
     slot: usize,
     instruction: Instruction,
-    rule: Rule,
+) -> Option<Here>
+    requires small { slot < 4096 }
+    requires here { slice_get code.now slot ≡ Some (Start instruction) }
+{
+    let Here { begun, known } = here;
+    if !known.is_live {
+        return Some(Here { begun, known });
+    }
+    match check_places(code, targets, true, slot, &instruction) {
+        Ok(()) => match follow(code, hook, targets, segment, known.state, slot, instruction) {
+            Ok(known) => Some(Here { begun, known }),
+            Err(_) => None,
+        },
+        Err(_) => None,
+    }
 }
 
-/// Whether the rule is one of edges.
-fn is_of_edge(rule: Rule) -> bool {
-    matches!(rule, Rule::NotWithin | Rule::Rank)
+/// The same, in the segment that begins at the entry or at a statement.
+fn followed_in<'a>(
+    code: &Code,
+    hook: Hook,
+    targets: &[Option<Target<'a, Value>>],
+    entry: &Target<'a, Value>,
+    here: Here,
+    slot: usize,
+    instruction: Instruction,
+) -> Option<Here>
+    requires small { slot < 4096 }
+    requires here { slice_get code.now slot ≡ Some (Start instruction) }
+{
+    let Some(start) = here.begun else {
+        return followed(code, hook, targets, entry, here, slot, instruction);
+    };
+    match stated_at(targets, start) {
+        Some(segment) => followed(code, hook, targets, segment, here, slot, instruction),
+        None => followed(code, hook, targets, entry, here, slot, instruction),
+    }
 }
 
 fn is_jump(instruction: &Instruction) -> bool {
@@ -91,228 +141,80 @@ fn is_jump(instruction: &Instruction) -> bool {
     )
 }
 
-/// What is wrong at an instruction that is refused.
-fn push_fault<'a>(
+/// What is wrong on the ways from an instruction.
+fn push_edges<'a>(
     out: &mut String,
     hook: Hook,
     targets: &[Option<Target<'a, Value>>],
     segment: &Target<'a, Value>,
     before: State<Value>,
-    fault: &Fault,
+    slot: usize,
+    instruction: &Instruction,
 ) -> Result<(), AllocError>
-    requires { fault.now.slot < 4096 }
+    requires { slot < 4096 }
 {
-    if !is_of_edge(fault.rule) {
-        return push_reason(out, hook, &before, &fault.instruction, fault.rule);
+    if is_jump(instruction) {
+        return push_ways(out, targets, segment, slot, instruction, before);
     }
-    if is_jump(&fault.instruction) {
-        return push_ways(
-            out,
-            targets,
-            segment,
-            fault.slot,
-            &fault.instruction,
-            before,
-        );
-    }
-    match straight(before, hook, fault.instruction) {
-        Ok(after) => push_ways(out, targets, segment, fault.slot, &fault.instruction, after),
+    match straight(before, hook, *instruction) {
+        Ok(after) => push_ways(out, targets, segment, slot, instruction, after),
         Err(_) => Ok(()),
     }
 }
 
-/// What is known at the slot. A statement there begins a segment.
-fn arrive<'a>(
-    page: &mut Page,
+/// The same, in the segment that begins at the entry or at a statement.
+fn push_edges_in<'a>(
+    out: &mut String,
+    hook: Hook,
     targets: &[Option<Target<'a, Value>>],
+    entry: &Target<'a, Value>,
     here: Here,
     slot: usize,
-) -> Result<Here, AllocError> {
-    let Some(target) = stated_at(targets, slot) else {
-        return Ok(here);
-    };
-    push_statement(&mut page.here, target)?;
-    let Here {
-        known,
-        is_passed_to,
-        ..
-    } = here;
+    instruction: &Instruction,
+) -> Result<(), AllocError>
+    requires { slot < 4096 }
+{
+    let Here { begun, known } = here;
     let Known { state, .. } = known;
-    Ok(Here {
-        begun: Some(slot),
-        known: Known {
-            state: reset(state, target),
-            is_live: true,
-        },
-        is_passed_to,
-    })
-}
-
-/// Goes on by the instruction, in the segment. None where it is refused.
-fn go<'a>(
-    page: &mut Page,
-    program: &Program<'_>,
-    code: &Code,
-    targets: &[Option<Target<'a, Value>>],
-    segment: &Target<'a, Value>,
-    here: Here,
-    slot: usize,
-    instruction: Instruction,
-) -> Result<Option<Here>, AllocError>
-    requires small { slot < 4096 }
-    requires here { slice_get code.now slot ≡ Some (Start instruction) }
-    requires placed { IsWellPlaced code.now targets.now slot instruction }
-{
-    let Here { begun, known, .. } = here;
-    let Known { state, .. } = known;
-    push_known(&mut page.here, program.live_at(slot), begun, &state)?;
-    let before = copy_of(program.alloc, &state)?;
-    match follow(
-        code,
-        program.hook,
-        targets,
-        segment,
-        state,
-        slot,
-        instruction,
-    ) {
-        Ok(known) => Ok(Some(Here {
-            begun,
-            known,
-            is_passed_to: falls_through(&instruction),
-        })),
-        Err(rule) => {
-            let fault = Fault {
-                slot,
-                instruction,
-                rule,
-            };
-            push_fault(
-                &mut page.reasons,
-                program.hook,
-                targets,
-                segment,
-                before,
-                &fault,
-            )?;
-            Ok(None)
-        }
-    }
-}
-
-/// Goes on by the instruction, in the segment that begins at the entry or at a statement.
-fn go_in<'a>(
-    page: &mut Page,
-    program: &Program<'_>,
-    code: &Code,
-    targets: &[Option<Target<'a, Value>>],
-    entry: &Target<'a, Value>,
-    here: Here,
-    slot: usize,
-    instruction: Instruction,
-) -> Result<Option<Here>, AllocError>
-    requires small { slot < 4096 }
-    requires here { slice_get code.now slot ≡ Some (Start instruction) }
-    requires placed { IsWellPlaced code.now targets.now slot instruction }
-{
-    let Some(start) = here.begun else {
-        return go(page, program, code, targets, entry, here, slot, instruction);
+    let Some(start) = begun else {
+        return push_edges(out, hook, targets, entry, state, slot, instruction);
     };
-    let Some(segment) = stated_at(targets, start) else {
-        return go(page, program, code, targets, entry, here, slot, instruction);
-    };
-    go(
-        page,
-        program,
-        code,
-        targets,
-        segment,
-        here,
-        slot,
-        instruction,
-    )
+    match stated_at(targets, start) {
+        Some(segment) => push_edges(out, hook, targets, segment, state, slot, instruction),
+        None => push_edges(out, hook, targets, entry, state, slot, instruction),
+    }
 }
 
-/// Where no run comes, it goes on all the same.
-fn idle(out: &mut String, here: Here, instruction: &Instruction) -> Result<Here, AllocError> {
-    out.push_str("    no run comes here\n")?;
-    let Here { begun, known, .. } = here;
-    Ok(Here {
-        begun,
-        known,
-        is_passed_to: falls_through(instruction),
-    })
-}
-
-/// Tells of a slot, and goes on from there. None where it is refused.
-fn step<'a>(
-    page: &mut Page,
-    program: &Program<'_>,
-    code: &Code,
+/// What is wrong at the instruction that the verifier refuses by this rule.
+fn push_fault<'a>(
+    out: &mut String,
+    hook: Hook,
     targets: &[Option<Target<'a, Value>>],
     entry: &Target<'a, Value>,
     here: Here,
     slot: usize,
-    instruction: Instruction,
-) -> Result<Option<Here>, AllocError>
-    requires small { slot < 4096 }
-    requires here { slice_get code.now slot ≡ Some (Start instruction) }
+    rule: Rule,
+    instruction: &Instruction,
+) -> Result<(), AllocError>
+    requires { slot < 4096 }
 {
-    match check_places(code, targets, here.is_passed_to, slot, &instruction) {
-        Ok(()) => {
-            let arrived = arrive(page, targets, here, slot)?;
-            if arrived.known.is_live {
-                go_in(
-                    page,
-                    program,
-                    code,
-                    targets,
-                    entry,
-                    arrived,
-                    slot,
-                    instruction,
-                )
-            } else {
-                Ok(Some(idle(&mut page.here, arrived, &instruction)?))
-            }
+    match rule {
+        Rule::NotWithin | Rule::Rank => {
+            push_edges_in(out, hook, targets, entry, here, slot, instruction)
         }
-        Err(rule) => {
-            push_misplaced(&mut page.reasons, slot, &instruction, rule)?;
-            Ok(None)
+        Rule::Target | Rule::FallsOff | Rule::Unreached | Rule::Unstated => {
+            push_misplaced(out, slot, instruction, rule)
         }
+        _ => push_reason(out, hook, &here.known.state, instruction, rule),
     }
 }
 
-/// The instruction in assembly words.
-fn push_line(page: &mut Page, slot: usize, lines: &[&str], told: usize) -> Result<(), AllocError> {
-    page.turn()?;
-    let line = lines.get(told).copied().unwrap_or("");
-    writeln!(page.here, "slot {slot}: {line}")
-}
-
-/// A statement at the second half of a wide instruction. Whether there is one.
-fn push_stray<'a>(
-    page: &mut Page,
-    targets: &[Option<Target<'a, Value>>],
-    slot: usize,
-) -> Result<bool, AllocError> {
-    if !is_stated(targets, slot) {
-        return Ok(false);
-    }
-    writeln!(
-        page.reasons,
-        "  slot {slot} is stated, and is the second half of a wide instruction\n  allowed: a slot where an instruction begins"
-    )?;
-    Ok(true)
-}
-
-/// Passes over the slots, up to the one that the verifier refuses.
-fn push_slots<'a>(
+/// Passes over the code as the verifier does, up to the slot that it refuses, and says what is wrong there.
+pub(crate) fn push_pass<'a>(
     page: &mut Page,
     program: &Program<'_>,
     targets: &[Option<Target<'a, Value>>],
     entry: &Target<'a, Value>,
-    lines: &[&str],
     first: State<Value>,
 ) -> Result<(), AllocError> {
     let mut here = Here {
@@ -321,55 +223,24 @@ fn push_slots<'a>(
             state: first,
             is_live: true,
         },
-        is_passed_to: true,
     };
-    let mut told = 0usize;
-    for slot in 0..program.code.len() {
-        if let Some(Slot::Start(instruction)) = program.code.at(slot as u64) {
-            push_line(page, slot, lines, told)?;
-            told = told.saturating_add(1);
-            match step(
-                page,
-                program,
-                program.code,
-                targets,
-                entry,
-                here,
-                slot,
-                instruction,
-            )? {
+    let code = program.code;
+    let hook = program.hook;
+    for slot in 0..code.len() {
+        if let Some(Slot::Start(instruction)) = code.at(slot as u64) {
+            here = arrived(targets, slot, here);
+            push_slot(page, program, targets, &here, slot)?;
+            if let Some(rule) = program.rule_at(slot) {
+                let out = &mut page.reasons;
+                return push_fault(out, hook, targets, entry, here, slot, rule, &instruction);
+            }
+            match followed_in(code, hook, targets, entry, here, slot, instruction) {
                 Some(next) => here = next,
                 None => return Ok(()),
             }
-        } else if push_stray(page, targets, slot)? {
-            return Ok(());
+        } else if program.rule_at(slot).is_some() {
+            return push_stray(&mut page.reasons, slot);
         }
     }
     Ok(())
-}
-
-/// Passes over the code of the object as the verifier does, up to the slot that it refuses. The lines are
-/// those of the instructions.
-pub(crate) fn push_pass(
-    page: &mut Page,
-    program: &Program<'_>,
-    object: &Object,
-    lines: &[&str],
-) -> Result<(), AllocError> {
-    if object.slots() != program.code.len() {
-        return Ok(());
-    }
-    let Some(statement) = entry_statement(object.entry_rank()) else {
-        return Ok(());
-    };
-    let entry = Target {
-        statement: &statement,
-        kinds: entry_kinds(program.alloc)?,
-    };
-    let targets = targets_of::<Value>(program.alloc, program.code.len(), object.statements())?;
-    let first = start(program.alloc)?;
-    if push_start(&mut page.reasons, &targets, &entry, &first)? {
-        return push_line(page, 0, lines, 0);
-    }
-    push_slots(page, program, &targets, &entry, lines, first)
 }

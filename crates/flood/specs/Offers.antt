@@ -3,8 +3,7 @@ use Rattle.std.specs.Prelude.{List}
 use Rattle.words.specs.declared.route.Route.{Route}
 use Rattle.words.specs.declared.route.TableRow.{TableRow}
 use Rattle.events.specs.Routers.{Router}
-use Rattle.area_routes.specs.Kept.{AreKept, KeptRoutes, WalksAgainOnlyThen}
-use Rattle.kept_routes.specs.Kept.{KeptWalk}
+use Rattle.area_routes.specs.Kept.{AreKept, KeptRoutes, ServesOnlyThen}
 use Rattle.area_routes.specs.Offers.{AreCandidatesOf, AreOffered, IsStaleOf, IsTableOf}
 
 -- its candidates at the moment of its last event
@@ -23,12 +22,11 @@ IsOffered r candidates rows = AreOffered r.id r.area r.moment r.answers candidat
 abbrev pub IsStaleNow : Router → Type 0
 IsStaleNow r = IsStaleOf r.id r.area r.moment r.answers
 
--- from one router to the next the kept walk stays, or it is another one, and counted: only where
--- an LSA of type 1 or 2 came, left, has come to MaxAge or says something else, or the addresses
--- are others
-abbrev pub WalksOnlyThen : (old : Router) → (new : Router) → KeptWalk → KeptWalk → Type 0
-WalksOnlyThen old new walk next =
-    WalksAgainOnlyThen old.moment new.moment new.id old.area new.area walk next
+-- from one router to the next nothing is walked, and the kept walk serves on: unless an LSA of type
+-- 1 or 2 came, left, has come to MaxAge or says something else, or the addresses are others
+abbrev pub WalksOnlyThen : (old : Router) → (new : Router) → KeptRoutes → KeptRoutes → Type 0
+WalksOnlyThen old new kept next =
+    ServesOnlyThen old.moment new.moment new.id old.area new.area kept next
 
 -- what is kept for its routes is that of the moment of its last event
 abbrev pub AreKeptNow : Router → KeptRoutes → Type 0

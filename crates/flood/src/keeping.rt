@@ -1,6 +1,6 @@
 //! What is kept for routes from one event to the next.
 ghost use Rattle.std.specs.Prelude.{◌≡◌, ◌≤◌, IfOk, OnErr, OnOk, false};
-ghost use Rattle.area_routes.specs.Kept.{KnowsAnswered, KnowsCandidates, WalksAgainOnlyThen};
+ghost use Rattle.area_routes.specs.Kept.{AreKept, ServesOnlyThen};
 ghost use Rattle.event_rooms.specs.RoomLaws.{IsRoomy};
 ghost use Rattle.events.specs.Events.{Happens};
 ghost use Rattle.events.specs.Refusals.{Answers, exceeds};
@@ -8,8 +8,6 @@ ghost use Rattle.flood_laws.specs.InOrder.{IsInOrder};
 ghost use Rattle.flood_laws.specs.Keeping.{HoldsInstances, KeepsWhatIsKnown};
 ghost use Rattle.flood.specs.Occurrences.{brings_answers, occurrence_of};
 ghost use Rattle.flood.specs.Offers.{AreKeptNow, WalksOnlyThen};
-ghost use Rattle.kept_routes.specs.Kept.{IsWalkOf};
-ghost use Rattle.routes.specs.Said.{said_at};
 
 use crate::event::Event;
 use crate::taking::take;
@@ -40,26 +38,23 @@ fn keep(
     before: Second,
     event: &Event,
 ) -> Result<(), AllocError>
-    requires fine { exceeds router.now.present ≡ false }
     requires order { before ≤ router.now.present.moment }
-    requires walk { IsWalkOf (said_at before router.now.settled.area.database) routes.old.walk }
-    requires candidates { KnowsCandidates (said_at before router.now.settled.area.database)
-        routes.old }
-    requires answered { KnowsAnswered (said_at before router.now.settled.area.database)
+    requires kept { AreKept router.now.present.id router.now.settled.area before
         router.now.settled.answers routes.old }
     requires answers { brings_answers (occurrence_of event.now) ≡ false
         → router.now.present.answers ≡ router.now.settled.answers }
     ensures kept { OnOk result (AreKeptNow router.now.present routes.new) }
-    ensures walks { OnOk result (WalksAgainOnlyThen before router.now.present.moment
+    ensures walks { OnOk result (ServesOnlyThen before router.now.present.moment
         router.now.present.id router.now.settled.area router.now.present.area
-        routes.old.walk routes.new.walk) }
+        routes.old routes.new) }
     ensures err { OnErr result (routes.new ≡ routes.old) }
 {
+    let own = router.id();
     let area = router.area();
     let moment = router.moment();
-    routes.follow(alloc, router.id(), area, before, moment)?;
+    routes.follow(alloc, own, area, before, moment)?;
     if brings_answers(event) {
-        routes.take_answers(alloc, area, moment, router.answers());
+        routes.take_answers(alloc, own, area, moment, router.answers());
     }
     Ok(())
 }
@@ -88,10 +83,10 @@ pub fn take_and_keep(
     ensures limit { IfOk result (λ outs. exceeds router.new.present ≡ false) }
     ensures settled { router.new.settled ≡ router.old.settled }
     ensures kept { IfOk result (λ outs. AreKeptNow router.new.present routes.new) }
-    // It walks again only where an LSA of type 1 or 2 came, left, has come to MaxAge or says
-    // something else, or the addresses are others.
+    // It doesn't walk, and the walk serves on unless an LSA of type 1 or 2 came, left, has come to
+    // MaxAge or says something else, or the addresses are others.
     ensures walks { IfOk result (λ outs. WalksOnlyThen router.old.present router.new.present
-        routes.old.walk routes.new.walk) }
+        routes.old routes.new) }
     ensures err { OnErr result (routes.new ≡ routes.old) }
 {
     let before = router.moment();

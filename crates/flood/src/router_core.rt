@@ -218,17 +218,18 @@ impl Core {
     }
 
     /// The candidates for the routing table at the moment of the last event (RFC 2328, section 16).
-    /// It takes the walk that the event left, and walks no more.
+    /// No event walks: where the walk that is kept doesn't serve any more, and [`stale`](Core::stale)
+    /// hasn't made another one since, one is made for this call alone.
     ///
     /// # Errors
-    /// Where memory for the offers or the routes is refused.
+    /// Where memory for the walk, the offers or the routes is refused.
     pub fn candidates(&self) -> Result<Vec<Route>, AllocError>
         ensures { IfOk result (λ routes. AreCandidatesNow self.now routes.items) }
     {
         let router = &self.router;
         let made = self
             .routes
-            .candidates(self.alloc, router.area(), router.moment())?;
+            .candidates(self.alloc, router.id(), router.area(), router.moment())?;
         Ok(made)
     }
 
@@ -240,7 +241,13 @@ impl Core {
         ensures { IfOk result (λ table. IsTableNow self.now table.items) }
     {
         let router = &self.router;
-        let made = self.routes.table(self.alloc, router.area(), router.moment(), router.answers())?;
+        let made = self.routes.table(
+            self.alloc,
+            router.id(),
+            router.area(),
+            router.moment(),
+            router.answers(),
+        )?;
         Ok(made)
     }
 
@@ -254,6 +261,7 @@ impl Core {
         let router = &self.router;
         let made = self.routes.offered(
             self.alloc,
+            router.id(),
             router.area(),
             router.moment(),
             router.answers(),
@@ -263,10 +271,11 @@ impl Core {
 
     /// Tells whether some candidate stands in none of the answers of the last Install, so that they
     /// are to be asked for again. Where that was found of none, by this call or as the answers
-    /// came, and no event since has changed what an LSA says, no candidate is looked at.
+    /// came, and no event since has changed what an LSA says, no candidate is looked at. Where an
+    /// event left no walk that serves, one is made and kept.
     ///
     /// # Errors
-    /// Where memory for the candidates, or for answers in order, is refused.
+    /// Where memory for the walk, the candidates, or answers in order is refused.
     pub fn stale(&mut self) -> Result<bool, AllocError>
         ensures stale { IfOk result (λ b. IsTrue b ↔ IsStaleNow self.old) }
         ensures core { self.new ≡ self.old }
@@ -274,6 +283,7 @@ impl Core {
         let router = &self.router;
         let made = self.routes.is_stale(
             self.alloc,
+            router.id(),
             router.area(),
             router.moment(),
             router.answers(),
@@ -281,9 +291,10 @@ impl Core {
         Ok(made)
     }
 
-    /// How many walks were made of its database since it began or was copied; it stays at its
-    /// greatest value. An event makes one at most, and only where an LSA of type 1 or 2 came, left,
-    /// has come to MaxAge or says something else, or the addresses are others.
+    /// How many walks were made and kept since it began or was copied; it stays at its greatest
+    /// value. An event makes none. [`stale`](Core::stale) makes one at most, and only where since the
+    /// last one an LSA of type 1 or 2 came, left, has come to MaxAge or says something else, or the
+    /// addresses are others.
     pub fn walks(&self) -> u64 {
         self.routes.walks()
     }

@@ -7,7 +7,7 @@ use isa::Hook;
 use words::{External, ExternalType, Hops, Prefix, Route, RouteKind, Second};
 
 /// The fields of a question. Each hook has some of them.
-#[derive(Clone, Copy, Debug)]
+#[derive(Clone, Copy)]
 pub struct Asked {
     pub prefix: Prefix,
     pub metric: u32,

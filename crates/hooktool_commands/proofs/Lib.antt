@@ -1,3 +1,2 @@
-pub mod Explained
 pub mod Found
 pub mod Told

@@ -109,7 +109,7 @@ fn written<'a, R: Files + AllocGlobal>(
     ensures done { IfOk result (λ report. report.is_refused ≡ false) }
 {
     let report = accepted(rt.alloc(), annotated.accepted.bound())?;
-    files::write(rt, path, &annotated.bytes)?;
+    files::write_accepted(rt, path, &annotated.bytes)?;
     Ok(report)
 }
 

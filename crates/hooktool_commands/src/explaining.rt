@@ -1,6 +1,6 @@
 //! `explain`: what the verifier knows of a program, and its verdict.
 
-ghost use Rattle.std.specs.Prelude.{◌≡◌, List, ℕ, true, false, IfOk, MatchResult};
+ghost use Rattle.std.specs.Prelude.{◌≡◌, ◌++◌, List, ℕ, IfOk, is_err, string_bytes};
 ghost use Rattle.hooktool_commands.specs.Explanations.{IsExplained};
 
 use crate::fault::Fault;
@@ -23,7 +23,10 @@ impl<'a> From<ExplainError> for Fault<'a> {
 }
 
 /// The three texts of an explanation, one behind the other.
-fn whole(explanation: Explanation) -> Result<String, AllocError> {
+fn whole(explanation: Explanation) -> Result<String, AllocError>
+    ensures { IfOk result (λ text. string_bytes text ≡ (string_bytes explanation.before ++ string_bytes explanation.last)
+        ++ string_bytes explanation.told) }
+{
     let Explanation {
         before,
         last,
@@ -38,7 +41,7 @@ fn whole(explanation: Explanation) -> Result<String, AllocError> {
 
 /// Whether the program is refused. A fault where no verdict was reached for want of memory.
 fn is_refusal<'a>(verdict: &Result<Accepted, VerifyError>) -> Result<bool, Fault<'a>>
-    ensures { IfOk result (λ refused. MatchResult verdict.now (λ _. refused ≡ false) (λ _. refused ≡ true)) }
+    ensures { IfOk result (λ refused. refused ≡ is_err verdict.now) }
 {
     match verdict {
         Ok(_) => Ok(false),

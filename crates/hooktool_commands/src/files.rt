@@ -1,6 +1,8 @@
 //! Files, read and written whole.
 
 ghost use Rattle.std.specs.Prelude.{◌≡◌, ◌⊎◌, IfErr};
+ghost use Rattle.object_verdicts.specs.Verdicts.{Accepts};
+ghost use Rattle.verifier.specs.Programs.{Program};
 
 use crate::fault::Fault;
 use std::alloc::Global;
@@ -18,12 +20,14 @@ pub(crate) fn read<'a, R: Files + AllocGlobal>(rt: &R, path: &'a str) -> Result<
     }
 }
 
-/// Makes the file at `path` one of these bytes, written beside it first, so that after a fault it is as before.
-pub(crate) fn write<'a, R: Files + AllocGlobal>(
+/// Makes the file at `path` one of these bytes, written beside it first, so that after a fault it is as before. Only an object that the
+/// verifier accepts is ever written.
+pub(crate) fn write_accepted<'a, R: Files + AllocGlobal>(
     rt: &R,
     path: &'a str,
     bytes: &[u8],
 ) -> Result<(), Fault<'a>>
+    requires { (program : Program) × Accepts bytes.now program }
     ensures { IfErr result (λ fault. (fault ≡ Fault.Write path.entry) ⊎ (fault ≡ Fault.Memory)) }
 {
     match whole_files::write(rt, path, bytes) {

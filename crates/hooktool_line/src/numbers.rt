@@ -9,7 +9,7 @@ use crate::values::number_of;
 use clap::ArgMatches;
 
 /// The numbers of a question: moments below 2^62, interfaces below 64.
-#[derive(Clone, Copy, Debug)]
+#[derive(Clone, Copy)]
 pub(crate) struct Numbers {
     pub metric: u32,
     pub tag: u32,

@@ -10,7 +10,7 @@ use clap::ArgMatches;
 use words::{ExternalType, Prefix, RouteKind};
 
 /// The destination of a question, the type of the external one, and the route's kind.
-#[derive(Clone, Copy, Debug)]
+#[derive(Clone, Copy)]
 pub(crate) struct Places {
     pub prefix: Prefix,
     pub external: ExternalType,

@@ -24,14 +24,14 @@ use std::alloc::{AllocError, Global};
 use words::{Hops, Second, TableRow};
 
 /// The packet of a question: its bytes, or the path of the file that has them.
-#[derive(Debug, Drop)]
+#[derive(Drop)]
 pub enum Packet<'a> {
     Bytes(Vec<u8>),
     File(&'a str),
 }
 
 /// What a program is to be run on, and how many times in a row, 1 to 1,000.
-#[derive(Debug, Drop)]
+#[derive(Drop)]
 pub struct Question<'a> {
     pub asked: Asked,
     pub packet: Packet<'a>,
@@ -40,7 +40,7 @@ pub struct Question<'a> {
 }
 
 /// What the words of a command line ask for.
-#[derive(Debug, Drop)]
+#[derive(Drop)]
 pub enum Request<'a> {
     /// Find statements for code at a hook, and write the object. Where `fuel` is told, loops without a rank may take so many turns.
     Annotate {

@@ -5,29 +5,45 @@ use std::alloc::Global;
 use std::fs;
 use std::process::Abort;
 use std::rt::Files;
-use std::test::Fail;
 
-/// Items of assembly as they stand in docs/VERIFIER.md, a semicolon for each line's end.
-pub(crate) fn object_of(alloc: Global, text: &str) -> Result<Vec<u8>, Fail> {
-    let mut lines = String::new(alloc);
-    for line in text.split(';') {
-        let line = line.trim();
-        for (index, part) in line.split(": ").enumerate() {
-            if index > 0 {
-                lines.push_str(":\n")?;
-            }
-            match part.strip_suffix(" any") {
-                Some(register) => {
-                    lines.push_str(register)?;
-                    lines.push_str(" number 0 18446744073709551615 0 0")?;
-                }
-                None => lines.push_str(part)?,
-            }
-        }
-        lines.push_str("\n")?;
+/// The object's file of an assembly text, if it is one.
+pub(crate) fn object_of(alloc: Global, text: &str) -> Option<Vec<u8>> {
+    match assemble(alloc, text) {
+        Ok(object) => object::write(alloc, &object).ok(),
+        Err(_) => None,
     }
-    let object = assemble(alloc, lines.as_str()).map_err(|_| "the text is no program")?;
-    Ok(object::write(alloc, &object)?)
+}
+
+/// Writes the object of a text. Whether that could be done.
+fn is_written<R: Files + AllocGlobal>(rt: &R, path: &str, text: &str) -> bool {
+    match object_of(rt.alloc(), text) {
+        Some(bytes) => fs::write(rt, path, &bytes).is_ok(),
+        None => false,
+    }
+}
+
+/// Writes the object of each text.
+pub(crate) fn write_objects<R: Files + Abort + AllocGlobal>(rt: &R, rows: &[(&str, &str)]) {
+    for row in rows {
+        let (path, text) = *row;
+        assert!(rt; is_written(rt, path, text), "{path}");
+    }
+}
+
+/// Writes each file.
+pub(crate) fn write_files<R: Files + Abort>(rt: &R, rows: &[(&str, &[u8])]) {
+    for row in rows {
+        let (path, bytes) = *row;
+        assert!(rt; fs::write(rt, path, bytes).is_ok(), "{path}");
+    }
+}
+
+/// Whether the file has these bytes.
+pub(crate) fn has<R: Files + AllocGlobal>(rt: &R, path: &str, wanted: &[u8]) -> bool {
+    match fs::read(rt, path) {
+        Ok(bytes) => bytes.as_slice() == wanted,
+        Err(_) => false,
+    }
 }
 
 /// A command line, its status, and what it prints on the first writer.
@@ -38,26 +54,17 @@ pub(crate) struct Line {
     pub told: &'static str,
 }
 
-/// Each command line ends with its status and prints just its text.
-pub(crate) fn play<R: Files + Abort + AllocGlobal>(rt: &R, lines: &[Line]) -> Result<(), Fail> {
-    for line in lines {
-        let mut output = Vec::new(rt.alloc());
-        let mut errors = Vec::new(rt.alloc());
-        let status = program(rt, line.words, &mut output, &mut errors);
-        let told = String::from_utf8(output).map_err(|_| "the output is no text")?;
-        assert_eq!(rt; told.as_str(), line.told, "{:?}", line.words);
-        assert!(rt; status == line.status, "{:?}", line.words);
-    }
-    Ok(())
+/// Whether the command line ends with its status and prints just its text.
+fn ends<R: Files + AllocGlobal>(rt: &R, line: &Line) -> bool {
+    let mut output = Vec::new(rt.alloc());
+    let mut errors = Vec::new(rt.alloc());
+    let status = program(rt, line.words, &mut output, &mut errors);
+    status == line.status && output.as_slice() == line.told.as_bytes()
 }
 
-/// Writes the object of a text.
-pub(crate) fn write_object<R: Files + AllocGlobal>(
-    rt: &R,
-    path: &str,
-    text: &str,
-) -> Result<(), Fail> {
-    let bytes = object_of(rt.alloc(), text)?;
-    fs::write(rt, path, &bytes)?;
-    Ok(())
+/// Each command line ends with its status and prints just its text.
+pub(crate) fn play<R: Files + Abort + AllocGlobal>(rt: &R, lines: &[Line]) {
+    for line in lines {
+        assert!(rt; ends(rt, line), "{:?}", line.words);
+    }
 }

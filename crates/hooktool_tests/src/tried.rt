@@ -1,26 +1,25 @@
 //! Programs that are tried: answers in the hooks' terms, counters and cells, traps.
-use crate::session::{Line, play, write_object};
-use std::test::Fail;
+use crate::session::{Line, play, write_objects};
 
 // A program that answers its context's metric less 30.
-const LESS: &str = "hook price; rank 0; r0 = *u32 r1 12; r0 += -30; exit";
+const LESS: &str = "hook price\nrank 0\nr0 = *u32 r1 12\nr0 += -30\nexit\n";
 
 // A program that counts its runs in cell 1, and adds the moment's low byte to that counter.
 const RUNS: &str =
-    "hook count; rank 0; r1 = *u8 r1 8; r2 = 1; call 1; r6 = map 1 8; r0 = *u64 r6 0; r0 += 1; *u64 r6 0 = r0; exit";
+    "hook count\nrank 0\nr1 = *u8 r1 8\nr2 = 1\ncall 1\nr6 = map 1 8\nr0 = *u64 r6 0\nr0 += 1\n*u64 r6 0 = r0\nexit\n";
 
 // What the test's map gives as the cost of 10.0.0.0/8.
-const COST: &str = "hook tag; rank 0; r1 = wide 167772160; r2 = 8; call 4; exit";
+const COST: &str = "hook tag\nrank 0\nr1 = wide 167772160\nr2 = 8\ncall 4\nexit\n";
 
 // Whether the route's prefix is longer than 24 bits.
 const LONG: &str =
-    "hook veto; rank 0; r2 = *u32 r1 8; r0 = 0; if r2 <= 24 goto L; r0 = 1; L: exit; state L rank 0; with r0 any";
+    "hook veto\nrank 0\nr2 = *u32 r1 8\nr0 = 0\nif r2 <= 24 goto L\nr0 = 1\nL:\nexit\nstate L rank 0\nwith r0 number 0 18446744073709551615 0 0\n";
 
 // The packet's second byte as a counter: stuck where there is none.
-const TYPES: &str = "hook count; rank 0; r1 = 1; call 3; r1 = r0; r2 = 1; call 1; exit";
+const TYPES: &str = "hook count\nrank 0\nr1 = 1\ncall 3\nr1 = r0\nr2 = 1\ncall 1\nexit\n";
 
 // It jumps back for ever.
-const ROUND: &str = "hook tag; rank 2; L: r0 = 1; goto L; state L rank 0";
+const ROUND: &str = "hook tag\nrank 2\nL:\nr0 = 1\ngoto L\nstate L rank 0\n";
 
 const LINES: &[Line] = &[
     Line {
@@ -124,17 +123,17 @@ const LINES: &[Line] = &[
     },
 ];
 
+const OBJECTS: [(&str, &str); 6] = [
+    ("tried-less.o", LESS),
+    ("tried-runs.o", RUNS),
+    ("tried-cost.o", COST),
+    ("tried-long.o", LONG),
+    ("tried-types.o", TYPES),
+    ("tried-round.o", ROUND),
+];
+
 #[test]
-fn programs_are_tried(rt: HostRuntime) -> Result<(), Fail> {
-    for (path, text) in [
-        ("tried-less.o", LESS),
-        ("tried-runs.o", RUNS),
-        ("tried-cost.o", COST),
-        ("tried-long.o", LONG),
-        ("tried-types.o", TYPES),
-        ("tried-round.o", ROUND),
-    ] {
-        write_object(&rt, path, text)?;
-    }
-    play(&rt, LINES)
+fn programs_are_tried(rt: HostRuntime) {
+    write_objects(&rt, &OBJECTS);
+    play(&rt, LINES);
 }

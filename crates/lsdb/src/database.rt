@@ -8,6 +8,7 @@ ghost use Rattle.lsdb.specs.Copies.{
   install_originated,
   mark_sent,
   put_copy,
+  said_by,
 };
 ghost use Rattle.lsdb.specs.Changes.{
   CountsAlike,
@@ -18,6 +19,7 @@ ghost use Rattle.lsdb.specs.Changes.{
   TellOneAge,
   header_length,
 };
+ghost use Rattle.lsdb.specs.Foresight.{ForeseesAll};
 ghost use Rattle.lsdb.specs.Joined.{aged_at};
 ghost use Rattle.words.specs.declared.key.Key.{Key as KeyValue};
 ghost use Rattle.lsdb.specs.Limits.{exceeds, has_room, own_externals};
@@ -30,7 +32,7 @@ use crate::stored::StoredLsa;
 use crate::times::Times;
 use keyed_map::{ChangeTest, KeyTest, KeyedMap, KeysInOrder};
 use lsa::laws::texts_are_determined;
-use lsa::{HEADER_LENGTH, Lsa, write_at_age};
+use lsa::{Body, HEADER_LENGTH, Lsa, write_at_age};
 use std::alloc::{AllocError, Global};
 use std::marker::Model;
 use words::{Key, RouterId, Second};
@@ -272,6 +274,21 @@ fn tells_max_age(moment: Second, times: &Times) -> bool
     age_at(times.age, times.stored, moment) == MAX_AGE
 }
 
+// Whether the times of this key have come to MaxAge at the moment. Where none of another key can
+// have before it, they aren't looked up.
+fn has_max_age(ages: &Ages, times: &KeyedMap<Times>, key: &Key, moment: Second) -> bool
+    requires { ForeseesAll ages.now times.now.present }
+    ensures { result ≡ aged_at moment (finite.get times.now.present key.now) }
+{
+    if moment < ages.due && !ages.aged.contains(key) {
+        return false;
+    }
+    match times.get(key) {
+        None => false,
+        Some(found) => tells_max_age(moment, found),
+    }
+}
+
 // One more, where the key is among the aged.
 fn one_more_past(ages: &Ages, key: &Key, past: usize) -> usize {
     if ages.aged.contains(key) {
@@ -334,6 +351,21 @@ impl Lsdb {
                     Some(DatabaseCopy { lsa, times })
                 }
             },
+        }
+    }
+
+    /// What the copy of this key says, if there is one below MaxAge at the moment.
+    pub fn body_at(&self, moment: Second, key: &Key) -> Option<&Body>
+        ensures { option_copied result ≡ said_by moment (finite.get self.now.present key.now) }
+    {
+        match self.lsas.get(key) {
+            None => None,
+            Some(stored) => {
+                if has_max_age(&self.ages, &self.times, key, moment) {
+                    return None;
+                }
+                Some(stored.lsa().body())
+            }
         }
     }
 

@@ -73,13 +73,13 @@ between_is = record { way = way 0 0; reached = to_itself; within = omega arith; 
 again_is : StubOffer anew_says root middle_id second_stub 24 (between_offer 5 1)
 again_is = record { way = way 0 0; reached = to_itself; within = omega arith; mask = refl; hops = 1; by_root = λ _. refl; by_others = λ other. absurd (other refl); is = refl }
 
-wide_is : StubOffer anew_says root left_id wide_stub 23 (wide_offer 10 2)
+wide_is : StubOffer anew_says root left_id (wide_stub 5) 23 (wide_offer 10 2)
 wide_is = record { way = way 5 2; reached = to_left; within = omega arith; mask = refl; hops = 2; by_root = λ e. absurd (omega (arith, e)); by_others = λ _. refl; is = refl }
 
 known : (router : ℕ) (link : RouterLink) → Contains (filter is_stub (links_of (sayings anew))) (router, link) → Known 0 anew root Among router link
 known router link t =
     let P : ℕ × RouterLink → Type 0 = λ x. Known 0 anew root Among x.0 x.1 in
-    elim (of_cons {X = ℕ × RouterLink} (left_id, wide_stub) ((middle_id, first_stub) ∷ (middle_id, second_stub) ∷ []) (router, link) t) [
+    elim (of_cons {X = ℕ × RouterLink} (left_id, wide_stub 5) ((middle_id, first_stub) ∷ (middle_id, second_stub) ∷ []) (router, link) t) [
       | inl e ↦ subst P e (23, wide_offer 10 2, wide_is, (1, omega arith, refl))
       | inr later ↦
           elim (of_cons {X = ℕ × RouterLink} (middle_id, first_stub) ((middle_id, second_stub) ∷ []) (router, link) later) [
@@ -99,7 +99,7 @@ offered o t =
       | inl e ↦ subst P e (stub_offered anew root middle_id (lsa_of anew_links) its_says first_stub (1, omega arith, refl) refl 24 (between_offer 5 1) between_is)
       | inr later ↦
           elim (of_cons (wide_offer 10 2) [] o later) [
-            | inl e ↦ subst P e (stub_offered anew root left_id (lsa_of left_links) left_says wide_stub (1, omega arith, refl) refl 23 (wide_offer 10 2) wide_is)
+            | inl e ↦ subst P e (stub_offered anew root left_id (lsa_of left_links) left_says (wide_stub 5) (1, omega arith, refl) refl 23 (wide_offer 10 2) wide_is)
             | inr none ↦ absurd (of_empty o none)
           ]
     ]

@@ -4,12 +4,13 @@ use Rattle.words.specs.Interfaces.{has_interface}
 use Rattle.lsa.specs.declared.body.Body.TheVariants as body
 use Rattle.area_routes.specs.Offers.{root_by}
 use Rattle.events.specs.Originations.{router_body, router_key}
-use Rattle.routes.specs.Candidates.{AreCandidates}
+use Rattle.routes.specs.Candidates.{AreCandidates, OffersExternal}
 use Rattle.routes.specs.Links.{IsRouterLsa, Leads, LeadsTo, Says}
 use Rattle.routes.specs.Paths.{IsWalk, IsWay, Step, Way, price_of}
 use Rattle.routes.specs.Said.{Said, said_at}
 use Rattle.routes.specs.declared.node.Node.{Node}
 use Rattle.routes.specs.declared.node.Node.TheVariants.{ARouter}
+use Rattle.routes.specs.declared.offer.Offer.{Offer}
 use Rattle.routes.specs.declared.root.Root.{Root}
 use Rattle.route_laws.specs.Worked.{database, dotted, router_lsa}
 use Rattle.route_laws.proofs.Entries.{sayings}
@@ -35,8 +36,11 @@ middle_says = says equal (router_key middle_id) (router_body equal_links) refl
 right_says : IsRouterLsa equal_says right_id (router_lsa (lsa_of right_links))
 right_says = says equal (router_key right_id) (router_body right_links) refl
 
-is_row : IsRow equal (lsa_of equal_links)
-is_row = record { stubs = refl; routers = refl; networks = refl; summaries = refl; left = left_says; middle = middle_says; has_stub = (1, omega arith, refl); right = right_says }
+silent_offers : (root : Root) (o : Offer) → OffersExternal equal_says root o → ⊥
+silent_offers root o x = no_external equal refl _ x.lsa x.its
+
+is_row : IsRow equal 5 (lsa_of equal_links)
+is_row = record { stubs = refl; networks = refl; summaries = refl; left_links = lsa_of left_links; left = left_says; has_wide = (1, omega arith, refl); middle = middle_says; has_stub = (1, omega arith, refl); right = right_says }
 
 -- ---- links and ways
 
@@ -132,15 +136,15 @@ middle_right = way_to equal at_middle (by_router 5 0 5) (by_router 6 0 6) middle
 
 left_candidates : AreCandidates equal_says at_left left_routes
 left_candidates =
-    candidates_are equal (lsa_of equal_links) is_row at_left (way 0 0) (way 5 2) (way 10 2) left_left left_middle left_right 1 2 2 (hops_at at_left left_id refl 0) (hops_from at_left middle_id (λ e. omega (arith, e)) 2) (hops_from at_left right_id (λ e. omega (arith, e)) 2)
+    candidates_are equal 5 (lsa_of equal_links) is_row at_left (way 0 0) (way 5 2) (way 10 2) left_left left_middle left_right 1 2 2 (hops_at at_left left_id refl 0) (hops_from at_left middle_id (λ e. omega (arith, e)) 2) (hops_from at_left right_id (λ e. omega (arith, e)) 2) (silent_offers at_left)
 
 middle_candidates : AreCandidates equal_says at_middle equal_routes
 middle_candidates =
-    candidates_are equal (lsa_of equal_links) is_row at_middle (way 5 6) (way 0 0) (way 5 6) middle_left middle_middle middle_right 6 1 6 (hops_from at_middle left_id (λ e. omega (arith, e)) 6) (hops_at at_middle middle_id refl 0) (hops_from at_middle right_id (λ e. omega (arith, e)) 6)
+    candidates_are equal 5 (lsa_of equal_links) is_row at_middle (way 5 6) (way 0 0) (way 5 6) middle_left middle_middle middle_right 6 1 6 (hops_from at_middle left_id (λ e. omega (arith, e)) 6) (hops_at at_middle middle_id refl 0) (hops_from at_middle right_id (λ e. omega (arith, e)) 6) (silent_offers at_middle)
 
 right_candidates : AreCandidates equal_says at_right right_routes
 right_candidates =
-    candidates_are equal (lsa_of equal_links) is_row at_right (way 10 2) (way 5 2) (way 0 0) right_left right_middle right_right 2 2 1 (hops_from at_right left_id (λ e. omega (arith, e)) 2) (hops_from at_right middle_id (λ e. omega (arith, e)) 2) (hops_at at_right right_id refl 0)
+    candidates_are equal 5 (lsa_of equal_links) is_row at_right (way 10 2) (way 5 2) (way 0 0) right_left right_middle right_right 2 2 1 (hops_from at_right left_id (λ e. omega (arith, e)) 2) (hops_from at_right middle_id (λ e. omega (arith, e)) 2) (hops_at at_right right_id refl 0) (silent_offers at_right)
 
 -- ---- premises
 

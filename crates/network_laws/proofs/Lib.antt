@@ -7,3 +7,4 @@ mod Found
 mod Row
 mod Anew
 mod Equal
+mod ZeroCosts

@@ -16,9 +16,10 @@ use Rattle.offers.specs.Borders.{IsLongest}
 use Rattle.received.specs.Links.{Link, neighbor_at}
 use Rattle.routes.proofs.Determined.{bit_of_member}
 use Rattle.routes.proofs.Lists.{of_cons, of_empty}
-use Rattle.routes.specs.Candidates.{AreCandidates, Offers}
+use Rattle.routes.specs.Candidates.{AreCandidates, Offers, OffersExternal}
+use Rattle.routes.specs.Candidates.Offers.{Between, External, Within}
 use Rattle.routes.specs.Links.{IsRouterLsa, Leads, LeadsTo, Says}
-use Rattle.routes.specs.Offers.{intra}
+use Rattle.routes.specs.Offers.{OffersWithin, intra}
 use Rattle.routes.specs.Paths.{IsWalk, IsWay, Step, Way}
 use Rattle.routes.specs.Routes.IsBefore.{ByAddress, ByLength}
 use Rattle.routes.specs.Said.{Said, said_at}
@@ -27,17 +28,17 @@ use Rattle.routes.specs.declared.node.Node.TheVariants.{ARouter}
 use Rattle.routes.specs.declared.offer.Offer.{Offer}
 use Rattle.routes.specs.declared.root.Root.{Root}
 use Rattle.route_laws.specs.Worked.{Entries, database, dotted, network_24, router_lsa}
-use Rattle.route_laws.proofs.Alone.{Known, StubOffer, is_stub}
+use Rattle.route_laws.proofs.Alone.{Known, StubOffer, each_within, is_stub}
 use Rattle.route_laws.proofs.Entries.{is_no_network, links_of, mapped, sayings}
 use Rattle.route_laws.proofs.Labels.{AreChecked}
 use Rattle.route_laws.proofs.Made.{back, from_other, from_root, linked, only_one, says}
-use Rattle.route_laws.proofs.NoSummaries.{is_no_summary}
+use Rattle.route_laws.proofs.NoSummaries.{is_no_summary, nothing_between}
 use Rattle.forwarding_premises.specs.Laws.{HaveCosts, HaveOwnAddresses}
 use Rattle.network_laws.specs.Laws.IsAttached.{ToNetwork}
 use Rattle.network_laws.specs.Laws.IsThere.{Attached}
 use Rattle.network_laws.specs.Topologies.{AreJoined, Forwarder, HandsTo, IsAcross, IsAnnouncedAt, IsCurrentForwarder, IsUpToDate, Topology, says_of}
 use Rattle.network_laws.specs.Worked.{CrossedLinksMayLoop, WorkedTopology, address, between, crossed, forwarder, full, in_a_row, interface_at, left, left_id, left_links, left_routes, link_with, middle, middle_id, middle_links, middle_routes, narrow, right, right_id, right_links, right_routes, row, wide, wide_network}
-use Rattle.network_laws.proofs.Found.{candidates_of, is_router, no_external, only_within, stub_offered, three_in_order, way_to}
+use Rattle.network_laws.proofs.Found.{candidates_of, no_external, stub_offered, three_in_order, way_to}
 
 -- ---- lists of three
 
@@ -107,7 +108,7 @@ way distance hops = record { distance = distance; hops = hops }
 pub no_hop : (i : ℕ) → IsTrue (has_interface 0 i) → ⊥
 no_hop i t = omega (arith, bit_at-zero i, bit_of_member 0 i t)
 
-only_two : (i : ℕ) → IsTrue (has_interface 4 i) → i ≡ 2
+pub only_two : (i : ℕ) → IsTrue (has_interface 4 i) → i ≡ 2
 only_two zero t = absurd (cc)
 only_two (suc zero) t = absurd (cc)
 only_two (suc (suc zero)) t = refl
@@ -203,8 +204,8 @@ wide_offer cost hops = intra wide_network cost hops
 abbrev pub narrow_offer : ℕ → ℕ → Offer
 narrow_offer cost hops = intra (network_24 192 0 2) cost hops
 
-abbrev pub wide_stub : RouterLink
-wide_stub = stub (interface_at (dotted 192 0 3 1) 23)
+abbrev pub wide_stub : ℕ → RouterLink
+wide_stub cost = stub (record (interface_at (dotted 192 0 3 1) 23) { cost = cost })
 
 abbrev pub first_stub : RouterLink
 first_stub = stub (interface_at (dotted 10 0 0 1) 24)
@@ -215,21 +216,22 @@ second_stub = stub (interface_at (dotted 10 0 0 2) 24)
 abbrev pub narrow_stub : RouterLink
 narrow_stub = stub (interface_at (dotted 192 0 2 1) 24)
 
--- databases of the three routers' LSAs, with these links of the middle one
-abbrev pub row_stubs : List (ℕ × RouterLink)
-row_stubs = (left_id, wide_stub) ∷ (middle_id, first_stub) ∷ (middle_id, second_stub) ∷ (right_id, narrow_stub) ∷ []
+-- databases of the three routers' LSAs, where the interface of the left one has this cost, and with these links of the middle one
+abbrev pub row_stubs : ℕ → List (ℕ × RouterLink)
+row_stubs cost = (left_id, wide_stub cost) ∷ (middle_id, first_stub) ∷ (middle_id, second_stub) ∷ (right_id, narrow_stub) ∷ []
 
-pub record IsRow (es : Entries) (links : List RouterLink) : Type 0 where
-  pub stubs : filter is_stub (links_of (sayings es)) ≡ row_stubs
-  pub routers : list_all is_router (sayings es) ≡ true
+pub record IsRow (es : Entries) (cost : ℕ) (links : List RouterLink) : Type 0 where
+  pub stubs : filter is_stub (links_of (sayings es)) ≡ row_stubs cost
   pub networks : list_all is_no_network (sayings es) ≡ true
   pub summaries : list_all is_no_summary (sayings es) ≡ true
-  pub left : IsRouterLsa (said_at 0 (database es)) left_id (router_lsa (lsa_of left_links))
+  pub left_links : List RouterLink
+  pub left : IsRouterLsa (said_at 0 (database es)) left_id (router_lsa left_links)
+  pub has_wide : Contains left_links (wide_stub cost)
   pub middle : IsRouterLsa (said_at 0 (database es)) middle_id (router_lsa links)
   pub has_stub : Contains links first_stub
   pub right : IsRouterLsa (said_at 0 (database es)) right_id (router_lsa (lsa_of right_links))
 
-module _ (es : Entries) (links : List RouterLink) (its : IsRow es links) (root : Root) where
+module _ (es : Entries) (cost : ℕ) (links : List RouterLink) (its : IsRow es cost links) (root : Root) where
   abbrev said : Said
   said = said_at 0 (database es)
 
@@ -238,7 +240,7 @@ module _ (es : Entries) (links : List RouterLink) (its : IsRow es links) (root :
 
   module _ (l m r : Way) (to_l : ByWay left_id l) (to_m : ByWay middle_id m) (to_r : ByWay right_id r) (hl hm hr : ℕ) (of_l : HopsTo root left_id l.hops hl) (of_m : HopsTo root middle_id m.hops hm) (of_r : HopsTo root right_id r.hops hr) where
     abbrev offers : List Offer
-    offers = between_offer (m.distance + 5) hm ∷ wide_offer (l.distance + 5) hl ∷ narrow_offer (r.distance + 5) hr ∷ []
+    offers = between_offer (m.distance + 5) hm ∷ wide_offer (l.distance + cost) hl ∷ narrow_offer (r.distance + 5) hr ∷ []
 
     abbrev Among : Offer → Type 0
     Among o = Contains offers o
@@ -246,7 +248,7 @@ module _ (es : Entries) (links : List RouterLink) (its : IsRow es links) (root :
     between_stub : StubOffer said root middle_id first_stub 24 (between_offer (m.distance + 5) hm)
     between_stub = record { way = m; reached = to_m; within = omega arith; mask = refl; hops = hm; by_root = of_m.0; by_others = of_m.1; is = refl }
 
-    wide_is : StubOffer said root left_id wide_stub 23 (wide_offer (l.distance + 5) hl)
+    wide_is : StubOffer said root left_id (wide_stub cost) 23 (wide_offer (l.distance + cost) hl)
     wide_is = record { way = l; reached = to_l; within = omega arith; mask = refl; hops = hl; by_root = of_l.0; by_others = of_l.1; is = refl }
 
     narrow_is : StubOffer said root right_id narrow_stub 24 (narrow_offer (r.distance + 5) hr)
@@ -256,8 +258,8 @@ module _ (es : Entries) (links : List RouterLink) (its : IsRow es links) (root :
     known router link t =
         let P : ℕ × RouterLink → Type 0 = λ x. Known 0 es root Among x.0 x.1 in
         let Has : List (ℕ × RouterLink) → Type 0 = λ xs. Contains xs (router, link) in
-        elim (of_cons {X = ℕ × RouterLink} (left_id, wide_stub) ((middle_id, first_stub) ∷ (middle_id, second_stub) ∷ (right_id, narrow_stub) ∷ []) (router, link) (subst Has its.stubs t)) [
-          | inl e ↦ subst P e (23, wide_offer (l.distance + 5) hl, wide_is, (1, omega arith, refl))
+        elim (of_cons {X = ℕ × RouterLink} (left_id, wide_stub cost) ((middle_id, first_stub) ∷ (middle_id, second_stub) ∷ (right_id, narrow_stub) ∷ []) (router, link) (subst Has its.stubs t)) [
+          | inl e ↦ subst P e (23, wide_offer (l.distance + cost) hl, wide_is, (1, omega arith, refl))
           | inr later ↦
               elim (of_cons {X = ℕ × RouterLink} (middle_id, first_stub) ((middle_id, second_stub) ∷ (right_id, narrow_stub) ∷ []) (router, link) later) [
                 | inl e ↦ subst P e (24, between_offer (m.distance + 5) hm, between_stub, (0, omega arith, refl))
@@ -274,14 +276,22 @@ module _ (es : Entries) (links : List RouterLink) (its : IsRow es links) (root :
               ]
         ]
 
-    offered : (o : Offer) → Among o → Offers said root o
+    pub inner : (o : Offer) → OffersWithin said root o → Among o
+    inner = each_within 0 es root Among its.networks known
+
+    only_inner : ((o : Offer) → OffersExternal said root o → ⊥) → (o : Offer) → Offers said root o → Among o
+    only_inner no_external o (Within x) = inner o x
+    only_inner no_external o (Between x) = absurd (nothing_between 0 es its.summaries root o x)
+    only_inner no_external o (External x) = absurd (no_external o x)
+
+    pub offered : (o : Offer) → Among o → Offers said root o
     offered o t =
         let P : Offer → Type 0 = λ x. Offers said root x in
-        elim (of_cons (between_offer (m.distance + 5) hm) (wide_offer (l.distance + 5) hl ∷ narrow_offer (r.distance + 5) hr ∷ []) o t) [
+        elim (of_cons (between_offer (m.distance + 5) hm) (wide_offer (l.distance + cost) hl ∷ narrow_offer (r.distance + 5) hr ∷ []) o t) [
           | inl e ↦ subst P e (stub_offered es root middle_id links its.middle first_stub its.has_stub refl 24 (between_offer (m.distance + 5) hm) between_stub)
           | inr later ↦
-              elim (of_cons (wide_offer (l.distance + 5) hl) (narrow_offer (r.distance + 5) hr ∷ []) o later) [
-                | inl e ↦ subst P e (stub_offered es root left_id (lsa_of left_links) its.left wide_stub (1, omega arith, refl) refl 23 (wide_offer (l.distance + 5) hl) wide_is)
+              elim (of_cons (wide_offer (l.distance + cost) hl) (narrow_offer (r.distance + 5) hr ∷ []) o later) [
+                | inl e ↦ subst P e (stub_offered es root left_id its.left_links its.left (wide_stub cost) its.has_wide refl 23 (wide_offer (l.distance + cost) hl) wide_is)
                 | inr third ↦
                     elim (of_cons (narrow_offer (r.distance + 5) hr) [] o third) [
                       | inl e ↦ subst P e (stub_offered es root right_id (lsa_of right_links) its.right narrow_stub (1, omega arith, refl) refl 24 (narrow_offer (r.distance + 5) hr) narrow_is)
@@ -290,26 +300,29 @@ module _ (es : Entries) (links : List RouterLink) (its : IsRow es links) (root :
               ]
         ]
 
-    pub candidates_are : AreCandidates said root (between (m.distance + 5) hm ∷ wide (l.distance + 5) hl ∷ narrow (r.distance + 5) hr ∷ [])
-    candidates_are =
+    pub candidates_are : ((o : Offer) → OffersExternal said root o → ⊥) → AreCandidates said root (between (m.distance + 5) hm ∷ wide (l.distance + cost) hl ∷ narrow (r.distance + 5) hr ∷ [])
+    candidates_are no_external =
         candidates_of said root offers
-        (three_in_order (λ (o : Offer). o.prefix) (between_offer (m.distance + 5) hm) (wide_offer (l.distance + 5) hl) (narrow_offer (r.distance + 5) hr) (ByAddress (omega arith)) (ByAddress (omega arith)) (ByLength refl (omega arith)))
-        offered (only_within es root offers its.routers its.networks its.summaries known)
-        (three_in_order (λ (x : Route). x.prefix) (between (m.distance + 5) hm) (wide (l.distance + 5) hl) (narrow (r.distance + 5) hr) (ByAddress (omega arith)) (ByAddress (omega arith)) (ByLength refl (omega arith)))
+        (three_in_order (λ (o : Offer). o.prefix) (between_offer (m.distance + 5) hm) (wide_offer (l.distance + cost) hl) (narrow_offer (r.distance + 5) hr) (ByAddress (omega arith)) (ByAddress (omega arith)) (ByLength refl (omega arith)))
+        offered (only_inner no_external)
+        (three_in_order (λ (x : Route). x.prefix) (between (m.distance + 5) hm) (wide (l.distance + cost) hl) (narrow (r.distance + 5) hr) (ByAddress (omega arith)) (ByAddress (omega arith)) (ByLength refl (omega arith)))
 
-is_row : IsRow row (lsa_of middle_links)
-is_row = record { stubs = refl; routers = refl; networks = refl; summaries = refl; left = left_says; middle = middle_says; has_stub = (1, omega arith, refl); right = right_says }
+silent_offers : (root : Root) (o : Offer) → OffersExternal row_says root o → ⊥
+silent_offers root o x = no_external row refl _ x.lsa x.its
+
+is_row : IsRow row 5 (lsa_of middle_links)
+is_row = record { stubs = refl; networks = refl; summaries = refl; left_links = lsa_of left_links; left = left_says; has_wide = (1, omega arith, refl); middle = middle_says; has_stub = (1, omega arith, refl); right = right_says }
 
 left_candidates : AreCandidates row_says at_left left_routes
-left_candidates = candidates_are row (lsa_of middle_links) is_row at_left (way 0 0) (way 5 2) (way 10 2) left_left left_middle left_right 1 2 2 (hops_at at_left left_id refl 0) (hops_from at_left middle_id (λ e. omega (arith, e)) 2) (hops_from at_left right_id (λ e. omega (arith, e)) 2)
+left_candidates = candidates_are row 5 (lsa_of middle_links) is_row at_left (way 0 0) (way 5 2) (way 10 2) left_left left_middle left_right 1 2 2 (hops_at at_left left_id refl 0) (hops_from at_left middle_id (λ e. omega (arith, e)) 2) (hops_from at_left right_id (λ e. omega (arith, e)) 2) (silent_offers at_left)
 
 middle_candidates : AreCandidates row_says at_middle middle_routes
 middle_candidates =
-    candidates_are row (lsa_of middle_links) is_row at_middle (way 5 2) (way 0 0) (way 5 4) middle_left middle_middle middle_right 2 1 4 (hops_from at_middle left_id (λ e. omega (arith, e)) 2) (hops_at at_middle middle_id refl 0) (hops_from at_middle right_id (λ e. omega (arith, e)) 4)
+    candidates_are row 5 (lsa_of middle_links) is_row at_middle (way 5 2) (way 0 0) (way 5 4) middle_left middle_middle middle_right 2 1 4 (hops_from at_middle left_id (λ e. omega (arith, e)) 2) (hops_at at_middle middle_id refl 0) (hops_from at_middle right_id (λ e. omega (arith, e)) 4) (silent_offers at_middle)
 
 right_candidates : AreCandidates row_says at_right right_routes
 right_candidates =
-    candidates_are row (lsa_of middle_links) is_row at_right (way 10 2) (way 5 2) (way 0 0) right_left right_middle right_right 2 2 1 (hops_from at_right left_id (λ e. omega (arith, e)) 2) (hops_from at_right middle_id (λ e. omega (arith, e)) 2) (hops_at at_right right_id refl 0)
+    candidates_are row 5 (lsa_of middle_links) is_row at_right (way 10 2) (way 5 2) (way 0 0) right_left right_middle right_right 2 2 1 (hops_from at_right left_id (λ e. omega (arith, e)) 2) (hops_from at_right middle_id (λ e. omega (arith, e)) 2) (hops_at at_right right_id refl 0) (silent_offers at_right)
 
 -- ---- each router for itself
 

@@ -1,6 +1,7 @@
--- Worked topologies (RFC 2328, sections 11 and 16.1): three routers in a row, along which a packet
--- is handed on; and three ways in which packets do come back: where two databases differ, where a
--- link leads elsewhere than the routers know, and where interfaces of a router have one address.
+-- Worked topologies (RFC 2328, sections 11, 16.1 and 16.4): three routers in a row, along which a
+-- packet is handed on; three ways in which packets do come back: where two databases differ, where
+-- a link leads elsewhere than the routers know, and where interfaces of a router have one address;
+-- and one in which a packet is lost: where an interface costs 0.
 use Rattle.std.specs.Prelude.{◌≢◌, ℕ, ◌&&◌, Bool, List, [], ◌∷◌, Option, Some, None, map, nat_eq}
 use Rattle.std.specs.Prelude.{if◌then◌else◌}
 use Rattle.std.specs.FinMap as finite
@@ -8,18 +9,22 @@ use Rattle.std.specs.FinSet as set
 use Rattle.words.specs.Numbers.{RouterNumber}
 use Rattle.words.specs.Prefixes.{Network}
 use Rattle.words.specs.declared.key.Key.{Key}
+use Rattle.words.specs.declared.route.ExternalType.TheVariants.{Type1}
 use Rattle.words.specs.declared.route.Route.{Route}
-use Rattle.words.specs.declared.route.RouteKind.TheVariants.{Intra}
+use Rattle.words.specs.declared.route.RouteKind.TheVariants.{External1, Intra}
+use Rattle.lsa.specs.declared.body.ExternalLsa.{ExternalLsa}
 use Rattle.lsdb.specs.Copies.{DatabaseCopy}
 use Rattle.adjacency.specs.Neighbors.{Neighbor, fresh}
 use Rattle.adjacency.specs.declared.interface.Interface.{Interface}
 use Rattle.adjacency.specs.declared.state.State.TheVariants.{Full}
 use Rattle.events.specs.Originations.{router_body, router_key}
-use Rattle.forwarding_premises.specs.Laws.{HaveCosts}
+use Rattle.forwarding_premises.specs.Laws.{HaveCosts, HaveOwnAddresses}
+use Rattle.offers.specs.Borders.{IsLongest}
 use Rattle.received.specs.Links.{Link}
-use Rattle.route_laws.specs.Worked.{Entries, copy_of, database, dotted, network_24}
+use Rattle.route_laws.specs.Worked.{Entries, copy_of, database, dotted, network_24, of_external}
+use Rattle.route_laws.specs.WorkedExternals.{external}
 use Rattle.network_laws.specs.Laws.{IsThere}
-use Rattle.network_laws.specs.Topologies.{AreJoined, AreUpToDate, Forwarder, HasConverged}
+use Rattle.network_laws.specs.Topologies.{AreJoined, AreUpToDate, Forwarder, HandsTo, HasConverged}
 use Rattle.network_laws.specs.Topologies.{IsCurrentForwarder, IsHandedAlong, IsUpToDate}
 use Rattle.network_laws.specs.Topologies.{SayTheSame, StandsAt, Topology}
 
@@ -234,3 +239,67 @@ pub record EqualAddressesMayLoop : Type 0 where
   pub agree : SayTheSame with_equal_addresses
   pub joined : AreJoined with_equal_addresses
   pub comes_back : IsHandedAlong with_equal_addresses address (0 ∷ 1 ∷ 0 ∷ [])
+
+-- ---- the same routers in their row, where the interface of the left one costs 0
+
+abbrev pub zero_links : List Link
+zero_links =
+    link_with (record (interface_at (dotted 192 0 3 1) 23) { cost = 0 }) (Some (full middle_id))
+    ∷ []
+
+-- 203.0.113.0/24 of metric 20, which the right router announces with a forwarding address in the
+-- network of the left one
+abbrev pub abroad_lsa : ExternalLsa
+abroad_lsa = external Type1 20 (dotted 192 0 3 9) 0
+
+abbrev pub zero_cost : Entries
+zero_cost =
+    its_copy left_id zero_links ∷ its_copy middle_id middle_links ∷ its_copy right_id right_links
+    ∷ of_external (dotted 203 0 113 0) right_id abroad_lsa ∷ []
+
+-- its one link has metric 0, which doesn't count: the left router knows its own network alone
+abbrev pub zero_left : Forwarder
+zero_left = forwarder left_id zero_links zero_cost (wide 0 1 ∷ [])
+
+-- by the way to the forwarding address
+abbrev pub abroad : Route
+abroad = record {
+  prefix = network_24 203 0 113;
+  kind = External1;
+  cost = 25;
+  distance = 0;
+  hops = 2;
+  tag = 0;
+}
+
+-- the link to the left router has a metric in the other direction, in which it counts
+abbrev pub zero_middle : Forwarder
+zero_middle =
+    forwarder middle_id middle_links zero_cost (between 5 1 ∷ wide 5 2 ∷ narrow 10 4 ∷ abroad ∷ [])
+
+abbrev pub zero_right : Forwarder
+zero_right = forwarder right_id right_links zero_cost (between 10 2 ∷ wide 10 2 ∷ narrow 5 1 ∷ [])
+
+abbrev pub with_zero_cost : Topology
+with_zero_cost =
+    record { routers = zero_left ∷ zero_middle ∷ zero_right ∷ []; across = across_row 2 }
+
+-- an address in 203.0.113.0/24
+abbrev pub address_abroad : ℕ
+address_abroad = dotted 203 0 113 5
+
+-- the middle router sends the packet to the left one, toward the forwarding address; that one has
+-- no way to the right router, so no route for the packet, though the forwarding address lies in its
+-- own network: it hands the packet to nobody, and isn't where it goes
+pub record ZeroCostsMayLosePackets : Type 0 where
+  -- of the left router, all but that its interface costs at least 1
+  pub is_current : IsCurrentForwarder zero_left
+  pub addresses : HaveOwnAddresses zero_links
+  pub others : (place : ℕ) (other : Forwarder) → StandsAt with_zero_cost place other
+      → place ≢ 0 → IsUpToDate other
+  pub agree : SayTheSame with_zero_cost
+  pub joined : AreJoined with_zero_cost
+  pub has_route : IsLongest zero_middle.table address_abroad abroad
+  pub handed_along : IsHandedAlong with_zero_cost address_abroad (1 ∷ 0 ∷ [])
+  pub goes_no_further : (to : ℕ) → HandsTo with_zero_cost address_abroad 0 to → ⊥
+  pub is_not_there : IsThere with_zero_cost address_abroad 0 → ⊥

@@ -9,12 +9,14 @@ ghost use Rattle.network_laws.specs.Laws.{EachHopLeadsOn, PacketsArrive};
 ghost use Rattle.network_laws.specs.Laws.{RoutersForwardWithoutLoops};
 ghost use Rattle.network_laws.specs.Worked.{CrossedLinksMayLoop, DifferingDatabasesMayLoop};
 ghost use Rattle.network_laws.specs.Worked.{EqualAddressesMayLoop, WorkedTopology};
+ghost use Rattle.network_laws.specs.Worked.{ZeroCostsMayLosePackets};
 
 use candidate_laws::{candidates_are_cheapest_walks, every_offer_has_a_candidate};
 use forwarding_laws::{
     each_hop_is_nearer, each_hop_leads_to_an_originator, routes_end_at_the_network,
 };
 use forwarding_premises::own_router_lsas_meet_the_premises;
+use route_laws::forwarding_is_determined;
 
 /// Each next hop of a router leads to a router with a better route of the same prefix, or to one
 /// that announces the address itself; or it is 0, and the router is attached to the network.
@@ -75,3 +77,14 @@ pub fn differing_databases_may_loop()
 pub fn equal_addresses_may_loop()
     ensures { EqualAddressesMayLoop }
 {}
+
+/// Interfaces of cost 0 are outside of the laws: where that of the left router costs 0, the router
+/// has no way to the others, though they have one to it. So it has no route to a destination that
+/// the right router announces with a forwarding address in the left one's network, and a packet
+/// that the middle one sends it is lost. No router takes such a configuration (RFC 2328, appendix
+/// C.3).
+pub fn zero_costs_may_lose_packets()
+    ensures { ZeroCostsMayLosePackets }
+{
+    forwarding_is_determined();
+}

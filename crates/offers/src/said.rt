@@ -15,12 +15,7 @@ use words::{Key, Second};
 pub fn body_at<'a>(db: &'a Lsdb, moment: Second, key: &Key) -> Option<&'a Body>
     ensures { option_copied result ≡ said_at moment db.now.present key.now }
 {
-    let copy = db.get(key)?;
-    if copy.is_aged_out(moment) {
-        return None;
-    }
-    let lsa = copy.lsa;
-    Some(lsa.body())
+    db.body_at(moment, key)
 }
 
 /// The router-LSA of this key.

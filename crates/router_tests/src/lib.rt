@@ -1,12 +1,28 @@
-//! Tests of `lsdb`, `neighbor_places` and `routes` by their public calls. They stand above, since a
-//! crate is proved once more for its tests.
+//! Tests of a router's parts by their public calls: `lsdb`, `neighbor_places`, `routes`, `shortest_paths`, `candidates`, `tables` and
+//! `kept_routes`. They stand above, since a crate is proved once more for its tests.
 #![tactic(auto)]
 
+#[cfg(test)]
+mod area;
 #[cfg(test)]
 mod databases;
 #[cfg(test)]
 mod instances;
 #[cfg(test)]
+mod kept;
+#[cfg(test)]
+mod lines;
+#[cfg(test)]
+mod plain;
+#[cfg(test)]
 mod played;
 #[cfg(test)]
+mod random;
+#[cfg(test)]
+mod tables_of;
+#[cfg(test)]
+mod texts;
+#[cfg(test)]
 mod walks;
+#[cfg(test)]
+mod worked;

@@ -1,18 +1,14 @@
 -- What the LSAs of a database say at a moment, on which routes rest (RFC 2328, section 16).
-use Rattle.std.specs.Prelude.{ℕ, Option, None, Some, if◌then◌else◌}
+use Rattle.std.specs.Prelude.{ℕ, Option}
 use Rattle.std.specs.FinMap as finite
 use Rattle.words.specs.declared.key.Key.{Key}
 use Rattle.lsa.specs.declared.body.Body.{Body}
-use Rattle.lsdb.specs.Copies.{Database, DatabaseCopy, is_aged_out}
+use Rattle.lsdb.specs.Copies.{Database}
+pub use Rattle.lsdb.specs.Copies.{said_by}
 
 -- what the LSA of each key says, if there is one
 abbrev pub Said : Type 0
 Said = Key → Option Body
-
--- a copy at MaxAge says nothing
-abbrev pub said_by : ℕ → Option DatabaseCopy → Option Body
-said_by moment None = None
-said_by moment (Some copy) = if is_aged_out moment copy then None else Some copy.lsa.body
 
 abbrev pub said_at : ℕ → Database → Said
 said_at moment db key = said_by moment (finite.get db key)

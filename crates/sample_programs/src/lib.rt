@@ -1,7 +1,14 @@
 //! Programs that are safe, and programs that are unsafe in one way each, with what the verifier says of them and what their runs come to.
 //! Each is a text of assembly on few lines: a semicolon ends a line of it, a label's colon too, and `any` stands for the set of all numbers.
+//! The programs of examples/ too: each is assembled, verified and run. Their texts are copies that tools/example-texts writes.
 #![tactic(auto)]
 
+#[cfg(test)]
+mod example_runs;
+#[cfg(test)]
+mod example_texts;
+#[cfg(test)]
+mod examples;
 #[cfg(test)]
 mod flipped;
 #[cfg(test)]

@@ -13,7 +13,7 @@ use std::alloc::Global;
 
 /// How a run ended, and where the machine then stood: at EXIT, at the instruction by which it is stuck, or where it was
 /// when its instructions were used up.
-#[derive(Clone, Copy, Debug)]
+#[derive(Clone, Copy)]
 pub struct Ending {
     pub outcome: Result<Run, Trap>,
     /// The slot of that instruction, or of the one that would have come next.

@@ -12,7 +12,7 @@ use std::alloc::Global;
 use words::TableRow;
 
 /// A program's runs in a row, and what they left in the counters and the cells, which were 0.
-#[derive(Debug, Drop)]
+#[derive(Drop)]
 pub struct Trial {
     pub endings: Vec<Ending>,
     pub counters: [u64; 256],

@@ -12,6 +12,7 @@ use crate::pass::pass_all;
 use crate::refusal::Refusal;
 use crate::region::any_regions;
 use absdom::Domain;
+use actions::actions_of;
 use isa::{Code, Hook};
 use object::Statement;
 use segments::target::targets_of;
@@ -84,9 +85,11 @@ pub fn verify<D: Domain>(
     let known = enter_start(&targets, &entry, unknown(alloc)?)?;
     let room = any_regions(alloc, code.len())?;
     let regions = pass_all(&code, hook, &targets, &entry, known, room)?;
+    let actions = actions_of(alloc, code.len(), code.slots(), &regions)?;
     Ok(Accepted {
         slots: code.into_slots(),
         regions,
+        actions,
         hook,
         bound,
     })

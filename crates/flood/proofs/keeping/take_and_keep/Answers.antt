@@ -1,9 +1,6 @@
 use Rattle.std.proofs.Common.{◌≡◌, ◌≤◌, ap, subst, sym, ◌∙◌, arith}
-use Rattle.area_routes.specs.Kept.{KnowsAnswered, KnowsCandidates}
+use Rattle.area_routes.specs.Kept.{AreKept, ServesOnlyThen}
 use Rattle.events.specs.Routers.{Router}
-use Rattle.kept_routes.specs.Kept.{IsWalkOf}
-use Rattle.routes.specs.Said.{said_at}
-use Rattle.area_routes.specs.Kept.{WalksAgainOnlyThen}
 use Rattle.flood.specs.Occurrences.{occurrence_of}
 use Rattle.flood.proofs.Answering.{answers_stay, clock_is_on, moment_is}
 use Rattle.flood.proofs.keeping.take_and_keep.Goals as goal
@@ -17,24 +14,15 @@ keep-requires-clause-order c =
     let at : c.take.new.router.present.moment ≡ c.args.moment = moment_is old c.args.moment event c.in_ok-outs.outs.items c.take.new.router.present c.in_ok-outs.ensures.ok in
     omega (arith, first, low, at)
 
-pub keep-requires-clause-walk : goal.keep-requires-clause-walk
-keep-requires-clause-walk c =
+pub keep-requires-clause-kept : goal.keep-requires-clause-kept
+keep-requires-clause-kept c =
+    let old = c.args.router.now.present in
+    let new = c.take.new.router.present in
+    let kept = c.args.routes.now in
     let stays = c.take.ensures.settled ∙ c.requires.settled in
-    subst (λ (s : Router). IsWalkOf (said_at c.moment-before.result s.area.database) c.args.routes.now.walk) (sym stays)
-    (subst (λ m. IsWalkOf (said_at m c.args.router.now.present.area.database) c.args.routes.now.walk) (sym c.moment-before.ensures) c.requires.kept.walk)
-
-pub keep-requires-clause-candidates : goal.keep-requires-clause-candidates
-keep-requires-clause-candidates c =
-    let stays = c.take.ensures.settled ∙ c.requires.settled in
-    subst (λ (s : Router). KnowsCandidates (said_at c.moment-before.result s.area.database) c.args.routes.now) (sym stays)
-    (subst (λ m. KnowsCandidates (said_at m c.args.router.now.present.area.database) c.args.routes.now) (sym c.moment-before.ensures) c.requires.kept.candidates)
-
-pub keep-requires-clause-answered : goal.keep-requires-clause-answered
-keep-requires-clause-answered c =
-    let stays = c.take.ensures.settled ∙ c.requires.settled in
-    subst (λ (s : Router). KnowsAnswered (said_at c.moment-before.result s.area.database) s.answers c.args.routes.now) (sym stays)
-    (subst (λ m. KnowsAnswered (said_at m c.args.router.now.present.area.database) c.args.router.now.present.answers c.args.routes.now) (sym c.moment-before.ensures)
-    c.requires.kept.answered)
+    subst (λ (s : Router). AreKept new.id s.area c.moment-before.result s.answers kept) (sym stays)
+    (subst (λ m. AreKept new.id old.area m old.answers kept) (sym c.moment-before.ensures)
+    (subst (λ x. AreKept x old.area old.moment old.answers kept) (sym c.in_ok-outs.ensures.keeps.keeps.same_router) c.requires.kept))
 
 pub keep-requires-clause-answers : goal.keep-requires-clause-answers
 keep-requires-clause-answers c none =
@@ -45,7 +33,7 @@ keep-requires-clause-answers c none =
 pub returns-clause-walks : goal.returns-clause-walks
 returns-clause-walks c =
     let new = c.take.new.router.present in
-    let old = c.args.routes.now.walk in
+    let old = c.args.routes.now in
     let stays = c.take.ensures.settled ∙ c.requires.settled in
-    subst (λ m. WalksAgainOnlyThen m new.moment new.id c.args.router.now.present.area new.area old c.keep.new.routes.walk) c.moment-before.ensures
-    (subst (λ (s : Router). WalksAgainOnlyThen c.moment-before.result new.moment new.id s.area new.area old c.keep.new.routes.walk) stays c.in_ok-keep.ensures.walks)
+    subst (λ m. ServesOnlyThen m new.moment new.id c.args.router.now.present.area new.area old c.keep.new.routes) c.moment-before.ensures
+    (subst (λ (s : Router). ServesOnlyThen c.moment-before.result new.moment new.id s.area new.area old c.keep.new.routes) stays c.in_ok-keep.ensures.walks)

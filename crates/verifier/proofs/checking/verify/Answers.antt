@@ -34,14 +34,19 @@ invariant_of-result g c =
     (rw (← c.deref-2.ensures.value) c.in_ok-regions.ensures.fine) in
     let kept = kept_regions g.D.Domain.contains c.args.code c.args.hook c.in_ok-targets.targets.items c.in_ok-entry.entry (code_begins c.args.code c.into_slots.ensures.code) c.in_ok-entry.ensures.holds
     (λ target stated. c.in_ok-known.ensures.edge target (rw c.deref.ensures.value stated) start c.in_ok-entry.ensures.holds)
-    (rw (← c.deref-2.ensures.value) c.in_ok-regions.ensures.fine) c.in_ok-regions.regions.items (rw (← c.deref-2.ensures.value) c.in_ok-regions.ensures.kept) in
-    record {
-      is_code = rw c.into_slots.ensures.value c.into_slots.ensures.code;
-      safe = rw c.into_slots.ensures.value (subst (λ bound. Safe c.args.code c.args.hook bound) same safe);
-      small = c.in_ok-bound.ensures.most;
-      long = rw c.into_slots.ensures.value c.in_ok-regions.ensures.long;
-      kept = rw c.into_slots.ensures.value kept;
-    }
+    (rw (← c.deref-2.ensures.value) c.in_ok-regions.ensures.fine) c.in_ok-regions.regions.items (rw (← c.deref-2.ensures.value) c.in_ok-regions.ensures.kept) in (
+      record {
+        is_code = rw c.into_slots.ensures.value c.into_slots.ensures.code;
+        safe = rw c.into_slots.ensures.value (subst (λ bound. Safe c.args.code c.args.hook bound) same safe);
+        small = c.in_ok-bound.ensures.most;
+        long = rw c.into_slots.ensures.value c.in_ok-regions.ensures.long;
+        kept = rw c.into_slots.ensures.value kept;
+      },
+      record {
+        done = rw (c.into_slots.ensures.value, ← c.slots.ensures.value, ← c.deref-3.ensures.value) c.in_ok-actions.ensures.done;
+        as_long = rw (c.into_slots.ensures.value, ← c.slots.ensures.value) c.in_ok-actions.ensures.long;
+      },
+    )
 
 pub returns-in_err-known-clause-named : goal.returns-in_err-known-clause-named
 returns-in_err-known-clause-named g c =
@@ -112,4 +117,8 @@ returns-in_err-regions-clause-over g c = λ over.
 
 pub returns-clause-over : goal.returns-clause-over
 returns-clause-over g c = λ over.
+    absurd (within_bound (c.args.entry_rank + 1) _ (length c.args.code) c.in_ok-bound.bound _ c.in_ok-bound.ensures.value c.len.ensures.value c.in_ok-bound.ensures.most over)
+
+pub returns-in_err-actions-clause-over : goal.returns-in_err-actions-clause-over
+returns-in_err-actions-clause-over g c = λ over.
     absurd (within_bound (c.args.entry_rank + 1) _ (length c.args.code) c.in_ok-bound.bound _ c.in_ok-bound.ensures.value c.len.ensures.value c.in_ok-bound.ensures.most over)

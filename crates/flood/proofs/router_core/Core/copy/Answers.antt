@@ -18,7 +18,7 @@ invariant_of-result c =
       subst IsInOrder (sym present) c.self.invariant.3,
       subst HoldsInstances (sym present) c.self.invariant.4,
       begun c.in_ok-router.router.present c.id.result c.area.result.now.present c.moment.result c.in-Ok.routes
-          c.id.ensures (ap (λ (a : RouterArea). a.present) c.area.ensures.parts) c.moment.ensures c.in-Ok.ensures.walk c.in-Ok.ensures.root c.in-Ok.ensures.candidates c.in-Ok.ensures.answered,
+          c.id.ensures (ap (λ (a : RouterArea). a.present) c.area.ensures.parts) c.moment.ensures c.in-Ok.ensures.routes c.in-Ok.ensures.answered,
     )
 
 pub new-requires-clause-few : goal.new-requires-clause-few

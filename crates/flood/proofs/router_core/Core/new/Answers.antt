@@ -26,7 +26,7 @@ invariant_of-result c =
       subst IsInOrder (sym is) (routers_stay_in_order.first c.args.config.now),
       subst HoldsInstances (sym is) (instances_stay_in_range.first c.args.config.now router),
       begun c.settle.new.self.present c.id.result c.area.result.now.present c.moment.result c.in-Ok.routes
-          c.id.ensures (ap (λ (a : RouterArea). a.present) c.area.ensures.parts) c.moment.ensures c.in-Ok.ensures.walk c.in-Ok.ensures.root c.in-Ok.ensures.candidates c.in-Ok.ensures.answered,
+          c.id.ensures (ap (λ (a : RouterArea). a.present) c.area.ensures.parts) c.moment.ensures c.in-Ok.ensures.routes c.in-Ok.ensures.answered,
     )
 
 pub new-requires-clause-few : goal.new-requires-clause-few

@@ -1,31 +1,31 @@
-use Rattle.std.proofs.Common.{ap, subst}
-use Rattle.area_routes.specs.Kept.{KnowsCandidates}
-use Rattle.area_routes.specs.Offers.{root_by}
+use Rattle.std.proofs.Common.{◌≤◌, length, refl, ap, subst, sym}
+use Rattle.std.specs.FinMap as finite
+use Rattle.area_routes.proofs.Limits.{within}
+use Rattle.area_routes.specs.Kept.{AreRoutesOf}
+use Rattle.area_routes.specs.Offers.{IsTableOf}
 use Rattle.events.specs.Routers.{Router}
 use Rattle.flooding.specs.Kept.{RouterArea}
-use Rattle.kept_routes.specs.Kept.{IsWalkOf}
-use Rattle.routes.specs.Said.{Said, said_at}
-use Rattle.routes.specs.Tables.{Answers, IsTable}
-use Rattle.routes.specs.declared.root.Root.{Root}
-use Rattle.flood.proofs.Offering.{of_router, said_in_parts}
+use Rattle.flood.specs.Offers.{IsTableNow}
+use Rattle.flood.proofs.Offering.{of_parts, of_router}
 use Rattle.flood.proofs.router_core.Core.rows.Goals as goal
 
-pub table-requires-clause-walk : goal.table-requires-clause-walk
-table-requires-clause-walk c =
-    let r = c.self.inside.router.present in
-    said_in_parts (λ said. IsWalkOf said c.self.inside.routes.walk) r c.area.result.now.present c.moment.result
-    (ap (λ (a : RouterArea). a.present) c.area.ensures.parts) c.moment.ensures c.self.invariant.5.walk
+pub table-requires-clause-few : goal.table-requires-clause-few
+table-requires-clause-few c = subst (λ (a : RouterArea). length a.present.links ≤ 63) (sym c.area.ensures.parts) c.area.ensures.few
 
-pub table-requires-clause-candidates : goal.table-requires-clause-candidates
-table-requires-clause-candidates c =
+pub table-requires-clause-size : goal.table-requires-clause-size
+table-requires-clause-size c =
+    subst (λ (a : RouterArea). finite.len a.present.database ≤ 16384) (sym c.area.ensures.parts)
+    (within c.self.inside.router.present.id c.self.inside.router.present.area.database c.self.invariant.2)
+
+pub table-requires-clause-routes : goal.table-requires-clause-routes
+table-requires-clause-routes c =
     let r = c.self.inside.router.present in
-    said_in_parts (λ said. KnowsCandidates said c.self.inside.routes) r c.area.result.now.present c.moment.result
-    (ap (λ (a : RouterArea). a.present) c.area.ensures.parts) c.moment.ensures c.self.invariant.5.candidates
+    of_parts (λ i a m w. AreRoutesOf i a m c.self.inside.routes) r c.id.result c.area.result.now.present c.moment.result r.answers
+    c.id.ensures (ap (λ (a : RouterArea). a.present) c.area.ensures.parts) c.moment.ensures refl c.self.invariant.5.routes
 
 pub returns : goal.returns
 returns c =
-    let P : Said → Root → Answers → Type 0 = λ said root w. IsTable said root w c.in_ok-made.made.items in
     let r = c.self.inside.router.present in
-    subst (λ (s : Router). P (said_at s.moment s.area.database) (root_by s.id s.area.links) s.answers) c.self.view_is
-    (of_router P r c.area.result.now.present c.moment.result c.self.inside.routes.walk.root c.answers.result.now
-    (ap (λ (a : RouterArea). a.present) c.area.ensures.parts) c.moment.ensures c.self.invariant.5.root c.answers.ensures c.in_ok-made.ensures)
+    subst (λ (s : Router). IsTableNow s c.in_ok-made.made.items) c.self.view_is
+    (of_router (λ i a m w. IsTableOf i a m w c.in_ok-made.made.items) r c.id.result c.area.result.now.present c.moment.result c.answers.result.now
+    c.id.ensures (ap (λ (a : RouterArea). a.present) c.area.ensures.parts) c.moment.ensures c.answers.ensures c.in_ok-made.ensures)

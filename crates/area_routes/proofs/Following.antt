@@ -1,0 +1,37 @@
+-- What is known of kept routes after an event.
+use Rattle.std.proofs.Common.{◌≡◌, false, sym, subst, ◌∙◌}
+use mathlib.Core.Bool.{false≢true}
+use Rattle.std.specs.Prelude.{List}
+use Rattle.words.specs.declared.route.Route.{Route}
+use Rattle.kept_routes.specs.Kept.{IsWalkOf}
+use Rattle.routes.specs.Candidates.{AreCandidates}
+use Rattle.routes.specs.Said.{Said}
+use Rattle.routes.specs.Tables.{Answers, IsStale}
+use Rattle.routes.specs.declared.root.Root.{Root}
+use Rattle.area_routes.specs.Kept.{KeptRoutes, KnowsAnswered, KnowsCandidates, KnowsWalk}
+use Rattle.area_routes.proofs.Candidates.{carried}
+
+-- nothing is known of answers where none are known to be there
+pub unanswered : (said : Said) (root : Root) (answers : Answers) (kept : KeptRoutes) → kept.answered ≡ false → KnowsAnswered said root answers kept
+unanswered said root answers kept is on = absurd (false≢true (sym is ∙ on))
+
+module _ (old new : Said) (was is : Root) (kept : KeptRoutes) (serves : kept.behind ≡ false) (begins : kept.walk.root ≡ is) (knew : KnowsWalk old was kept) where
+  same_root : was ≡ is
+  same_root = sym (knew.root serves) ∙ begins
+
+  -- a walk that still is one
+  pub still_walks : (IsWalkOf old kept.walk → IsWalkOf new kept.walk) → KnowsWalk new is kept
+  still_walks goes_on = record { walk = λ on. goes_on (knew.walk serves); root = λ on. begins }
+
+  -- candidates that still are
+  pub still_offers : ((routes : List Route) → AreCandidates old was routes → AreCandidates new was routes) → KnowsCandidates old was kept
+      → KnowsCandidates new is kept
+  still_offers goes_on knows =
+      subst (λ root. KnowsCandidates new root kept) same_root
+      (carried (λ routes. AreCandidates old was routes) (λ routes. AreCandidates new was routes) goes_on kept.candidates knows)
+
+  -- answers that still are
+  pub still_answered : (answers : Answers) → (IsStale new was answers → IsStale old was answers) → KnowsAnswered old was answers kept
+      → KnowsAnswered new is answers kept
+  still_answered answers back knows =
+      subst (λ root. KnowsAnswered new root answers kept) same_root (λ on stale. knows on (back stale))

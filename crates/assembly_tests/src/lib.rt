@@ -1,9 +1,0 @@
-//! Tests of `asm_words`, `asm_lines` and `asm` by their public calls. They stand above, since a crate is proved once more for its tests.
-#![tactic(auto)]
-
-#[cfg(test)]
-mod lines;
-#[cfg(test)]
-mod texts;
-#[cfg(test)]
-mod words;

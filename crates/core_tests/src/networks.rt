@@ -1,0 +1,192 @@
+//! Two and three routers in a row: they become Full, and their databases the same, whatever is
+//! lost, comes twice or in another order.
+use crate::announced::announcements;
+use crate::network::{Act, CALM, Fate, Network};
+use flood::Event;
+use std::alloc::Global;
+use std::sync::Wait;
+use std::test::Fail;
+
+fn play_at(network: &mut Network, events: &[Event], acts: &[Act]) -> Result<(), Fail> {
+    for (place, act) in acts.iter().enumerate() {
+        if !network.does(events, *act) {
+            return Err(Fail::new(format_args!("act {place}")));
+        }
+    }
+    Ok(())
+}
+
+// Plays the acts with so many routers.
+fn play<R: Wait + Drop + Copy>(
+    alloc: Global,
+    rt: R,
+    routers: usize,
+    acts: &[Act],
+) -> Result<(), Fail> {
+    let events = announcements(alloc, rt)?;
+    let mut network = Network::new(alloc, routers).ok_or("no network")?;
+    let played = play_at(&mut network, &events, acts);
+    network.close();
+    played
+}
+
+const C: Fate = Fate::Comes;
+
+const L: Fate = Fate::Lost;
+
+const T: Fate = Fate::Twice;
+
+const X: Fate = Fate::Exchanged;
+
+const TWO: &[Act] = &[
+    Act::Seconds(15, CALM),
+    Act::Full,
+    Act::Same,
+    Act::Holds(0, 2),
+];
+
+const THREE: &[Act] = &[
+    Act::Seconds(15, CALM),
+    Act::Full,
+    Act::Same,
+    Act::Holds(0, 3),
+];
+
+const LOSSES: &[Act] = &[
+    Act::Seconds(60, &[C, C, L, C, C, L, C]),
+    Act::Announce(0, 1),
+    Act::Seconds(30, &[C, L, C, C, C, L, C, L]),
+    Act::Seconds(15, CALM),
+    Act::Full,
+    Act::Same,
+    Act::Holds(0, 4),
+];
+
+const REPETITIONS: &[Act] = &[
+    Act::Seconds(30, &[T, C, T]),
+    Act::Announce(0, 1),
+    Act::Announce(1, 2),
+    Act::Seconds(30, &[C, T, T]),
+    Act::Full,
+    Act::Same,
+    Act::Holds(0, 5),
+];
+
+const OTHER_ORDERS: &[Act] = &[
+    Act::Seconds(30, &[C, X, X, C, T, X, L]),
+    Act::Announce(0, 1),
+    Act::Announce(0, 2),
+    Act::Seconds(30, &[X, C, L, X, T]),
+    Act::Withdraw(0, 1),
+    Act::Seconds(30, &[X, L, C, C, T, X]),
+    Act::Seconds(15, CALM),
+    Act::Full,
+    Act::Same,
+    Act::Holds(0, 4),
+];
+
+const SILENCE: &[Act] = &[
+    Act::Seconds(15, CALM),
+    Act::Passes(10),
+    Act::Apart,
+    Act::Seconds(15, CALM),
+    Act::Full,
+    Act::Same,
+    Act::Holds(0, 3),
+];
+
+// It takes its router-LSA back, and flushes what it no longer announces.
+const RESTART: &[Act] = &[
+    Act::Seconds(15, CALM),
+    Act::Announce(0, 1),
+    Act::Announce(2, 2),
+    Act::Seconds(5, CALM),
+    Act::Holds(0, 5),
+    Act::Restart(0),
+    Act::Seconds(30, CALM),
+    Act::Full,
+    Act::Same,
+    Act::Holds(0, 4),
+];
+
+const LINK_DOWN: &[Act] = &[
+    Act::Seconds(15, CALM),
+    Act::LinkDown(1, 2),
+    Act::Announce(0, 1),
+    Act::Seconds(30, CALM),
+    Act::Full,
+    Act::Same,
+    Act::Holds(0, 4),
+    Act::Withdraw(0, 1),
+    Act::Seconds(5, CALM),
+    Act::Full,
+    Act::Same,
+    Act::Holds(0, 3),
+];
+
+// The last router misses the flush. A Description comes once more, so that the last two exchange
+// their databases in the second in which the second one takes the flush and forgets it: it has the
+// LSA back. The flush that answers this is passed over, and an acknowledgment that was for the
+// first one takes it off the list.
+const A_FLUSHED_LSA_COMES_BACK: &[Act] = &[
+    Act::Seconds(15, CALM),
+    Act::Announce(0, 1),
+    Act::Seconds(5, CALM),
+    Act::Full,
+    Act::Same,
+    Act::Holds(0, 4),
+    Act::LinkDown(1, 2),
+    Act::Withdraw(0, 1),
+    Act::Seconds(1, CALM),
+    Act::Again(10),
+    Act::Seconds(20, CALM),
+    Act::Full,
+    Act::Holds(0, 3),
+    Act::Holds(1, 4),
+    Act::Holds(2, 4),
+];
+
+#[test]
+fn two_routers_become_full(rt: HostRuntime) -> Result<(), Fail> {
+    play(rt.alloc(), &rt, 2, TWO)
+}
+
+#[test]
+fn three_routers_become_full(rt: HostRuntime) -> Result<(), Fail> {
+    play(rt.alloc(), &rt, 3, THREE)
+}
+
+#[test]
+fn packets_are_lost(rt: HostRuntime) -> Result<(), Fail> {
+    play(rt.alloc(), &rt, 3, LOSSES)
+}
+
+#[test]
+fn packets_come_twice(rt: HostRuntime) -> Result<(), Fail> {
+    play(rt.alloc(), &rt, 3, REPETITIONS)
+}
+
+#[test]
+fn packets_come_in_another_order(rt: HostRuntime) -> Result<(), Fail> {
+    play(rt.alloc(), &rt, 3, OTHER_ORDERS)
+}
+
+#[test]
+fn silent_neighbors_are_lost_and_found_again(rt: HostRuntime) -> Result<(), Fail> {
+    play(rt.alloc(), &rt, 3, SILENCE)
+}
+
+#[test]
+fn a_router_begins_anew(rt: HostRuntime) -> Result<(), Fail> {
+    play(rt.alloc(), &rt, 3, RESTART)
+}
+
+#[test]
+fn a_link_goes_down_and_up_again(rt: HostRuntime) -> Result<(), Fail> {
+    play(rt.alloc(), &rt, 3, LINK_DOWN)
+}
+
+#[test]
+fn a_flushed_lsa_comes_back_to_stay(rt: HostRuntime) -> Result<(), Fail> {
+    play(rt.alloc(), &rt, 3, A_FLUSHED_LSA_COMES_BACK)
+}

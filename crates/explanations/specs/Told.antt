@@ -1,0 +1,24 @@
+-- How a verdict is told.
+use Rattle.std.specs.Prelude.{◌≡◌, ℕ, List, [], ◌∷◌, ◌++◌, Result, Ok, Err, codes, decimal}
+use Rattle.object_verdicts.specs.declared.error.VerifyError.{VerifyError}
+use Rattle.object_verdicts.specs.declared.error.VerifyError.TheVariants as errors
+use Rattle.transfer.specs.Rules.{rule_number}
+use Rattle.verifier.specs.Programs.{Program}
+use Rattle.verifier.specs.declared.refusal.Refusal.{Refusal}
+
+-- the line for an accepted program, as `routerd verify` prints it
+abbrev pub accepted_line : (bound : ℕ) → List ℕ
+accepted_line bound = codes "accepted bound " ++ (decimal bound ++ 10 ∷ [])
+
+-- and the first words for a refused one
+abbrev pub refused_words : Refusal → List ℕ
+refused_words refusal = codes "refused slot "
+    ++ (decimal refusal.slot ++ (codes " rule " ++ decimal (rule_number refusal.rule)))
+
+-- The text tells the bound of an accepted program alone, and the slot and the rule of a refused one first.
+abbrev pub TellsVerdict : Result Program VerifyError → List ℕ → Type 0
+TellsVerdict (Ok program) text = text ≡ accepted_line program.bound
+TellsVerdict (Err (errors.Refused refusal)) text =
+    (more : List ℕ) × (text ≡ refused_words refusal ++ more)
+TellsVerdict (Err (errors.Object error)) text = Unit {0}
+TellsVerdict (Err (errors.Code error)) text = Unit {0}
