@@ -138,7 +138,7 @@ fn print_loops<R: Clock + Print + AllocGlobal>(rt: &R) -> Result<()> {
         .print(rt, "a load is dearer by", "each")
 }
 
-/// Prints how long straight-line code, a loop, and programs with accesses of the maps take, and straight-line code that is accepted.
+/// Prints how long straight-line code, a loop, and programs with accesses of the maps take, and accepted programs.
 pub fn print<R: Clock + Print + AllocGlobal>(rt: &R) -> Result<()> {
     print_short(rt)?;
     let long = programs::straight_line(rt.alloc(), 4_000);

@@ -13,6 +13,8 @@ mod kept;
 #[cfg(test)]
 mod lines;
 #[cfg(test)]
+mod networks;
+#[cfg(test)]
 mod plain;
 #[cfg(test)]
 mod played;

@@ -1,4 +1,3 @@
-use Rattle.std.proofs.Common.{refl}
 use Rattle.std.specs.Prelude.{◌++◌, string_bytes}
 use Rattle.hooktool_commands.proofs.explaining.explanation_of.Goals as goal
 
