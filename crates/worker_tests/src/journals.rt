@@ -183,9 +183,15 @@ fn route() -> Option<Route> {
 }
 
 fn vetoed<R: Wait>(rt: &R, alloc: Global, route: &Route) -> Option<VetoAnswer> {
-    let (shared, mut seats) = Shared::new(alloc, 1).ok()?;
-    let (loader, mut askers) = programs(alloc, rt, 1).ok()?;
-    let (mut seat, mut asker) = (seats.pop()?, askers.pop()?);
+    let (Ok((shared, mut seats)), Ok((loader, mut askers))) = (
+        Shared::new(alloc, 1),
+        programs(alloc, rt, 1),
+    ) else {
+        return None;
+    };
+    let (Some(mut seat), Some(mut asker)) = (seats.pop(), askers.pop()) else {
+        return None;
+    };
     let answered = asker.veto(route, Second::new(0), &[], &shared, &mut seat);
     drop(loader);
     answered
