@@ -1,5 +1,5 @@
 -- What the joined maps say at a key.
-use Rattle.std.proofs.Common.{◌≡◌, ℕ, true, false, Some, None, refl, sym, ap, ◌∙◌}
+use Rattle.std.proofs.Common.{◌≡◌, ℕ, true, false, Some, None, sym, ap, ◌∙◌}
 use mathlib.Core.Bool.{false≢true}
 use Rattle.std.specs.Prelude.{Option, Bool, if◌then◌else◌, is_some}
 use Rattle.std.specs.FinMap as finite

@@ -24,6 +24,9 @@ ghost use Rattle.lsdb.specs.Joined.{aged_at};
 ghost use Rattle.words.specs.declared.key.Key.{Key as KeyValue};
 ghost use Rattle.lsdb.specs.Limits.{exceeds, has_room, own_externals};
 
+mod others;
+mod silence;
+
 use crate::ages::{Ages, foresee, foresee_again};
 use crate::database_copy::DatabaseCopy;
 use crate::limits::{MOST_LSAS, MOST_OWN_EXTERNALS, is_own_external, recount};
@@ -33,6 +36,7 @@ use crate::times::Times;
 use keyed_map::{ChangeTest, KeyTest, KeyedMap, KeysInOrder};
 use lsa::laws::texts_are_determined;
 use lsa::{Body, HEADER_LENGTH, Lsa, write_at_age};
+pub use others::KeyRule;
 use std::alloc::{AllocError, Global};
 use std::marker::Model;
 use words::{Key, RouterId, Second};
