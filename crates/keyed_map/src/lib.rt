@@ -2,10 +2,12 @@
 //! at the cost of the edits.
 #![tactic(auto)]
 
+mod entries_in_order;
 mod keys_in_order;
 mod map;
 mod slot;
 
+pub use entries_in_order::EntriesInOrder;
 pub use keys_in_order::KeysInOrder;
 pub use map::{ChangeTest, Copied, KeyTest, KeyedMap};
 pub use slot::{Edit, Slot};

@@ -7,6 +7,7 @@ ghost use Rattle.keyed_map.specs.Slots.{Fits, counted, holds, keys_from, keys_wh
 ghost use Rattle.keyed_map.specs.Slots.{put_live, slots_of, undo};
 ghost use Rattle.keyed_map.specs.Changes.{IsFirst, held_before};
 
+use crate::entries_in_order::EntriesInOrder;
 use crate::keys_in_order::KeysInOrder;
 use crate::slot::{Edit, Slot};
 use std::alloc::{AllocError, Global};
@@ -262,6 +263,15 @@ impl<X: Drop> KeyedMap<X> {
         ensures { result ≡ map.keys self.now.present }
     {
         KeysInOrder {
+            slots: self.slots.iter(),
+        }
+    }
+
+    /// The keys with their values, in the order of the keys.
+    pub fn entries(&self) -> EntriesInOrder<'_, X>
+        ensures { result ≡ map.entries self.now.present }
+    {
+        EntriesInOrder {
             slots: self.slots.iter(),
         }
     }

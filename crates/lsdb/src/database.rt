@@ -10,6 +10,7 @@ ghost use Rattle.lsdb.specs.Copies.{
   put_copy,
   said_by,
 };
+ghost use Rattle.lsdb.specs.Bodies.{AreBodies};
 ghost use Rattle.lsdb.specs.Changes.{
   CountsAlike,
   IsSameBody,
@@ -29,6 +30,7 @@ mod silence;
 
 use crate::ages::{Ages, foresee, foresee_again};
 use crate::database_copy::DatabaseCopy;
+use crate::keyed_bodies::{KeyedBody, bodies_of};
 use crate::limits::{MOST_LSAS, MOST_OWN_EXTERNALS, is_own_external, recount};
 use crate::order::{MAX_AGE, age_at};
 use crate::stored::StoredLsa;
@@ -227,7 +229,7 @@ fn behind_header(text: &[u8]) -> &[u8]
     &text[HEADER_LENGTH..]
 }
 
-fn is_up_to(last_type: Option<u32>, key: &Key) -> bool
+pub(crate) fn is_up_to(last_type: Option<u32>, key: &Key) -> bool
     ensures { IsTrue result ↔ IsUpTo last_type key.now }
 {
     match last_type {
@@ -280,7 +282,7 @@ fn tells_max_age(moment: Second, times: &Times) -> bool
 
 // Whether the times of this key have come to MaxAge at the moment. Where none of another key can
 // have before it, they aren't looked up.
-fn has_max_age(ages: &Ages, times: &KeyedMap<Times>, key: &Key, moment: Second) -> bool
+pub(crate) fn has_max_age(ages: &Ages, times: &KeyedMap<Times>, key: &Key, moment: Second) -> bool
     requires { ForeseesAll ages.now times.now.present }
     ensures { result ≡ aged_at moment (finite.get times.now.present key.now) }
 {
@@ -371,6 +373,32 @@ impl Lsdb {
                 Some(stored.lsa().body())
             }
         }
+    }
+
+    /// What the copies of the types up to this one say, or those of all types where there is none, if
+    /// they are below MaxAge at the moment, in the order of their keys (RFC 2328, section 16). It
+    /// looks at each copy of these types once, and at no other.
+    ///
+    /// # Errors
+    /// Where memory for the list is refused.
+    pub fn bodies_at(
+        &self,
+        alloc: Global,
+        last_type: Option<u32>,
+        moment: Second,
+    ) -> Result<Vec<KeyedBody<'_>>, AllocError>
+        ensures bodies { IfOk result (λ bodies. AreBodies last_type
+            (λ key. said_by moment (finite.get self.now.present key)) bodies.items) }
+        ensures few { IfOk result (λ bodies. length bodies.items ≤ finite.len self.now.present) }
+    {
+        bodies_of(
+            alloc,
+            &self.lsas,
+            &self.times,
+            &self.ages,
+            last_type,
+            moment,
+        )
     }
 
     /// The keys, in their order.

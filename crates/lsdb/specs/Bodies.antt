@@ -1,0 +1,20 @@
+-- What all LSAs of a database say (RFC 2328, section 16).
+use Rattle.std.specs.Prelude.{◌≡◌, ℕ, ◌↔◌, List, Option, Some}
+use Rattle.std.specs.List.{AllPairs, Contains}
+use Rattle.std.specs.declared.cmp.Ordering.TheVariants.{Less}
+use Rattle.words.specs.declared.key.Key.{Key}
+use Rattle.lsa.specs.declared.body.Body.{Body}
+use Rattle.lsdb.specs.Changes.{IsUpTo}
+use Rattle.lsdb.specs.Keys.{key_cmp}
+
+-- in the order of the keys, each once
+abbrev pub InOrder : List (Key × Body) → Type 0
+InOrder bodies = AllPairs (λ (a : Key × Body) (b : Key × Body). key_cmp a.0 b.0 ≡ Less) bodies
+
+-- just the keys of the types up to this one, or of all types, whose LSAs say something, each once
+-- and with what its LSA says, in the order of the keys
+pub record AreBodies (last : Option ℕ) (said : Key → Option Body)
+    (bodies : List (Key × Body)) : Type 0 where
+  pub each : (key : Key) (says : Body) → Contains bodies (key, says)
+      ↔ (IsUpTo last key × (said key ≡ Some says))
+  pub ascend : InOrder bodies

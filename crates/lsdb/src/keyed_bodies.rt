@@ -1,0 +1,87 @@
+//! What all copies say at a moment, lent in the order of their keys.
+ghost use Rattle.std.specs.Prelude.{◌≡◌, ◌≤◌, IfOk, length};
+ghost use Rattle.std.specs.FinMap as finite;
+ghost use Rattle.lsdb.specs.Bodies.{AreBodies};
+ghost use Rattle.lsdb.specs.Copies.{said_by};
+ghost use Rattle.lsdb.specs.Foresight.{ForeseesAll};
+ghost use Rattle.lsdb.specs.Joined.{HaveTimes, joined};
+
+use crate::ages::Ages;
+use crate::database::{has_max_age, is_up_to};
+use crate::stored::StoredLsa;
+use crate::times::Times;
+use keyed_map::KeyedMap;
+use lsa::Body;
+use std::alloc::{AllocError, Global};
+use std::marker::Model;
+use words::{Key, Second};
+
+/// A key with what its LSA says. Clauses see the pair.
+#[derive(Drop)]
+pub struct KeyedBody<'a> {
+    key: Key,
+    body: &'a Body,
+}
+
+impl<'a> Model for KeyedBody<'a> {
+    ghost use Rattle.words.specs.declared.key.Key.{Key};
+    ghost use Rattle.lsa.specs.declared.body.Body.{Body};
+
+    ghost Value = { Key × Body };
+
+    ghost view = { λ a. (a.key, a.body.now) };
+}
+
+impl<'a> KeyedBody<'a> {
+    fn new(key: Key, body: &'a Body) -> Self
+        ensures { result ≡ (key, body.now) }
+    {
+        KeyedBody { key, body }
+    }
+
+    /// The key of the LSA.
+    pub fn key(&self) -> &Key
+        ensures { result.now ≡ self.now.0 }
+    {
+        &self.key
+    }
+
+    /// What the LSA says.
+    pub fn body(&self) -> &'a Body
+        ensures { result.now ≡ self.now.1 }
+    {
+        self.body
+    }
+}
+
+/// What LSAs of the types up to this one, or of all types, say that have these times.
+///
+/// # Errors
+/// Where memory for the list is refused.
+pub fn bodies_of<'a>(
+    alloc: Global,
+    lsas: &'a KeyedMap<StoredLsa>,
+    times: &KeyedMap<Times>,
+    ages: &Ages,
+    last_type: Option<u32>,
+    moment: Second,
+) -> Result<Vec<KeyedBody<'a>>, AllocError>
+    requires foreseen { ForeseesAll ages.now times.now.present }
+    requires timed { HaveTimes lsas.now.present times.now.present }
+    ensures bodies { IfOk result (λ bodies. AreBodies last_type
+        (λ key. said_by moment (finite.get (joined lsas.now.present times.now.present) key))
+        bodies.items) }
+    ensures few { IfOk result (λ bodies. length bodies.items
+        ≤ finite.len (joined lsas.now.present times.now.present)) }
+{
+    let mut bodies = Vec::new(alloc);
+    for (key, stored) in lsas.entries() {
+        if !is_up_to(last_type, &key) {
+            break;
+        }
+        if !has_max_age(ages, times, &key, moment) {
+            bodies.push(KeyedBody::new(key, stored.lsa().body()))?;
+        }
+    }
+    Ok(bodies)
+}
