@@ -1,7 +1,7 @@
 -- The exchange of Descriptions in words that the code's contracts use (RFC 2328, sections 10.6 and
 -- 10.8).
 use Rattle.std.specs.Prelude.{ℕ, ◌+◌, ◌%◌, ◌^◌, ◌==◌, Bool, true, false, not, ◌&&◌, nat_lt}
-use Rattle.std.specs.Prelude.{if◌then◌else◌, Option, None, Some}
+use Rattle.std.specs.Prelude.{if◌then◌else◌, List, [], ◌∷◌, Option, None, Some}
 use Rattle.std.specs.FinMap as finite
 use Rattle.words.specs.Numbers.{Moment, RouterNumber}
 use Rattle.words.specs.declared.key.Key.{Key}
@@ -15,6 +15,7 @@ use Rattle.adjacency.specs.declared.state.State.TheVariants.{Init, ExStart, Exch
 use Rattle.adjacency.specs.declared.standing.Standing.{Standing}
 use Rattle.adjacency.specs.declared.verdict.Verdict.{Verdict as Said}
 use Rattle.adjacency.specs.declared.verdict.Verdict.TheVariants as said
+use Rattle.adjacency.specs.declared.verdict.Mismatch.{Mismatch}
 use Rattle.adjacency.specs.Contents.{Step, no_sends}
 use Rattle.adjacency.specs.Descriptions.{Verdict, as_received, is_initial_description, judge}
 use Rattle.adjacency.specs.Descriptions.{knows_types, master_goes_on, negotiated, repeat}
@@ -30,7 +31,21 @@ verdict_of said.NegotiatedAsSlave = Verdict.NegotiatedAsSlave
 verdict_of said.NegotiatedAsMaster = Verdict.NegotiatedAsMaster
 verdict_of said.Repeated = Verdict.Repeated
 verdict_of said.Accepted = Verdict.Accepted
-verdict_of said.Mismatch = Verdict.Mismatch
+verdict_of (said.Mismatch why) = Verdict.Mismatch
+
+-- why it is a mismatch, if it is one
+abbrev pub mismatch_of : Said → Option Mismatch
+mismatch_of said.Discarded = None
+mismatch_of said.NegotiatedAsSlave = None
+mismatch_of said.NegotiatedAsMaster = None
+mismatch_of said.Repeated = None
+mismatch_of said.Accepted = None
+mismatch_of (said.Mismatch why) = Some why
+
+-- the reason that the first of these tests gives
+abbrev pub first_mismatch : List (Bool × Mismatch) → Option Mismatch
+first_mismatch [] = None
+first_mismatch (t ∷ ts) = if t.0 then Some t.1 else first_mismatch ts
 
 -- what a neighbor keeps beside its lists and its last Description
 abbrev pub standing_of : Neighbor → Standing

@@ -7,10 +7,12 @@ ghost use Rattle.adjacency.specs.Descriptions.{Verdict as Judgment};
 ghost use Rattle.adjacency.specs.Descriptions.{as_received, changes_options, first_verdict};
 ghost use Rattle.adjacency.specs.Descriptions.{is_duplicate, is_empty, is_initial_description};
 ghost use Rattle.adjacency.specs.Descriptions.{knows_types, same_flag, same_received};
-ghost use Rattle.adjacency.specs.Exchanges.{expected_of, follows, leads, starts_over, verdict_of};
+ghost use Rattle.adjacency.specs.Exchanges.{expected_of, first_mismatch, follows, leads};
+ghost use Rattle.adjacency.specs.Exchanges.{mismatch_of, starts_over, verdict_of};
+ghost use Rattle.adjacency.specs.declared.verdict.Mismatch.TheVariants as Reason;
 
 use crate::standing::{ReceivedDescription, Standing};
-use crate::verdict::Verdict;
+use crate::verdict::{Mismatch, Verdict};
 use lsa::Header;
 use packet::Description;
 use words::RouterId;
@@ -35,24 +37,6 @@ pub fn same_flag(a: bool, b: bool) -> bool
     if a { b } else { !b }
 }
 
-fn all_five(a: bool, b: bool, c: bool, d: bool, e: bool) -> bool
-    ensures { result ≡ (a && b && c && d && e) }
-{
-    a && b && c && d && e
-}
-
-fn all_four(a: bool, b: bool, c: bool, d: bool) -> bool
-    ensures { result ≡ (a && b && c && d) }
-{
-    a && b && c && d
-}
-
-fn both(a: bool, b: bool) -> bool
-    ensures { result ≡ (a && b) }
-{
-    a && b
-}
-
 fn same_received(last: &ReceivedDescription, description: &Description) -> bool
     ensures { result ≡ same_received last.now (as_received description.now) }
 {
@@ -61,7 +45,7 @@ fn same_received(last: &ReceivedDescription, description: &Description) -> bool
     let more = same_flag(last.more, description.more);
     let master = same_flag(last.master, description.master);
     let sequence = last.sequence == description.sequence;
-    all_five(options, init, more, master, sequence)
+    options && init && more && master && sequence
 }
 
 /// Tells whether it is the last one received once more: its flags, Options and number are the same.
@@ -98,12 +82,7 @@ fn is_initial_description(description: &Description) -> bool
     ensures { result ≡ is_initial_description description.now }
 {
     let empty = is_empty(description.headers.as_slice());
-    all_four(
-        description.init,
-        description.more,
-        description.master,
-        empty,
-    )
+    description.init && description.more && description.master && empty
 }
 
 /// The number that the next one from the other side has.
@@ -153,7 +132,7 @@ pub fn starts_over(verdict: Verdict, description: &Description) -> bool
         Verdict::NegotiatedAsMaster => !knows_types(description),
         Verdict::Repeated => false,
         Verdict::Accepted => !knows_types(description),
-        Verdict::Mismatch => true,
+        Verdict::Mismatch(_why) => true,
     }
 }
 
@@ -161,9 +140,8 @@ pub fn starts_over(verdict: Verdict, description: &Description) -> bool
 pub fn follows(own: RouterId, other: RouterId, description: &Description) -> bool
     ensures { result ≡ follows own other description.now }
 {
-    let opens = is_initial_description(description);
     let smaller = own.number() < other.number();
-    both(opens, smaller)
+    is_initial_description(description) && smaller
 }
 
 /// Tells whether this router leads: the other side, which has the smaller Router ID, took its number
@@ -173,7 +151,7 @@ pub fn leads(own: RouterId, other: RouterId, sequence: u32, description: &Descri
 {
     let same = description.sequence == sequence;
     let larger = other.number() < own.number();
-    all_four(!description.init, !description.master, same, larger)
+    !description.init && !description.master && same && larger
 }
 
 /// The verdict in ExStart: this router is the slave where it follows, the master where it leads.
@@ -191,24 +169,43 @@ pub fn negotiation(follows: bool, leads: bool) -> Verdict
     }
 }
 
-/// The verdict in Exchange on one that is no duplicate: it is accepted where the MS bits of both sides
-/// differ, the I bit is clear, the Options are those of before, and the number is the expected one.
-pub fn acceptance(same_roles: bool, init: bool, other_options: bool, expected: bool) -> Verdict
-    ensures { verdict_of result ≡ first_verdict
-        ((same_roles, Judgment.Mismatch) ∷ (init, Judgment.Mismatch) ∷
-        (other_options, Judgment.Mismatch) ∷ (not expected, Judgment.Mismatch) ∷ [])
-        Judgment.Accepted }
-{
-    if same_roles {
-        Verdict::Mismatch
-    } else if init {
-        Verdict::Mismatch
-    } else if other_options {
-        Verdict::Mismatch
-    } else if expected {
-        Verdict::Accepted
-    } else {
-        Verdict::Mismatch
+/// What a Description that is no duplicate is tested for in Exchange.
+#[derive(Clone, Copy, Debug)]
+pub struct ExchangeTests {
+    /// The MS bits of both sides are the same.
+    pub same_roles: bool,
+    /// The I bit is set.
+    pub init: bool,
+    /// The Options are others than those of the last one received.
+    pub other_options: bool,
+    /// The sequence number is the expected one.
+    pub expected: bool,
+}
+
+impl ExchangeTests {
+    /// The verdict: it is accepted where the MS bits of both sides differ, the I bit is clear, the
+    /// Options are those of before, and the number is the expected one.
+    pub fn verdict(&self) -> Verdict
+        ensures verdict { verdict_of result ≡ first_verdict
+            ((self.now.same_roles, Judgment.Mismatch) ∷ (self.now.init, Judgment.Mismatch) ∷
+            (self.now.other_options, Judgment.Mismatch) ∷
+            (not self.now.expected, Judgment.Mismatch) ∷ []) Judgment.Accepted }
+        ensures reason { mismatch_of result ≡ first_mismatch
+            ((self.now.same_roles, Reason.Roles) ∷ (self.now.init, Reason.Init) ∷
+            (self.now.other_options, Reason.Options) ∷
+            (not self.now.expected, Reason.Sequence) ∷ []) }
+    {
+        if self.same_roles {
+            Verdict::Mismatch(Mismatch::Roles)
+        } else if self.init {
+            Verdict::Mismatch(Mismatch::Init)
+        } else if self.other_options {
+            Verdict::Mismatch(Mismatch::Options)
+        } else if self.expected {
+            Verdict::Accepted
+        } else {
+            Verdict::Mismatch(Mismatch::Sequence)
+        }
     }
 }
 

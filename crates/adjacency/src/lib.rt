@@ -18,4 +18,4 @@ pub use listed::{ListEntry, instance_of};
 pub use saved::Saved;
 pub use standing::{ReceivedDescription, Standing};
 pub use state::State;
-pub use verdict::Verdict;
+pub use verdict::{Mismatch, Verdict};

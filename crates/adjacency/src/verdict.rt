@@ -13,6 +13,22 @@ pub enum Verdict {
     Repeated,
     /// It is the next one of the exchange.
     Accepted,
-    /// SeqNumberMismatch.
-    Mismatch,
+    /// SeqNumberMismatch, for this reason.
+    Mismatch(Mismatch),
+}
+
+/// Why a Description leads to SeqNumberMismatch: the first of these tests that it fails (RFC 2328,
+/// section 10.6).
+#[derive(Clone, Copy, Debug, PartialEq, Eq)]
+pub enum Mismatch {
+    /// The MS bits of both sides are the same.
+    Roles,
+    /// The I bit is set.
+    Init,
+    /// The Options are others than those of the last one received.
+    Options,
+    /// The sequence number isn't the expected one.
+    Sequence,
+    /// The exchange is over, and it is no duplicate that is answered.
+    ExchangeOver,
 }

@@ -118,7 +118,7 @@ impl Member {
     // that an Update takes out; all else that goes out has to be known.
     fn takes_note(&mut self, way: Way, kind: Kind, header: &Header) -> bool {
         let instance = Named::by(header);
-        let is_own = header.advertising_router == self.core.router();
+        let is_own = header.advertising_router == self.core.router_id();
         match (way, kind) {
             (Way::In, Kind::Update) => self.learns(&instance),
             (Way::In, _) => true,

@@ -176,7 +176,7 @@ impl Core {
     }
 
     /// The own Router ID.
-    pub fn router(&self) -> RouterId
+    pub fn router_id(&self) -> RouterId
         ensures { result ≡ self.now.id }
     {
         self.router.id()

@@ -61,18 +61,6 @@ fn nothing_to_flush(age: u16, missing: bool, synchronizing: bool) -> bool
     age == MAX_AGE && missing && !synchronizing
 }
 
-fn all_three(a: bool, b: bool, c: bool) -> bool
-    ensures { result ≡ (a && b && c) }
-{
-    a && b && c
-}
-
-fn both(a: bool, b: bool) -> bool
-    ensures { result ≡ (a && b) }
-{
-    a && b
-}
-
 fn newer_than_copy(moment: Second, header: &Header, copy: &Option<DatabaseCopy<'_>>) -> bool
     ensures { result ≡ newer_than_copy moment header.now copy.now }
 {
@@ -128,7 +116,7 @@ fn is_wrapping(moment: Second, copy: &Option<DatabaseCopy<'_>>) -> bool
         Some(copy) => {
             let header = copy.header(moment);
             let last = header.sequence.number() == SequenceNumber::MAX.number();
-            both(copy.is_aged_out(moment), last)
+            copy.is_aged_out(moment) && last
         }
     }
 }
@@ -155,10 +143,10 @@ impl Tests {
         let listed = link.has_instance(moment, &header);
         Tests {
             nothing_to_flush: nothing_to_flush(header.age, missing, synchronizing),
-            too_soon: all_three(there, newer, installed),
+            too_soon: there && newer && installed,
             newer,
             requested: link.was_requested(&header.key()),
-            implied: both(same, listed),
+            implied: same && listed,
             same,
             wraps: is_wrapping(moment, copy),
             sent_just_now: sent_just_now(moment, copy),

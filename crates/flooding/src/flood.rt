@@ -24,12 +24,6 @@ fn is_sender(sender: Option<usize>, number: usize) -> bool
     }
 }
 
-fn either(a: bool, b: bool) -> bool
-    ensures { result ≡ (a || b) }
-{
-    a || b
-}
-
 // Floods the copy over all links, each Update into the draft of its interface; tells whether one
 // was sent.
 fn flood_links(
@@ -56,7 +50,7 @@ fn flood_links(
     for i in 0..links.len() {
         let from = is_sender(sender, i + 1);
         let one = links[i].flood(alloc, moment, from, copy, &mut drafts[i])?;
-        sent = either(sent, one);
+        sent = sent || one;
     }
     Ok(sent)
 }

@@ -68,18 +68,6 @@ impl Model for Neighbor {
     } };
 }
 
-fn is_exchange_or_later(state: State) -> bool
-    ensures { result ≡ is_exchange_or_later state }
-{
-    match state {
-        State::Init => false,
-        State::ExStart => false,
-        State::Exchange => true,
-        State::Loading => true,
-        State::Full => true,
-    }
-}
-
 fn is_exchange_or_loading(state: State) -> bool
     ensures { result ≡ is_exchange_or_loading state }
 {
@@ -244,7 +232,7 @@ impl Neighbor {
     pub fn floods(&self) -> bool
         ensures { result ≡ is_exchange_or_later self.now.present.state }
     {
-        is_exchange_or_later(self.standing.state)
+        self.standing.state.is_exchange_or_later()
     }
 
     // What is requested under the copy's key.

@@ -1,6 +1,5 @@
 //! Packets by their types.
 ghost use Rattle.std.specs.Prelude.{◌≡◌, ◌≤◌, OnOk, false, length, true};
-ghost use Rattle.adjacency.specs.Neighbors.{is_exchange_or_later};
 ghost use Rattle.adjacency.specs.Steps.{named};
 ghost use Rattle.received.specs.Links.{neighbor_at};
 ghost use Rattle.events.specs.Packets.{after_packet, from_neighbor, is_from, is_heard, is_hello};
@@ -28,24 +27,12 @@ fn is_hello(body: &Body) -> bool
     }
 }
 
-fn is_exchange_or_later(state: State) -> bool
-    ensures { result ≡ is_exchange_or_later state }
-{
-    match state {
-        State::Init => false,
-        State::ExStart => false,
-        State::Exchange => true,
-        State::Loading => true,
-        State::Full => true,
-    }
-}
-
 fn is_in_exchange_named(neighbor: Option<(RouterId, State)>) -> bool
     ensures { result ≡ is_in_exchange_named neighbor }
 {
     match neighbor {
         None => false,
-        Some((_router, state)) => is_exchange_or_later(state),
+        Some((_router, state)) => state.is_exchange_or_later(),
     }
 }
 

@@ -52,12 +52,6 @@ pub fn copy(description: &Description) -> Result<Description, AllocError>
     })
 }
 
-fn either(a: bool, b: bool) -> bool
-    ensures { result ≡ (a || b) }
-{
-    a || b
-}
-
 // Tells whether this instance is newer than the copy of its key, or there is no copy.
 fn is_wanted(moment: Second, database: &Lsdb, header: &Header) -> bool
     ensures { result ≡ is_wanted moment database.now.present header.now }
@@ -338,7 +332,7 @@ impl Neighbor {
         ensures settled { self.new.settled ≡ self.old.settled }
     {
         let announced = self.announced_more();
-        let more = either(announced, description.more);
+        let more = announced || description.more;
         if more {
             let sequence = self.sequence();
             let next = sequence.wrapping_add(1);
@@ -367,7 +361,7 @@ impl Neighbor {
         self.count_on(description.sequence);
         self.describe(alloc, moment, draft)?;
         let announced = self.announced_more();
-        let more = either(announced, description.more);
+        let more = announced || description.more;
         if more {
             return Ok(());
         }
@@ -472,7 +466,7 @@ impl Neighbor {
             Verdict::NegotiatedAsMaster => self.lead(alloc, moment, database, description, draft),
             Verdict::Repeated => self.repeat(moment, draft),
             Verdict::Accepted => self.accept(alloc, moment, database, description, draft),
-            Verdict::Mismatch => Ok(()),
+            Verdict::Mismatch(_why) => Ok(()),
         }
     }
 }

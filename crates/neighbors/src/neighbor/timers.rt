@@ -79,18 +79,6 @@ fn repeats_description(state: State, is_master: bool) -> bool
     }
 }
 
-fn both(first: bool, second: bool) -> bool
-    ensures { result ≡ (first && second) }
-{
-    first && second
-}
-
-fn some_and(none: bool, passed: bool) -> bool
-    ensures { result ≡ (not none && passed) }
-{
-    !none && passed
-}
-
 // Which keys are still on the request list.
 #[derive(Drop)]
 struct StillRequested<'a> {
@@ -235,7 +223,7 @@ impl Neighbor {
     {
         let repeats = repeats_description(self.standing.state, self.standing.is_master);
         let passed = has_passed(self.standing.described_at, u32::from(interval), moment);
-        both(repeats, passed)
+        repeats && passed
     }
 
     // The last Request is to be sent again.
@@ -244,7 +232,7 @@ impl Neighbor {
     {
         let none = self.outstanding.is_empty();
         let passed = has_passed(self.standing.requested_at, u32::from(interval), moment);
-        some_and(none, passed)
+        !none && passed
     }
 
     // Retransmissions are to be sent again.
@@ -253,7 +241,7 @@ impl Neighbor {
     {
         let none = self.retransmissions.is_empty();
         let passed = has_passed(self.standing.retransmitted_at, u32::from(interval), moment);
-        some_and(none, passed)
+        !none && passed
     }
 
     // The last Description is sent again once RxmtInterval (`interval`, in seconds) has passed.

@@ -5,10 +5,10 @@ ghost use Rattle.adjacency.specs.Exchanges.{judged, verdict_of};
 
 use super::Neighbor;
 use adjacency::descriptions::{
-    acceptance, changes_options, expected, follows, is_duplicate, leads, negotiation, repetition,
-    same_flag,
+    ExchangeTests, changes_options, expected, follows, is_duplicate, leads, negotiation,
+    repetition, same_flag,
 };
-use adjacency::{State, Verdict};
+use adjacency::{Mismatch, State, Verdict};
 use packet::Description;
 use words::RouterId;
 
@@ -39,7 +39,13 @@ impl Neighbor {
         let same_roles = same_flag(description.master, standing.is_master);
         let other_options = changes_options(&standing.received, description);
         let next = description.sequence == expected(&standing);
-        let otherwise = acceptance(same_roles, description.init, other_options, next);
+        let tests = ExchangeTests {
+            same_roles,
+            init: description.init,
+            other_options,
+            expected: next,
+        };
+        let otherwise = tests.verdict();
         let duplicate = is_duplicate(&standing.received, description);
         repetition(duplicate, standing.is_master, true, otherwise)
     }
@@ -50,7 +56,8 @@ impl Neighbor {
         let standing = self.standing();
         let kept = self.is_kept();
         let duplicate = is_duplicate(&standing.received, description);
-        repetition(duplicate, standing.is_master, kept, Verdict::Mismatch)
+        let over = Verdict::Mismatch(Mismatch::ExchangeOver);
+        repetition(duplicate, standing.is_master, kept, over)
     }
 
     /// The verdict on a Description from the neighbor, whose MTU isn't too large (RFC 2328, section

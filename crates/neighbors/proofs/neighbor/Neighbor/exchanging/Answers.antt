@@ -15,5 +15,5 @@ returns c =
     let options = c.changes_options-other_options.ensures ∙ ap (λ s. changes_options s.received d) stands in
     let next = ap (λ e. d.sequence == e) (c.expected.ensures ∙ ap expected_of stands) in
     c.repetition.ensures
-    ∙ (λ i. first_verdict ((again i && master i, Verdict.Discarded) ∷ (repeats i, Verdict.Repeated) ∷ []) (c.acceptance-otherwise.ensures i))
+    ∙ (λ i. first_verdict ((again i && master i, Verdict.Discarded) ∷ (repeats i, Verdict.Repeated) ∷ []) (c.verdict-otherwise.ensures.verdict i))
     ∙ (λ i. first_verdict ((is_duplicate c.args.self.now.present.received d && c.args.self.now.present.is_master, Verdict.Discarded) ∷ (is_duplicate c.args.self.now.present.received d, Verdict.Repeated) ∷ (roles i, Verdict.Mismatch) ∷ (d.init, Verdict.Mismatch) ∷ (options i, Verdict.Mismatch) ∷ (not (next i), Verdict.Mismatch) ∷ []) Verdict.Accepted)
