@@ -1,5 +1,5 @@
 //! The exchange of Database Descriptions (RFC 2328, sections 10.6, 10.8 and 10.3).
-ghost use Rattle.std.specs.Prelude.{◌≡◌, ℕ, ◌+◌, ◌%◌, ◌^◌, ◌||◌, false, true, if◌then◌else◌, []};
+ghost use Rattle.std.specs.Prelude.{◌≡◌, ℕ, ◌+◌, ◌%◌, ◌^◌, false, true, if◌then◌else◌, []};
 ghost use Rattle.std.specs.Prelude.{◌∷◌, ◌++◌, take, Some, IfOk, OnOk};
 ghost use Rattle.std.specs.FinMap as finite;
 ghost use Rattle.std.specs.List.{filter_map, fold};
@@ -24,6 +24,7 @@ ghost use Rattle.adjacency.specs.Exchanges.{accepted, entry_header, proceeding, 
 
 use super::Neighbor;
 use super::negotiation::remove_keys;
+use crate::connectives::either;
 use adjacency::descriptions::as_received;
 use adjacency::{Draft, ListEntry, State, Verdict, instance_of};
 use keyed_map::KeyedMap;
@@ -332,7 +333,7 @@ impl Neighbor {
         ensures settled { self.new.settled ≡ self.old.settled }
     {
         let announced = self.announced_more();
-        let more = announced || description.more;
+        let more = either(announced, description.more);
         if more {
             let sequence = self.sequence();
             let next = sequence.wrapping_add(1);
@@ -361,7 +362,7 @@ impl Neighbor {
         self.count_on(description.sequence);
         self.describe(alloc, moment, draft)?;
         let announced = self.announced_more();
-        let more = announced || description.more;
+        let more = either(announced, description.more);
         if more {
             return Ok(());
         }

@@ -18,6 +18,7 @@ ghost use Rattle.adjacency.specs.Timers.{full_where, description_is_due, request
 ghost use Rattle.adjacency.specs.Timers.{retransmission_is_due, that_fit_after};
 
 use super::Neighbor;
+use crate::connectives::both;
 use adjacency::{Draft, ListEntry, State};
 use keyed_map::{KeyTest, KeyedMap};
 use lsdb::{DatabaseCopy, Lsdb};
@@ -223,7 +224,7 @@ impl Neighbor {
     {
         let repeats = repeats_description(self.standing.state, self.standing.is_master);
         let passed = has_passed(self.standing.described_at, u32::from(interval), moment);
-        repeats && passed
+        both(repeats, passed)
     }
 
     // The last Request is to be sent again.
@@ -232,7 +233,7 @@ impl Neighbor {
     {
         let none = self.outstanding.is_empty();
         let passed = has_passed(self.standing.requested_at, u32::from(interval), moment);
-        !none && passed
+        both(!none, passed)
     }
 
     // Retransmissions are to be sent again.
@@ -241,7 +242,7 @@ impl Neighbor {
     {
         let none = self.retransmissions.is_empty();
         let passed = has_passed(self.standing.retransmitted_at, u32::from(interval), moment);
-        !none && passed
+        both(!none, passed)
     }
 
     // The last Description is sent again once RxmtInterval (`interval`, in seconds) has passed.
