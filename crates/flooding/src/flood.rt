@@ -24,6 +24,13 @@ fn is_sender(sender: Option<usize>, number: usize) -> bool
     }
 }
 
+// Whether an Update was sent, over a link before this one or over this one.
+fn was_sent(before: bool, here: bool) -> bool
+    ensures { result ≡ (before || here) }
+{
+    before || here
+}
+
 // Floods the copy over all links, each Update into the draft of its interface; tells whether one
 // was sent.
 fn flood_links(
@@ -50,7 +57,7 @@ fn flood_links(
     for i in 0..links.len() {
         let from = is_sender(sender, i + 1);
         let one = links[i].flood(alloc, moment, from, copy, &mut drafts[i])?;
-        sent = sent || one;
+        sent = was_sent(sent, one);
     }
     Ok(sent)
 }

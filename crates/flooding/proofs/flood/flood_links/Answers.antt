@@ -33,12 +33,12 @@ loop-i-preserved c =
     record {
       floods = finishes_next present (after_step c.args.moment c.args.sender lsa) (after_draft c.args.moment c.args.sender lsa) (counts c.args.moment c.args.sender lsa) c.loop-i.i c.loop-i.links c.loop-i.drafts c.loop-i.sent
           (stepped F P) (drafted_from 1 (stepping_sends F P) P c.args.drafts.now) (is_any (stepping_sends F P))
-          c.flood.new.self c.index-links-i.result c.flood.new.draft c.index-drafts-i.result c.in_ok-one.one c.either-sent.result
+          c.flood.new.self c.index-links-i.result c.flood.new.draft c.index-drafts-i.result c.in_ok-one.one c.was_sent-sent.result
           (omega (arith, c.loop-i-test.true, c.loop-i.auto.links)) (omega (arith, c.loop-i-test.true, c.loop-i.auto.drafts, c.requires))
           (c.in_ok-one.ensures.ok ∙ ap (λ o. with_neighbor o old.present) stepping)
           (c.in_ok-one.ensures.draft ∙ ap (λ cs. drafting old.present.interface.delay cs draft) sending)
           (c.in_ok-one.ensures.sent ∙ ap is_any sending)
-          c.either-sent.ensures c.loop-i.invariant.floods;
+          c.was_sent-sent.ensures c.loop-i.invariant.floods;
       settled = shows_kept settled c.loop-i.links c.loop-i.i c.index-links-i.result c.flood.new.self c.index-links-i.is c.in_ok-one.ensures.settled ∙ c.loop-i.invariant.settled;
     }
 
