@@ -7,7 +7,7 @@ use std::test::Fail;
 use words::{Address, External, ExternalType, Prefix};
 
 // What a line asks for, without the path of an `attach`.
-#[derive(Clone, Copy, Debug, PartialEq, Eq)]
+#[derive(Clone, Copy, PartialEq, Eq)]
 enum Asked {
     Nothing,
     Attach,
@@ -53,9 +53,10 @@ fn attaches(alloc: Global, line: &str, path: &str) -> Result<bool, AllocError> {
 }
 
 fn check<R: Abort>(rt: &R, alloc: Global, rows: &[(&str, Asked)]) -> Result<(), Fail> {
-    for (line, wanted) in rows {
+    for row in rows {
+        let (line, wanted) = *row;
         let found = read(alloc, line)?;
-        assert_eq!(rt; found, *wanted, "{line}");
+        assert!(rt; found == wanted, "{line}");
     }
     Ok(())
 }
@@ -151,7 +152,7 @@ const UNKNOWN: &[&str] = &[
 fn what_is_no_command_is_unknown(rt: HostRuntime) -> Result<(), Fail> {
     for line in UNKNOWN {
         let found = read(rt.alloc(), line)?;
-        assert_eq!(rt; found, Asked::Nothing, "{line}");
+        assert!(rt; found == Asked::Nothing, "{line}");
     }
     Ok(())
 }

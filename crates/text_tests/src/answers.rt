@@ -1,0 +1,91 @@
+//! Lines of the console's answers.
+use adjacency::State;
+use console::{counters_text, neighbors_text, table_text, totals_text};
+use std::process::Abort;
+use std::test::Fail;
+use words::{Address, Hops, Prefix, Route, RouteKind, RouterId};
+
+// The text is the one that is wanted.
+fn is_text(rt: &impl Abort, text: &str, wanted: &str) {
+    assert!(rt; text == wanted, "{text}");
+}
+
+fn route(bits: u32, kind: RouteKind, cost: u32, hops: Hops) -> Option<Route> {
+    let prefix = Prefix::new(Address::new(bits), 24)?;
+    Some(Route {
+        prefix,
+        kind,
+        cost,
+        distance: 17,
+        hops,
+        tag: 7,
+    })
+}
+
+fn routes() -> Option<[Route; 4]> {
+    let both = Hops::only(2).join(Hops::only(1)).join(Hops::only(63));
+    Some([
+        route(0x0a00_0100, RouteKind::Intra, 10, Hops::only(0))?,
+        route(0x0a00_0200, RouteKind::Inter, 15, both)?,
+        route(0xc633_6400, RouteKind::External1, 30, Hops::only(1))?,
+        route(0xcb00_7100, RouteKind::External2, 20, Hops::only(1))?,
+    ])
+}
+
+const TABLE: &str =
+    "10.0.1.0/24 intra 10 via 0\n10.0.2.0/24 inter 15 via 1,2,63\n198.51.100.0/24 ext1 30 via 1\n203.0.113.0/24 ext2 20 via 1\nend\n";
+
+#[test]
+fn a_table_has_a_line_for_each_route(rt: HostRuntime) -> Result<(), Fail> {
+    let routes = routes().ok_or("lengths of 24")?;
+    let text = table_text(rt.alloc(), &routes)?;
+    is_text(&rt, text.as_str(), TABLE);
+    Ok(())
+}
+
+#[test]
+fn a_table_without_routes_has_its_end(rt: HostRuntime) -> Result<(), Fail> {
+    let text = table_text(rt.alloc(), &[])?;
+    is_text(&rt, text.as_str(), "end\n");
+    Ok(())
+}
+
+fn neighbors() -> [Option<(RouterId, State)>; 6] {
+    let two = RouterId::new(0x0202_0202);
+    [
+        None,
+        Some((two, State::Init)),
+        Some((two, State::ExStart)),
+        Some((two, State::Exchange)),
+        Some((two, State::Loading)),
+        Some((two, State::Full)),
+    ]
+}
+
+const NEIGHBORS: &str =
+    "neighbor 2 2.2.2.2 Init\nneighbor 3 2.2.2.2 ExStart\nneighbor 4 2.2.2.2 Exchange\nneighbor 5 2.2.2.2 Loading\nneighbor 6 2.2.2.2 Full\nend\n";
+
+#[test]
+fn a_neighbor_that_is_down_has_no_line(rt: HostRuntime) -> Result<(), Fail> {
+    let text = neighbors_text(rt.alloc(), &neighbors())?;
+    is_text(&rt, text.as_str(), NEIGHBORS);
+    Ok(())
+}
+
+const SUMS: &[u64] = &[0, 18_446_744_073_709_551_615, 0, 7];
+
+#[test]
+fn counters_of_zero_have_no_line(rt: HostRuntime) -> Result<(), Fail> {
+    let text = counters_text(rt.alloc(), SUMS)?;
+    let wanted = "counter 1 18446744073709551615\ncounter 3 7\nend\n";
+    is_text(&rt, text.as_str(), wanted);
+    Ok(())
+}
+
+#[test]
+fn totals_have_no_end(rt: HostRuntime) -> Result<(), Fail> {
+    let text = totals_text(rt.alloc(), SUMS)?;
+    let wanted = "counter 1 18446744073709551615\ncounter 3 7\n";
+    is_text(&rt, text.as_str(), wanted);
+    Ok(())
+}
