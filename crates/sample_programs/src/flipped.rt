@@ -44,11 +44,15 @@ fn tried_all(alloc: Global, bytes: &mut [u8]) -> Result<usize, Fail> {
     Ok(accepted)
 }
 
+fn sum_to_ten(alloc: Global) -> Result<Vec<u8>, Fail> {
+    let text = sum_down_from(alloc, 10)?;
+    let object = object_of(alloc, &text)?;
+    Ok(file_of(alloc, &object)?)
+}
+
 #[test]
 fn a_flipped_bit_is_refused_or_runs_within_its_bound(rt: HostRuntime) -> Result<(), Fail> {
-    let text = sum_down_from(rt.alloc(), 10)?;
-    let object = object_of(rt.alloc(), &text)?;
-    let mut bytes = file_of(rt.alloc(), &object)?;
+    let mut bytes = sum_to_ten(rt.alloc())?;
     let accepted = tried_all(rt.alloc(), &mut bytes)?;
     assert!(&rt;
         bytes.len() == 548 && accepted >= SURELY_ACCEPTED,

@@ -62,7 +62,8 @@ const FIRST: [(&str, usize, u8); 13] = [
 
 #[test]
 fn the_first_broken_rule_is_told(rt: HostRuntime) -> Result<(), Fail> {
-    for (text, slot, rule) in FIRST {
+    for row in &FIRST {
+        let (text, slot, rule) = *row;
         refuses_at(&rt, rt.alloc(), text, slot, rule)?;
     }
     Ok(())

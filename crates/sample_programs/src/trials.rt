@@ -20,13 +20,23 @@ use words::{Address, Prefix, TableRow};
 
 // Each of these is done once more where it isn't done, since an allocation may be refused once, in a run of the tests with a refusal.
 
-fn assembled(alloc: Global, text: &str) -> Option<Object> {
+// The text with a line feed behind each semicolon and each label.
+fn lines_of(alloc: Global, text: &str) -> Option<String> {
     let lines = text.replace(alloc, "; ", "\n").ok()?;
-    let labels = lines.replace(alloc, ": ", ":\n").ok()?;
-    let stated = labels
+    lines.replace(alloc, ": ", ":\n").ok()
+}
+
+// The same with the set of all numbers in the place of `any`.
+fn stated(alloc: Global, text: &str) -> Option<String> {
+    let lines = lines_of(alloc, text)?;
+    lines
         .replace(alloc, "any", "number 0 18446744073709551615 0 0")
-        .ok()?;
-    assemble(alloc, &stated).ok()
+        .ok()
+}
+
+fn assembled(alloc: Global, text: &str) -> Option<Object> {
+    let text = stated(alloc, text)?;
+    assemble(alloc, &text).ok()
 }
 
 /// The program of a text in which a semicolon or a label's colon ends a line, and `any` is the set of all numbers.
@@ -160,6 +170,35 @@ fn rows(alloc: Global) -> Result<Vec<TableRow>, AllocError> {
     }
 }
 
+/// A table of one seat, and its seat.
+pub fn one_seat(alloc: Global) -> Result<(Shared, Seat), Fail>
+    ensures { IfOk result (λ r. IsOf r.0 r.1) }
+{
+    let (words, mut seats) = table(alloc, 1)?;
+    let seat = seats.pop().ok_or("no seat")?;
+    Ok((words, seat))
+}
+
+/// What the run of an accepted program comes to, on a table of its own.
+fn ended_of(alloc: Global, accepted: &Accepted, input: &Input) -> Result<Run, Fail>
+    requires { number_of (slice_range input.now.context 0 4) ≡ hook_number accepted.now.hook }
+{
+    let (words, mut seat) = one_seat(alloc)?;
+    Ok(run(accepted, input, &words, &mut seat))
+}
+
+/// What the checked run of code comes to, within this limit and on a table of its own.
+fn checked_of(
+    alloc: Global,
+    code: &Code,
+    hook: Hook,
+    limit: u64,
+    input: &Input,
+) -> Result<Result<Run, Trap>, Fail> {
+    let (words, mut seat) = one_seat(alloc)?;
+    Ok(run_checked(code, hook, limit, input, &words, &mut seat))
+}
+
 /// What the run and the checked run of an accepted program come to, each on a table of its own. The checked run is given its bound.
 fn both_runs(
     alloc: Global,
@@ -169,47 +208,47 @@ fn both_runs(
 ) -> Result<(Run, Result<Run, Trap>), Fail>
     requires { number_of (slice_range input.now.context 0 4) ≡ hook_number accepted.now.hook }
 {
-    let (words, mut seats) = table(alloc, 1)?;
-    let mut seat = seats.pop().ok_or("no seat")?;
-    let ended = run(accepted, input, &words, &mut seat);
-    let (words, mut seats) = table(alloc, 1)?;
-    let mut seat = seats.pop().ok_or("no seat")?;
-    let hook = accepted.hook();
-    let checked = run_checked(code, hook, accepted.bound(), input, &words, &mut seat);
+    let ended = ended_of(alloc, accepted, input)?;
+    let checked = checked_of(alloc, code, accepted.hook(), accepted.bound(), input)?;
     Ok((ended, checked))
 }
 
-/// The answers of an accepted program on two inputs. Each run takes at most its bound, and is the checked one.
-fn answers_of(
-    rt: &impl Abort,
+/// The answer of an accepted program on an input: its run takes at most its bound, and is the checked one.
+fn answer_on(
     alloc: Global,
     accepted: &Accepted,
     code: &Code,
-    text: &str,
-) -> Result<[u64; 2], Fail> {
-    let hook = accepted.hook();
-    let bare = Input {
-        context: bare_context(hook),
+    input: &Input,
+) -> Result<Option<u64>, Fail>
+    requires { number_of (slice_range input.now.context 0 4) ≡ hook_number accepted.now.hook }
+{
+    let (ended, checked) = both_runs(alloc, accepted, code, input)?;
+    if checked == Ok(ended) && ended.used <= accepted.bound() {
+        Ok(Some(ended.answer))
+    } else {
+        Ok(None)
+    }
+}
+
+/// Its answer on no packet and a context of zeros.
+fn bare_answer(alloc: Global, accepted: &Accepted, code: &Code) -> Result<Option<u64>, Fail> {
+    let input = Input {
+        context: bare_context(accepted.hook()),
         packet: &[],
         rows: &[],
     };
+    answer_on(alloc, accepted, code, &input)
+}
+
+/// Its answer on the other input.
+fn rich_answer(alloc: Global, accepted: &Accepted, code: &Code) -> Result<Option<u64>, Fail> {
     let rows = rows(alloc)?;
-    let rich = Input {
-        context: rich_context(hook),
+    let input = Input {
+        context: rich_context(accepted.hook()),
         packet: &PACKET,
         rows: &rows,
     };
-    let (first, checked) = both_runs(alloc, accepted, code, &bare)?;
-    assert!(rt;
-        checked == Ok(first) && first.used <= accepted.bound(),
-        "{text}"
-    );
-    let (second, checked) = both_runs(alloc, accepted, code, &rich)?;
-    assert!(rt;
-        checked == Ok(second) && second.used <= accepted.bound(),
-        "{text}"
-    );
-    Ok([first.answer, second.answer])
+    answer_on(alloc, accepted, code, &input)
 }
 
 /// Whether the accepted program gives by `run` what it gives by `run_checked`, within its bound, on a hundred inputs: a packet of up to 20
@@ -231,23 +270,107 @@ pub fn runs_agree(alloc: Global, accepted: &Accepted, code: &Code) -> Result<boo
     Ok(true)
 }
 
-/// The program is accepted with its bound, gives by `run` what it gives by `run_checked`, and answers this on an input of zeros and on
-/// the other one.
-fn accepts(rt: &impl Abort, alloc: Global, text: &str, answers: [u64; 2]) -> Result<(), Fail> {
+/// A program with its code, and what the verifier says of it.
+#[derive(Drop)]
+pub struct Trial {
+    pub object: Object,
+    pub code: Code,
+    pub verdict: Result<Accepted, VerifyError>,
+}
+
+/// The program of a text, tried.
+pub fn tried(alloc: Global, text: &str) -> Result<Trial, Fail> {
     let object = object_of(alloc, text)?;
     let code = code_of(alloc, &object)?;
-    match verdict_of(alloc, &object)? {
-        Ok(accepted) => {
-            let passes = u64::from(object.entry_rank()) + 1;
+    let verdict = verdict_of(alloc, &object)?;
+    Ok(Trial {
+        object,
+        code,
+        verdict,
+    })
+}
+
+/// The program is accepted with this bound.
+fn is_accepted(rt: &impl Abort, tried: &Trial, text: &str, bound: u64) {
+    match &tried.verdict {
+        Ok(accepted) => assert!(rt; accepted.bound() == bound, "{text}"),
+        Err(error) => assert!(rt; false, "{text}: {error:?}"),
+    }
+}
+
+/// The program is refused at this slot by the rule of this number.
+fn is_refused(rt: &impl Abort, tried: &Trial, text: &str, slot: usize, rule: u8) {
+    match &tried.verdict {
+        Ok(_) => assert!(rt; false, "{text}: accepted"),
+        Err(VerifyError::Refused(refusal)) => {
+            let number = refusal.rule.number();
             assert!(rt;
-                accepted.bound() == passes * object.slots() as u64,
-                "{text}"
+                refusal.slot == slot && number == rule,
+                "{text}: {refusal:?}"
             );
-            let given = answers_of(rt, alloc, &accepted, &code, text)?;
-            assert!(rt; given == answers, "{text}: {given:?}");
         }
         Err(error) => assert!(rt; false, "{text}: {error:?}"),
     }
+}
+
+/// The entry rank and one, times the slots.
+fn bound_of(object: &Object) -> u64 {
+    let passes = u64::from(object.entry_rank()).wrapping_add(1);
+    passes.wrapping_mul(object.slots() as u64)
+}
+
+fn answers_so(
+    rt: &impl Abort,
+    alloc: Global,
+    tried: &Trial,
+    text: &str,
+    answers: [u64; 2],
+) -> Result<(), Fail> {
+    let Ok(accepted) = &tried.verdict else {
+        return Ok(());
+    };
+    let bare = bare_answer(alloc, accepted, &tried.code)?;
+    let rich = rich_answer(alloc, accepted, &tried.code)?;
+    let [first, second] = answers;
+    assert!(rt;
+        bare == Some(first) && rich == Some(second),
+        "{text}: {bare:?}, {rich:?}"
+    );
+    Ok(())
+}
+
+/// The program is accepted with its bound, gives by `run` what it gives by `run_checked`, and answers this on an input of zeros and on
+/// the other one.
+fn accepts(rt: &impl Abort, alloc: Global, text: &str, answers: [u64; 2]) -> Result<(), Fail> {
+    let tried = tried(alloc, text)?;
+    is_accepted(rt, &tried, text, bound_of(&tried.object));
+    answers_so(rt, alloc, &tried, text, answers)
+}
+
+// What its run and its checked run on the other input come to.
+fn rich_runs(alloc: Global, tried: &Trial) -> Result<Option<(Run, Result<Run, Trap>)>, Fail> {
+    let Ok(accepted) = &tried.verdict else {
+        return Ok(None);
+    };
+    let rows = rows(alloc)?;
+    let input = Input {
+        context: rich_context(accepted.hook()),
+        packet: &PACKET,
+        rows: &rows,
+    };
+    let runs = both_runs(alloc, accepted, &tried.code, &input)?;
+    Ok(Some(runs))
+}
+
+fn ends_so(
+    rt: &impl Abort,
+    alloc: Global,
+    tried: &Trial,
+    text: &str,
+    wanted: Run,
+) -> Result<(), Fail> {
+    let runs = rich_runs(alloc, tried)?;
+    assert!(rt; runs == Some((wanted, Ok(wanted))), "{text}: {runs:?}");
     Ok(())
 }
 
@@ -259,26 +382,9 @@ pub fn ends(
     bound: u64,
     wanted: Run,
 ) -> Result<(), Fail> {
-    let object = object_of(alloc, text)?;
-    let code = code_of(alloc, &object)?;
-    let rows = rows(alloc)?;
-    match verdict_of(alloc, &object)? {
-        Ok(accepted) => {
-            assert_eq!(rt; accepted.bound(), bound, "{text}");
-            let input = Input {
-                context: rich_context(accepted.hook()),
-                packet: &PACKET,
-                rows: &rows,
-            };
-            let (ended, checked) = both_runs(alloc, &accepted, &code, &input)?;
-            assert!(rt;
-                ended == wanted && checked == Ok(wanted),
-                "{text}: {ended:?}"
-            );
-        }
-        Err(error) => assert!(rt; false, "{text}: {error:?}"),
-    }
-    Ok(())
+    let tried = tried(alloc, text)?;
+    is_accepted(rt, &tried, text, bound);
+    ends_so(rt, alloc, &tried, text, wanted)
 }
 
 /// A safe program, and its answers on no packet and a context of zeros, and on the other input.
@@ -286,38 +392,44 @@ pub type Safe = (&'static str, [u64; 2]);
 
 /// Each of these programs is accepted and answers as its row says.
 pub fn accepts_each(rt: &impl Abort, alloc: Global, rows: &[Safe]) -> Result<(), Fail> {
-    for (text, answers) in rows.iter().copied() {
+    for row in rows {
+        let (text, answers) = *row;
         accepts(rt, alloc, text, answers)?;
     }
     Ok(())
 }
 
+// Where the checked run of the code is stuck on no packet and a context of zeros.
+fn bare_trap(alloc: Global, tried: &Trial, limit: u64) -> Result<Option<Trap>, Fail> {
+    let hook = tried.object.hook();
+    let input = Input {
+        context: bare_context(hook),
+        packet: &[],
+        rows: &[],
+    };
+    Ok(checked_of(alloc, &tried.code, hook, limit, &input)?.err())
+}
+
+// Where it is stuck on the other input.
+fn rich_trap(alloc: Global, tried: &Trial, limit: u64) -> Result<Option<Trap>, Fail> {
+    let hook = tried.object.hook();
+    let rows = rows(alloc)?;
+    let input = Input {
+        context: rich_context(hook),
+        packet: &PACKET,
+        rows: &rows,
+    };
+    Ok(checked_of(alloc, &tried.code, hook, limit, &input)?.err())
+}
+
 /// Where the checked run of refused code is stuck, on an input of zeros or on the other one: within the number of instructions that its
 /// object allows and one more, which may leave the code.
-fn trap_of(alloc: Global, object: &Object) -> Result<Option<Trap>, Fail> {
-    let code = code_of(alloc, object)?;
-    let hook = object.hook();
-    let limit = (u64::from(object.entry_rank()) + 1) * object.slots() as u64 + 1;
-    let rows = rows(alloc)?;
-    for input in [
-        Input {
-            context: bare_context(hook),
-            packet: &[],
-            rows: &[],
-        },
-        Input {
-            context: rich_context(hook),
-            packet: &PACKET,
-            rows: &rows,
-        },
-    ] {
-        let (words, mut seats) = table(alloc, 1)?;
-        let mut seat = seats.pop().ok_or("no seat")?;
-        if let Err(trap) = run_checked(&code, hook, limit, &input, &words, &mut seat) {
-            return Ok(Some(trap));
-        }
+fn trap_of(alloc: Global, tried: &Trial) -> Result<Option<Trap>, Fail> {
+    let limit = bound_of(&tried.object).wrapping_add(1);
+    match bare_trap(alloc, tried, limit)? {
+        Some(trap) => Ok(Some(trap)),
+        None => rich_trap(alloc, tried, limit),
     }
-    Ok(None)
 }
 
 /// The program is refused at this slot by the rule of this number.
@@ -327,20 +439,22 @@ pub fn refuses_at(
     text: &str,
     slot: usize,
     rule: u8,
-) -> Result<Object, Fail> {
-    let object = object_of(alloc, text)?;
-    match verdict_of(alloc, &object)? {
-        Ok(_) => assert!(rt; false, "{text}: accepted"),
-        Err(VerifyError::Refused(refusal)) => {
-            let number = refusal.rule.number();
-            assert!(rt;
-                refusal.slot == slot && number == rule,
-                "{text}: {refusal:?}"
-            );
-        }
-        Err(error) => assert!(rt; false, "{text}: {error:?}"),
-    }
-    Ok(object)
+) -> Result<(), Fail> {
+    let tried = tried(alloc, text)?;
+    is_refused(rt, &tried, text, slot, rule);
+    Ok(())
+}
+
+fn is_trapped(
+    rt: &impl Abort,
+    alloc: Global,
+    tried: &Trial,
+    text: &str,
+    trap: u8,
+) -> Result<(), Fail> {
+    let number = trap_of(alloc, tried)?.map(|trap| trap.number());
+    assert!(rt; number == Some(trap), "{text}: {number:?}");
+    Ok(())
 }
 
 /// The program is refused so, and rightly: a run of it comes to the trap of this number.
@@ -352,10 +466,9 @@ fn refuses(
     rule: u8,
     trap: u8,
 ) -> Result<(), Fail> {
-    let object = refuses_at(rt, alloc, text, slot, rule)?;
-    let number = trap_of(alloc, &object)?.map(|trap| trap.number());
-    assert!(rt; number == Some(trap), "{text}: {number:?}");
-    Ok(())
+    let tried = tried(alloc, text)?;
+    is_refused(rt, &tried, text, slot, rule);
+    is_trapped(rt, alloc, &tried, text, trap)
 }
 
 /// An unsafe program, the slot and the rule of its refusal, and the trap of a run.
@@ -363,7 +476,8 @@ pub type Unsafe = (&'static str, usize, u8, u8);
 
 /// Each of these programs is refused as its row says.
 pub fn refuses_each(rt: &impl Abort, alloc: Global, rows: &[Unsafe]) -> Result<(), Fail> {
-    for (text, slot, rule, trap) in rows.iter().copied() {
+    for row in rows {
+        let (text, slot, rule, trap) = *row;
         refuses(rt, alloc, text, slot, rule, trap)?;
     }
     Ok(())

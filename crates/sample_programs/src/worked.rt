@@ -1,12 +1,18 @@
 //! The worked programs of the documents: their bounds, their answers and how many instructions they take.
-ghost use Rattle.std.specs.Prelude.{◌≤◌};
+ghost use Rattle.std.specs.Prelude.{◌≡◌, ◌≤◌};
+ghost use Rattle.std.specs.List.{slice_range};
+ghost use Rattle.isa.specs.Hooks.{hook_number};
+ghost use Rattle.machine.specs.Memory.{number_of};
+ghost use Rattle.maps.specs.Words.{IsOf};
 
-use crate::trials::{ends, object_of, rich_context, table, verdict_of};
+use crate::trials::{ends, rich_context, table, tried};
 use interp::{Run, run};
 use machine::Input;
+use maps::{Seat, Shared};
 use std::alloc::{AllocError, Global};
 use std::process::Abort;
 use std::test::Fail;
+use verifier::Accepted;
 
 /// A program, its bound, its answer and how many instructions its run takes.
 const WORKED: [(&str, u64, u64, u64); 9] = [
@@ -61,7 +67,8 @@ const WORKED: [(&str, u64, u64, u64); 9] = [
 
 #[test]
 fn worked_programs_end_as_told(rt: HostRuntime) -> Result<(), Fail> {
-    for (text, bound, answer, used) in WORKED {
+    for row in &WORKED {
+        let (text, bound, answer, used) = *row;
         ends(&rt, rt.alloc(), text, bound, Run { answer, used })?;
     }
     Ok(())
@@ -117,13 +124,32 @@ fn sums_of_up_to_1000_numbers_end_within_their_bound(rt: HostRuntime) -> Result<
     sums(&rt, rt.alloc(), 751, 1_000)
 }
 
-#[test]
-fn each_seat_counts_its_own_runs(rt: HostRuntime) -> Result<(), Fail> {
-    let alloc = rt.alloc();
-    let counts = "hook price; rank 0; r6 = map 1 8; r0 = *u64 r6 0; r0 += 1; *u64 r6 0 = r0; exit";
-    let object = object_of(alloc, counts)?;
-    let accepted = verdict_of(alloc, &object)?.map_err(|_| "refused")?;
-    assert_eq!(rt; accepted.bound(), 6);
+/// It answers how often its seat ran it.
+const COUNTS: &str =
+    "hook price; rank 0; r6 = map 1 8; r0 = *u64 r6 0; r0 += 1; *u64 r6 0 = r0; exit";
+
+// Three runs at the first seat, and one at the second.
+fn four_runs(
+    accepted: &Accepted,
+    input: &Input,
+    words: &Shared,
+    first: &mut Seat,
+    second: &mut Seat,
+) -> [Run; 4]
+    requires hook { number_of (slice_range input.now.context 0 4) ≡ hook_number accepted.now.hook }
+    requires first { IsOf words.now first.old }
+    requires second { IsOf words.now second.old }
+{
+    [
+        run(accepted, input, words, first),
+        run(accepted, input, words, first),
+        run(accepted, input, words, first),
+        run(accepted, input, words, second),
+    ]
+}
+
+// The same at the seats of a new table.
+fn runs_at_two_seats(alloc: Global, accepted: &Accepted) -> Result<[Run; 4], Fail> {
     let input = Input {
         context: rich_context(accepted.hook()),
         packet: &[],
@@ -132,14 +158,25 @@ fn each_seat_counts_its_own_runs(rt: HostRuntime) -> Result<(), Fail> {
     let (words, mut seats) = table(alloc, 2)?;
     let mut second = seats.pop().ok_or("no seat")?;
     let mut first = seats.pop().ok_or("no seat")?;
-    let one = run(&accepted, &input, &words, &mut first);
-    let two = run(&accepted, &input, &words, &mut first);
-    let three = run(&accepted, &input, &words, &mut first);
-    let other = run(&accepted, &input, &words, &mut second);
-    let answers = [one.answer, two.answer, three.answer, other.answer];
-    assert!(rt; answers == [1, 2, 3, 1], "{answers:?}");
-    for ended in [one, two, three, other] {
-        assert_eq!(rt; ended.used, 5);
-    }
+    Ok(four_runs(accepted, &input, &words, &mut first, &mut second))
+}
+
+fn counted(answer: u64) -> Run {
+    Run { answer, used: 5 }
+}
+
+fn counts_at_its_seat(rt: &impl Abort, alloc: Global, accepted: &Accepted) -> Result<(), Fail> {
+    let runs = runs_at_two_seats(alloc, accepted)?;
+    let wanted = [counted(1), counted(2), counted(3), counted(1)];
+    assert!(rt; accepted.bound() == 6 && runs == wanted, "{runs:?}");
     Ok(())
+}
+
+#[test]
+fn each_seat_counts_its_own_runs(rt: HostRuntime) -> Result<(), Fail> {
+    let tried = tried(rt.alloc(), COUNTS)?;
+    match &tried.verdict {
+        Ok(accepted) => counts_at_its_seat(&rt, rt.alloc(), accepted),
+        Err(_) => Err(Fail::new("refused")),
+    }
 }
