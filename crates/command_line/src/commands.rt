@@ -11,6 +11,7 @@ ghost use Rattle.clap.specs.declared.builder.value_parser.ValueParser.TheVariant
 ghost use Rattle.command_line.specs.CommandLine.{IsCommandLine, hook_names};
 ghost use Rattle.command_line.specs.CommandLine as line;
 
+use clap::builder::ValueParser;
 use clap::error::ErrorKind;
 use clap::{Arg, Command, Error, value_parser};
 use std::alloc::{AllocError, Global};
@@ -176,12 +177,29 @@ fn required<'a>(alloc: Global, name: &'a str, help: &'a str) -> Arg<'a>
         .required(true)
 }
 
+/// A word that has to be there, and has to pass this.
+fn checked<'a>(alloc: Global, name: &'a str, help: &'a str, parser: ValueParser<'a>) -> Arg<'a>
+    ensures rule { rule_of result ≡ line.checked name.entry.now parser.entry }
+    ensures local { result.global ≡ false }
+{
+    required(alloc, name, help).value_parser(parser)
+}
+
+/// One of the names of the hooks.
+fn hook_parser<'a>() -> ValueParser<'a>
+    ensures { (hooks : Bor (List (Bor (List ℕ)))) × (a b c d : ℕ × ℕ) × (hooks.now ≡ hook_names a b c d)
+        × (result ≡ Names hooks) }
+{
+    ValueParser::from(HOOKS.as_slice())
+}
+
 fn hook<'a>(alloc: Global) -> Arg<'a>
     ensures rule { (hooks : Bor (List (Bor (List ℕ)))) × (a b c d : ℕ × ℕ) × (hooks.now ≡ hook_names a b c d)
         × (rule_of result ≡ line.checked (codes "HOOK") (Names hooks)) }
     ensures local { result.global ≡ false }
 {
-    required(alloc, "HOOK", "The hook that the code is run at").value_parser(HOOKS.as_slice())
+    let parser = hook_parser();
+    checked(alloc, "HOOK", "The hook that the code is run at", parser)
 }
 
 fn seats<'a>(alloc: Global) -> Arg<'a>

@@ -19,7 +19,7 @@ use isa::Hook;
 use std::alloc::{AllocError, Global};
 
 /// What the words of a command line ask for.
-#[derive(Debug, Drop)]
+#[derive(Drop)]
 pub enum Request<'a> {
     /// Run bare code once on each of `seats` threads.
     Raw {
