@@ -4,7 +4,9 @@
 
 ghost use Rattle.std.specs.Prelude.{◌≡◌, ◌≤◌, Some, IfOk, length};
 ghost use Rattle.std.specs.FinMap as finite;
-ghost use Rattle.std.specs.List.{Contains};
+ghost use Rattle.std.specs.List.{AllPairs, Contains};
+ghost use Rattle.std.specs.declared.cmp.Ordering.TheVariants.{Less};
+ghost use Rattle.lsdb.specs.Keys.{key_cmp};
 ghost use Rattle.lsa.specs.declared.body.Body.{Body as BodyValue};
 ghost use Rattle.words.specs.declared.key.Key.{Key as KeyValue};
 ghost use Rattle.words.specs.declared.route.Route.{Route as RouteValue};
@@ -16,7 +18,8 @@ ghost use Rattle.offers.specs.Ways.{AreNear, AreWays};
 use candidate_laws::every_offer_has_a_candidate;
 use lsdb::Lsdb;
 use offers::{
-    Inner, Ways, inner_offers, lengths_of, push_externals, routes_of_offers, told_routes,
+    Inner, Ways, flagged_routers, inner_offers, lengths_of, push_externals, routes_of_offers,
+    told_routes,
 };
 use routes::Root;
 use shortest_paths::walk;
@@ -51,7 +54,8 @@ pub fn candidates(
 
 /// The candidates of a database at a moment, where these are the ways of its links: for each prefix
 /// that anything offers one route, in the order of the prefixes (RFC 2328, section 16). The time is
-/// that of a look-up for each LSA and of two sorts of the offers.
+/// that of a look-up for each LSA, of one by halving for each summary and external destination, and of two
+/// sorts of the offers.
 ///
 /// # Errors
 /// Where memory for the keys, the offers or the routes is refused.
@@ -85,19 +89,23 @@ fn routes_of_keys<W: Ways>(
     requires ways { AreWays (said_at moment db.now.present) root.now (W.ways ways.now) }
     requires keys { (key : KeyValue) (says : BodyValue) → said_at moment db.now.present key
         ≡ Some says → Contains keys.now key }
+    requires order { AllPairs (λ (a : KeyValue) (b : KeyValue). key_cmp a b ≡ Less) keys.now }
     ensures { IfOk result (λ routes. AreCandidates (said_at moment db.now.present) root.now
         routes.items) }
 {
-    let told = told_routes(alloc, db, moment, root, ways, keys)?;
-    let mut offers = inner_offers(alloc, db, moment, root, ways, keys)?;
+    let borders = flagged_routers(alloc, db, moment, ways, keys)?;
+    let flagged = borders.as_slice();
+    let told = told_routes(alloc, db, moment, root, flagged, keys)?;
+    let mut offers = inner_offers(alloc, db, moment, root, ways, flagged, keys)?;
     let networks = routes_of_offers(alloc, &mut offers)?;
     let lengths = lengths_of(&networks);
     let inner = Inner {
         routers: &told,
+        flagged,
         networks: &networks,
         lengths: &lengths,
     };
-    push_externals(db, moment, root, ways, &inner, keys, &mut offers)?;
+    push_externals(db, moment, root, &inner, keys, &mut offers)?;
     let routes = routes_of_offers(alloc, &mut offers)?;
     Ok(routes)
 }

@@ -21,11 +21,12 @@ use Rattle.routes.specs.declared.root.Root.{Root}
 use Rattle.routes.proofs.Determined.{one_way}
 use Rattle.std.proofs.Common.{true, false, eqb-true, eq-eqb}
 use Rattle.std.proofs.lemmas.Bool.{cases_eq, cases_Bool}
-use Rattle.offers.specs.Borders.{IsCounted, IsFlagged}
+use Rattle.offers.specs.Borders.{AreFlagged, IsCounted, IsFlagged, IsListed}
 use Rattle.offers.specs.Gathering.{OfEach}
 use Rattle.offers.specs.Sources.{IsInner, OfNetwork, OfRouter, OfSummary, leaving}
 use Rattle.offers.specs.Sources.IsInner.{ByNetwork, ByRouter, BySummary}
 use Rattle.offers.specs.Ways.{AreWays, Ways}
+use Rattle.offers.specs.declared.flagged.Flagged.{Flagged}
 
 abbrev pub as_way : Way → WalkWay
 as_way w = record { distance = w.distance; hops = w.hops }
@@ -52,7 +53,7 @@ same_distance root router way =
       | false ↦ refl
     ]
 
-module _ (said : Said) (root : Root) (ways : Ways) (are : AreWays said root ways) where
+module _ (said : Said) (root : Root) (ways : Ways) (are : AreWays said root ways) (routers : List Flagged) (flagged : AreFlagged said ways routers) where
   abbrev IsReached : Node → WalkWay → Type 0
   IsReached node way = IsWay (Leads said root) (ARouter root.router) node way
 
@@ -68,29 +69,33 @@ module _ (said : Said) (root : Root) (ways : Ways) (are : AreWays said root ways
 
   -- ---- routers with flags
 
-  pub boundary_forth : (router : ℕ) (w : Way) → IsFlagged said ways router 2 w → ReachesBoundaryRouter said root router (as_way w)
-  boundary_forth router w k = record { lsa = k.lsa; its = k.its; has_e = k.has_flag; reached = reached (ARouter router) w k.reached }
+  pub boundary_forth : (router : ℕ) (w : Way) → IsListed routers router 2 w → ReachesBoundaryRouter said root router (as_way w)
+  boundary_forth router w is =
+      let k : IsFlagged said ways router 2 w = (flagged router 2 w (inr refl)).1 is in
+      record { lsa = k.lsa; its = k.its; has_e = k.has_flag; reached = reached (ARouter router) w k.reached }
 
-  pub boundary_back : (router : ℕ) (way : WalkWay) → ReachesBoundaryRouter said root router way → (w : Way) × IsFlagged said ways router 2 w × (as_way w ≡ way)
+  pub boundary_back : (router : ℕ) (way : WalkWay) → ReachesBoundaryRouter said root router way → (w : Way) × IsListed routers router 2 w × (as_way w ≡ way)
   boundary_back router way k =
       let f = found (ARouter router) way k.reached in
-      (f.0, record { lsa = k.lsa; its = k.its; has_flag = k.has_e; reached = f.1 }, f.2)
+      (f.0, (flagged router 2 f.0 (inr refl)).0 (record { lsa = k.lsa; its = k.its; has_flag = k.has_e; reached = f.1 }), f.2)
 
-  pub counted_forth : (originator : ℕ) (lsa : SummaryLsa) (border : Way) → IsCounted said root ways originator lsa border → CountsAsSummary said root originator lsa (as_way border)
-  counted_forth originator lsa border k = record {
-    reachable = k.reachable;
-    of_another = k.of_another;
-    reaches = record { lsa = k.reaches.lsa; its = k.reaches.its; has_b = k.reaches.has_flag; reached = reached (ARouter originator) border k.reaches.reached };
-  }
+  pub counted_forth : (originator : ℕ) (lsa : SummaryLsa) (border : Way) → IsCounted root routers originator lsa border → CountsAsSummary said root originator lsa (as_way border)
+  counted_forth originator lsa border k =
+      let its : IsFlagged said ways originator 1 border = (flagged originator 1 border (inl refl)).1 k.reaches in
+      record {
+        reachable = k.reachable;
+        of_another = k.of_another;
+        reaches = record { lsa = its.lsa; its = its.its; has_b = its.has_flag; reached = reached (ARouter originator) border its.reached };
+      }
 
-  pub counted_back : (originator : ℕ) (lsa : SummaryLsa) (border : WalkWay) → CountsAsSummary said root originator lsa border → (w : Way) × IsCounted said root ways originator lsa w × (as_way w ≡ border)
+  pub counted_back : (originator : ℕ) (lsa : SummaryLsa) (border : WalkWay) → CountsAsSummary said root originator lsa border → (w : Way) × IsCounted root routers originator lsa w × (as_way w ≡ border)
   counted_back originator lsa border k =
       let f = found (ARouter originator) border k.reaches.reached in (
         f.0,
         record {
           reachable = k.reachable;
           of_another = k.of_another;
-          reaches = record { lsa = k.reaches.lsa; its = k.reaches.its; has_flag = k.reaches.has_b; reached = f.1 };
+          reaches = (flagged originator 1 f.0 (inl refl)).0 (record { lsa = k.reaches.lsa; its = k.reaches.its; has_flag = k.reaches.has_b; reached = f.1 });
         },
         f.2,
       )
@@ -136,7 +141,7 @@ module _ (said : Said) (root : Root) (ways : Ways) (are : AreWays said root ways
         is = k.is ∙ ap (λ d. intra k.prefix d k.way.hops) none;
       }
 
-  by_summary : (key : Key) (o : Offer) → OfSummary said root ways key o → OffersBetween said root o
+  by_summary : (key : Key) (o : Offer) → OfSummary said root routers key o → OffersBetween said root o
   by_summary key o k =
       let id = key.link_state_id in
       let by = key.advertising_router in
@@ -153,14 +158,14 @@ module _ (said : Said) (root : Root) (ways : Ways) (are : AreWays said root ways
         is = k.is;
       }
 
-  pub inner_forth : (keys : List Key) (o : Offer) → OfEach (IsInner said root ways) keys o → OffersInside said root o
+  pub inner_forth : (keys : List Key) (o : Offer) → OfEach (IsInner said root ways routers) keys o → OffersInside said root o
   inner_forth keys o (key, among, ByRouter k) = inl (by_router key o k)
   inner_forth keys o (key, among, ByNetwork k) = inl (by_network key o k)
   inner_forth keys o (key, among, BySummary k) = inr (by_summary key o k)
 
   module _ (keys : List Key) (covers : (key : Key) (says : Body) → said key ≡ Some says → Contains keys key) where
     of_within : (node : Node) (prefix : Network) (more : ℕ) → Attaches said node prefix more → (way : WalkWay) → IsReached node way → (hops : ℕ) → (node ≡ ARouter root.router → hops ≡ 1)
-        → ((node ≡ ARouter root.router → ⊥) → hops ≡ way.hops) → OfEach (IsInner said root ways) keys (intra prefix (way.distance + more) hops)
+        → ((node ≡ ARouter root.router → ⊥) → hops ≡ way.hops) → OfEach (IsInner said root ways routers) keys (intra prefix (way.distance + more) hops)
     of_within (ANetwork id by) prefix more a way is hops by_root by_others =
         let f = found (ANetwork id by) way is in
         let key = network_key id by in
@@ -203,9 +208,9 @@ module _ (said : Said) (root : Root) (ways : Ways) (are : AreWays said root ways
           }),
         )
 
-    pub inner_back : (o : Offer) → OffersInside said root o → OfEach (IsInner said root ways) keys o
+    pub inner_back : (o : Offer) → OffersInside said root o → OfEach (IsInner said root ways routers) keys o
     inner_back o (inl k) =
-        let P : Offer → Type 0 = λ x. OfEach (IsInner said root ways) keys x in
+        let P : Offer → Type 0 = λ x. OfEach (IsInner said root ways routers) keys x in
         subst P (sym k.is) (of_within k.node k.prefix k.more k.attached k.way k.reached k.hops k.by_root k.by_others)
     inner_back o (inr k) =
         let c = counted_back k.originator k.lsa k.border k.counts in

@@ -2,27 +2,26 @@
 use Rattle.std.proofs.Common.{◌≡◌, ◌≢◌, ℕ, List, Some, None, refl, sym, ◌∙◌, ap}
 use Rattle.words.specs.declared.route.Route.{Route}
 use Rattle.lsa.specs.declared.body.ExternalLsa.{ExternalLsa}
-use Rattle.routes.specs.Said.{Said}
 use Rattle.routes.specs.declared.graph.Way.{Way}
 use Rattle.offers.specs.Borders.{IsBoundary, IsLongest, IsOutward, way_by}
 use Rattle.offers.specs.Gathering.{IsJust}
-use Rattle.offers.specs.Ways.{Ways}
+use Rattle.offers.specs.declared.flagged.Flagged.{Flagged}
 
-module _ (said : Said) (ways : Ways) (told inner : List Route) (originator : ℕ) (lsa : ExternalLsa) where
-  pub no_originator : IsJust (IsBoundary said ways told originator) None → IsJust (IsOutward said ways told inner originator lsa) None
+module _ (routers : List Flagged) (told inner : List Route) (originator : ℕ) (lsa : ExternalLsa) where
+  pub no_originator : IsJust (IsBoundary routers told originator) None → IsJust (IsOutward routers told inner originator lsa) None
   no_originator none = λ w k. none k.boundary k.reaches
 
-  pub by_originator : (boundary : Way) → IsJust (IsBoundary said ways told originator) (Some boundary) → lsa.forwarding ≡ 0 → IsJust (IsOutward said ways told inner originator lsa) (Some boundary)
+  pub by_originator : (boundary : Way) → IsJust (IsBoundary routers told originator) (Some boundary) → lsa.forwarding ≡ 0 → IsJust (IsOutward routers told inner originator lsa) (Some boundary)
   by_originator boundary just zero = λ w. (
     λ k. k.direct zero ∙ (just k.boundary).0 k.reaches,
     λ e. record { boundary = boundary; reaches = (just boundary).1 refl; direct = λ _. e; forwarded = λ other. absurd (other zero) },
   )
 
-  pub no_forwarding : lsa.forwarding ≢ 0 → IsJust (IsLongest inner lsa.forwarding) None → IsJust (IsOutward said ways told inner originator lsa) None
+  pub no_forwarding : lsa.forwarding ≢ 0 → IsJust (IsLongest inner lsa.forwarding) None → IsJust (IsOutward routers told inner originator lsa) None
   no_forwarding other none = λ w k. let f = k.forwarded other in none f.0 f.1
 
-  pub by_forwarding : (boundary made : Way) (route : Route) → IsJust (IsBoundary said ways told originator) (Some boundary) → lsa.forwarding ≢ 0 → IsJust (IsLongest inner lsa.forwarding) (Some route) → made ≡ way_by route
-      → IsJust (IsOutward said ways told inner originator lsa) (Some made)
+  pub by_forwarding : (boundary made : Way) (route : Route) → IsJust (IsBoundary routers told originator) (Some boundary) → lsa.forwarding ≢ 0 → IsJust (IsLongest inner lsa.forwarding) (Some route) → made ≡ way_by route
+      → IsJust (IsOutward routers told inner originator lsa) (Some made)
   by_forwarding boundary made route just other longest is = λ w. (
     λ k. let f = k.forwarded other in f.2 ∙ ap way_by ((longest f.0).0 f.1) ∙ sym is,
     λ e. record {

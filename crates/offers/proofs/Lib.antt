@@ -1,4 +1,5 @@
 pub mod Gathered
+pub mod Flags
 pub mod Ordered
 pub mod Made
 pub mod Boundaries

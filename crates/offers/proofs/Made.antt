@@ -21,9 +21,10 @@ use Rattle.offers.specs.Gathering.{Adds, IsJust, OfEach}
 use Rattle.offers.specs.Sources.{IsInner, IsStub, OfExternal, OfNetwork, OfRouter, OfSummary, leaving}
 use Rattle.offers.specs.Sources.IsInner.{ByNetwork, ByRouter, BySummary}
 use Rattle.offers.specs.Ways.{Ways}
+use Rattle.offers.specs.declared.flagged.Flagged.{Flagged}
 use Rattle.offers.proofs.Gathered.{adds_both, adds_same}
 
-module _ (said : Said) (root : Root) (ways : Ways) (key : Key) where
+module _ (said : Said) (root : Root) (ways : Ways) (routers : List Flagged) (key : Key) where
   -- ---- a router
 
   pub of_router : (lsa : RouterLsa) (way leaves : Way) (links : List Link) → key.ls_type ≡ 1 → key.link_state_id ≡ key.advertising_router → said key ≡ Some (body.Router lsa)
@@ -54,20 +55,20 @@ module _ (said : Said) (root : Root) (ways : Ways) (key : Key) where
 
   -- ---- a summary
 
-  pub no_summary : (lsa : SummaryLsa) → said key ≡ Some (body.NetworkSummary lsa) → IsJust (IsCounted said root ways key.advertising_router lsa) None → IsJust (OfSummary said root ways key) None
+  pub no_summary : (lsa : SummaryLsa) → said key ≡ Some (body.NetworkSummary lsa) → IsJust (IsCounted root routers key.advertising_router lsa) None → IsJust (OfSummary said root routers key) None
   no_summary lsa its none = λ o k.
       let one : Some (body.NetworkSummary k.lsa) ≡ Some (body.NetworkSummary lsa) = sym k.its ∙ its in
       let same : k.lsa ≡ lsa = cc in
-      none k.border (subst (λ l. IsCounted said root ways key.advertising_router l k.border) same k.counts)
+      none k.border (subst (λ l. IsCounted root routers key.advertising_router l k.border) same k.counts)
 
   pub of_summary : (lsa : SummaryLsa) (border : Way) (prefix : Network) (made : Offer) → key.ls_type ≡ 3 → said key ≡ Some (body.NetworkSummary lsa)
-      → IsJust (IsCounted said root ways key.advertising_router lsa) (Some border) → IsJust (IsPrefix key.link_state_id lsa.mask) (Some prefix)
-      → made ≡ inter prefix (border.distance + lsa.metric) border.hops → IsJust (OfSummary said root ways key) (Some made)
+      → IsJust (IsCounted root routers key.advertising_router lsa) (Some border) → IsJust (IsPrefix key.link_state_id lsa.mask) (Some prefix)
+      → made ≡ inter prefix (border.distance + lsa.metric) border.hops → IsJust (OfSummary said root routers key) (Some made)
   of_summary lsa border prefix made is_type its counted under is = λ o. (
     λ k.
         let one : Some (body.NetworkSummary k.lsa) ≡ Some (body.NetworkSummary lsa) = sym k.its ∙ its in
         let same : k.lsa ≡ lsa = cc in
-        let b : k.border ≡ border = (counted k.border).0 (subst (λ l. IsCounted said root ways key.advertising_router l k.border) same k.counts) in
+        let b : k.border ≡ border = (counted k.border).0 (subst (λ l. IsCounted root routers key.advertising_router l k.border) same k.counts) in
         let p : k.prefix ≡ prefix = (under k.prefix).0 (subst (λ (l : SummaryLsa). IsPrefix key.link_state_id l.mask k.prefix) same k.is_prefix) in
         k.is ∙ (λ i. inter (p i) ((b i).distance + (same i).metric) (b i).hops) ∙ sym is,
     λ e. record {
@@ -84,20 +85,20 @@ module _ (said : Said) (root : Root) (ways : Ways) (key : Key) where
 
   -- ---- a summary of an AS boundary router
 
-  pub none_told : (lsa : SummaryLsa) → said key ≡ Some (body.RouterSummary lsa) → IsJust (IsCounted said root ways key.advertising_router lsa) None → IsJust (Tells said root ways key) None
+  pub none_told : (lsa : SummaryLsa) → said key ≡ Some (body.RouterSummary lsa) → IsJust (IsCounted root routers key.advertising_router lsa) None → IsJust (Tells said root routers key) None
   none_told lsa its none = λ o k.
       let one : Some (body.RouterSummary k.lsa) ≡ Some (body.RouterSummary lsa) = sym k.its ∙ its in
       let same : k.lsa ≡ lsa = cc in
-      none k.border (subst (λ l. IsCounted said root ways key.advertising_router l k.border) same k.counts)
+      none k.border (subst (λ l. IsCounted root routers key.advertising_router l k.border) same k.counts)
 
   pub of_told : (lsa : SummaryLsa) (border : Way) (made : Offer) → key.ls_type ≡ 4 → said key ≡ Some (body.RouterSummary lsa)
-      → IsJust (IsCounted said root ways key.advertising_router lsa) (Some border)
-      → made ≡ inter (host key.link_state_id) (border.distance + lsa.metric) border.hops → IsJust (Tells said root ways key) (Some made)
+      → IsJust (IsCounted root routers key.advertising_router lsa) (Some border)
+      → made ≡ inter (host key.link_state_id) (border.distance + lsa.metric) border.hops → IsJust (Tells said root routers key) (Some made)
   of_told lsa border made is_type its counted is = λ o. (
     λ k.
         let one : Some (body.RouterSummary k.lsa) ≡ Some (body.RouterSummary lsa) = sym k.its ∙ its in
         let same : k.lsa ≡ lsa = cc in
-        let b : k.border ≡ border = (counted k.border).0 (subst (λ l. IsCounted said root ways key.advertising_router l k.border) same k.counts) in
+        let b : k.border ≡ border = (counted k.border).0 (subst (λ l. IsCounted root routers key.advertising_router l k.border) same k.counts) in
         k.is ∙ (λ i. inter (host key.link_state_id) ((b i).distance + (same i).metric) (b i).hops) ∙ sym is,
     λ e. record { is_type = is_type; lsa = lsa; its = its; border = border; counts = (counted border).1 refl; is = e ∙ is },
   )
@@ -105,20 +106,20 @@ module _ (said : Said) (root : Root) (ways : Ways) (key : Key) where
   -- ---- an external destination
 
   module _ (told inner : List Route) where
-    pub no_external : (lsa : ExternalLsa) → said key ≡ Some (body.External lsa) → IsJust (IsOutward said ways told inner key.advertising_router lsa) None → IsJust (OfExternal said root ways told inner key) None
+    pub no_external : (lsa : ExternalLsa) → said key ≡ Some (body.External lsa) → IsJust (IsOutward routers told inner key.advertising_router lsa) None → IsJust (OfExternal said root routers told inner key) None
     no_external lsa its none = λ o k.
         let one : Some (body.External k.lsa) ≡ Some (body.External lsa) = sym k.its ∙ its in
         let same : k.lsa ≡ lsa = cc in
-        none k.way (subst (λ l. IsOutward said ways told inner key.advertising_router l k.way) same k.is_way)
+        none k.way (subst (λ l. IsOutward routers told inner key.advertising_router l k.way) same k.is_way)
 
     pub of_external : (lsa : ExternalLsa) (way : Way) (prefix : Network) (made : Offer) → key.ls_type ≡ 5 → said key ≡ Some (body.External lsa) → lsa.metric < 16777215 → key.advertising_router ≢ root.router
-        → IsJust (IsOutward said ways told inner key.advertising_router lsa) (Some way) → IsJust (IsPrefix key.link_state_id lsa.mask) (Some prefix)
-        → made ≡ external_offer lsa.kind prefix lsa key.advertising_router (record { distance = way.distance; hops = way.hops }) → IsJust (OfExternal said root ways told inner key) (Some made)
+        → IsJust (IsOutward routers told inner key.advertising_router lsa) (Some way) → IsJust (IsPrefix key.link_state_id lsa.mask) (Some prefix)
+        → made ≡ external_offer lsa.kind prefix lsa key.advertising_router (record { distance = way.distance; hops = way.hops }) → IsJust (OfExternal said root routers told inner key) (Some made)
     of_external lsa way prefix made is_type its reachable another outward under is = λ o. (
       λ k.
           let one : Some (body.External k.lsa) ≡ Some (body.External lsa) = sym k.its ∙ its in
           let same : k.lsa ≡ lsa = cc in
-          let w : k.way ≡ way = (outward k.way).0 (subst (λ l. IsOutward said ways told inner key.advertising_router l k.way) same k.is_way) in
+          let w : k.way ≡ way = (outward k.way).0 (subst (λ l. IsOutward routers told inner key.advertising_router l k.way) same k.is_way) in
           let p : k.prefix ≡ prefix = (under k.prefix).0 (subst (λ (l : ExternalLsa). IsPrefix key.link_state_id l.mask k.prefix) same k.is_prefix) in
           k.is ∙ (λ i. external_offer (same i).kind (p i) (same i) key.advertising_router (record { distance = (w i).distance; hops = (w i).hops })) ∙ sym is,
       λ e. record {
@@ -135,9 +136,9 @@ module _ (said : Said) (root : Root) (ways : Ways) (key : Key) where
       },
     )
 
-  pub of_inner : (xs ys zs ws : List Offer) → Adds xs ys (OfRouter said root ways key) → Adds ys zs (OfNetwork said ways key) → Adds zs ws (OfSummary said root ways key) → Adds xs ws (IsInner said root ways key)
+  pub of_inner : (xs ys zs ws : List Offer) → Adds xs ys (OfRouter said root ways key) → Adds ys zs (OfNetwork said ways key) → Adds zs ws (OfSummary said root routers key) → Adds xs ws (IsInner said root ways routers key)
   of_inner xs ys zs ws a b c =
-      adds_same xs ws (λ o. (OfRouter said root ways key o ⊎ OfNetwork said ways key o) ⊎ OfSummary said root ways key o) (IsInner said root ways key)
+      adds_same xs ws (λ o. (OfRouter said root ways key o ⊎ OfNetwork said ways key o) ⊎ OfSummary said root routers key o) (IsInner said root ways routers key)
       (λ o w.
       elim w [
         | inl v ↦
@@ -153,4 +154,4 @@ module _ (said : Said) (root : Root) (ways : Ways) (key : Key) where
         | ByNetwork n ↦ inl (inr n)
         | BySummary s ↦ inr s
       ])
-      (adds_both xs zs ws (λ o. OfRouter said root ways key o ⊎ OfNetwork said ways key o) (OfSummary said root ways key) (adds_both xs ys zs (OfRouter said root ways key) (OfNetwork said ways key) a b) c)
+      (adds_both xs zs ws (λ o. OfRouter said root ways key o ⊎ OfNetwork said ways key o) (OfSummary said root routers key) (adds_both xs ys zs (OfRouter said root ways key) (OfNetwork said ways key) a b) c)

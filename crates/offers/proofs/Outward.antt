@@ -22,11 +22,12 @@ use Rattle.routes.specs.declared.graph.Way.{Way}
 use Rattle.routes.specs.declared.offer.Offer.{Offer}
 use Rattle.routes.specs.declared.root.Root.{Root}
 use Rattle.routes.proofs.Determined.{AreAlike, alike, as_good}
-use Rattle.offers.specs.Borders.{IsBoundary, IsFound, IsOutward, Tells, host, way_by}
+use Rattle.offers.specs.Borders.{AreFlagged, IsBoundary, IsFound, IsOutward, Tells, host, way_by}
 use Rattle.offers.specs.Borders.IsBoundary.{Inside, Outside}
 use Rattle.offers.specs.Gathering.{OfEach}
 use Rattle.offers.specs.Sources.{OfExternal}
 use Rattle.offers.specs.Ways.{AreWays, Ways}
+use Rattle.offers.specs.declared.flagged.Flagged.{Flagged}
 use Rattle.offers.proofs.Carried.{as_found, as_way, boundary_back, boundary_forth, counted_back, counted_forth}
 
 same_router : (a b : ℕ) → host a ≡ host b → a ≡ b
@@ -37,11 +38,11 @@ cheaper a b e (ByKind less) = absurd (omega (arith, e, less))
 cheaper a b e (ByCost same less) = omega (arith, less)
 cheaper a b e (ByDistance same cost less) = omega (arith, cost)
 
-module _ (said : Said) (root : Root) (ways : Ways) (are : AreWays said root ways) (keys : List Key) (covers : (key : Key) (says : Body) → said key ≡ Some says → Contains keys key) where
+module _ (said : Said) (root : Root) (ways : Ways) (are : AreWays said root ways) (routers : List Flagged) (flagged : AreFlagged said ways routers) (keys : List Key) (covers : (key : Key) (says : Body) → said key ≡ Some says → Contains keys key) where
   -- ---- what is told of AS boundary routers
 
   abbrev Told : Offer → Type 0
-  Told o = OfEach (Tells said root ways) keys o
+  Told o = OfEach (Tells said root routers) keys o
 
   record TellsOf (router : ℕ) (o : Offer) : Type 0 where
     border : WalkWay
@@ -63,7 +64,7 @@ module _ (said : Said) (root : Root) (ways : Ways) (are : AreWays said root ways
           originator = by;
           lsa = k.lsa;
           its = ap said (sym here) ∙ k.its;
-          counts = counted_forth said root ways are by k.lsa k.border k.counts;
+          counts = counted_forth said root ways are routers flagged by k.lsa k.border k.counts;
           is = ap (λ (x : Offer). x.cost) k.is;
         };
         hops = ap (λ (x : Offer). x.hops) k.is;
@@ -75,7 +76,7 @@ module _ (said : Said) (root : Root) (ways : Ways) (are : AreWays said root ways
 
   offer_of : (router distance : ℕ) (border : WalkWay) → IsToldOf said root router distance border → Told (inter (host router) distance border.hops)
   offer_of router distance border t =
-      let c = counted_back said root ways are t.originator t.lsa border t.counts in
+      let c = counted_back said root ways are routers flagged t.originator t.lsa border t.counts in
       let key = summary_key 4 router t.originator in
       let far : c.0.distance ≡ border.distance = ap (λ (w : WalkWay). w.distance) c.2 in
       let cost : distance ≡ c.0.distance + t.lsa.metric = omega (arith, t.is, far) in
@@ -165,24 +166,24 @@ module _ (said : Said) (root : Root) (ways : Ways) (are : AreWays said root ways
           );
         }
 
-    boundary_way_forth : (router : ℕ) (w : Way) → IsBoundary said ways told router w → IsBoundaryWay said root router (as_way w)
-    boundary_way_forth router w (Inside k) = InsideWay (boundary_forth said root ways are router w k)
+    boundary_way_forth : (router : ℕ) (w : Way) → IsBoundary routers told router w → IsBoundaryWay said root router (as_way w)
+    boundary_way_forth router w (Inside k) = InsideWay (boundary_forth said root ways are routers flagged router w k)
     boundary_way_forth router w (Outside none route f e) =
-        OutsideWay (λ other r. let b = boundary_back said root ways are router other r in none b.0 b.1)
+        OutsideWay (λ other r. let b = boundary_back said root ways are routers flagged router other r in none b.0 b.1)
         (subst (λ (x : Way). IsWayBetween said root router (as_way x)) (sym e) (between_forth router route f))
 
-    boundary_way_back : (router : ℕ) (way : WalkWay) → IsBoundaryWay said root router way → IsBoundary said ways told router (as_found way)
+    boundary_way_back : (router : ℕ) (way : WalkWay) → IsBoundaryWay said root router way → IsBoundary routers told router (as_found way)
     boundary_way_back router way (InsideWay k) =
-        let b = boundary_back said root ways are router way k in
-        subst (IsBoundary said ways told router) (ap as_found b.2) (Inside b.1)
+        let b = boundary_back said root ways are routers flagged router way k in
+        subst (IsBoundary routers told router) (ap as_found b.2) (Inside b.1)
     boundary_way_back router way (OutsideWay none b) =
-        Outside (λ other k. none (as_way other) (boundary_forth said root ways are router other k)) (route_to router way)
+        Outside (λ other k. none (as_way other) (boundary_forth said root ways are routers flagged router other k)) (route_to router way)
         (record { among = (all.each (route_to router way)).1 (between_back router way b); is_for = refl }) refl
 
     -- ---- external destinations
 
     module _ (inner : List Route) (inside : AreRoutesAmong (OffersInside said root) inner) where
-      outward_forth : (originator : ℕ) (lsa : ExternalLsa) (w : Way) → IsOutward said ways told inner originator lsa w → IsExternalWay said root originator lsa (as_way w)
+      outward_forth : (originator : ℕ) (lsa : ExternalLsa) (w : Way) → IsOutward routers told inner originator lsa w → IsExternalWay said root originator lsa (as_way w)
       outward_forth originator lsa w k = record {
         boundary = as_way k.boundary;
         reaches = boundary_way_forth originator k.boundary k.reaches;
@@ -198,7 +199,7 @@ module _ (said : Said) (root : Root) (ways : Ways) (are : AreWays said root ways
             };
       }
 
-      outward_back : (originator : ℕ) (lsa : ExternalLsa) (way : WalkWay) → IsExternalWay said root originator lsa way → IsOutward said ways told inner originator lsa (as_found way)
+      outward_back : (originator : ℕ) (lsa : ExternalLsa) (way : WalkWay) → IsExternalWay said root originator lsa way → IsOutward routers told inner originator lsa (as_found way)
       outward_back originator lsa way k = record {
         boundary = as_found k.boundary;
         reaches = boundary_way_back originator k.boundary k.reaches;
@@ -215,7 +216,7 @@ module _ (said : Said) (root : Root) (ways : Ways) (are : AreWays said root ways
             );
       }
 
-      pub external_forth : (o : Offer) → OfEach (OfExternal said root ways told inner) keys o → OffersExternal said root o
+      pub external_forth : (o : Offer) → OfEach (OfExternal said root routers told inner) keys o → OffersExternal said root o
       external_forth o (key, among, k) =
           let id = key.link_state_id in
           let by = key.advertising_router in
@@ -234,7 +235,7 @@ module _ (said : Said) (root : Root) (ways : Ways) (are : AreWays said root ways
             is = k.is;
           }
 
-      pub external_back : (o : Offer) → OffersExternal said root o → OfEach (OfExternal said root ways told inner) keys o
+      pub external_back : (o : Offer) → OffersExternal said root o → OfEach (OfExternal said root routers told inner) keys o
       external_back o k =
           let key : Key = record { ls_type = 5; link_state_id = k.id; advertising_router = k.originator } in (
             key,

@@ -1,6 +1,6 @@
 -- Routers with a flag that ways lead to, and what area border routers tell (RFC 2328, sections 16.2
 -- and 16.4).
-use Rattle.std.specs.Prelude.{◌≡◌, ◌≢◌, ℕ, ◌+◌, ◌<◌, ◌≤◌, Bool, false, true, List, Some, bit_and}
+use Rattle.std.specs.Prelude.{◌≡◌, ◌≢◌, ◌↔◌, ◌⊎◌, ℕ, ◌+◌, ◌<◌, ◌≤◌, Bool, false, true, List, Some, bit_and}
 use Rattle.std.specs.Prelude.{slice_index_or}
 use Rattle.std.specs.List.{AllPairs, Contains}
 use Rattle.words.specs.Prefixes.{IsUnder, Network, network_address}
@@ -15,6 +15,7 @@ use Rattle.routes.specs.Routes.{IsBefore}
 use Rattle.routes.specs.Said.{Said}
 use Rattle.routes.specs.Summaries.{inter}
 use Rattle.offers.specs.Ways.{Ways}
+use Rattle.offers.specs.declared.flagged.Flagged.{Flagged}
 use Rattle.routes.specs.declared.graph.Way.{Way}
 use Rattle.routes.specs.declared.node.Node.TheVariants.{ARouter}
 use Rattle.routes.specs.declared.offer.Offer.{Offer}
@@ -27,12 +28,52 @@ pub record IsFlagged (said : Said) (ways : Ways) (router flag : ℕ) (way : Way)
   pub has_flag : bit_and lsa.flags flag ≡ flag
   pub reached : ways (ARouter router) ≡ Some way
 
+-- ---- area border routers and AS boundary routers as a list
+
+-- the flags B and E of a router-LSA (section A.4.2)
+abbrev pub IsBorderFlag : ℕ → Type 0
+IsBorderFlag flag = (flag ≡ 1) ⊎ (flag ≡ 2)
+
+-- the router is among them, with the flag and this way
+pub record IsListed (routers : List Flagged) (router flag : ℕ) (way : Way) : Type 0 where
+  pub listed : Flagged
+  pub among : Contains routers listed
+  pub its_router : listed.router ≡ router
+  pub has_flag : bit_and listed.flags flag ≡ flag
+  pub its_way : way ≡ listed.way
+
+-- just the routers with one of these flags that ways lead to, each with its flags and its way
+abbrev pub AreFlagged : Said → Ways → List Flagged → Type 0
+AreFlagged said ways routers =
+    (router flag : ℕ) (way : Way) → IsBorderFlag flag
+    → IsFlagged said ways router flag way ↔ IsListed routers router flag way
+
+-- in the order of their Router IDs, each once
+abbrev pub AscendByRouter : List Flagged → Type 0
+AscendByRouter routers = AllPairs (λ (a : Flagged) (b : Flagged). a.router < b.router) routers
+
+-- so that sums of a way and a metric fit 32 bits
+abbrev pub AreCloseBy : List Flagged → Type 0
+AreCloseBy routers =
+    (router : Flagged) → Contains routers router → router.way.distance < 1073741824
+
+-- what the LSA of the key tells of its router, where a way leads to that and it has a flag
+pub record TellsFlags (said : Said) (ways : Ways) (key : Key) (router : Flagged) : Type 0 where
+  pub is_type : key.ls_type ≡ 1
+  pub own : key.link_state_id ≡ key.advertising_router
+  pub lsa : RouterLsa
+  pub its : said key ≡ Some (body.Router lsa)
+  pub has_flag : (bit_and lsa.flags 1 ≡ 1) ⊎ (bit_and lsa.flags 2 ≡ 2)
+  pub reached : ways (ARouter key.advertising_router) ≡ Some router.way
+  pub its_router : router.router ≡ key.advertising_router
+  pub its_flags : router.flags ≡ lsa.flags
+
 -- the summary counts: it is of another router, an area border router that this way leads to
-pub record IsCounted (said : Said) (root : Root) (ways : Ways) (originator : ℕ) (lsa : SummaryLsa)
+pub record IsCounted (root : Root) (routers : List Flagged) (originator : ℕ) (lsa : SummaryLsa)
     (border : Way) : Type 0 where
   pub reachable : lsa.metric < 16777215
   pub of_another : originator ≢ root.router
-  pub reaches : IsFlagged said ways originator 1 border
+  pub reaches : IsListed routers originator 1 border
 
 -- ---- AS boundary routers
 
@@ -42,12 +83,13 @@ abbrev pub host : ℕ → Network
 host router = record { address = network_address 32 router; length = 32 }
 
 -- the summary of the key tells of an AS boundary router
-pub record Tells (said : Said) (root : Root) (ways : Ways) (key : Key) (o : Offer) : Type 0 where
+pub record Tells (said : Said) (root : Root) (routers : List Flagged) (key : Key)
+    (o : Offer) : Type 0 where
   pub is_type : key.ls_type ≡ 4
   pub lsa : SummaryLsa
   pub its : said key ≡ Some (body.RouterSummary lsa)
   pub border : Way
-  pub counts : IsCounted said root ways key.advertising_router lsa border
+  pub counts : IsCounted root routers key.advertising_router lsa border
   pub is : o ≡ inter (host key.link_state_id) (border.distance + lsa.metric) border.hops
 
 abbrev pub way_by : Route → Way
@@ -67,11 +109,11 @@ pub record IsFound (routes : List Route) (prefix : Network) (route : Route) : Ty
   pub is_for : route.prefix ≡ prefix
 
 -- within the area where there is such a way, else what is told
-pub data IsBoundary (said : Said) (ways : Ways) (told : List Route) (router : ℕ)
+pub data IsBoundary (routers : List Flagged) (told : List Route) (router : ℕ)
     (way : Way) : Type 0 where
-  Inside : IsFlagged said ways router 2 way → IsBoundary said ways told router way
-  Outside : ((other : Way) → IsFlagged said ways router 2 other → ⊥) → (route : Route)
-      → IsFound told (host router) route → way ≡ way_by route → IsBoundary said ways told router way
+  Inside : IsListed routers router 2 way → IsBoundary routers told router way
+  Outside : ((other : Way) → IsListed routers router 2 other → ⊥) → (route : Route)
+      → IsFound told (host router) route → way ≡ way_by route → IsBoundary routers told router way
 
 -- ---- forwarding addresses
 
@@ -95,10 +137,10 @@ pub record IsLongest (routes : List Route) (address : ℕ) (route : Route) : Typ
       → other.prefix.length ≤ route.prefix.length
 
 -- the way to an external destination: by the originator, or by the forwarding address
-pub record IsOutward (said : Said) (ways : Ways) (told inner : List Route) (originator : ℕ)
+pub record IsOutward (routers : List Flagged) (told inner : List Route) (originator : ℕ)
     (lsa : ExternalLsa) (way : Way) : Type 0 where
   pub boundary : Way
-  pub reaches : IsBoundary said ways told originator boundary
+  pub reaches : IsBoundary routers told originator boundary
   pub direct : lsa.forwarding ≡ 0 → way ≡ boundary
   pub forwarded : lsa.forwarding ≢ 0
       → (route : Route) × IsLongest inner lsa.forwarding route × (way ≡ way_by route)

@@ -22,6 +22,7 @@ use Rattle.routes.specs.declared.offer.Offer.{Offer}
 use Rattle.routes.specs.declared.root.Root.{Root}
 use Rattle.offers.specs.Borders.{IsCounted, IsOutward}
 use Rattle.offers.specs.Gathering.{OfEach}
+use Rattle.offers.specs.declared.flagged.Flagged.{Flagged}
 
 -- ---- within the area (section 16.1)
 
@@ -57,27 +58,28 @@ pub record OfNetwork (said : Said) (ways : Ways) (key : Key) (o : Offer) : Type 
 
 -- ---- between areas (section 16.2)
 
-pub record OfSummary (said : Said) (root : Root) (ways : Ways) (key : Key)
+pub record OfSummary (said : Said) (root : Root) (routers : List Flagged) (key : Key)
     (o : Offer) : Type 0 where
   pub is_type : key.ls_type ≡ 3
   pub lsa : SummaryLsa
   pub its : said key ≡ Some (body.NetworkSummary lsa)
   pub border : Way
-  pub counts : IsCounted said root ways key.advertising_router lsa border
+  pub counts : IsCounted root routers key.advertising_router lsa border
   pub prefix : Network
   pub is_prefix : IsPrefix key.link_state_id lsa.mask prefix
   pub is : o ≡ inter prefix (border.distance + lsa.metric) border.hops
 
 -- what a key's LSA offers within the area and between areas
-pub data IsInner (said : Said) (root : Root) (ways : Ways) (key : Key) (o : Offer) : Type 0 where
-  ByRouter : OfRouter said root ways key o → IsInner said root ways key o
-  ByNetwork : OfNetwork said ways key o → IsInner said root ways key o
-  BySummary : OfSummary said root ways key o → IsInner said root ways key o
+pub data IsInner (said : Said) (root : Root) (ways : Ways) (routers : List Flagged) (key : Key)
+    (o : Offer) : Type 0 where
+  ByRouter : OfRouter said root ways key o → IsInner said root ways routers key o
+  ByNetwork : OfNetwork said ways key o → IsInner said root ways routers key o
+  BySummary : OfSummary said root routers key o → IsInner said root ways routers key o
 
 -- ---- external destinations (section 16.4)
 
-pub record OfExternal (said : Said) (root : Root) (ways : Ways) (told inner : List Route)
-    (key : Key) (o : Offer) : Type 0 where
+pub record OfExternal (said : Said) (root : Root) (routers : List Flagged)
+    (told inner : List Route) (key : Key) (o : Offer) : Type 0 where
   pub is_type : key.ls_type ≡ 5
   pub lsa : ExternalLsa
   pub its : said key ≡ Some (body.External lsa)
@@ -86,7 +88,7 @@ pub record OfExternal (said : Said) (root : Root) (ways : Ways) (told inner : Li
   pub prefix : Network
   pub is_prefix : IsPrefix key.link_state_id lsa.mask prefix
   pub way : Way
-  pub is_way : IsOutward said ways told inner key.advertising_router lsa way
+  pub is_way : IsOutward routers told inner key.advertising_router lsa way
   pub is : o
       ≡ external_offer lsa.kind prefix lsa key.advertising_router
       (record { distance = way.distance; hops = way.hops })

@@ -2,10 +2,12 @@
 ghost use Rattle.std.specs.Prelude.{◌≡◌, ◌<◌, IfSome, OnOk};
 ghost use Rattle.routes.specs.Said.{said_at};
 ghost use Rattle.offers.specs.Ways.{AreNear};
+ghost use Rattle.offers.specs.Borders.{AreCloseBy, AscendByRouter};
 ghost use Rattle.offers.specs.Gathering.{Adds, AreCheap, IsJust, OfEach};
 ghost use Rattle.offers.specs.Sources.{IsInner, IsStub, OfNetwork, OfRouter, OfSummary, leaving};
 
 use crate::borders::counted_border;
+use crate::flagged::Flagged;
 use crate::gathering::{network_of, network_under, push_offer};
 use crate::offer::{inter, intra};
 use crate::said::{network_lsa, network_summary, router_lsa};
@@ -99,23 +101,24 @@ fn network_offer<W: Ways>(db: &Lsdb, moment: Second, ways: &W, key: &Key) -> Opt
     Some(intra(prefix, way.distance, way.hops))
 }
 
-fn summary_offer<W: Ways>(
+fn summary_offer(
     db: &Lsdb,
     moment: Second,
     root: &Root,
-    ways: &W,
+    routers: &[Flagged],
     key: &Key,
 ) -> Option<Offer>
-    requires { AreNear (W.ways ways.now) }
-    ensures just { IsJust (OfSummary (said_at moment db.now.present) root.now (W.ways ways.now)
-        key.now) result }
+    requires ascend { AscendByRouter routers.now }
+    requires close { AreCloseBy routers.now }
+    ensures just { IsJust (OfSummary (said_at moment db.now.present) root.now routers.now key.now)
+        result }
     ensures few { IfSome result (λ o. o.cost < 2147483648) }
 {
     if key.ls_type != 3 {
         return None;
     }
     let lsa = network_summary(db, moment, key)?;
-    let border = counted_border(db, moment, root, ways, key.advertising_router, lsa)?;
+    let border = counted_border(root, routers, key.advertising_router, lsa)?;
     let prefix = network_of(key, lsa.mask)?;
     Some(inter(prefix, border.distance + lsa.metric, border.hops))
 }
@@ -129,16 +132,19 @@ pub fn push_inner<W: Ways>(
     moment: Second,
     root: &Root,
     ways: &W,
+    routers: &[Flagged],
     key: &Key,
     offers: &mut Vec<Offer>,
 ) -> Result<(), AllocError>
-    requires { AreNear (W.ways ways.now) }
+    requires near { AreNear (W.ways ways.now) }
+    requires ascend { AscendByRouter routers.now }
+    requires close { AreCloseBy routers.now }
     ensures adds { OnOk result (Adds offers.old.items offers.new.items
-        (IsInner (said_at moment db.now.present) root.now (W.ways ways.now) key.now)) }
+        (IsInner (said_at moment db.now.present) root.now (W.ways ways.now) routers.now key.now)) }
     ensures cheap { OnOk result (AreCheap offers.old.items → AreCheap offers.new.items) }
 {
     push_router(db, moment, root, ways, key, offers)?;
     push_offer(offers, network_offer(db, moment, ways, key))?;
-    push_offer(offers, summary_offer(db, moment, root, ways, key))?;
+    push_offer(offers, summary_offer(db, moment, root, routers, key))?;
     Ok(())
 }

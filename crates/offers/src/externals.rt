@@ -1,17 +1,23 @@
 //! What AS-external-LSAs offer (RFC 2328, section 16.4).
 ghost use Rattle.std.specs.Prelude.{◌≡◌, ◌<◌, IfSome};
 ghost use Rattle.routes.specs.Said.{said_at};
-ghost use Rattle.offers.specs.Borders.{AreBelow, Ascend, HasLengths, IsOutward};
+ghost use Rattle.offers.specs.Borders.{
+  AreBelow,
+  AreCloseBy,
+  Ascend,
+  AscendByRouter,
+  HasLengths,
+  IsOutward,
+};
 ghost use Rattle.offers.specs.Gathering.{IsJust};
 ghost use Rattle.offers.specs.Sources.{OfExternal};
-ghost use Rattle.offers.specs.Ways.{AreNear};
 
 use crate::borders::{LS_INFINITY, boundary_way};
+use crate::flagged::Flagged;
 use crate::gathering::network_of;
 use crate::offer::{external, way_by};
 use crate::said::external_lsa;
 use crate::search::longest_match;
-use crate::ways::Ways;
 use lsa::ExternalLsa;
 use lsdb::Lsdb;
 use routes::{Offer, Root, Way};
@@ -22,6 +28,8 @@ use words::{Key, Route, RouterId, Second};
 #[derive(Drop)]
 pub struct Inner<'a> {
     pub routers: &'a [Route],
+    /// The area border routers and AS boundary routers of the area, in the order of their Router IDs.
+    pub flagged: &'a [Flagged],
     pub networks: &'a [Route],
     /// Which lengths the networks' prefixes have.
     pub lengths: &'a [bool; 33],
@@ -29,23 +37,16 @@ pub struct Inner<'a> {
 
 // The way to an external destination: to its forwarding address, or to its originator where that is
 // 0.0.0.0.
-fn outward_way<W: Ways>(
-    db: &Lsdb,
-    moment: Second,
-    ways: &W,
-    inner: &Inner<'_>,
-    originator: RouterId,
-    lsa: &ExternalLsa,
-) -> Option<Way>
-    requires near { AreNear (W.ways ways.now) }
+fn outward_way(inner: &Inner<'_>, originator: RouterId, lsa: &ExternalLsa) -> Option<Way>
+    requires flagged { AscendByRouter inner.now.flagged.now × AreCloseBy inner.now.flagged.now }
     requires routers { Ascend inner.now.routers.now × AreBelow inner.now.routers.now }
     requires networks { Ascend inner.now.networks.now × AreBelow inner.now.networks.now }
     requires lengths { HasLengths inner.now.networks.now inner.now.lengths.now }
-    ensures just { IsJust (IsOutward (said_at moment db.now.present) (W.ways ways.now)
-        inner.now.routers.now inner.now.networks.now originator lsa.now) result }
+    ensures just { IsJust (IsOutward inner.now.flagged.now inner.now.routers.now
+        inner.now.networks.now originator lsa.now) result }
     ensures near { IfSome result (λ way. way.distance < 2147483648) }
 {
-    let boundary = boundary_way(db, moment, ways, inner.routers, originator)?;
+    let boundary = boundary_way(inner.flagged, inner.routers, originator)?;
     if lsa.forwarding.is_unspecified() {
         return Some(boundary);
     }
@@ -54,19 +55,18 @@ fn outward_way<W: Ways>(
 }
 
 /// What the AS-external-LSA of this key offers.
-pub fn external_offer<W: Ways>(
+pub fn external_offer(
     db: &Lsdb,
     moment: Second,
     root: &Root,
-    ways: &W,
     inner: &Inner<'_>,
     key: &Key,
 ) -> Option<Offer>
-    requires near { AreNear (W.ways ways.now) }
+    requires flagged { AscendByRouter inner.now.flagged.now × AreCloseBy inner.now.flagged.now }
     requires routers { Ascend inner.now.routers.now × AreBelow inner.now.routers.now }
     requires networks { Ascend inner.now.networks.now × AreBelow inner.now.networks.now }
     requires lengths { HasLengths inner.now.networks.now inner.now.lengths.now }
-    ensures { IsJust (OfExternal (said_at moment db.now.present) root.now (W.ways ways.now)
+    ensures { IsJust (OfExternal (said_at moment db.now.present) root.now inner.now.flagged.now
         inner.now.routers.now inner.now.networks.now key.now) result }
 {
     if key.ls_type != 5 {
@@ -77,6 +77,6 @@ pub fn external_offer<W: Ways>(
         return None;
     }
     let prefix = network_of(key, lsa.mask)?;
-    let way = outward_way(db, moment, ways, inner, key.advertising_router, lsa)?;
+    let way = outward_way(inner, key.advertising_router, lsa)?;
     Some(external(prefix, lsa, key.advertising_router, way))
 }

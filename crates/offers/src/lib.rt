@@ -5,6 +5,7 @@
 mod area;
 mod borders;
 mod externals;
+mod flagged;
 mod gathering;
 mod offer;
 mod order;
@@ -14,6 +15,7 @@ mod search;
 mod ways;
 
 pub use externals::Inner;
+pub use flagged::{Flagged, flagged_routers};
 pub use order::routes_of_offers;
 pub use passes::{inner_offers, push_externals, told_routes};
 pub use search::lengths_of;

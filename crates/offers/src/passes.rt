@@ -2,7 +2,14 @@
 ghost use Rattle.std.specs.Prelude.{◌≡◌, [], IfOk, OnOk};
 ghost use Rattle.routes.specs.Routes.{AreRoutesAmong};
 ghost use Rattle.routes.specs.Said.{said_at};
-ghost use Rattle.offers.specs.Borders.{AreBelow, Ascend, HasLengths, Tells};
+ghost use Rattle.offers.specs.Borders.{
+  AreBelow,
+  AreCloseBy,
+  Ascend,
+  AscendByRouter,
+  HasLengths,
+  Tells,
+};
 ghost use Rattle.offers.specs.Gathering.{Adds, AreCheap, OfEach};
 ghost use Rattle.offers.specs.Sources.{IsInner, OfExternal};
 ghost use Rattle.offers.specs.Ways.{AreNear};
@@ -10,6 +17,7 @@ ghost use Rattle.offers.specs.Ways.{AreNear};
 use crate::area::push_inner;
 use crate::borders::told_offer;
 use crate::externals::{Inner, external_offer};
+use crate::flagged::Flagged;
 use crate::gathering::push_offer;
 use crate::order::routes_of_offers;
 use crate::ways::Ways;
@@ -22,23 +30,24 @@ use words::{Key, Route, Second};
 ///
 /// # Errors
 /// Where memory for the offers or the routes is refused.
-pub fn told_routes<W: Ways>(
+pub fn told_routes(
     alloc: Global,
     db: &Lsdb,
     moment: Second,
     root: &Root,
-    ways: &W,
+    routers: &[Flagged],
     keys: &[Key],
 ) -> Result<Vec<Route>, AllocError>
-    requires { AreNear (W.ways ways.now) }
+    requires ascend { AscendByRouter routers.now }
+    requires close { AreCloseBy routers.now }
     ensures routes { IfOk result (λ routes. AreRoutesAmong
-        (OfEach (Tells (said_at moment db.now.present) root.now (W.ways ways.now)) keys.now)
+        (OfEach (Tells (said_at moment db.now.present) root.now routers.now) keys.now)
         routes.items) }
     ensures few { IfOk result (λ routes. AreBelow routes.items) }
 {
     let mut offers = Vec::new(alloc);
     for key in keys {
-        push_offer(&mut offers, told_offer(db, moment, root, ways, key))?;
+        push_offer(&mut offers, told_offer(db, moment, root, routers, key))?;
     }
     let routes = routes_of_offers(alloc, &mut offers)?;
     Ok(routes)
@@ -54,16 +63,20 @@ pub fn inner_offers<W: Ways>(
     moment: Second,
     root: &Root,
     ways: &W,
+    routers: &[Flagged],
     keys: &[Key],
 ) -> Result<Vec<Offer>, AllocError>
-    requires { AreNear (W.ways ways.now) }
+    requires near { AreNear (W.ways ways.now) }
+    requires ascend { AscendByRouter routers.now }
+    requires close { AreCloseBy routers.now }
     ensures adds { IfOk result (λ offers. Adds [] offers.items
-        (OfEach (IsInner (said_at moment db.now.present) root.now (W.ways ways.now)) keys.now)) }
+        (OfEach (IsInner (said_at moment db.now.present) root.now (W.ways ways.now) routers.now)
+        keys.now)) }
     ensures cheap { IfOk result (λ offers. AreCheap offers.items) }
 {
     let mut offers = Vec::new(alloc);
     for key in keys {
-        push_inner(db, moment, root, ways, key, &mut offers)?;
+        push_inner(db, moment, root, ways, routers, key, &mut offers)?;
     }
     Ok(offers)
 }
@@ -72,25 +85,24 @@ pub fn inner_offers<W: Ways>(
 ///
 /// # Errors
 /// Where memory for the offers is refused.
-pub fn push_externals<W: Ways>(
+pub fn push_externals(
     db: &Lsdb,
     moment: Second,
     root: &Root,
-    ways: &W,
     inner: &Inner<'_>,
     keys: &[Key],
     offers: &mut Vec<Offer>,
 ) -> Result<(), AllocError>
-    requires near { AreNear (W.ways ways.now) }
+    requires flagged { AscendByRouter inner.now.flagged.now × AreCloseBy inner.now.flagged.now }
     requires routers { Ascend inner.now.routers.now × AreBelow inner.now.routers.now }
     requires networks { Ascend inner.now.networks.now × AreBelow inner.now.networks.now }
     requires lengths { HasLengths inner.now.networks.now inner.now.lengths.now }
     ensures { OnOk result (Adds offers.old.items offers.new.items
-        (OfEach (OfExternal (said_at moment db.now.present) root.now (W.ways ways.now)
+        (OfEach (OfExternal (said_at moment db.now.present) root.now inner.now.flagged.now
         inner.now.routers.now inner.now.networks.now) keys.now)) }
 {
     for key in keys {
-        push_offer(offers, external_offer(db, moment, root, ways, inner, key))?;
+        push_offer(offers, external_offer(db, moment, root, inner, key))?;
     }
     Ok(())
 }

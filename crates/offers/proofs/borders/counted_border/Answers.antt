@@ -1,17 +1,16 @@
-use Rattle.std.proofs.Common.{◌≢◌, ℕ, ◌<◌, Option, Some, None, arith, rules}
+use Rattle.std.proofs.Common.{◌≢◌, ℕ, ◌<◌, List, Option, Some, None, arith, rules}
 use Rattle.lsa.specs.declared.body.SummaryLsa.{SummaryLsa}
-use Rattle.routes.specs.Said.{Said}
-use Rattle.offers.specs.Ways.{Ways}
+use Rattle.offers.specs.declared.flagged.Flagged.{Flagged}
 use Rattle.routes.specs.declared.graph.Way.{Way}
 use Rattle.routes.specs.declared.root.Root.{Root}
-use Rattle.offers.specs.Borders.{IsCounted, IsFlagged}
+use Rattle.offers.specs.Borders.{IsCounted, IsListed}
 use Rattle.offers.specs.Gathering.{IsJust}
 use Rattle.offers.proofs.borders.counted_border.Goals as goal
 
-counted : (said : Said) (root : Root) (ways : Ways) (originator : ℕ) (lsa : SummaryLsa) (found : Option Way) → lsa.metric < 16777215 → originator ≢ root.router → IsJust (IsFlagged said ways originator 1) found
-    → IsJust (IsCounted said root ways originator lsa) found
-counted said root ways originator lsa None reachable another none = λ way k. none way k.reaches
-counted said root ways originator lsa (Some it) reachable another just = λ way. ((λ k. (just way).0 k.reaches), (λ e. record { reachable = reachable; of_another = another; reaches = (just way).1 e }))
+counted : (root : Root) (routers : List Flagged) (originator : ℕ) (lsa : SummaryLsa) (found : Option Way) → lsa.metric < 16777215 → originator ≢ root.router → IsJust (IsListed routers originator 1) found
+    → IsJust (IsCounted root routers originator lsa) found
+counted root routers originator lsa None reachable another none = λ way k. none way k.reaches
+counted root routers originator lsa (Some it) reachable another just = λ way. ((λ k. (just way).0 k.reaches), (λ e. record { reachable = reachable; of_another = another; reaches = (just way).1 e }))
 
 pub returns-clause-just : goal.returns-clause-just
-returns-clause-just g c = counted _ _ _ _ _ _ (omega (arith, c.if-lsa-ge-LS_INFINITY.false)) (search rules) c.flagged_way.ensures.just
+returns-clause-just c = counted _ _ _ _ _ (omega (arith, c.if-lsa-ge-LS_INFINITY.false)) (search rules) c.flagged_way.ensures.just

@@ -12,8 +12,8 @@ use Rattle.offers.proofs.Gathered.{adds_just, all_of_them, all_such, one_more, s
 use Rattle.offers.proofs.passes.told_routes.Goals as goal
 
 pub loop-key-preserved : goal.loop-key-preserved
-loop-key-preserved g c =
-    let Q = Tells (said_at c.args.moment c.args.db.now.present) c.args.root.now (g.W.Ways.ways c.args.ways.now) in
+loop-key-preserved c =
+    let Q = Tells (said_at c.args.moment c.args.db.now.present) c.args.root.now c.args.routers.now in
     one_more Q [] c.loop-key.offers.items c.push_offer.new.offers.items c.args.keys.now c.loop-key.key-index c.key-item.result c.key-item.is c.loop-key-test.true c.loop-key.invariant
     (adds_just c.loop-key.offers.items c.push_offer.new.offers.items (Q c.key-item.result) c.told_offer.result c.told_offer.ensures c.in_ok-push_offer.ensures)
 
@@ -21,15 +21,15 @@ routes_of_these : (P : Offer → Type 0) (offers : List Offer) (routes : List Ro
 routes_of_these P offers routes a all = routes_among (λ o. Contains offers o) P routes (such offers P a) (all_such offers P a) all
 
 pub returns-clause-routes : goal.returns-clause-routes
-returns-clause-routes g c =
-    let Q = Tells (said_at c.args.moment c.args.db.now.present) c.args.root.now (g.W.Ways.ways c.args.ways.now) in
+returns-clause-routes c =
+    let Q = Tells (said_at c.args.moment c.args.db.now.present) c.args.root.now c.args.routers.now in
     routes_of_these (OfEach Q c.args.keys.now) c.loop-key.offers.items c.in_ok-routes.routes.items
     (all_of_them Q [] c.loop-key.offers.items c.args.keys.now c.loop-key.key-index (omega (arith, c.loop-key-test.false)) c.loop-key.invariant) c.in_ok-routes.ensures.routes
 
 pub returns-clause-few : goal.returns-clause-few
-returns-clause-few g c =
+returns-clause-few c =
     let said : Said = said_at c.args.moment c.args.db.now.present in
-    let Q = Tells said c.args.root.now (g.W.Ways.ways c.args.ways.now) in
-    told_below said c.args.root.now (g.W.Ways.ways c.args.ways.now) c.args.keys.now c.in_ok-routes.routes.items c.requires
+    let Q = Tells said c.args.root.now c.args.routers.now in
+    told_below said c.args.root.now c.args.routers.now c.args.keys.now c.in_ok-routes.routes.items c.requires.close
     (routes_of_these (OfEach Q c.args.keys.now) c.loop-key.offers.items c.in_ok-routes.routes.items
     (all_of_them Q [] c.loop-key.offers.items c.args.keys.now c.loop-key.key-index (omega (arith, c.loop-key-test.false)) c.loop-key.invariant) c.in_ok-routes.ensures.routes)

@@ -5,4 +5,4 @@ use Rattle.offers.specs.Gathering.{Adds, OfEach}
 use Rattle.offers.proofs.passes.told_routes.Given as goal
 
 abbrev pub invariant-loop-key : goal.invariant-loop-key
-invariant-loop-key g l = Adds [] l.offers.items (OfEach (Tells (said_at l.moment l.db.present) l.root (g.W.Ways.ways l.ways)) (take l.key-index l.keys))
+invariant-loop-key l = Adds [] l.offers.items (OfEach (Tells (said_at l.moment l.db.present) l.root l.routers) (take l.key-index l.keys))

@@ -1,0 +1,120 @@
+//! Area border routers and AS boundary routers, with the ways to them (RFC 2328, section A.4.2).
+ghost use Rattle.std.specs.Prelude.{◌≡◌, ◌<◌, IfOk, IfSome, Some};
+ghost use Rattle.std.specs.List.{AllPairs, Contains};
+ghost use Rattle.std.specs.Ordering.{nat_cmp};
+ghost use Rattle.std.specs.declared.cmp.Ordering.TheVariants.{Less};
+ghost use Rattle.lsa.specs.declared.body.Body.{Body as BodyValue};
+ghost use Rattle.lsdb.specs.Keys.{key_cmp};
+ghost use Rattle.offers.specs.Borders.{
+  AreCloseBy,
+  AreFlagged,
+  AscendByRouter,
+  IsListed,
+  TellsFlags,
+};
+ghost use Rattle.offers.specs.Gathering.{IsJust};
+ghost use Rattle.offers.specs.Ways.{AreNear};
+ghost use Rattle.routes.specs.Said.{said_at};
+ghost use Rattle.words.specs.declared.key.Key.{Key as KeyValue};
+
+use crate::said::router_lsa;
+use crate::ways::Ways;
+use lsdb::Lsdb;
+use routes::{Node, Way};
+use std::alloc::{AllocError, Global};
+use std::cmp::Ordering;
+use words::{Key, RouterId, Second};
+
+/// A router that a way leads to, with the flags of its router-LSA.
+#[derive(Clone, Copy, Debug)]
+pub struct Flagged {
+    pub router: RouterId,
+    pub flags: u8,
+    pub way: Way,
+}
+
+// The flags of area border routers and of AS boundary routers.
+pub const BORDER: u8 = 1;
+
+pub const BOUNDARY: u8 = 2;
+
+// The router whose LSA has this key, if it has a flag and a way leads there.
+fn flagged_at<W: Ways>(db: &Lsdb, moment: Second, ways: &W, key: &Key) -> Option<Flagged>
+    ensures { IsJust (TellsFlags (said_at moment db.now.present) (W.ways ways.now) key.now) result }
+{
+    if key.ls_type != 1 || key.link_state_id.number() != key.advertising_router.number() {
+        return None;
+    }
+    let lsa = router_lsa(db, moment, key)?;
+    if lsa.flags & BORDER != BORDER && lsa.flags & BOUNDARY != BOUNDARY {
+        return None;
+    }
+    let way = ways.way_to(&Node::ARouter(key.advertising_router))?;
+    Some(Flagged {
+        router: key.advertising_router,
+        flags: lsa.flags,
+        way,
+    })
+}
+
+/// The area border routers and AS boundary routers that ways lead to, in the order of their Router
+/// IDs, so that none is looked up in the database for each LSA that it originated. The keys are those
+/// of all LSAs that say something, in their order.
+///
+/// # Errors
+/// Where memory for them is refused.
+pub fn flagged_routers<W: Ways>(
+    alloc: Global,
+    db: &Lsdb,
+    moment: Second,
+    ways: &W,
+    keys: &[Key],
+) -> Result<Vec<Flagged>, AllocError>
+    requires near { AreNear (W.ways ways.now) }
+    requires keys { (key : KeyValue) (says : BodyValue) → said_at moment db.now.present key
+        ≡ Some says → Contains keys.now key }
+    requires order { AllPairs (λ (a : KeyValue) (b : KeyValue). key_cmp a b ≡ Less) keys.now }
+    ensures flagged { IfOk result (λ routers. AreFlagged (said_at moment db.now.present)
+        (W.ways ways.now) routers.items) }
+    ensures ascend { IfOk result (λ routers. AscendByRouter routers.items) }
+    ensures close { IfOk result (λ routers. AreCloseBy routers.items) }
+{
+    let mut routers = Vec::new(alloc);
+    for key in keys {
+        if let Some(router) = flagged_at(db, moment, ways, key) {
+            routers.push(router)?;
+        }
+    }
+    Ok(routers)
+}
+
+fn compare(listed: &Flagged, router: RouterId) -> Ordering
+    ensures { result ≡ nat_cmp listed.now.router router }
+{
+    listed.router.number().cmp(&router.number())
+}
+
+// The router among them, found by halving.
+fn find_router(routers: &[Flagged], router: RouterId) -> Option<Flagged>
+    requires { AscendByRouter routers.now }
+    ensures { IsJust (λ listed. Contains routers.now listed × (listed.router ≡ router)) result }
+{
+    match routers.binary_search_by(|listed| compare(listed, router)) {
+        Ok(at) => Some(routers[at]),
+        Err(_) => None,
+    }
+}
+
+/// The way to a router that has the flag.
+pub fn flagged_way(routers: &[Flagged], router: RouterId, flag: u8) -> Option<Way>
+    requires ascend { AscendByRouter routers.now }
+    requires close { AreCloseBy routers.now }
+    ensures just { IsJust (IsListed routers.now router flag) result }
+    ensures near { IfSome result (λ way. way.distance < 1073741824) }
+{
+    let listed = find_router(routers, router)?;
+    if listed.flags & flag != flag {
+        return None;
+    }
+    Some(listed.way)
+}
