@@ -1,5 +1,6 @@
 -- What may be kept from one event to the next (RFC 2328, section 16).
 use Rattle.std.specs.Prelude.{List, None, Some, ◌↔◌}
+use Rattle.kept_routes.specs.Externals.{OfferTheSame}
 use Rattle.kept_routes.specs.Kept.{IsWalkOf, KeptWalk}
 use Rattle.kept_routes.specs.Sameness.{SayTheSame}
 use Rattle.routes.specs.Candidates.{AreCandidates}
@@ -21,4 +22,12 @@ pub record RoutesAreKept : Type 0 where
   pub table : (old new : Said) (root : Root) (answers : Answers) (table : List Route)
       → SayTheSame None old new → IsTable old root answers table → IsTable new root answers table
   pub stale : (old new : Said) (root : Root) (answers : Answers) → SayTheSame None old new
+      → IsStale old root answers ↔ IsStale new root answers
+
+-- and so they do where other AS-external-LSAs alone change than those of routers that are reached
+-- (section 16.4)
+pub record CandidatesAreKept : Type 0 where
+  pub candidates : (old new : Said) (root : Root) (routes : List Route)
+      → OfferTheSame old new root → AreCandidates old root routes → AreCandidates new root routes
+  pub stale : (old new : Said) (root : Root) (answers : Answers) → OfferTheSame old new root
       → IsStale old root answers ↔ IsStale new root answers

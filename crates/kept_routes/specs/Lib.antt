@@ -1,4 +1,5 @@
 pub mod Kept
 pub mod Ages
 pub mod Sameness
+pub mod Externals
 pub mod Laws

@@ -2,9 +2,11 @@
 //! after an event (RFC 2328, section 16).
 #![tactic(auto)]
 
+mod externals;
 pub mod laws;
 mod sameness;
 mod walks;
 
+pub use externals::leave_candidates;
 pub use sameness::say_the_same;
 pub use walks::Routes;

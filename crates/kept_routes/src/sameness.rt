@@ -63,7 +63,13 @@ fn are_old(db: &Lsdb, last_type: Option<u32>, before: Second, moment: Second, ke
 
 // Whether the copy of this key has MaxAge only if it had it at the moment before, if it is of a
 // type up to this one.
-fn is_old(db: &Lsdb, last_type: Option<u32>, before: Second, moment: Second, key: &Key) -> bool
+pub(crate) fn is_old(
+    db: &Lsdb,
+    last_type: Option<u32>,
+    before: Second,
+    moment: Second,
+    key: &Key,
+) -> bool
     ensures { IsTrue result ↔ IsOld last_type before moment db.now.present key.now }
 {
     if !is_up_to(last_type, key) {

@@ -6,12 +6,14 @@ ghost use Rattle.words.specs.declared.route.Route.{Route as RouteValue};
 ghost use Rattle.routes.specs.Candidates.{AreCandidates, Offers};
 ghost use Rattle.routes.specs.Said.{said_at};
 ghost use Rattle.routes.specs.declared.offer.Offer.{Offer};
+ghost use Rattle.shortest_paths.specs.Reached.{way_in};
 ghost use Rattle.kept_routes.specs.Kept.{IsWalkOf};
 
 use candidate_laws::every_offer_has_a_candidate;
 use candidates::routes_of;
 use lsdb::Lsdb;
-use routes::Root;
+use offers::Ways;
+use routes::{Node, Root, Way};
 use shortest_paths::{Reached, walk};
 use std::alloc::{AllocError, Global};
 use std::marker::Model;
@@ -130,5 +132,12 @@ impl Routes {
         ensures { result.now ≡ self.now.root }
     {
         &self.root
+    }
+
+    // The way to a node, or None where it didn't lead there.
+    pub(crate) fn way_to(&self, node: &Node) -> Option<Way>
+        ensures { result ≡ way_in self.now.reached node.now }
+    {
+        self.reached.way_to(node)
     }
 }

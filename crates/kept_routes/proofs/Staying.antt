@@ -1,0 +1,154 @@
+-- Candidates stay where only AS-external-LSAs change that offer nothing.
+use Rattle.std.proofs.Common.{◌≡◌, ◌≢◌, ℕ, ◌≤◌, inl, inr, Some, None, true, refl, arith, sym, ◌∙◌}
+use Rattle.std.specs.Prelude.{List, Option, is_some}
+use Rattle.std.specs.FinMap as finite
+use Rattle.lsa.specs.declared.body.Body.{Body}
+use Rattle.words.specs.declared.key.Key.{Key}
+use Rattle.words.specs.declared.route.Route.{Route}
+use Rattle.lsdb.specs.Copies.{Database, DatabaseCopy, aged_keys, said_by}
+use Rattle.routes.specs.Candidates.{AreCandidates, Offers, OffersExternal}
+use Rattle.routes.specs.Candidates.Offers.{Between, External, Within}
+use Rattle.routes.specs.Paths.{Way}
+use Rattle.routes.specs.Said.{Said, said_at}
+use Rattle.routes.specs.Summaries.{IsBoundaryWay, summary_key}
+use Rattle.routes.specs.Summaries.IsBoundaryWay.{Inside, Outside}
+use Rattle.routes.specs.Tables.{Answers, IsStale}
+use Rattle.routes.specs.declared.offer.Offer.{Offer}
+use Rattle.routes.specs.declared.root.Root.{Root}
+use Rattle.routes.proofs.Listed.{routes_among}
+use Rattle.routes.proofs.OneMore.{same_offers}
+use Rattle.offers.proofs.Carried.{boundary_back}
+use Rattle.shortest_paths.specs.Reached.{way_in}
+use Rattle.lsdb.specs.Changes.{SaysTheSame}
+use Rattle.lsdb.specs.Silence.{SaysNoMore}
+use Rattle.kept_routes.specs.Externals.{AreOldOrLeftOut, IsUnreached, LeaveCandidates, OfferTheSame, OffersNothing}
+use Rattle.kept_routes.specs.Laws.{CandidatesAreKept}
+use Rattle.kept_routes.specs.Kept.{IsWalkOf, KeptWalk}
+use Rattle.kept_routes.proofs.Aging.{all_old_within, among_aged, says_same}
+use Rattle.kept_routes.proofs.KeptLaws.{walks_kept}
+use Rattle.kept_routes.proofs.Inner.{boundary, external_way, inside}
+
+-- the same the other way round
+pub turned_offers : (old new : Said) (root : Root) → OfferTheSame old new root → OfferTheSame new old root
+turned_offers old new root same = record {
+  inner = λ key low. sym (same.inner key low);
+  outer = λ key way other is. sym (same.outer key way other (boundary old new same.inner root key.advertising_router way is));
+}
+
+module _ (old new : Said) (root : Root) (same : OfferTheSame old new root) where
+  external : (o : Offer) → OffersExternal old root o → OffersExternal new root o
+  external o k =
+      let way = boundary old new same.inner root k.originator k.is_way.boundary k.is_way.reaches in
+      let key : Key = record { ls_type = 5; link_state_id = k.id; advertising_router = k.originator } in
+      record {
+        id = k.id;
+        originator = k.originator;
+        lsa = k.lsa;
+        its = sym (same.outer key k.is_way.boundary k.of_another way) ∙ k.its;
+        reachable = k.reachable;
+        of_another = k.of_another;
+        prefix = k.prefix;
+        is_prefix = k.is_prefix;
+        way = k.way;
+        is_way = external_way old new same.inner root k.originator k.lsa k.way k.is_way;
+        is = k.is;
+      }
+
+  pub offers : (o : Offer) → Offers old root o → Offers new root o
+  offers o (Within k) =
+      elim (inside old new same.inner root o (inl k)) [
+        | inl it ↦ Within it
+        | inr it ↦ Between it
+      ]
+  offers o (Between k) =
+      elim (inside old new same.inner root o (inr k)) [
+        | inl it ↦ Within it
+        | inr it ↦ Between it
+      ]
+  offers o (External k) = External (external o k)
+
+module _ (old new : Said) (root : Root) (same : OfferTheSame old new root) where
+  forth : (o : Offer) → Offers old root o → Offers new root o
+  forth = offers old new root same
+
+  back : (o : Offer) → Offers new root o → Offers old root o
+  back = offers new old root (turned_offers old new root same)
+
+  pub candidates_stay : (routes : List Route) → AreCandidates old root routes → AreCandidates new root routes
+  candidates_stay routes are = routes_among (Offers old root) (Offers new root) routes forth back are
+
+  pub nothing_comes_stale : (answers : Answers) → IsStale new root answers → IsStale old root answers
+  nothing_comes_stale answers stale =
+      (stale.0, same_offers (Offers new root) (Offers old root) stale.0 (λ o _. back o) (λ o _. forth o) stale.1, stale.2)
+
+-- ---- what is left as it was
+
+module _ (before moment : ℕ) (old new : Database) (walk : KeptWalk) where
+  abbrev was : Said
+  was = said_at before old
+
+  abbrev is : Said
+  is = said_at moment new
+
+  abbrev Counts : Key → Type 0
+  Counts key = OffersNothing moment new walk key → ⊥
+
+  module _ (order : before ≤ moment) (says : (key : Key) → Counts key → SaysNoMore before moment (finite.get old key) (finite.get new key))
+      (aged : AreOldOrLeftOut before moment new walk (aged_keys moment new)) where
+    counted : (key : Key) → Counts key → was key ≡ is key
+    counted key counts =
+        elim (says key counts) [
+          | inl same ↦ says_same before moment order (finite.get old key) (finite.get new key) same (λ copy here old_now.
+              aged key (among_aged moment key copy old_now (finite.entries new) (sym (finite.get-entries new key) ∙ here)) counts copy tt here old_now)
+          | inr silent ↦ silent.was ∙ sym silent.is
+        ]
+
+    inner : (key : Key) → key.ls_type ≤ 4 → was key ≡ is key
+    inner key low = counted key (λ it. omega (arith, low, it.external))
+
+    module _ (walked : IsWalkOf was walk) where
+      walks : IsWalkOf is walk
+      walks = walks_kept was is walk (λ key low. inner key (omega (arith, low))) walked
+
+      unreached : (router : ℕ) (way : Way) → IsBoundaryWay is walk.root router way → IsUnreached moment new walk router → ⊥
+      unreached router way (Inside k) un =
+          let f = boundary_back is walk.root (way_in walk.reached) walks.ways router way k in
+          un.inside f.0 f.1
+      unreached router way (Outside none k) un =
+          let key = summary_key 4 router k.told.originator in
+          un.outside (key, there (finite.get new key) _ k.told.its, (refl, refl))
+        where
+          there : (o : Option DatabaseCopy) (b : Body) → said_by moment o ≡ Some b → is_some o ≡ true
+          there None b it = absurd cc
+          there (Some copy) b it = refl
+
+      outer : (key : Key) (way : Way) → key.advertising_router ≢ walk.root.router → IsBoundaryWay is walk.root key.advertising_router way → was key ≡ is key
+      outer key way other reaches =
+          counted key (λ it.
+          elim it.of_no_account [
+            | inl own ↦ other own
+            | inr un ↦ unreached key.advertising_router way reaches un
+          ])
+
+      pub offer_the_same : OfferTheSame was is walk.root
+      offer_the_same = record { inner = inner; outer = outer }
+
+  -- ---- what the code looks at
+
+  pub within_one_moment : (keys : List Key) → before ≡ moment → AreOldOrLeftOut before moment new walk keys
+  within_one_moment keys same key among counts = all_old_within None before moment new keys same key among
+
+  pub others_keep : LeaveCandidates before moment old new walk → (key : Key) → Counts key → SaysTheSame moment (finite.get old key) (finite.get new key)
+  others_keep left key counts = (left key counts).same
+
+  pub others_are_old : (keys : List Key) → LeaveCandidates before moment old new walk → AreOldOrLeftOut before moment new walk keys
+  others_are_old keys left key among counts copy of here = (left key counts).old_copy copy here
+
+pub candidates_kept : CandidatesAreKept
+candidates_kept = record {
+  candidates = λ old new root routes same. candidates_stay old new root same routes;
+  stale = λ old new root answers same. (
+    nothing_comes_stale new old root (turned_offers old new root same) answers,
+    nothing_comes_stale old new root same answers,
+  );
+}

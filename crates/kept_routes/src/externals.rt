@@ -1,0 +1,226 @@
+//! Whether the candidates are left as they were, though AS-external-LSAs changed that offer nothing
+//! (RFC 2328, section 16.4).
+ghost use Rattle.std.specs.Prelude.{◌≡◌, ◌≤◌, ◌↔◌, IfOk, IsTrue, MatchOption, Some, bit_and};
+ghost use Rattle.lsa.specs.declared.body.Body.TheVariants as body;
+ghost use Rattle.lsa.specs.declared.body.RouterLsa.{RouterLsa as RouterValue};
+ghost use Rattle.offers.specs.Borders.{IsFlagged};
+ghost use Rattle.routes.specs.Links.{router_key};
+ghost use Rattle.routes.specs.Said.{said_at};
+ghost use Rattle.routes.specs.declared.graph.Way.{Way as WayTo};
+ghost use Rattle.shortest_paths.specs.Reached.{way_in};
+ghost use Rattle.kept_routes.specs.Externals.{AreOldOrLeftOut, IsNamed, IsOldOrLeftOut};
+ghost use Rattle.kept_routes.specs.Externals.{IsUnreached, LeaveCandidates, NamesIt};
+ghost use Rattle.kept_routes.specs.Externals.{OfferTheSame, OffersNothing, first_named};
+ghost use Rattle.kept_routes.specs.Kept.{IsWalkOf};
+
+use crate::sameness::is_old;
+use crate::walks::Routes;
+use lsa::{Body, RouterLsa};
+use lsdb::{KeyRule, Lsdb};
+use routes::Node;
+use std::alloc::{AllocError, Global};
+use words::{Key, LinkStateId, RouterId, Second};
+
+// AS-external-LSAs that offer nothing by this walk, whatever they say.
+#[derive(Drop)]
+struct OfNoAccount<'a> {
+    db: &'a Lsdb,
+    walk: &'a Routes,
+    moment: Second,
+}
+
+impl<'a> KeyRule for OfNoAccount<'a> {
+    ghost use Rattle.kept_routes.specs.Externals.{OffersNothing};
+
+    ghost leaves_out = { λ a key. OffersNothing a.moment a.db.now.present a.walk.now key };
+
+    fn leaves_out(&self, alloc: Global, key: &Key) -> Result<bool, AllocError> {
+        offers_nothing(alloc, self.db, self.walk, self.moment, key)
+    }
+}
+
+// Whether an LSA of this key is an external one that offers nothing, whatever it says.
+fn offers_nothing(
+    alloc: Global,
+    db: &Lsdb,
+    walk: &Routes,
+    moment: Second,
+    key: &Key,
+) -> Result<bool, AllocError>
+    ensures { IfOk result (λ is. IsTrue is
+        ↔ OffersNothing moment db.now.present walk.now key.now) }
+{
+    if key.ls_type < 5 {
+        return Ok(false);
+    }
+    if is_own(walk, key) {
+        return Ok(true);
+    }
+    is_unreached(alloc, db, walk, moment, key.advertising_router)
+}
+
+fn is_own(walk: &Routes, key: &Key) -> bool
+    ensures { IsTrue result ↔ (key.now.advertising_router ≡ walk.now.root.router) }
+{
+    key.advertising_router == walk.root().router
+}
+
+// Whether the router isn't reached as an AS boundary router.
+fn is_unreached(
+    alloc: Global,
+    db: &Lsdb,
+    walk: &Routes,
+    moment: Second,
+    router: RouterId,
+) -> Result<bool, AllocError>
+    ensures { IfOk result (λ is. IsTrue is
+        ↔ IsUnreached moment db.now.present walk.now router) }
+{
+    if is_boundary(db, walk, moment, router) {
+        return Ok(false);
+    }
+    let named = is_named(alloc, db, router)?;
+    Ok(!named)
+}
+
+// What the router-LSA of this key says, if the database has one below MaxAge.
+fn router_lsa<'a>(db: &'a Lsdb, moment: Second, key: &Key) -> Option<&'a RouterLsa>
+    ensures { MatchOption result ((lsa : RouterValue) → said_at moment db.now.present key.now
+        ≡ Some (body.Router lsa) → ⊥) (λ lsa.
+        said_at moment db.now.present key.now ≡ Some (body.Router lsa.now)) }
+{
+    match db.body_at(moment, key)? {
+        Body::Router(lsa) => Some(lsa),
+        _ => None,
+    }
+}
+
+// Whether the walk leads to the router, and its LSA has the flag E.
+fn is_boundary(db: &Lsdb, walk: &Routes, moment: Second, router: RouterId) -> bool
+    ensures { IsTrue result ↔ ((way : WayTo) × IsFlagged (said_at moment db.now.present)
+        (way_in walk.now.reached) router 2 way) }
+{
+    match router_lsa(db, moment, &router_key(router)) {
+        None => false,
+        Some(lsa) => {
+            if !has_e(lsa) {
+                return false;
+            }
+            walk.way_to(&Node::ARouter(router)).is_some()
+        }
+    }
+}
+
+fn router_key(router: RouterId) -> Key
+    ensures { result ≡ router_key router }
+{
+    Key {
+        ls_type: 1,
+        link_state_id: LinkStateId::new(router.number()),
+        advertising_router: router,
+    }
+}
+
+fn has_e(lsa: &RouterLsa) -> bool
+    ensures { IsTrue result ↔ (bit_and lsa.now.flags 2 ≡ 2) }
+{
+    lsa.flags & 2 == 2
+}
+
+// Whether a summary of an AS boundary router is of this name.
+fn is_named(alloc: Global, db: &Lsdb, router: RouterId) -> Result<bool, AllocError>
+    ensures { IfOk result (λ is. IsTrue is ↔ IsNamed db.now.present router) }
+{
+    let first = first_named(router);
+    let keys = db.first_from(alloc, &first, 1)?;
+    match keys.first() {
+        None => Ok(false),
+        Some(key) => Ok(names_it(router, key)),
+    }
+}
+
+fn first_named(router: RouterId) -> Key
+    ensures { result ≡ first_named router }
+{
+    Key {
+        ls_type: 4,
+        link_state_id: LinkStateId::new(router.number()),
+        advertising_router: RouterId::new(0),
+    }
+}
+
+fn names_it(router: RouterId, key: &Key) -> bool
+    ensures { IsTrue result ↔ NamesIt router key.now }
+{
+    key.ls_type == 4 && key.link_state_id.number() == router.number()
+}
+
+/// Tells whether the candidates by this walk, which was made before the event, are left as they
+/// were: since the database was settled, at the moment before, LSAs came, left, came to MaxAge or
+/// say something else only if they are AS-external-LSAs that offer nothing, whatever they say.
+/// Those are the router's own, and those of routers that aren't reached as AS boundary routers (RFC
+/// 2328, section 16.4). It may also tell so where LSAs came or left at MaxAge.
+///
+/// The time is that of the event's edits and of `Lsdb::aged_keys`.
+///
+/// # Errors
+/// Where memory for keys, or to compare texts, is refused.
+pub fn leave_candidates(
+    alloc: Global,
+    db: &Lsdb,
+    walk: &Routes,
+    before: Second,
+    moment: Second,
+) -> Result<bool, AllocError>
+    requires order { before ≤ moment }
+    requires walk { IsWalkOf (said_at before db.now.settled) walk.now }
+    ensures same { IfOk result (λ same. IsTrue same → OfferTheSame
+        (said_at before db.now.settled) (said_at moment db.now.present) walk.now.root) }
+    ensures left { IfOk result (λ same. LeaveCandidates before moment db.now.settled
+        db.now.present walk.now → IsTrue same) }
+{
+    let rule = OfNoAccount { db, walk, moment };
+    if !db.keeps_others(alloc, &rule, before, moment)? {
+        return Ok(false);
+    }
+    // Within one moment nothing comes of age.
+    if before.count() == moment.count() {
+        return Ok(true);
+    }
+    let keys = db.aged_keys(alloc, moment)?;
+    are_old_or_left_out(alloc, &rule, before, &keys)
+}
+
+// Whether of these keys' copies that have MaxAge those had it before the event that count.
+fn are_old_or_left_out(
+    alloc: Global,
+    rule: &OfNoAccount<'_>,
+    before: Second,
+    keys: &[Key],
+) -> Result<bool, AllocError>
+    ensures { IfOk result (λ are. IsTrue are ↔ AreOldOrLeftOut before rule.now.moment
+        rule.now.db.now.present rule.now.walk.now keys.now) }
+{
+    for key in keys {
+        if !is_old_or_left_out(alloc, rule, before, key)? {
+            return Ok(false);
+        }
+    }
+    Ok(true)
+}
+
+// Whether the copy of this key has MaxAge only if it had it before the event, if the key counts.
+fn is_old_or_left_out(
+    alloc: Global,
+    rule: &OfNoAccount<'_>,
+    before: Second,
+    key: &Key,
+) -> Result<bool, AllocError>
+    ensures { IfOk result (λ is. IsTrue is ↔ IsOldOrLeftOut before rule.now.moment
+        rule.now.db.now.present rule.now.walk.now key.now) }
+{
+    if is_old(rule.db, None, before, rule.moment, key) {
+        return Ok(true);
+    }
+    rule.leaves_out(alloc, key)
+}
