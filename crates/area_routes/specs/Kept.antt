@@ -5,6 +5,7 @@ use Rattle.words.specs.Numbers.{Moment, RouterNumber}
 use Rattle.words.specs.declared.route.Route.{Route}
 use Rattle.received.specs.Links.{Area}
 use Rattle.area_routes.specs.Offers.{root_by}
+use Rattle.kept_routes.specs.Externals.{LeaveCandidates}
 use Rattle.kept_routes.specs.Kept.{IsWalkOf, KeptWalk}
 use Rattle.kept_routes.specs.Sameness.{AreLeft}
 use Rattle.routes.specs.Candidates.{AreCandidates}
@@ -17,7 +18,7 @@ pub record KeptRoutes : Type 0 where
   pub walk : KeptWalk
   -- whether the walk may be that of an earlier event: it is made again before anything rests on it
   pub behind : Bool
-  -- the candidates, where they were calculated since an LSA last said something else
+  -- the candidates, where they were calculated since an LSA that they rest on said something else
   pub candidates : Option (Vec Route)
   -- whether each candidate is known to stand among the answers
   pub answered : Bool
@@ -43,6 +44,14 @@ pub record HasStayed (last_type : Option ℕ) (before : Moment) (moment : Moment
     (router : RouterNumber) (old : Area) (new : Area) (walk : KeptWalk) : Type 0 where
   pub root : walk.root ≡ root_by router new.links
   pub lsas : AreLeft last_type before moment old.database new.database
+
+-- All that the candidates rest on has stayed since the moment before: the walk begins where it
+-- began, and LSAs came, left, came to MaxAge or say something else only if they are
+-- AS-external-LSAs that offer nothing, whatever they say (section 16.4).
+pub record HaveStayed (before : Moment) (moment : Moment) (router : RouterNumber)
+    (old : Area) (new : Area) (walk : KeptWalk) : Type 0 where
+  pub root : walk.root ≡ root_by router new.links
+  pub lsas : LeaveCandidates before moment old.database new.database walk
 
 -- over an event nothing is walked, and a walk serves on exactly where all that it rests on has
 -- stayed

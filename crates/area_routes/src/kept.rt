@@ -2,18 +2,20 @@
 ghost use Rattle.std.specs.Prelude.{◌≡◌, ◌+◌, ◌≤◌, ◌↔◌, None, false, length, min, IfOk, IsSome};
 ghost use Rattle.std.specs.Prelude.{IsTrue, OnErr, OnOk, true};
 ghost use Rattle.std.specs.FinMap as finite;
-ghost use Rattle.area_routes.specs.Kept.{AreKept, AreRoutesOf, HasStayed, KnowsAnswered};
+ghost use Rattle.area_routes.specs.Kept.{AreKept, AreRoutesOf, HaveStayed, KnowsAnswered};
 ghost use Rattle.area_routes.specs.Kept.{KnowsCandidates, KnowsWalk, ServesOnlyThen};
 ghost use Rattle.area_routes.specs.Offers.{AreCandidatesOf, AreOffered, IsStaleOf, IsTableOf};
 ghost use Rattle.area_routes.specs.Offers.{root_by};
+ghost use Rattle.kept_routes.specs.Externals.{LeaveCandidates, OfferTheSame};
+ghost use Rattle.kept_routes.specs.Kept.{IsWalkOf};
 ghost use Rattle.kept_routes.specs.Sameness.{AreLeft, SayTheSame};
 ghost use Rattle.routes.specs.Said.{said_at};
 ghost use Rattle.routes.specs.Tables.{Answers};
 
 use crate::root::{is_root_of, root_of};
 use flooding::Area;
-use kept_routes::laws::{routes_are_kept, walks_are_kept};
-use kept_routes::{Routes, say_the_same};
+use kept_routes::laws::{candidates_are_kept, walks_are_kept};
+use kept_routes::{Routes, leave_candidates, say_the_same};
 use std::alloc::{AllocError, Global};
 use std::marker::Model;
 use tables::{is_stale, rows_of, table};
@@ -28,8 +30,9 @@ pub struct Offered {
 
 /// The routes of a router from one event to the next. The walk of its database stays for as long as
 /// the LSAs of types 1 and 2 say the same (RFC 2328, section 16.1); candidates that were looked at,
-/// and that all of them stand among the answers, for as long as all LSAs do. An event makes no walk:
-/// where it leaves none that serves, one is made once candidates are asked for.
+/// and that all of them stand among the answers, for as long as all LSAs do, or others don't than
+/// AS-external-LSAs that offer nothing (section 16.4). An event makes no walk: where it leaves none
+/// that serves, one is made once candidates are asked for.
 ///
 /// Links, database and answers aren't part of it. Each call is handed them, and a clause says of
 /// which moment they are.
@@ -38,7 +41,7 @@ pub struct AreaRoutes {
     walk: Routes,
     // the walk may be that of an earlier event
     behind: bool,
-    // the candidates, where they were looked at since an LSA last said something else
+    // the candidates, where they were looked at since an LSA that they rest on said something else
     candidates: Option<Vec<Route>>,
     // each candidate stands among the answers
     answered: bool,
@@ -55,6 +58,27 @@ impl Model for AreaRoutes {
       candidates = a.candidates;
       answered = a.answered;
     } };
+}
+
+// Whether the candidates by this walk are left as they were before the event.
+fn leaves_candidates(
+    alloc: Global,
+    area: &Area,
+    walk: &Routes,
+    before: Second,
+    moment: Second,
+) -> Result<bool, AllocError>
+    requires order { before ≤ moment }
+    requires walk { IsWalkOf (said_at before area.now.settled.database) walk.now }
+    ensures same { IfOk result (λ same. IsTrue same → OfferTheSame
+        (said_at before area.now.settled.database) (said_at moment area.now.present.database)
+        walk.now.root) }
+    ensures left { IfOk result (λ same. LeaveCandidates before moment
+        area.now.settled.database area.now.present.database walk.now → IsTrue same) }
+{
+    let db = area.database();
+    let same = leave_candidates(alloc, db, walk, before, moment)?;
+    Ok(same)
 }
 
 // Whether the LSAs of the types up to this one, or of all, say at the moment what they said before
@@ -114,8 +138,8 @@ impl AreaRoutes {
     /// 2328, section 13.2).
     ///
     /// # Errors
-    /// Where memory for the keys of the LSAs at MaxAge, or to compare texts, is refused; the routes
-    /// stay as they were then.
+    /// Where memory for keys of LSAs, or to compare texts, is refused; the routes stay as they were
+    /// then.
     pub fn follow(
         &mut self,
         alloc: Global,
@@ -135,25 +159,25 @@ impl AreaRoutes {
         // 2 came, left, has come to MaxAge or says something else.
         ensures walks { OnOk result (ServesOnlyThen before moment router
             area.now.settled area.now.present self.old self.new) }
-        // Where that holds of LSAs of all types, what is known of the candidates and of the answers
-        // stays too.
-        ensures all { OnOk result (self.old.behind ≡ false
-            → HasStayed None before moment router
-            area.now.settled area.now.present self.old.walk → self.new ≡ self.old) }
+        // Where of LSAs of all types only external ones did that which offer nothing, what is known
+        // of the candidates and of the answers stays too.
+        ensures candidates { OnOk result (self.old.behind ≡ false
+            → HaveStayed before moment router area.now.settled area.now.present self.old.walk
+            → self.new ≡ self.old) }
         ensures err { OnErr result (self.new ≡ self.old) }
     {
         walks_are_kept();
-        routes_are_kept();
+        candidates_are_kept();
         if self.behind {
             self.candidates = None;
             self.answered = false;
             return Ok(());
         }
         if is_root_of(self.walk.root(), router, area) {
-            if says_the_same(alloc, area, None, before, moment)? {
-                return Ok(());
-            }
             if says_the_same(alloc, area, Some(2), before, moment)? {
+                if leaves_candidates(alloc, area, &self.walk, before, moment)? {
+                    return Ok(());
+                }
                 self.candidates = None;
                 self.answered = false;
                 return Ok(());
