@@ -1,7 +1,9 @@
-//! Tests of `isa`, `object`, `asm_words`, `asm_lines` and `asm` by their public calls. They stand above, since a crate is proved once more
-//! for its tests.
+//! Tests of code as bytes and as text (`isa`, `object`, `asm_words`, `asm_lines` and `asm`), and of what runs it (`maps`, `helpers` and
+//! `interp`), by their public calls alone. They stand above those crates, since a crate is proved once more for its tests.
 #![tactic(auto)]
 
+#[cfg(test)]
+mod answers;
 #[cfg(test)]
 mod instructions;
 #[cfg(test)]
@@ -9,6 +11,12 @@ mod lines;
 #[cfg(test)]
 mod objects;
 #[cfg(test)]
-mod texts;
+mod programs;
 #[cfg(test)]
-mod words;
+mod seats;
+#[cfg(test)]
+mod spellings;
+#[cfg(test)]
+mod tables;
+#[cfg(test)]
+mod texts;

@@ -523,19 +523,29 @@ fn takes_4096_slots(rt: HostRuntime) -> Result<(), Fail> {
         slots_of_exits(rt.alloc(), 4095)?,
         slots_of_exits(rt.alloc(), 4096)?,
     ];
-    assert_eq!(rt; slots, [4095, 4096]);
+    assert!(rt; slots == [4095, 4096], "{slots:?}");
     Ok(())
+}
+
+// How many exits there are, what follows, and the first line that is too much.
+type Much = (usize, &'static str, usize);
+
+const TOO_MUCH: &[Much] = &[
+    (4096, "exit\n", 4099),
+    (4095, "r0 = wide 0\n", 4098),
+    (4095, "r0 = wide 0\nnonsense\n", 4098),
+];
+
+fn refuses_so_much(rt: &impl Abort, alloc: Global, row: &Much) -> Result<(), Fail> {
+    let (count, rest, line) = *row;
+    let text = exits(alloc, count, rest)?;
+    refuses(rt, alloc, &text, line, AsmFault::Range)
 }
 
 #[test]
 fn refuses_more_slots(rt: HostRuntime) -> Result<(), Fail> {
-    for (count, rest, line) in [
-        (4096, "exit\n", 4099),
-        (4095, "r0 = wide 0\n", 4098),
-        (4095, "r0 = wide 0\nnonsense\n", 4098),
-    ] {
-        let text = exits(rt.alloc(), count, rest)?;
-        refuses(&rt, rt.alloc(), &text, line, AsmFault::Range)?;
+    for row in TOO_MUCH {
+        refuses_so_much(&rt, rt.alloc(), row)?;
     }
     Ok(())
 }
@@ -580,11 +590,13 @@ fn finds_each_of_many_labels(rt: HostRuntime) -> Result<(), Fail> {
     lists(&rt, rt.alloc(), &text, &listed)
 }
 
+fn refuses_again(rt: &impl Abort, alloc: Global, rest: &str) -> Result<(), Fail> {
+    let text = many_labels(alloc, rest)?;
+    refuses(rt, alloc, &text, 603, AsmFault::Twice)
+}
+
 #[test]
 fn refuses_one_of_many_labels_again(rt: HostRuntime) -> Result<(), Fail> {
-    for rest in ["label_5:\n", "label_5:\nlabel_299:\n"] {
-        let text = many_labels(rt.alloc(), rest)?;
-        refuses(&rt, rt.alloc(), &text, 603, AsmFault::Twice)?;
-    }
-    Ok(())
+    refuses_again(&rt, rt.alloc(), "label_5:\n")?;
+    refuses_again(&rt, rt.alloc(), "label_5:\nlabel_299:\n")
 }

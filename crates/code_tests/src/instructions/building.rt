@@ -32,11 +32,13 @@ fn a_builder_has_the_slots_of_what_was_put_in(rt: HostRuntime) -> Result<(), Fai
 fn has_room_for_one(rt: &impl Abort, builder: &mut CodeBuilder) {
     assert!(rt; builder.len() == 4095);
     // what is put in, the answer, and the slots afterwards
-    for (instruction, answer, slots) in [
+    let rows = [
         (wide(rt), Err(BuildError::TooLong), 4095),
         (Instruction::Exit, Ok(()), 4096),
         (Instruction::Exit, Err(BuildError::TooLong), 4096),
-    ] {
+    ];
+    for row in &rows {
+        let (instruction, answer, slots) = *row;
         assert!(rt; (builder.push(instruction), builder.len()) == (answer, slots));
     }
 }

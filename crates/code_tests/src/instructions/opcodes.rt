@@ -97,7 +97,8 @@ fn add_operation(
     offset: u8,
     opcodes: [u8; 4],
 ) -> Result<(), Fail> {
-    for (width, source, opcode, registers, fill) in operands(rt, opcodes) {
+    for row in &operands(rt, opcodes) {
+        let (width, source, opcode, registers, fill) = *row;
         let instruction = Instruction::Arithmetic {
             width,
             operation,
@@ -134,7 +135,8 @@ fn add_jump(
     test: Test,
     opcodes: [u8; 4],
 ) -> Result<(), Fail> {
-    for (width, right, opcode, registers, fill) in operands(rt, opcodes) {
+    for row in &operands(rt, opcodes) {
+        let (width, right, opcode, registers, fill) = *row;
         let instruction = Instruction::Branch {
             width,
             test,
@@ -166,25 +168,29 @@ fn conditional_jumps(rt: HostRuntime) -> Result<(), Fail> {
     listing.check(&rt)
 }
 
+const NEGATIONS: &[(Width, u8)] = &[(Width::Bits32, 0x84), (Width::Bits64, 0x87)];
+
 // A negation, a move with its sign, or another order of bytes.
 fn add_negations(listing: &mut Listing, target: Register) -> Result<(), Fail> {
-    for (width, opcode) in [(Width::Bits32, 0x84), (Width::Bits64, 0x87)] {
-        listing.add(
-            Instruction::Negate { width, target },
-            &[opcode, 3, 0, 0, 0, 0, 0, 0],
-        )?;
+    for row in NEGATIONS {
+        let (width, opcode) = *row;
+        let bytes = [opcode, 3, 0, 0, 0, 0, 0, 0];
+        listing.add(Instruction::Negate { width, target }, &bytes)?;
     }
     Ok(())
 }
 
+const MOVES: &[(Extension, u8, u8)] = &[
+    (Extension::Byte(Width::Bits32), 0xbc, 8),
+    (Extension::Half(Width::Bits32), 0xbc, 16),
+    (Extension::Byte(Width::Bits64), 0xbf, 8),
+    (Extension::Half(Width::Bits64), 0xbf, 16),
+    (Extension::Word, 0xbf, 32),
+];
+
 fn add_moves(listing: &mut Listing, target: Register, source: Register) -> Result<(), Fail> {
-    for (extension, opcode, offset) in [
-        (Extension::Byte(Width::Bits32), 0xbc, 8),
-        (Extension::Half(Width::Bits32), 0xbc, 16),
-        (Extension::Byte(Width::Bits64), 0xbf, 8),
-        (Extension::Half(Width::Bits64), 0xbf, 16),
-        (Extension::Word, 0xbf, 32),
-    ] {
+    for row in MOVES {
+        let (extension, opcode, offset) = *row;
         let instruction = Instruction::SignExtend {
             extension,
             target,
@@ -195,35 +201,55 @@ fn add_moves(listing: &mut Listing, target: Register, source: Register) -> Resul
     Ok(())
 }
 
-fn add_orders(listing: &mut Listing, target: Register) -> Result<(), Fail> {
-    for (order, opcode) in [
-        (ByteOrder::Little, 0xd4),
-        (ByteOrder::Big, 0xdc),
-        (ByteOrder::Swap, 0xd7),
-    ] {
-        for (width, bits) in [
-            (SwapWidth::Bits16, 16),
-            (SwapWidth::Bits32, 32),
-            (SwapWidth::Bits64, 64),
-        ] {
-            let instruction = Instruction::Reorder {
-                order,
-                width,
-                target,
-            };
-            listing.add(instruction, &[opcode, 3, 0, 0, bits, 0, 0, 0])?;
-        }
+const ORDERS: &[(ByteOrder, u8)] = &[
+    (ByteOrder::Little, 0xd4),
+    (ByteOrder::Big, 0xdc),
+    (ByteOrder::Swap, 0xd7),
+];
+
+const SWAPS: &[(SwapWidth, u8)] = &[
+    (SwapWidth::Bits16, 16),
+    (SwapWidth::Bits32, 32),
+    (SwapWidth::Bits64, 64),
+];
+
+fn add_order(
+    listing: &mut Listing,
+    target: Register,
+    order: ByteOrder,
+    opcode: u8,
+) -> Result<(), Fail> {
+    for row in SWAPS {
+        let (width, bits) = *row;
+        let instruction = Instruction::Reorder {
+            order,
+            width,
+            target,
+        };
+        listing.add(instruction, &[opcode, 3, 0, 0, bits, 0, 0, 0])?;
     }
     Ok(())
 }
 
+fn add_orders(listing: &mut Listing, target: Register) -> Result<(), Fail> {
+    for row in ORDERS {
+        let (order, opcode) = *row;
+        add_order(listing, target, order, opcode)?;
+    }
+    Ok(())
+}
+
+fn add_changes(rt: &impl Abort, listing: &mut Listing) -> Result<(), Fail> {
+    let (target, source) = (register(rt, 3), register(rt, 7));
+    add_negations(listing, target)?;
+    add_moves(listing, target, source)?;
+    add_orders(listing, target)
+}
+
 #[test]
 fn changes_of_one_number(rt: HostRuntime) -> Result<(), Fail> {
-    let (target, source) = (register(&rt, 3), register(&rt, 7));
     let mut listing = Listing::new(&rt);
-    add_negations(&mut listing, target)?;
-    add_moves(&mut listing, target, source)?;
-    add_orders(&mut listing, target)?;
+    add_changes(&rt, &mut listing)?;
     listing.check(&rt)
 }
 
@@ -283,16 +309,19 @@ fn jumps_calls_and_wide_instructions(rt: HostRuntime) -> Result<(), Fail> {
     check_lines(&rt, &lines)
 }
 
+const LOADS: &[(LoadSize, u8)] = &[
+    (LoadSize::Unsigned32, 0x61),
+    (LoadSize::Unsigned16, 0x69),
+    (LoadSize::Unsigned8, 0x71),
+    (LoadSize::Unsigned64, 0x79),
+    (LoadSize::Signed32, 0x81),
+    (LoadSize::Signed16, 0x89),
+    (LoadSize::Signed8, 0x91),
+];
+
 fn add_loads(listing: &mut Listing, target: Register, base: Register) -> Result<(), Fail> {
-    for (size, opcode) in [
-        (LoadSize::Unsigned32, 0x61),
-        (LoadSize::Unsigned16, 0x69),
-        (LoadSize::Unsigned8, 0x71),
-        (LoadSize::Unsigned64, 0x79),
-        (LoadSize::Signed32, 0x81),
-        (LoadSize::Signed16, 0x89),
-        (LoadSize::Signed8, 0x91),
-    ] {
+    for row in LOADS {
+        let (size, opcode) = *row;
         let instruction = Instruction::Load {
             size,
             target,
@@ -304,37 +333,53 @@ fn add_loads(listing: &mut Listing, target: Register, base: Register) -> Result<
     Ok(())
 }
 
-fn add_stores(listing: &mut Listing, target: Register, base: Register) -> Result<(), Fail> {
-    for (size, opcode, register_opcode) in [
-        (StoreSize::Bits32, 0x62, 0x63),
-        (StoreSize::Bits16, 0x6a, 0x6b),
-        (StoreSize::Bits8, 0x72, 0x73),
-        (StoreSize::Bits64, 0x7a, 0x7b),
-    ] {
-        let of_number = Instruction::Store {
-            size,
-            base,
-            offset: -2,
-            source: Source::Immediate(513),
-        };
-        listing.add(of_number, &[opcode, 0x0a, 0xfe, 0xff, 1, 2, 0, 0])?;
-        let of_register = Instruction::Store {
-            size,
-            base,
-            offset: 0x102,
-            source: Source::Register(target),
-        };
-        listing.add(of_register, &[register_opcode, 0x3a, 2, 1, 0, 0, 0, 0])?;
+const STORES: &[(StoreSize, u8, u8)] = &[
+    (StoreSize::Bits32, 0x62, 0x63),
+    (StoreSize::Bits16, 0x6a, 0x6b),
+    (StoreSize::Bits8, 0x72, 0x73),
+    (StoreSize::Bits64, 0x7a, 0x7b),
+];
+
+fn add_store(
+    listing: &mut Listing,
+    source: Source,
+    base: Register,
+    row: &(StoreSize, u8, u8),
+) -> Result<(), Fail> {
+    let (size, opcode, register_opcode) = *row;
+    let of_number = Instruction::Store {
+        size,
+        base,
+        offset: -2,
+        source: Source::Immediate(513),
+    };
+    listing.add(of_number, &[opcode, 0x0a, 0xfe, 0xff, 1, 2, 0, 0])?;
+    let of_register = Instruction::Store {
+        size,
+        base,
+        offset: 0x102,
+        source,
+    };
+    listing.add(of_register, &[register_opcode, 0x3a, 2, 1, 0, 0, 0, 0])
+}
+
+fn add_stores(listing: &mut Listing, source: Register, base: Register) -> Result<(), Fail> {
+    for row in STORES {
+        add_store(listing, Source::Register(source), base, row)?;
     }
     Ok(())
 }
 
+fn add_loads_and_stores(rt: &impl Abort, listing: &mut Listing) -> Result<(), Fail> {
+    let (number, base) = (register(rt, 3), register(rt, 10));
+    add_loads(listing, number, base)?;
+    add_stores(listing, number, base)
+}
+
 #[test]
 fn loads_and_stores(rt: HostRuntime) -> Result<(), Fail> {
-    let (target, base) = (register(&rt, 3), register(&rt, 10));
     let mut listing = Listing::new(&rt);
-    add_loads(&mut listing, target, base)?;
-    add_stores(&mut listing, target, base)?;
+    add_loads_and_stores(&rt, &mut listing)?;
     listing.check(&rt)
 }
 

@@ -1,5 +1,5 @@
 use Rattle.std.proofs.Common.{◌≡◌}
-use Rattle.run_tests.proofs.tables.thousand.Given as goal
+use Rattle.code_tests.proofs.tables.thousand.Given as goal
 
 -- the seat stays one of its table
 abbrev pub invariant-loop-turn : goal.invariant-loop-turn

@@ -19,14 +19,17 @@ fn row(bits: u32, length: u8, cost: u32) -> Option<TableRow> {
     Some(TableRow { prefix, cost })
 }
 
+const ROWS: &[(u32, u8, u32)] = &[
+    (0x0a00_0000, 8, 5),
+    (0x0a00_0000, 16, 7),
+    (0x0a00_0000, 8, 9),
+    (0xc000_0200, 24, 4_294_967_295),
+];
+
 fn rows_once(alloc: Global) -> Result<Vec<TableRow>, AllocError> {
     let mut rows = Vec::new(alloc);
-    for (bits, length, cost) in [
-        (0x0a00_0000, 8, 5),
-        (0x0a00_0000, 16, 7),
-        (0x0a00_0000, 8, 9),
-        (0xc000_0200, 24, 4_294_967_295),
-    ] {
+    for one in ROWS {
+        let (bits, length, cost) = *one;
         if let Some(row) = row(bits, length, cost) {
             rows.push(row)?;
         }
