@@ -12,12 +12,7 @@ pub(crate) type Value = Pair<Interval, KnownBits>;
 
 /// The bits of the numbers from 0 to this one: its highest bit that is set, and all below it.
 fn span(high: u64) -> u64 {
-    let two = high | high >> 1;
-    let four = two | two >> 2;
-    let eight = four | four >> 4;
-    let sixteen = eight | eight >> 8;
-    let half = sixteen | sixteen >> 16;
-    half | half >> 32
+    u64::MAX.checked_shr(high.leading_zeros()).unwrap_or(0)
 }
 
 /// A range of numbers.
