@@ -17,7 +17,12 @@ use Rattle.routes.specs.declared.offer.Offer.{Offer}
 use Rattle.routes.specs.declared.root.Root.{Root}
 use Rattle.routes.proofs.Listed.{routes_among}
 use Rattle.routes.proofs.OneMore.{same_offers}
-use Rattle.offers.proofs.Carried.{boundary_back}
+use Rattle.routes.specs.Answers.{IsNodeAnswer}
+use Rattle.routes.specs.Offers.{ReachesBoundaryRouter}
+use Rattle.routes.specs.declared.graph.Way.{Way as WayTo}
+use Rattle.routes.specs.declared.node.Node.TheVariants.{ARouter}
+use Rattle.offers.specs.Borders.{IsFlagged}
+use Rattle.offers.specs.Ways.{AreWays, Ways}
 use Rattle.shortest_paths.specs.Reached.{way_in}
 use Rattle.lsdb.specs.Changes.{SaysTheSame}
 use Rattle.lsdb.specs.Silence.{SaysNoMore}
@@ -81,6 +86,15 @@ module _ (old new : Said) (root : Root) (same : OfferTheSame old new root) where
   nothing_comes_stale answers stale =
       (stale.0, same_offers (Offers new root) (Offers old root) stale.0 (λ o _. back o) (λ o _. forth o) stale.1, stale.2)
 
+-- the ways lead to an AS boundary router that is reached
+flagged : (said : Said) (root : Root) (ways : Ways) → AreWays said root ways → (router : ℕ) (way : Way) → ReachesBoundaryRouter said root router way
+    → (w : WayTo) × IsFlagged said ways router 2 w
+flagged said root ways are router way k = by (ways (ARouter router)) refl (are (ARouter router))
+  where
+    by : (answer : Option WayTo) → ways (ARouter router) ≡ answer → IsNodeAnswer said root (ARouter router) answer → (w : WayTo) × IsFlagged said ways router 2 w
+    by None here none = absurd (none k.reached.distance.0 k.reached.distance.1.is_walk)
+    by (Some w) here is = (w, record { lsa = k.lsa; its = k.its; has_flag = k.has_e; reached = here })
+
 -- ---- what is left as it was
 
 module _ (before moment : ℕ) (old new : Database) (walk : KeptWalk) where
@@ -112,7 +126,7 @@ module _ (before moment : ℕ) (old new : Database) (walk : KeptWalk) where
 
       unreached : (router : ℕ) (way : Way) → IsBoundaryWay is walk.root router way → IsUnreached moment new walk router → ⊥
       unreached router way (Inside k) un =
-          let f = boundary_back is walk.root (way_in walk.reached) walks.ways router way k in
+          let f = flagged is walk.root (way_in walk.reached) walks.ways router way k in
           un.inside f.0 f.1
       unreached router way (Outside none k) un =
           let key = summary_key 4 router k.told.originator in
