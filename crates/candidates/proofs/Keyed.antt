@@ -56,7 +56,7 @@ below key (e ∷ es) all zero d within = less _ (first _ _ all)
 below key (e ∷ es) all (suc k) d within = below key es (second _ _ all) k d (omega (arith, within))
 
 ascending : (es : List (Key × DatabaseCopy)) → T (is_sorted key_cmp es) → AllPairs (λ (a : Key) (b : Key). key_cmp a b ≡ Less) (map (λ e. e.0) es)
-ascending [] sorted i j d lt within = absurd (omega (arith, within))
+ascending [] sorted = λ i j d lt within. absurd (omega (arith, within))
 ascending (e ∷ es) sorted = AllPairs-cons (λ (a : Key) (b : Key). key_cmp a b ≡ Less) e.0 (map (λ f. f.0) es) (below e.0 es (first _ _ sorted)) (ascending es (second _ _ sorted))
 
 pub keys_ascend : (db : Database) (keys : List Key) → keys ≡ take (finite.len db) (finite.keys db) → AllPairs (λ (a : Key) (b : Key). key_cmp a b ≡ Less) keys

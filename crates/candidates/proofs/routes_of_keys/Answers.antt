@@ -8,6 +8,14 @@ use Rattle.offers.specs.Sources.{OfExternal}
 use Rattle.candidates.proofs.All.{are_candidates}
 use Rattle.candidates.proofs.routes_of_keys.Goals as goal
 
+pub told_routes-requires-clause-close : goal.told_routes-requires-clause-close
+told_routes-requires-clause-close g c =
+    subst AreCloseBy (sym c.as_slice-flagged.ensures.value) c.in_ok-borders.ensures.close
+
+pub inner_offers-requires-clause-close : goal.inner_offers-requires-clause-close
+inner_offers-requires-clause-close g c =
+    subst AreCloseBy (sym c.as_slice-flagged.ensures.value) c.in_ok-borders.ensures.close
+
 pub push_externals-requires-clause-flagged : goal.push_externals-requires-clause-flagged
 push_externals-requires-clause-flagged g c =
     let P : List Flagged → Type 0 = λ xs. AscendByRouter xs × AreCloseBy xs in
