@@ -1,5 +1,5 @@
 -- The worked summaries: the ways, the offers and the candidates.
-use Rattle.std.proofs.Common.{◌≡◌, ℕ, ◌+◌, ◌<◌, ◌⊎◌, inl, inr, Bool, true, false, cond, not, ◌&&◌, IsTrue, nat_eq, List, [], ◌∷◌, Some, bit_and, arith, refl, sym, ◌∙◌, ap, subst}
+use Rattle.std.proofs.Common.{◌≡◌, ℕ, ◌+◌, ◌<◌, ◌≤◌, ◌⊎◌, inl, inr, Bool, true, false, cond, not, ◌&&◌, IsTrue, nat_eq, List, [], ◌∷◌, Some, bit_and, arith, refl, sym, ◌∙◌, ap, subst}
 use Rattle.std.specs.List.{AllByRecursion, AllPairs, Contains}
 use Rattle.words.specs.Interfaces.{has_interface}
 use Rattle.words.specs.Prefixes.{Network, network_address}
@@ -35,7 +35,7 @@ use Rattle.routes.proofs.Prefixes.{one_prefix}
 use Rattle.route_laws.proofs.Entries.{all_pass, is_said, sayings}
 use Rattle.route_laws.proofs.Forwarding.{boundary}
 use Rattle.route_laws.proofs.Labels.{AreChecked, at_node, checked, way_by}
-use Rattle.route_laws.proofs.Made.{back, from_root, only_one, says}
+use Rattle.route_laws.proofs.Made.{from_root, only_one, says}
 use Rattle.route_laws.proofs.Parts.{apart, in_front, nobody, one_of}
 use Rattle.std.proofs.lemmas.Nat.Bits.{bit_at-suc, bit_at-zero}
 use Rattle.routes.proofs.Determined.{bit_of_member}
@@ -98,23 +98,23 @@ of_distant = external_offer Type1 (network_24 203 0 115) (external Type1 20 0 0)
 abbrev is_of_another : Key × Body → Bool
 is_of_another s = not (nat_eq s.0.ls_type 1 && nat_eq s.0.link_state_id beyond)
 
--- ---- whatever flags the neighbor has
+-- ---- whatever flags the neighbors have
 
-module _ (flags : ℕ) where
+module _ (flags distant_flags : ℕ) (has_e : bit_and distant_flags 2 ≡ 2) where
   abbrev said : Said
-  said = said_at 0 (database (told flags))
+  said = said_at 0 (database (told flags distant_flags))
 
-  labels : AreChecked summaries_root (sayings (told flags)) distance hops
+  labels : AreChecked summaries_root (sayings (told flags distant_flags)) distance hops
   labels = record { start = refl; routers = refl; links = refl }
 
   near_says : IsRouterLsa said near (router_lsa summaries_links)
-  near_says = says (told flags) (key 1 near near) (body.Router (router_lsa summaries_links)) refl
+  near_says = says (told flags distant_flags) (key 1 near near) (body.Router (router_lsa summaries_links)) refl
 
   border_says : IsRouterLsa said border (flagged flags border_links)
-  border_says = says (told flags) (key 1 border border) (body.Router (flagged flags border_links)) refl
+  border_says = says (told flags distant_flags) (key 1 border border) (body.Router (flagged flags border_links)) refl
 
-  distant_says : IsRouterLsa said distant (router_lsa distant_links)
-  distant_says = says (told flags) (key 1 distant distant) (body.Router (router_lsa distant_links)) refl
+  distant_says : IsRouterLsa said distant (flagged distant_flags distant_links)
+  distant_says = says (told flags distant_flags) (key 1 distant distant) (body.Router (flagged distant_flags distant_links)) refl
 
   abbrev to_border : Step Node
   to_border = record { target = ARouter border; price = 10; exit = 1 }
@@ -125,7 +125,7 @@ module _ (flags : ℕ) where
   border_walk : IsWalk (Leads said summaries_root) (ARouter near) (to_border ∷ []) (ARouter border)
   border_walk = (
     (
-      from_root (told flags) summaries_root summaries_links near_says border (dotted 10 0 1 1) 10 0 (0, omega arith, refl) (omega arith) refl,
+      from_root (told flags distant_flags) summaries_root summaries_links near_says border (dotted 10 0 1 1) 10 0 (0, omega arith, refl) (omega arith) refl,
       (point_to_point near (dotted 10 0 1 2) 10, record { lsa = flagged flags border_links; its = border_says; among = (0, omega arith, refl) }, refl, refl),
     ),
     refl,
@@ -134,33 +134,36 @@ module _ (flags : ℕ) where
   distant_walk : IsWalk (Leads said summaries_root) (ARouter near) (to_distant ∷ []) (ARouter distant)
   distant_walk = (
     (
-      from_root (told flags) summaries_root summaries_links near_says distant (dotted 10 0 2 1) 100 1 (1, omega arith, refl) (omega arith) refl,
-      back (told flags) distant distant_links distant_says near (dotted 10 0 2 2) 100 (0, omega arith, refl),
+      from_root (told flags distant_flags) summaries_root summaries_links near_says distant (dotted 10 0 2 1) 100 1 (1, omega arith, refl) (omega arith) refl,
+      (point_to_point near (dotted 10 0 2 2) 100, record { lsa = flagged distant_flags distant_links; its = distant_says; among = (0, omega arith, refl) }, refl, refl),
     ),
     refl,
   )
 
   border_is : IsWay (Leads said summaries_root) (ARouter near) (ARouter border) border_way
   border_is =
-      way_by (Leads said summaries_root) (ARouter near) (at_node distance) (at_node hops) (checked summaries_root 0 (told flags) distance hops labels) (ARouter border) (to_border ∷ []) border_walk refl
+      way_by (Leads said summaries_root) (ARouter near) (at_node distance) (at_node hops) (checked summaries_root 0 (told flags distant_flags) distance hops labels) (ARouter border) (to_border ∷ []) border_walk refl
       (λ i t. (to_border, [], border_walk, refl, sym (only_one i t)))
 
   distant_is : IsWay (Leads said summaries_root) (ARouter near) (ARouter distant) distant_way
   distant_is =
-      way_by (Leads said summaries_root) (ARouter near) (at_node distance) (at_node hops) (checked summaries_root 0 (told flags) distance hops labels) (ARouter distant) (to_distant ∷ []) distant_walk refl
+      way_by (Leads said summaries_root) (ARouter near) (at_node distance) (at_node hops) (checked summaries_root 0 (told flags distant_flags) distance hops labels) (ARouter distant) (to_distant ∷ []) distant_walk refl
       (λ i t. (to_distant, [], distant_walk, refl, sym (only_two i t)))
 
   -- there are no stub networks
   no_within : (o : Offer) → OffersWithin said summaries_root o → ⊥
-  no_within o x = each_within 0 (told flags) summaries_root (λ _. ⊥) refl (λ router l t. absurd (of_empty (router, l) t)) o x
+  no_within o x = each_within 0 (told flags distant_flags) summaries_root (λ _. ⊥) refl (λ router l t. absurd (of_empty (router, l) t)) o x
 
-  -- the router of a summary that counts is the neighbor
+  -- the routers of a summary that counts are the neighbors
   border_alone : (way : Way) → IsWay (Leads said summaries_root) (ARouter near) (ARouter border) way → border_way ≡ way
   border_alone way is = one_way (Leads said summaries_root) (ARouter near) (ARouter border) border_way way border_is is
 
   -- the boundary router 3.3.3.3 is reached within the area
   to_the_distant : IsBoundaryWay said summaries_root distant distant_way
-  to_the_distant = Inside (record { lsa = router_lsa distant_links; its = distant_says; has_e = refl; reached = distant_is })
+  to_the_distant = Inside (record { lsa = flagged distant_flags distant_links; its = distant_says; has_e = has_e; reached = distant_is })
+
+  far_alone : (way : Way) → IsWay (Leads said summaries_root) (ARouter near) (ARouter distant) way → distant_way ≡ way
+  far_alone way is = one_way (Leads said summaries_root) (ARouter near) (ARouter distant) distant_way way distant_is is
 
   distant_alone : (way : Way) → IsBoundaryWay said summaries_root distant way → distant_way ≡ way
   distant_alone way is = boundary said summaries_root distant distant_way way to_the_distant is
@@ -168,7 +171,7 @@ module _ (flags : ℕ) where
   -- 9.9.9.9 has no router-LSA
   none_beyond : (way : Way) → ReachesBoundaryRouter said summaries_root beyond way → ⊥
   none_beyond way x =
-      let e : false ≡ true = all_pass is_of_another (sayings (told flags)) refl (key 1 beyond beyond, body.Router x.lsa) (is_said 0 (told flags) (key 1 beyond beyond) (body.Router x.lsa) x.its) in
+      let e : false ≡ true = all_pass is_of_another (sayings (told flags distant_flags)) refl (key 1 beyond beyond, body.Router x.lsa) (is_said 0 (told flags distant_flags) (key 1 beyond beyond) (body.Router x.lsa) x.its) in
       cc
 
   -- ---- what is told
@@ -177,18 +180,21 @@ module _ (flags : ℕ) where
   IsTold k (body.Router r) = Unit {0}
   IsTold k (body.Network n) = Unit {0}
   IsTold k (body.NetworkSummary s) = (k.advertising_router ≡ border) × (s.metric < 16777215 → (k.link_state_id ≡ dotted 198 51 100 0) × (s ≡ summary 5))
-  IsTold k (body.RouterSummary s) = (k.advertising_router ≡ border) × (s ≡ summary 7)
+  IsTold k (body.RouterSummary s) = ((k.advertising_router ≡ border) × (s ≡ summary 7)) ⊎ ((k.advertising_router ≡ distant) × (s ≡ summary 1))
   IsTold k (body.External lsa) = Unit {0}
 
-  all_told : AllByRecursion (λ (s : Key × Body). IsTold s.0 s.1) (sayings (told flags))
-  all_told = (tt, (tt, (tt, ((refl, (λ _. (refl, refl))), ((refl, (λ low. absurd (omega (arith, low)))), ((refl, refl), ((refl, refl), (tt, (tt, (tt, tt))))))))))
+  all_told : AllByRecursion (λ (s : Key × Body). IsTold s.0 s.1) (sayings (told flags distant_flags))
+  all_told = (tt, (tt, (tt, ((refl, (λ _. (refl, refl))), ((refl, (λ low. absurd (omega (arith, low)))), (inl (refl, refl), (inl (refl, refl), (inr (refl, refl), (tt, (tt, (tt, tt)))))))))))
 
   told_of : (k : Key) (says_so : Body) → said k ≡ Some says_so → IsTold k says_so
-  told_of k says_so e = one_of (λ (s : Key × Body). IsTold s.0 s.1) (sayings (told flags)) all_told (k, says_so) (is_said 0 (told flags) k says_so e)
+  told_of k says_so e = one_of (λ (s : Key × Body). IsTold s.0 s.1) (sayings (told flags distant_flags)) all_told (k, says_so) (is_said 0 (told flags distant_flags) k says_so e)
 
-  -- the flags of a router-LSA of the neighbor
+  -- the flags of a router-LSA of a neighbor
   border_flags : (lsa : RouterLsa) → IsRouterLsa said border lsa → flagged flags border_links ≡ lsa
   border_flags lsa e = let both : Some (body.Router (flagged flags border_links)) ≡ Some (body.Router lsa) = sym border_says ∙ e in cc
+
+  far_flags : (lsa : RouterLsa) → IsRouterLsa said distant lsa → flagged distant_flags distant_links ≡ lsa
+  far_flags lsa e = let both : Some (body.Router (flagged distant_flags distant_links)) ≡ Some (body.Router lsa) = sym distant_says ∙ e in cc
 
   -- an offer between areas
   between_is : (o : Offer) → OffersBetween said summaries_root o → (of_summary ≡ o) × (bit_and flags 1 ≡ 1)
@@ -206,24 +212,52 @@ module _ (flags : ℕ) where
         (ap (λ (l : RouterLsa). bit_and l.flags 1) (border_flags reaches.lsa reaches.its) ∙ reaches.has_b),
       )
 
-  -- a summary of 9.9.9.9
-  told_is : (cost : ℕ) (way : Way) → IsToldOf said summaries_root beyond cost way → (cost ≡ 17) × (border_way ≡ way) × (bit_and flags 1 ≡ 1)
-  told_is cost way x =
-      let t = told_of (summary_key 4 beyond x.originator) (body.RouterSummary x.lsa) x.its in
+  -- a summary of 9.9.9.9, by the nearer neighbor or by the farther one
+  abbrev ByBorder : ℕ → Way → Type 0
+  ByBorder cost way = (cost ≡ 17) × (border_way ≡ way) × (bit_and flags 1 ≡ 1)
+
+  abbrev ByDistant : ℕ → Way → Type 0
+  ByDistant cost way = (cost ≡ 101) × (distant_way ≡ way) × (bit_and distant_flags 1 ≡ 1)
+
+  by_border : (cost : ℕ) (way : Way) (x : IsToldOf said summaries_root beyond cost way) → x.originator ≡ border → x.lsa ≡ summary 7 → ByBorder cost way
+  by_border cost way x from same =
       let Reaches : ℕ → Type 0 = λ router. ReachesBorderRouter said summaries_root router way in
-      let reaches : ReachesBorderRouter said summaries_root border way = subst Reaches t.0 x.counts.reaches in
+      let reaches : ReachesBorderRouter said summaries_root border way = subst Reaches from x.counts.reaches in
       let w : border_way ≡ way = border_alone way reaches.reached in
-      let metric : x.lsa.metric ≡ 7 = ap (λ (s : SummaryLsa). s.metric) t.1 in
+      let metric : x.lsa.metric ≡ 7 = ap (λ (s : SummaryLsa). s.metric) same in
       let far : 10 ≡ way.distance = ap (λ (y : Way). y.distance) w in (
         omega (arith, x.is, metric, far),
         w,
         (ap (λ (l : RouterLsa). bit_and l.flags 1) (border_flags reaches.lsa reaches.its) ∙ reaches.has_b),
       )
 
+  by_distant : (cost : ℕ) (way : Way) (x : IsToldOf said summaries_root beyond cost way) → x.originator ≡ distant → x.lsa ≡ summary 1 → ByDistant cost way
+  by_distant cost way x from same =
+      let Reaches : ℕ → Type 0 = λ router. ReachesBorderRouter said summaries_root router way in
+      let reaches : ReachesBorderRouter said summaries_root distant way = subst Reaches from x.counts.reaches in
+      let w : distant_way ≡ way = far_alone way reaches.reached in
+      let metric : x.lsa.metric ≡ 1 = ap (λ (s : SummaryLsa). s.metric) same in
+      let far : 100 ≡ way.distance = ap (λ (y : Way). y.distance) w in (
+        omega (arith, x.is, metric, far),
+        w,
+        (ap (λ (l : RouterLsa). bit_and l.flags 1) (far_flags reaches.lsa reaches.its) ∙ reaches.has_b),
+      )
+
+  told_is : (cost : ℕ) (way : Way) → IsToldOf said summaries_root beyond cost way → ByBorder cost way ⊎ ByDistant cost way
+  told_is cost way x =
+      elim (told_of (summary_key 4 beyond x.originator) (body.RouterSummary x.lsa) x.its) [
+        | inl t ↦ inl (by_border cost way x t.0 t.1)
+        | inr t ↦ inr (by_distant cost way x t.0 t.1)
+      ]
+
   -- without flag B nobody tells of it
-  not_beyond : (bit_and flags 1 ≡ 1 → ⊥) → (way : Way) → IsBoundaryWay said summaries_root beyond way → ⊥
-  not_beyond no_b way (Inside x) = none_beyond way x
-  not_beyond no_b way (Outside none x) = no_b (told_is way.distance x.border x.told).2
+  not_beyond : (bit_and flags 1 ≡ 1 → ⊥) → (bit_and distant_flags 1 ≡ 1 → ⊥) → (way : Way) → IsBoundaryWay said summaries_root beyond way → ⊥
+  not_beyond no_b nor_b way (Inside x) = none_beyond way x
+  not_beyond no_b nor_b way (Outside none x) =
+      elim (told_is way.distance x.border x.told) [
+        | inl by ↦ no_b by.2
+        | inr by ↦ nor_b by.2
+      ]
 
   -- ---- externals
 
@@ -253,13 +287,13 @@ module _ (flags : ℕ) where
     IsKnown k (body.RouterSummary s) = Unit {0}
     IsKnown k (body.External lsa) = (o : Offer) → Given k.link_state_id k.advertising_router lsa o → P o
 
-    all_known : AllByRecursion (λ (s : Key × Body). IsKnown s.0 s.1) (sayings (told flags))
-    all_known = (tt, (tt, (tt, (tt, (tt, (tt, (tt, (first, (second, (third, tt))))))))))
+    all_known : AllByRecursion (λ (s : Key × Body). IsKnown s.0 s.1) (sayings (told flags distant_flags))
+    all_known = (tt, (tt, (tt, (tt, (tt, (tt, (tt, (tt, (first, (second, (third, tt)))))))))))
 
     each_external : (o : Offer) → OffersExternal said summaries_root o → P o
     each_external o x =
-        one_of (λ (s : Key × Body). IsKnown s.0 s.1) (sayings (told flags)) all_known (key 5 x.id x.originator, body.External x.lsa)
-        (is_said 0 (told flags) (key 5 x.id x.originator) (body.External x.lsa) x.its) o
+        one_of (λ (s : Key × Body). IsKnown s.0 s.1) (sayings (told flags distant_flags)) all_known (key 5 x.id x.originator, body.External x.lsa)
+        (is_said 0 (told flags distant_flags) (key 5 x.id x.originator) (body.External x.lsa) x.its) o
         (record { prefix = x.prefix; is_prefix = x.is_prefix; way = x.way; is_way = x.is_way; is = x.is })
 
   distant_offered : Offers said summaries_root of_distant
@@ -267,7 +301,7 @@ module _ (flags : ℕ) where
     id = dotted 203 0 115 0;
     originator = distant;
     lsa = external Type1 20 0 0;
-    its = says (told flags) (key 5 (dotted 203 0 115 0) distant) (body.External (external Type1 20 0 0)) refl;
+    its = says (told flags distant_flags) (key 5 (dotted 203 0 115 0) distant) (body.External (external Type1 20 0 0)) refl;
     reachable = omega arith;
     of_another = λ e. omega (arith, e);
     prefix = network_24 203 0 115;
@@ -294,24 +328,27 @@ Before a b = IsBefore a.prefix b.prefix
 -- ---- without flag B
 
 abbrev plain : Said
-plain = said_at 0 (database (told 0))
+plain = said_at 0 (database (told 0 2))
 
 no_flag : bit_and 0 1 ≡ 1 → ⊥
 no_flag e = omega (arith, e)
 
+nor_flag : bit_and 2 1 ≡ 1 → ⊥
+nor_flag e = omega (arith, e)
+
 only_distant : (o : Offer) → Offers plain summaries_root o → of_distant ≡ o
-only_distant o (Within x) = absurd (no_within 0 o x)
-only_distant o (Between x) = absurd (no_flag (between_is 0 o x).1)
+only_distant o (Within x) = absurd (no_within 0 2 refl o x)
+only_distant o (Between x) = absurd (no_flag (between_is 0 2 refl o x).1)
 only_distant o (External x) =
-    each_external 0 (λ y. of_distant ≡ y) (λ y g. absurd (not_beyond 0 no_flag g.is_way.boundary g.is_way.reaches)) (λ y g. absurd (not_beyond 0 no_flag g.is_way.boundary g.is_way.reaches))
-    (λ y g. external_is 0 (dotted 203 0 115 0) distant (external Type1 20 0 0) distant_way (distant_alone 0) refl refl y g) o x
+    each_external 0 2 refl (λ y. of_distant ≡ y) (λ y g. absurd (not_beyond 0 2 refl no_flag nor_flag g.is_way.boundary g.is_way.reaches)) (λ y g. absurd (not_beyond 0 2 refl no_flag nor_flag g.is_way.boundary g.is_way.reaches))
+    (λ y g. external_is 0 2 refl (dotted 203 0 115 0) distant (external Type1 20 0 0) distant_way (distant_alone 0 2 refl) refl refl y g) o x
 
 without : AreCandidates plain summaries_root (distant_route ∷ [])
 without =
     all_candidates plain summaries_root (distant_route ∷ [])
     (λ r t.
     elim (of_cons distant_route [] r t) [
-      | inl e ↦ subst (λ x. IsCandidate plain summaries_root x) e (alone plain summaries_root of_distant (distant_offered 0) (λ o offered e. inl (sym (only_distant o offered))))
+      | inl e ↦ subst (λ x. IsCandidate plain summaries_root x) e (alone plain summaries_root of_distant (distant_offered 0 2 refl) (λ o offered e. inl (sym (only_distant o offered))))
       | inr none ↦ absurd (of_empty r none)
     ])
     (λ o offered. (distant_route, (0, omega arith, refl), ap (λ (x : Offer). x.prefix) (only_distant o offered)))
@@ -320,10 +357,10 @@ without =
 -- ---- with flag B
 
 abbrev said_b : Said
-said_b = said_at 0 (database (told 1))
+said_b = said_at 0 (database (told 1 3))
 
 reaches_border : ReachesBorderRouter said_b summaries_root border border_way
-reaches_border = record { lsa = flagged 1 border_links; its = border_says 1; has_b = refl; reached = border_is 1 }
+reaches_border = record { lsa = flagged 1 border_links; its = border_says 1 3 refl; has_b = refl; reached = border_is 1 3 refl }
 
 counts_5 : CountsAsSummary said_b summaries_root border (summary 5) border_way
 counts_5 = record { reachable = omega arith; of_another = λ e. omega (arith, e); reaches = reaches_border }
@@ -335,22 +372,34 @@ told_beyond : IsToldOf said_b summaries_root beyond 17 border_way
 told_beyond = record {
   originator = border;
   lsa = summary 7;
-  its = says (told 1) (key 4 beyond border) (body.RouterSummary (summary 7)) refl;
+  its = says (told 1 3) (key 4 beyond border) (body.RouterSummary (summary 7)) refl;
   counts = counts_7;
   is = refl;
 }
 
+-- the other way costs 101
+no_nearer : (cost : ℕ) (other : Way) → IsToldOf said_b summaries_root beyond cost other → 17 ≤ cost
+no_nearer cost other t =
+    elim (told_is 1 3 refl cost other t) [
+      | inl by ↦ let c : cost ≡ 17 = by.0 in omega (arith, c)
+      | inr by ↦ let c : cost ≡ 101 = by.0 in omega (arith, c)
+    ]
+
+at_17 : (other : Way) → IsToldOf said_b summaries_root beyond 17 other → border_way ≡ other
+at_17 other t =
+    elim (told_is 1 3 refl 17 other t) [
+      | inl by ↦ by.1
+      | inr by ↦ absurd (let c : 17 ≡ 101 = by.0 in omega (arith, c))
+    ]
+
 to_beyond : IsBoundaryWay said_b summaries_root beyond beyond_way
 to_beyond =
-    Outside (none_beyond 1)
+    Outside (none_beyond 1 3 refl)
     (record {
       border = border_way;
       told = told_beyond;
-      least = λ cost other t. let c : cost ≡ 17 = (told_is 1 cost other t).0 in omega (arith, c);
-      hops = λ i. (
-        (λ t. (border_way, told_beyond, t)),
-        (λ h. subst (λ (w : Way). IsTrue (has_interface w.hops i)) (sym (told_is 1 17 h.0 h.1).1) h.2),
-      );
+      least = λ cost other t. no_nearer cost other t;
+      hops = λ i. ((λ t. (border_way, told_beyond, t)), (λ h. subst (λ (w : Way). IsTrue (has_interface w.hops i)) (sym (at_17 h.0 h.1)) h.2));
     })
 
 beyond_alone : (way : Way) → IsBoundaryWay said_b summaries_root beyond way → beyond_way ≡ way
@@ -363,13 +412,13 @@ in_offers : (x : Offer) → Contains offers x → (o : Offer) → x ≡ o → Co
 in_offers x t o e = subst (Contains offers) e t
 
 complete : (o : Offer) → Offers said_b summaries_root o → Contains offers o
-complete o (Within x) = absurd (no_within 1 o x)
-complete o (Between x) = in_offers of_summary (0, omega arith, refl) o (between_is 1 o x).0
+complete o (Within x) = absurd (no_within 1 3 refl o x)
+complete o (Between x) = in_offers of_summary (0, omega arith, refl) o (between_is 1 3 refl o x).0
 complete o (External x) =
-    each_external 1 (Contains offers)
-    (λ y g. in_offers of_beyond_1 (1, omega arith, refl) y (external_is 1 (dotted 203 0 113 0) beyond (external Type1 20 0 0) beyond_way beyond_alone refl refl y g))
-    (λ y g. in_offers of_beyond_2 (2, omega arith, refl) y (external_is 1 (dotted 203 0 114 0) beyond (external Type2 20 0 0) beyond_way beyond_alone refl refl y g))
-    (λ y g. in_offers of_distant (3, omega arith, refl) y (external_is 1 (dotted 203 0 115 0) distant (external Type1 20 0 0) distant_way (distant_alone 1) refl refl y g))
+    each_external 1 3 refl (Contains offers)
+    (λ y g. in_offers of_beyond_1 (1, omega arith, refl) y (external_is 1 3 refl (dotted 203 0 113 0) beyond (external Type1 20 0 0) beyond_way beyond_alone refl refl y g))
+    (λ y g. in_offers of_beyond_2 (2, omega arith, refl) y (external_is 1 3 refl (dotted 203 0 114 0) beyond (external Type2 20 0 0) beyond_way beyond_alone refl refl y g))
+    (λ y g. in_offers of_distant (3, omega arith, refl) y (external_is 1 3 refl (dotted 203 0 115 0) distant (external Type1 20 0 0) distant_way (distant_alone 1 3 refl) refl refl y g))
     o x
 
 summary_offered : Offers said_b summaries_root of_summary
@@ -377,7 +426,7 @@ summary_offered = Between (record {
   id = dotted 198 51 100 0;
   originator = border;
   lsa = summary 5;
-  its = says (told 1) (key 3 (dotted 198 51 100 0) border) (body.NetworkSummary (summary 5)) refl;
+  its = says (told 1 3) (key 3 (dotted 198 51 100 0) border) (body.NetworkSummary (summary 5)) refl;
   border = border_way;
   counts = counts_5;
   prefix = network_24 198 51 100;
@@ -390,7 +439,7 @@ beyond_1_offered = External (record {
   id = dotted 203 0 113 0;
   originator = beyond;
   lsa = external Type1 20 0 0;
-  its = says (told 1) (key 5 (dotted 203 0 113 0) beyond) (body.External (external Type1 20 0 0)) refl;
+  its = says (told 1 3) (key 5 (dotted 203 0 113 0) beyond) (body.External (external Type1 20 0 0)) refl;
   reachable = omega arith;
   of_another = λ e. omega (arith, e);
   prefix = network_24 203 0 113;
@@ -405,7 +454,7 @@ beyond_2_offered = External (record {
   id = dotted 203 0 114 0;
   originator = beyond;
   lsa = external Type2 20 0 0;
-  its = says (told 1) (key 5 (dotted 203 0 114 0) beyond) (body.External (external Type2 20 0 0)) refl;
+  its = says (told 1 3) (key 5 (dotted 203 0 114 0) beyond) (body.External (external Type2 20 0 0)) refl;
   reachable = omega arith;
   of_another = λ e. omega (arith, e);
   prefix = network_24 203 0 114;
@@ -429,7 +478,7 @@ sound = (
     (
       alone said_b summaries_root of_beyond_2 beyond_2_offered (beaten of_beyond_2 (elsewhere of_beyond_2 of_summary refl, (elsewhere of_beyond_2 of_beyond_1 refl, (itself of_beyond_2, (elsewhere of_beyond_2 of_distant refl, tt))))),
       (
-        alone said_b summaries_root of_distant (distant_offered 1) (beaten of_distant (elsewhere of_distant of_summary refl, (elsewhere of_distant of_beyond_1 refl, (elsewhere of_distant of_beyond_2 refl, (itself of_distant, tt))))),
+        alone said_b summaries_root of_distant (distant_offered 1 3 refl) (beaten of_distant (elsewhere of_distant of_summary refl, (elsewhere of_distant of_beyond_1 refl, (elsewhere of_distant of_beyond_2 refl, (itself of_distant, tt))))),
         tt,
       ),
     ),

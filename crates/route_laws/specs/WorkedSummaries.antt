@@ -26,11 +26,10 @@ of_network_summary id metric = (
   copy_of (key 3 id (dotted 2 2 2 2)) (body.NetworkSummary (summary metric)),
 )
 
-abbrev pub of_router_summary : ℕ → ℕ → Key × DatabaseCopy
-of_router_summary id metric = (
-  key 4 id (dotted 2 2 2 2),
-  copy_of (key 4 id (dotted 2 2 2 2)) (body.RouterSummary (summary metric)),
-)
+-- told by this router
+abbrev pub of_router_summary : ℕ → ℕ → ℕ → Key × DatabaseCopy
+of_router_summary router id metric =
+    (key 4 id router, copy_of (key 4 id router) (body.RouterSummary (summary metric)))
 
 abbrev pub of_flagged : ℕ → ℕ → List Link → Key × DatabaseCopy
 of_flagged flags router links = (
@@ -55,18 +54,19 @@ border_links = point_to_point (dotted 1 1 1 1) (dotted 10 0 1 2) 10 ∷ []
 abbrev pub distant_links : List Link
 distant_links = point_to_point (dotted 1 1 1 1) (dotted 10 0 2 2) 100 ∷ []
 
--- 2.2.2.2 has these flags, the others flag E. The first tells of a network at 5, of one that can't
--- be reached, of the AS boundary router 9.9.9.9 at 7, and of 3.3.3.3 at 7, which is dearer within
--- the area.
-abbrev pub told : ℕ → Entries
-told flags =
+-- 2.2.2.2 and 3.3.3.3 have these flags. The first tells of a network at 5, of one that can't be
+-- reached, of the AS boundary router 9.9.9.9 at 7, and of 3.3.3.3 at 7, which is dearer within the
+-- area; the second tells of 9.9.9.9 at 1, but is itself farther.
+abbrev pub told : (flags : ℕ) → (distant_flags : ℕ) → Entries
+told flags distant_flags =
     of_router (dotted 1 1 1 1) summaries_links
     ∷ of_flagged flags (dotted 2 2 2 2) border_links
-    ∷ of_router (dotted 3 3 3 3) distant_links
+    ∷ of_flagged distant_flags (dotted 3 3 3 3) distant_links
     ∷ of_network_summary (dotted 198 51 100 0) 5
     ∷ of_network_summary (dotted 198 18 0 0) 16777215
-    ∷ of_router_summary (dotted 3 3 3 3) 7
-    ∷ of_router_summary (dotted 9 9 9 9) 7
+    ∷ of_router_summary (dotted 2 2 2 2) (dotted 3 3 3 3) 7
+    ∷ of_router_summary (dotted 2 2 2 2) (dotted 9 9 9 9) 7
+    ∷ of_router_summary (dotted 3 3 3 3) (dotted 9 9 9 9) 1
     ∷ of_external (dotted 203 0 113 0) (dotted 9 9 9 9) (external Type1 20 0 0)
     ∷ of_external (dotted 203 0 114 0) (dotted 9 9 9 9) (external Type2 20 0 0)
     ∷ of_external (dotted 203 0 115 0) (dotted 3 3 3 3) (external Type1 20 0 0)
@@ -84,7 +84,7 @@ between_route = record {
   tag = 0;
 }
 
--- the way to the boundary router costs 17
+-- the way to the boundary router costs 17 by the first neighbor, and 101 by the second
 abbrev pub beyond_1 : Route
 beyond_1 = record {
   prefix = network_24 203 0 113;
@@ -117,8 +117,9 @@ distant_route = record {
 }
 
 pub record WorkedSummaries : Type 0 where
-  -- the neighbor is an area border router
-  pub with_b : AreCandidates (said_at 0 (database (told 1))) summaries_root
+  -- both neighbors are area border routers, and the second one is an AS boundary router
+  pub with_b : AreCandidates (said_at 0 (database (told 1 3))) summaries_root
       (between_route ∷ beyond_1 ∷ beyond_2 ∷ distant_route ∷ [])
-  -- it is none
-  pub without_b : AreCandidates (said_at 0 (database (told 0))) summaries_root (distant_route ∷ [])
+  -- neither is an area border router
+  pub without_b : AreCandidates (said_at 0 (database (told 0 2))) summaries_root
+      (distant_route ∷ [])

@@ -71,8 +71,9 @@ pub fn worked_offers()
     ensures { WorkedOffers }
 {}
 
-/// The candidates where a neighbor tells of a network and of AS boundary routers in other areas, as an area border router and as none; a
-/// boundary router within the area is reached there, though it is told of as nearer (RFC 2328, sections 16.2 and 16.4).
+/// The candidates where neighbors tell of a network and of AS boundary routers in other areas, as area border routers and as none: a
+/// boundary router within the area is reached there, though it is told of as nearer, and one that two neighbors tell of by the nearer way
+/// (RFC 2328, sections 16.2 and 16.4).
 pub fn worked_summaries()
     ensures { WorkedSummaries }
 {}
