@@ -1,6 +1,6 @@
 -- What may be said of small programs.
-use Rattle.std.proofs.Common.{◌≡◌, ℕ, zero, suc, ◌+◌, ◌<◌, true, false, List, [], ◌∷◌, Some, None, inl, inr, ⊎_elim, refl, sym, subst, arith}
-use Rattle.std.specs.Prelude.{ℤ, pos}
+use Rattle.std.proofs.Common.{◌≡◌, ℕ, zero, suc, ◌+◌, ◌<◌, Bool, true, false, cond, List, [], ◌∷◌, Some, None, IsSome, inl, inr, ⊎_elim, refl, sym, subst, eqb-true, arith}
+use Rattle.std.specs.Prelude.{◌==◌, ℤ, pos}
 use Rattle.isa.specs.declared.code.Slot.{Slot}
 use Rattle.isa.specs.declared.code.Slot.TheVariants.{Start}
 use Rattle.isa.specs.declared.hook.Hook.{Hook}
@@ -11,11 +11,13 @@ use Rattle.machine.specs.Faults.{writes_frame}
 use Rattle.machine.specs.Helpers.{helper_of}
 use Rattle.transfer.specs.declared.rule.Rule.{Rule}
 use Rattle.transfer.specs.declared.rule.Rule.TheVariants as rules
+use Rattle.kinds.specs.Stated.{any_number}
 use Rattle.segments.specs.Places.{goes_on}
+use Rattle.segments.specs.Stated.{statement_at}
 use Rattle.segments.specs.Refusals.{FallsOff, IsBadTarget, IsFirst, IsStray, IsUnreached, IsUnstated, IsWellMade, JumpsNowhere, LacksHelperAt, MayRefuse}
 use Rattle.segments.proofs.Plain.{never}
-use Rattle.verifier.specs.Examples.{ended, seven, test_on}
-use Rattle.program_laws.specs.Refusals.{HelpersAndBoundAreNamedAptly, IsOfSound, LaterRulesDontCount, unstated_code}
+use Rattle.verifier.specs.Examples.{ended, says, seven, test_on}
+use Rattle.program_laws.specs.Refusals.{HelpersAndBoundAreNamedAptly, IsOfSound, LaterRulesDontCount, RulesCountInTheirOrder, SoundCodeIsNotNamed, astray_code, cut_code, jumping_code, jumping_statements, open_code, test_by, unstated_code}
 
 none_is_some : {A : Type 0} {x : A} → None ≡ Some x → ⊥
 none_is_some is = cc
@@ -67,23 +69,116 @@ writes_not = each (λ slot i. writes_frame i ≡ true → ⊥) (λ is. never is)
 within_code : (slot : ℕ) (i : Instruction) → BeginsAt i (ended seven) slot → slot < 2
 within_code = each (λ slot i. slot < 2) (omega arith) (omega arith)
 
-pub named_of_sound : (hook : Hook) (slot : ℕ) (rule : Rule) → MayRefuse hook (ended seven) 0 [] slot rule → IsOfSound slot rule
-named_of_sound hook slot rules.Target may = target_is_well slot may
-named_of_sound hook slot rules.FallsOff may = end_is_well slot may
-named_of_sound hook slot rules.Unreached may = reached_is_well slot may
-named_of_sound hook slot rules.Unstated may = jumps_not slot may.instruction may.at may.to may.jumps
-named_of_sound hook slot rules.Empty may = within_code slot may.0 may.1
-named_of_sound hook slot rules.Kind may = within_code slot may.0 may.1
-named_of_sound hook slot rules.Bounds may = within_code slot may.0 may.1
-named_of_sound hook slot rules.Align may = within_code slot may.0 may.1
-named_of_sound hook slot rules.Helper may = calls_not slot (Call may.number) may.at may.number refl
-named_of_sound hook slot rules.Argument may = within_code slot may.0 may.1
-named_of_sound hook slot rules.NotWithin may = within_code slot may.0 may.1
-named_of_sound hook slot rules.Rank may = within_code slot may.0 may.1
-named_of_sound hook slot rules.Budget may = let more = may.over in absurd (omega (arith, more))
-named_of_sound hook slot rules.ExitKind may = within_code slot may.0 may.1
-named_of_sound hook slot rules.Frame may = writes_not slot may.instruction may.at may.writes
-named_of_sound hook slot rules.Memory may = may
+named_of_straight : (hook : Hook) (slot : ℕ) (rule : Rule) → MayRefuse hook (ended seven) 0 [] slot rule → IsOfSound 2 slot rule
+named_of_straight hook slot rules.Target may = target_is_well slot may
+named_of_straight hook slot rules.FallsOff may = end_is_well slot may
+named_of_straight hook slot rules.Unreached may = reached_is_well slot may
+named_of_straight hook slot rules.Unstated may = jumps_not slot may.instruction may.at may.to may.jumps
+named_of_straight hook slot rules.Empty may = within_code slot may.0 may.1
+named_of_straight hook slot rules.Kind may = within_code slot may.0 may.1
+named_of_straight hook slot rules.Bounds may = within_code slot may.0 may.1
+named_of_straight hook slot rules.Align may = within_code slot may.0 may.1
+named_of_straight hook slot rules.Helper may = calls_not slot (Call may.number) may.at may.number refl
+named_of_straight hook slot rules.Argument may = within_code slot may.0 may.1
+named_of_straight hook slot rules.NotWithin may = within_code slot may.0 may.1
+named_of_straight hook slot rules.Rank may = within_code slot may.0 may.1
+named_of_straight hook slot rules.Budget may = let more = may.over in absurd (omega (arith, more))
+named_of_straight hook slot rules.ExitKind may = within_code slot may.0 may.1
+named_of_straight hook slot rules.Frame may = writes_not slot may.instruction may.at may.writes
+named_of_straight hook slot rules.Memory may = may
+
+-- ---- `r0 = 7; if r0 == 0 goto L; exit; L: exit`, with a statement at L
+
+of_jumping : (P : ℕ → Instruction → Type 0) → P 0 seven → P 1 (test_by 1) → P 2 Exit → P 3 Exit → (slot : ℕ) (i : Instruction) → BeginsAt i jumping_code slot → P slot i
+of_jumping P first second third fourth zero i at = subst (λ k. P 0 k) (started seven i at) first
+of_jumping P first second third fourth (suc zero) i at = subst (λ k. P 1 k) (started (test_by 1) i at) second
+of_jumping P first second third fourth (suc (suc zero)) i at = subst (λ k. P 2 k) (started Exit i at) third
+of_jumping P first second third fourth (suc (suc (suc zero))) i at = subst (λ k. P 3 k) (started Exit i at) fourth
+of_jumping P first second third fourth (suc (suc (suc (suc slot)))) i at = absurd (none_is_some at)
+
+jumps_to_third : (slot : ℕ) (i : Instruction) → BeginsAt i jumping_code slot → (to : ℕ) → jump_target slot i ≡ Some to → to ≡ 3
+jumps_to_third = of_jumping (λ slot i. (to : ℕ) → jump_target slot i ≡ Some to → to ≡ 3)
+    (λ to is. absurd (none_is_some is)) (λ to is. sym (some_is_one is)) (λ to is. absurd (none_is_some is)) (λ to is. absurd (none_is_some is))
+
+fourth_begins : Begins jumping_code 3
+fourth_begins = (Exit, refl)
+
+only_where : (b : Bool) → IsSome (cond b (Some (says 3 any_number 0)) None) → b ≡ true
+only_where true stated = refl
+only_where false stated = never stated
+
+-- something is stated at slot 3 alone
+stray_not : (slot : ℕ) → IsSome (statement_at jumping_statements slot) → (Begins jumping_code slot → ⊥) → ⊥
+stray_not slot stated nowhere =
+    let same : 3 ≡ slot = eqb-true 3 slot (only_where (3 == slot) stated) in
+    nowhere (subst (λ n. Begins jumping_code n) same fourth_begins)
+
+jumping_targets : (slot : ℕ) → IsBadTarget jumping_code jumping_statements slot → ⊥
+jumping_targets slot =
+    ⊎_elim
+    (λ (jump : JumpsNowhere jumping_code slot).
+    jump.nowhere (subst (λ n. Begins jumping_code n) (sym (jumps_to_third slot jump.instruction jump.at jump.to jump.jumps)) fourth_begins))
+    (λ (stray : IsStray jumping_code jumping_statements slot). stray_not slot stray.stated stray.nowhere)
+
+jumping_ends : (slot : ℕ) → FallsOff jumping_code slot → ⊥
+jumping_ends slot off =
+    of_jumping (λ at i. slot_after at i ≡ 4 → goes_on i ≡ true → ⊥)
+    (λ last on. omega (arith, last)) (λ last on. omega (arith, last)) (λ last on. never on) (λ last on. never on)
+    slot off.instruction off.at off.last off.on
+
+some_is_no_none : {A : Type 0} {x : A} → Some x ≡ None → ⊥
+some_is_no_none is = cc
+
+fifth_is_none : Begins jumping_code 4 → ⊥
+fifth_is_none begins = none_is_some begins.1
+
+third_is_stated : statement_at jumping_statements 3 ≡ None → ⊥
+third_is_stated none = some_is_no_none none
+
+jumping_reached : (slot : ℕ) → IsUnreached jumping_code jumping_statements slot → ⊥
+jumping_reached slot unreached =
+    let cut = unreached.cut_off in
+    of_jumping (λ before i. (to : ℕ) → slot_after before i ≡ to → goes_on i ≡ false → Begins jumping_code to → statement_at jumping_statements to ≡ None → ⊥)
+    (λ to behind leaves begins none. never (sym leaves)) (λ to behind leaves begins none. never (sym leaves))
+    (λ to behind leaves begins none. third_is_stated (subst (λ n. statement_at jumping_statements n ≡ None) (sym behind) none))
+    (λ to behind leaves begins none. fifth_is_none (subst (λ n. Begins jumping_code n) (sym behind) begins))
+    cut.before cut.instruction cut.at slot cut.behind cut.leaves unreached.begins unreached.unstated
+
+jumping_stated : (slot : ℕ) → IsUnstated jumping_code jumping_statements slot → ⊥
+jumping_stated slot unstated =
+    third_is_stated
+    (subst (λ n. statement_at jumping_statements n ≡ None) (jumps_to_third slot unstated.instruction unstated.at unstated.to unstated.jumps) unstated.unstated)
+
+jumping_calls : (slot : ℕ) (i : Instruction) → BeginsAt i jumping_code slot → (number : ℤ) → i ≡ Call number → ⊥
+jumping_calls =
+    of_jumping (λ slot i. (number : ℤ) → i ≡ Call number → ⊥) (λ number is. cc) (λ number is. cc) (λ number is. cc) (λ number is. cc)
+
+jumping_writes : (slot : ℕ) (i : Instruction) → BeginsAt i jumping_code slot → writes_frame i ≡ true → ⊥
+jumping_writes = of_jumping (λ slot i. writes_frame i ≡ true → ⊥) (λ is. never is) (λ is. never is) (λ is. never is) (λ is. never is)
+
+within_jumping : (slot : ℕ) (i : Instruction) → BeginsAt i jumping_code slot → slot < 4
+within_jumping = of_jumping (λ slot i. slot < 4) (omega arith) (omega arith) (omega arith) (omega arith)
+
+named_of_jumping : (hook : Hook) (slot : ℕ) (rule : Rule) → MayRefuse hook jumping_code 0 jumping_statements slot rule → IsOfSound 4 slot rule
+named_of_jumping hook slot rules.Target may = jumping_targets slot may
+named_of_jumping hook slot rules.FallsOff may = jumping_ends slot may
+named_of_jumping hook slot rules.Unreached may = jumping_reached slot may
+named_of_jumping hook slot rules.Unstated may = jumping_stated slot may
+named_of_jumping hook slot rules.Empty may = within_jumping slot may.0 may.1
+named_of_jumping hook slot rules.Kind may = within_jumping slot may.0 may.1
+named_of_jumping hook slot rules.Bounds may = within_jumping slot may.0 may.1
+named_of_jumping hook slot rules.Align may = within_jumping slot may.0 may.1
+named_of_jumping hook slot rules.Helper may = jumping_calls slot (Call may.number) may.at may.number refl
+named_of_jumping hook slot rules.Argument may = within_jumping slot may.0 may.1
+named_of_jumping hook slot rules.NotWithin may = within_jumping slot may.0 may.1
+named_of_jumping hook slot rules.Rank may = within_jumping slot may.0 may.1
+named_of_jumping hook slot rules.Budget may = let more = may.over in absurd (omega (arith, more))
+named_of_jumping hook slot rules.ExitKind may = within_jumping slot may.0 may.1
+named_of_jumping hook slot rules.Frame may = jumping_writes slot may.instruction may.at may.writes
+named_of_jumping hook slot rules.Memory may = may
+
+pub named_of_sound : SoundCodeIsNotNamed
+named_of_sound = record { straight = named_of_straight; jumping = named_of_jumping }
 
 -- ---- `call 1; exit`, and the bound
 
@@ -174,4 +269,32 @@ later_dont_count = record {
   within = λ first. not_made (first.here (omega arith));
   rank = λ first. not_made (first.here (omega arith));
   later = λ rule first. not_made (first.earlier 1 (omega arith));
+}
+
+-- ---- a slot that breaks each of the four rules
+
+astray : IsBadTarget astray_code [] 1
+astray = inl (record { instruction = test_by 7; at = refl; to = 9; jumps = refl; nowhere = λ begins. none_is_some begins.1 })
+
+falls : FallsOff open_code 0
+falls = record { instruction = seven; at = refl; last = refl; on = refl }
+
+cut : IsUnreached cut_code [] 1
+cut = record {
+  begins = (Exit, refl);
+  cut_off = record { before = 0; instruction = Exit; at = refl; behind = refl; leaves = refl };
+  unstated = refl;
+}
+
+pub in_their_order : RulesCountInTheirOrder
+in_their_order = record {
+  astray_ends = λ first. first.here astray;
+  astray_unreached = λ first. first.here.0 astray;
+  astray_unstated = λ first. first.here.0 astray;
+  astray_kind = λ first. first.here.target astray;
+  open_unreached = λ first. first.here.1 falls;
+  open_unstated = λ first. first.here.1 falls;
+  open_kind = λ first. first.here.ends falls;
+  cut_unstated = λ first. first.here.2 cut;
+  cut_kind = λ first. first.here.reached cut;
 }

@@ -3,31 +3,50 @@ use Rattle.std.specs.Prelude.{◌≡◌, ℕ, ◌<◌, List, [], ◌∷◌, pos}
 use Rattle.isa.specs.declared.code.Slot.{Slot}
 use Rattle.isa.specs.declared.code.Slot.TheVariants.{Start}
 use Rattle.isa.specs.declared.hook.Hook.{Hook}
-use Rattle.isa.specs.declared.instruction.Instruction.TheVariants.{Call, Exit}
+use Rattle.isa.specs.declared.instruction.Instruction.{Instruction}
+use Rattle.isa.specs.declared.instruction.Instruction.TheVariants.{Branch, Call, Exit}
+use Rattle.isa.specs.declared.instruction.Source.TheVariants.{Immediate}
+use Rattle.isa.specs.declared.instruction.Test.TheVariants.{Equal}
+use Rattle.isa.specs.declared.instruction.Width.TheVariants.{Bits64}
+use Rattle.object.specs.Statements.{StatementParts}
+use Rattle.kinds.specs.Stated.{any_number}
 use Rattle.transfer.specs.declared.rule.Rule.{Rule}
 use Rattle.transfer.specs.declared.rule.Rule.TheVariants as rules
 use Rattle.segments.specs.Refusals.{IsFirst, MayRefuse}
-use Rattle.verifier.specs.Examples.{ended, seven, test_on}
+use Rattle.verifier.specs.Examples.{ended, says, seven, test_on}
 
--- Of `r0 = 7; exit`: want of memory at slot 0, and at its two slots a rule of which only the domain
+-- Of a sound program: want of memory at slot 0, and at its slots a rule of which only the domain
 -- can tell whether it is broken; none on jumps, statements, the code's end, helpers, the bound and
 -- r10.
-abbrev pub IsOfSound : ℕ → Rule → Type 0
-IsOfSound slot rules.Target = ⊥
-IsOfSound slot rules.FallsOff = ⊥
-IsOfSound slot rules.Unreached = ⊥
-IsOfSound slot rules.Unstated = ⊥
-IsOfSound slot rules.Helper = ⊥
-IsOfSound slot rules.Budget = ⊥
-IsOfSound slot rules.Frame = ⊥
-IsOfSound slot rules.Memory = slot ≡ 0
-IsOfSound slot other = slot < 2
+abbrev pub IsOfSound : (slots : ℕ) → ℕ → Rule → Type 0
+IsOfSound slots slot rules.Target = ⊥
+IsOfSound slots slot rules.FallsOff = ⊥
+IsOfSound slots slot rules.Unreached = ⊥
+IsOfSound slots slot rules.Unstated = ⊥
+IsOfSound slots slot rules.Helper = ⊥
+IsOfSound slots slot rules.Budget = ⊥
+IsOfSound slots slot rules.Frame = ⊥
+IsOfSound slots slot rules.Memory = slot ≡ 0
+IsOfSound slots slot other = slot < slots
 
--- a sound program may be refused by no rule that the code and the statements alone can break
-abbrev pub SoundCodeIsNotNamed : Type 0
-SoundCodeIsNotNamed =
-    (hook : Hook) (slot : ℕ) (rule : Rule) → MayRefuse hook (ended seven) 0 [] slot rule
-    → IsOfSound slot rule
+-- `if r0 == 0 goto`, so many slots behind the next one
+abbrev pub test_by : ℕ → Instruction
+test_by distance = Branch Bits64 Equal 0 (Immediate (pos 0)) (pos distance)
+
+-- `r0 = 7; if r0 == 0 goto L; exit; L: exit`, and what is stated at L: a number in r0, the rank 0
+abbrev pub jumping_code : List Slot
+jumping_code = Start seven ∷ Start (test_by 1) ∷ Start Exit ∷ Start Exit ∷ []
+
+abbrev pub jumping_statements : List StatementParts
+jumping_statements = says 3 any_number 0 ∷ []
+
+-- a sound program may be refused by no rule that the code and the statements alone can break:
+-- neither `r0 = 7; exit`, nor one that jumps to a statement
+pub record SoundCodeIsNotNamed : Type 0 where
+  pub straight : (hook : Hook) (slot : ℕ) (rule : Rule)
+      → MayRefuse hook (ended seven) 0 [] slot rule → IsOfSound 2 slot rule
+  pub jumping : (hook : Hook) (slot : ℕ) (rule : Rule)
+      → MayRefuse hook jumping_code 0 jumping_statements slot rule → IsOfSound 4 slot rule
 
 -- The rules on helpers and on the bound say what they are called after. No rule says that of
 -- `call 1; exit`, whose helper there is, a helper is missing. With the rank 499,999 at its entry
@@ -55,3 +74,29 @@ pub record LaterRulesDontCount : Type 0 where
   pub within : IsFirst unstated_code [] 1 rules.NotWithin → ⊥
   pub rank : IsFirst unstated_code [] 1 rules.Rank → ⊥
   pub later : (rule : Rule) → IsFirst unstated_code [] 2 rule → ⊥
+
+-- `r0 = 7; if r0 == 0 goto +7; exit`, whose jump leads out of the code
+abbrev pub astray_code : List Slot
+astray_code = Start seven ∷ Start (test_by 7) ∷ Start Exit ∷ []
+
+-- `r0 = 7`, behind which there is nothing
+abbrev pub open_code : List Slot
+open_code = Start seven ∷ []
+
+-- `exit; exit`, of which nothing is stated at the second
+abbrev pub cut_code : List Slot
+cut_code = Start Exit ∷ Start Exit ∷ []
+
+-- The rules on jumps, statements and the code's end have an order: where a slot breaks the one on
+-- targets, none of the three behind it counts there; where it breaks that on the end, neither of the
+-- two; where it can't be reached, not the last. No rule on registers counts at any of these slots.
+pub record RulesCountInTheirOrder : Type 0 where
+  pub astray_ends : IsFirst astray_code [] 1 rules.FallsOff → ⊥
+  pub astray_unreached : IsFirst astray_code [] 1 rules.Unreached → ⊥
+  pub astray_unstated : IsFirst astray_code [] 1 rules.Unstated → ⊥
+  pub astray_kind : IsFirst astray_code [] 1 rules.Kind → ⊥
+  pub open_unreached : IsFirst open_code [] 0 rules.Unreached → ⊥
+  pub open_unstated : IsFirst open_code [] 0 rules.Unstated → ⊥
+  pub open_kind : IsFirst open_code [] 0 rules.Kind → ⊥
+  pub cut_unstated : IsFirst cut_code [] 1 rules.Unstated → ⊥
+  pub cut_kind : IsFirst cut_code [] 1 rules.Kind → ⊥

@@ -4,7 +4,7 @@
 
 ghost use Rattle.isa.specs.declared.hook.Hook.{Hook};
 ghost use Rattle.program_laws.specs.Answers.{AnswersAreOfWhatStands};
-ghost use Rattle.program_laws.specs.Refusals.{HelpersAndBoundAreNamedAptly, LaterRulesDontCount, SoundCodeIsNotNamed};
+ghost use Rattle.program_laws.specs.Refusals.{HelpersAndBoundAreNamedAptly, LaterRulesDontCount, RulesCountInTheirOrder, SoundCodeIsNotNamed};
 ghost use Rattle.program_laws.specs.Runs.{LaterSlotsAreAsStated, LoadsAreOfTheContext, LoadsAreOfTheirMap, StartsAsStated, StoresAreOfTheStack};
 ghost use Rattle.program_laws.specs.Seats.{AdditionsAreRefusedLast, SeatsGrow, SeatsStayLawful};
 
@@ -45,6 +45,12 @@ pub fn helpers_and_bound_are_named_aptly()
 /// Where a slot breaks one of the rules on jumps, statements and the code's end, none behind it counts there, and none at a later slot.
 pub fn later_rules_dont_count()
     ensures { LaterRulesDontCount }
+{}
+
+/// The rules on jumps, statements and the code's end count in this order at a slot: targets, the end, what can't be reached, what isn't
+/// stated; no other rule counts where one of them is broken.
+pub fn rules_count_in_their_order()
+    ensures { RulesCountInTheirOrder }
 {}
 
 /// A load by the pointer of the start goes into the context, whatever is kept at its slot.
