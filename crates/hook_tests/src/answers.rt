@@ -31,6 +31,10 @@ enum Step<'a> {
     Tag(Option<(u64, u32)>),
     Price(Option<u64>),
     Veto(Option<u64>),
+    // The words of `tag` and `price` where no program stands at either.
+    Configured(Option<(u64, u64)>),
+    // How many of two routes are let in where no program stands at `veto`.
+    LetIn(Option<usize>),
 }
 
 // Whether the step's answer comes.
@@ -47,6 +51,8 @@ fn takes<R: Wait + Drop>(
         Step::Tag(words) => return Ok(trial.tag_words()? == words),
         Step::Price(word) => return Ok(trial.price_word()? == word),
         Step::Veto(word) => return Ok(trial.veto_word()? == word),
+        Step::Configured(words) => return Ok(trial.configured_words()? == words),
+        Step::LetIn(routes) => return Ok(trial.let_in(alloc)? == routes),
     }
     Ok(true)
 }
@@ -88,6 +94,28 @@ const DEFAULTS: &[Step<'_>] = &[
 #[test]
 fn without_a_program_the_default_is_answered(rt: HostRuntime) -> Result<(), Fail> {
     all_go(&rt, DEFAULTS)
+}
+
+const CONFIGURED: &[Step<'_>] = &[
+    Step::Configured(Some((0x0506_0708, 20))),
+    Step::LetIn(Some(2)),
+    Step::Attach(SEVEN),
+    Step::Configured(None),
+    Step::LetIn(Some(2)),
+    Step::Attach("hook veto\nrank 0\nr0 = 3\nexit\n"),
+    Step::LetIn(None),
+    Step::Detach(Hook::Price),
+    Step::Attach("hook tag\nrank 0\nr0 = 3\nexit\n"),
+    Step::Configured(None),
+    Step::Detach(Hook::Tag),
+    Step::Detach(Hook::Veto),
+    Step::Configured(Some((0x0506_0708, 20))),
+    Step::LetIn(Some(2)),
+];
+
+#[test]
+fn the_configured_is_answered_at_once_while_no_program_stands(rt: HostRuntime) -> Result<(), Fail> {
+    all_go(&rt, CONFIGURED)
 }
 
 const DETACHED: &[Step<'_>] = &[

@@ -130,4 +130,18 @@ impl<R: Wait + Drop> Trial<R> {
         let route = route()?;
         Ok(self.veto(&route).map(|answer| answer.word()))
     }
+
+    /// The words of `tag` and `price` where no program stands at either.
+    pub fn configured_words(&mut self) -> Result<Option<(u64, u64)>, Fail> {
+        let external = external()?;
+        let found = self.asker.configured(&external, moment());
+        Ok(found.map(|(tag, price)| (tag.word(), price.word())))
+    }
+
+    /// How many of two routes are let in where no program stands at `veto`.
+    pub fn let_in(&mut self, alloc: Global) -> Result<Option<usize>, Fail> {
+        let route = route()?;
+        let found = self.asker.all_let_in(alloc, &[route, route], moment())?;
+        Ok(found.map(|answers| answers.len()))
+    }
 }

@@ -7,3 +7,4 @@ pub mod Questions
 pub mod Laws
 pub mod Refusals
 pub mod Answered
+pub mod Vacant

@@ -6,6 +6,7 @@
 
 mod answer;
 mod asker;
+mod defaults;
 mod error;
 mod history;
 mod input;

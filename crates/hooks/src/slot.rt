@@ -1,5 +1,5 @@
 //! The place of one program.
-ghost use Rattle.std.specs.Prelude.{◌≡◌, IfOk, None, Some, MatchOption};
+ghost use Rattle.std.specs.Prelude.{◌≡◌, ◌↔◌, IfOk, IsTrue, None, Some, MatchOption};
 ghost use Rattle.hooks.specs.Operations.{outcome_of, program_of};
 
 use crate::operation::Operation;
@@ -48,6 +48,13 @@ impl Slot {
             }
             Operation::Detach(_) => self.attached = false,
         }
+    }
+
+    /// Tells whether no program stands here.
+    pub fn is_vacant(&self) -> bool
+        ensures { IsTrue result ↔ (self.now ≡ None) }
+    {
+        !self.attached
     }
 
     /// The program that stands here.

@@ -6,8 +6,9 @@ ghost use Rattle.maps.specs.Words.{IsOf};
 ghost use Rattle.helpers.specs.Seats.{Makes};
 ghost use Rattle.hooks.specs.Operations.{leaves, Answers, IsAsked};
 ghost use Rattle.hooks.specs.Shown.{listed, Stands, changed, vacant};
+ghost use Rattle.hooks.specs.Vacant.{AreVacancies};
 
-use super::{Entry, Programs};
+use super::{Entry, Programs, Vacancies};
 use crate::history::Front;
 use crate::input::{default_word, hook_of};
 use crate::slot::Slot;
@@ -39,6 +40,18 @@ impl Programs {
             Hook::Tag => &self.tag,
             Hook::Price => &self.price,
             Hook::Veto => &self.veto,
+        }
+    }
+
+    /// At which hooks no program stands.
+    pub fn vacancies(&self) -> Vacancies
+        requires { Stands self.now }
+        ensures { AreVacancies (listed self.now) result }
+    {
+        Vacancies {
+            tag: self.tag.is_vacant(),
+            price: self.price.is_vacant(),
+            veto: self.veto.is_vacant(),
         }
     }
 

@@ -1,0 +1,33 @@
+-- What is answered where no program stands.
+use Rattle.std.specs.Prelude.{◌≡◌, ◌↔◌, ℕ, IsTrue, List, None}
+use Rattle.isa.specs.declared.hook.Hook.{Hook}
+use Rattle.isa.specs.declared.hook.Hook.TheVariants.{Tag, Price, Veto}
+use Rattle.machine.specs.Given.{Given}
+use Rattle.maps.specs.Words.{SeatView}
+use Rattle.words.specs.Numbers.{Moment}
+use Rattle.words.specs.declared.route.Route.{Route}
+use Rattle.hooks.specs.declared.operation.Operation.{Operation}
+use Rattle.hooks.specs.declared.value.Vacancies.{Vacancies}
+use Rattle.hooks.specs.Answered.{IsAnswered}
+use Rattle.hooks.specs.Operations.{leaves}
+use Rattle.hooks.specs.Questions.{RouteAnswer}
+
+-- the operations leave no program at the hook
+abbrev pub IsVacant : Hook → List Operation → Type 0
+IsVacant hook operations = leaves hook operations ≡ None
+
+-- it tells at which of three hooks they leave none
+pub record AreVacancies (operations : List Operation) (v : Vacancies) : Type 0 where
+  pub tag : IsTrue v.tag ↔ IsVacant Tag operations
+  pub price : IsTrue v.price ↔ IsVacant Price operations
+  pub veto : IsTrue v.veto ↔ IsVacant Veto operations
+
+-- The list that the asker knows now answers the input with the word, and no seat has a part in it:
+-- each is as it was.
+abbrev pub IsAnsweredByNone : (before now : List Operation) → Given → (word : ℕ) → Type 0
+IsAnsweredByNone before now input word =
+    (seat : SeatView) → IsAnswered before now seat seat input word
+
+-- the answer of `veto` that lets a route in
+abbrev pub let_in : Moment → Route → RouteAnswer
+let_in moment route = record { route = route; moment = moment; word = 0 }

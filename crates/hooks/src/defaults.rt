@@ -1,0 +1,120 @@
+//! Answers where no program stands.
+ghost use Rattle.std.specs.Prelude.{◌≡◌, List, IfOk, IfSome, map};
+ghost use mathlib.Core.List.{IsPrefix};
+ghost use Rattle.left_right.specs.Sides.{view};
+ghost use Rattle.words.specs.declared.route.Route.{Route};
+ghost use Rattle.words.specs.declared.route.TableRow.{TableRow};
+ghost use Rattle.hooks.specs.Known.{known_to, asks_of};
+ghost use Rattle.hooks.specs.Questions.{tag_input, price_input, veto_input};
+ghost use Rattle.hooks.specs.Rule.{HasSeen};
+ghost use Rattle.hooks.specs.Vacant.{AreVacancies, IsAnsweredByNone, let_in};
+
+use crate::answer::{PriceAnswer, TagAnswer, VetoAnswer};
+use crate::asker::Asker;
+use crate::history::Front;
+use crate::rule::{ProgramReader, Sees};
+use crate::value::Vacancies;
+use std::alloc::{AllocError, Global};
+use words::{External, Route, Second};
+
+// Lets these routes in, in their order.
+fn let_in(alloc: Global, routes: &[Route], moment: Second) -> Result<Vec<VetoAnswer>, AllocError>
+    ensures { IfOk result (λ answers. answers.items ≡ map (let_in moment) routes.now) }
+{
+    routes
+        .iter()
+        .map(|route| VetoAnswer::new(*route, moment, 0))
+        .collect(alloc)
+}
+
+// At which hooks no program stands, by one reading; `None` where the published programs give none.
+fn look(reader: ProgramReader, front: &mut Front) -> (ProgramReader, Option<Vacancies>)
+    requires { HasSeen front.old.seen.book (view reader.place) }
+    ensures same { (front.new.seen.book ≡ front.old.seen.book)
+        × HasSeen front.new.seen.book (view result.0.place) }
+    ensures begins { IsPrefix front.old.seen.log front.new.seen.log }
+    ensures vacant { IfSome result.1 (AreVacancies front.new.seen.log) }
+{
+    let reading = match reader.enter_as::<Sees>() {
+        Err(reader) => return (reader, None),
+        Ok(reading) => reading,
+    };
+    let programs = reading.get();
+    if !programs.front.reaches(front) {
+        return (reading.leave(), None);
+    }
+    let vacancies = programs.vacancies();
+    *front = programs.front.again();
+    (reading.leave(), Some(vacancies))
+}
+
+impl Asker {
+    // The same, of the programs that this asker reads.
+    fn vacancies(&mut self) -> Option<Vacancies>
+        ensures history { asks_of self.new ≡ asks_of self.old }
+        ensures known { IsPrefix (known_to self.old) (known_to self.new) }
+        ensures vacant { IfSome result (AreVacancies (known_to self.new)) }
+    {
+        let Some(reader) = self.reader.take() else {
+            unreachable!()
+        };
+        let (reader, vacancies) = look(reader, &mut self.front);
+        self.reader = Some(reader);
+        vacancies
+    }
+
+    /// The answers of `tag` and `price` on an external destination where one reading shows no
+    /// program at either: the configured tag and the configured metric. They are those beside
+    /// whatever rows, and no seat has a part in them. `None` where a program stands at one of the
+    /// two, or the published programs give no reading.
+    pub fn configured(
+        &mut self,
+        external: &External,
+        moment: Second,
+    ) -> Option<(TagAnswer, PriceAnswer)>
+        ensures history { asks_of self.new ≡ asks_of self.old }
+        ensures known { IsPrefix (known_to self.old) (known_to self.new) }
+        ensures tag { IfSome result (λ r. (r.0.external ≡ external.now) × (r.0.moment ≡ moment)) }
+        ensures price { IfSome result (λ r. (r.1.external ≡ external.now) × (r.1.moment ≡ moment)) }
+        ensures tagged { IfSome result (λ r. (rows : List TableRow) → IsAnsweredByNone
+            (known_to self.old) (known_to self.new) (tag_input external.now moment rows) r.0.word) }
+        ensures priced { IfSome result (λ r. (rows : List TableRow) → IsAnsweredByNone
+            (known_to self.old) (known_to self.new) (price_input external.now moment rows) r.1.word) }
+    {
+        let vacancies = self.vacancies()?;
+        if !vacancies.tag || !vacancies.price {
+            return None;
+        }
+        let tag = TagAnswer::new(*external, moment, u64::from(external.tag));
+        let price = PriceAnswer::new(*external, moment, u64::from(external.metric));
+        Some((tag, price))
+    }
+
+    /// The answers of `veto` on routes, in their order, where one reading shows no program there:
+    /// each route is let in. They are those beside whatever rows, and no seat has a part in them.
+    /// `None` where a program stands there, or the published programs give no reading.
+    ///
+    /// `AllocError` comes where memory for the answers is refused.
+    pub fn all_let_in(
+        &mut self,
+        alloc: Global,
+        routes: &[Route],
+        moment: Second,
+    ) -> Result<Option<Vec<VetoAnswer>>, AllocError>
+        ensures history { asks_of self.new ≡ asks_of self.old }
+        ensures known { IsPrefix (known_to self.old) (known_to self.new) }
+        ensures all { IfOk result (λ o. IfSome o (λ answers.
+            answers.items ≡ map (let_in moment) routes.now)) }
+        ensures answered { IfOk result (λ o. IfSome o (λ answers.
+            (route : Route) (rows : List TableRow) → IsAnsweredByNone
+            (known_to self.old) (known_to self.new) (veto_input route moment rows) 0)) }
+    {
+        match self.vacancies() {
+            Some(vacancies) if vacancies.veto => {
+                let answers = let_in(alloc, routes, moment)?;
+                Ok(Some(answers))
+            }
+            _ => Ok(None),
+        }
+    }
+}
