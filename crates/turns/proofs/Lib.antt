@@ -1,3 +1,4 @@
+mod Configured
 mod Counted
 mod FromSome
 pub mod Longer

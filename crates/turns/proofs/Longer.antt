@@ -1,5 +1,5 @@
 -- What begins with a longer list begins with a shorter one.
-use Rattle.std.proofs.Common.{◌≡◌, ◌∙◌, ℕ, ◌+◌, List, Option, None, Some, arith}
+use Rattle.std.proofs.Common.{◌≡◌, ◌⊎◌, inl, inr, ◌∙◌, ℕ, ◌+◌, List, Option, None, Some, arith}
 use Rattle.std.specs.Prelude.{MatchOption}
 use Rattle.std.specs.List.{All}
 use mathlib.Core.List.{IsPrefix}
@@ -13,7 +13,7 @@ use Rattle.hooks.specs.declared.operation.Operation.{Operation}
 use Rattle.hooks.specs.Questions.{ExternalAnswer, RouteAnswer}
 use Rattle.hooks.proofs.Fronts.{prefix_trans}
 use Rattle.book.specs.Event.{Event}
-use Rattle.turns.specs.Turns.{AreVetoes, IsFor, IsInstall, IsPriceOn, IsRedistribute, IsTagOn, IsTurned, IsVetoOn, IsWordOn, Offers, TakesFor, Took}
+use Rattle.turns.specs.Turns.{AreAsked, AreBeside, AreVetoes, IsFor, IsInstall, IsPriceOn, IsRedistribute, IsTagOn, IsTurned, IsVetoOn, IsWordOn, Offers, TakesFor, Took}
 use Rattle.turns.specs.declared.turned.Turned.{Turned}
 use Rattle.turns.specs.declared.work.Work.{Work}
 use Rattle.turns.specs.declared.work.Work.TheVariants as work
@@ -45,10 +45,19 @@ module _ (known more : List Operation) (longer : IsPrefix known more) where
   install_longer offers moment e (candidates, rows, answers, offered, vetoes, is) =
       (candidates, rows, answers, offered, vetoes_longer moment rows candidates answers vetoes, is)
 
+  beside_longer : (external : External) (moment : Moment) (rows : List TableRow) (tag price : ExternalAnswer)
+      → AreBeside more external moment rows tag price → AreBeside known external moment rows tag price
+  beside_longer external moment rows tag price h = (tag_longer external moment rows tag h.0, price_longer external moment rows price h.1)
+
+  asked_longer : (offers : Offers) (external : External) (moment : Moment) (tag price : ExternalAnswer)
+      → AreAsked offers more external moment tag price → AreAsked offers known external moment tag price
+  asked_longer offers external moment tag price (inl (candidates, rows, offered, beside)) =
+      inl (candidates, rows, offered, beside_longer external moment rows tag price beside)
+  asked_longer offers external moment tag price (inr beside) = inr (λ rows. beside_longer external moment rows tag price (beside rows))
+
   pub redistribute_longer : (offers : Offers) (external : External) (moment : Moment) (e : Event)
       → IsRedistribute offers more external moment e → IsRedistribute offers known external moment e
-  redistribute_longer offers external moment e (candidates, rows, tag, price, offered, tagged, priced, is) =
-      (candidates, rows, tag, price, offered, tag_longer external moment rows tag tagged, price_longer external moment rows price priced, is)
+  redistribute_longer offers external moment e (tag, price, asked, is) = (tag, price, asked_longer offers external moment tag price asked, is)
 
   pub for_longer : (offers : Offers) (w : Work) (moment : Moment) (e : Event) → IsFor offers more w moment e → IsFor offers known w moment e
   for_longer offers (work.Datagram number bytes) moment e h = h

@@ -1,10 +1,15 @@
--- What a program at `count` can't do: it doesn't reach the event of a datagram.
-use Rattle.std.specs.Prelude.{◌↔◌, ℕ, List}
+-- What the definitions of turns mean, as laws.
+use Rattle.std.specs.Prelude.{◌≡◌, ◌↔◌, ℕ, List}
 use Rattle.words.specs.Numbers.{InterfaceNumber, Moment}
+use Rattle.words.specs.declared.route.External.{External}
+use Rattle.words.specs.declared.route.Route.{Route}
+use Rattle.words.specs.declared.route.TableRow.{TableRow}
 use Rattle.events.specs.declared.model.Out.{Out}
 use Rattle.hooks.specs.declared.operation.Operation.{Operation}
+use Rattle.hooks.specs.Questions.{ExternalAnswer}
+use Rattle.book.specs.Event.{Event}
 use Rattle.book.specs.Event.TheVariants as event
-use Rattle.turns.specs.Turns.{IsOfferedBySome, Sends, TakesFor}
+use Rattle.turns.specs.Turns.{AreBeside, IsFor, IsOfferedBySome, Sends, TakesFor}
 use Rattle.turns.specs.declared.work.Work.TheVariants as work
 
 -- A turn for a datagram gives the packet of just these bytes from just this interface, and sends
@@ -15,3 +20,16 @@ CountReachesNoEvent =
     (outs : List Out)
     → TakesFor IsOfferedBySome Sends known moment (work.Datagram number bytes) outs
     ↔ Sends moment (event.Packet number bytes) outs
+
+-- Wherever a table is offered, the answers of an announcement are beside the rows of one that is:
+-- those for which none was asked are the same beside each.
+abbrev pub AnswersAreBesideATable : Type 0
+AnswersAreBesideATable =
+    (candidates : List Route) (rows : List TableRow)
+    (known : List Operation) (moment : Moment) (external : External) (e : Event)
+    → IsOfferedBySome candidates rows
+    → IsFor IsOfferedBySome known (work.Add external) moment e
+    → (candidates : List Route) × (rows : List TableRow)
+    × (tag : ExternalAnswer) × (price : ExternalAnswer)
+    × IsOfferedBySome candidates rows × AreBeside known external moment rows tag price
+    × (e ≡ event.Redistribute tag price)

@@ -140,13 +140,26 @@ IsInstall offers known moment e =
     × offers candidates rows × AreVetoes known moment rows candidates answers
     × (e ≡ event.Install answers)
 
--- it announces the destination, as the programs answer on the rows of the table
+-- both answers are on this destination, at this moment, beside these rows
+abbrev pub AreBeside : (known : List Operation) → External → Moment → List TableRow
+    → (tag : ExternalAnswer) → (price : ExternalAnswer) → Type 0
+AreBeside known external moment rows tag price =
+    IsTagOn known external moment rows tag × IsPriceOn known external moment rows price
+
+-- They are beside the rows of a table that was offered; or beside whatever rows, as they are where
+-- no program stands at `tag` and none at `price`: then no table was asked for.
+abbrev pub AreAsked : Offers → (known : List Operation) → External → Moment
+    → (tag : ExternalAnswer) → (price : ExternalAnswer) → Type 0
+AreAsked offers known external moment tag price =
+    ((candidates : List Route) × (rows : List TableRow)
+    × offers candidates rows × AreBeside known external moment rows tag price)
+    ⊎ ((rows : List TableRow) → AreBeside known external moment rows tag price)
+
+-- it announces the destination, with the answers of the programs
 abbrev pub IsRedistribute : Offers → (known : List Operation) → External → Moment → Event → Type 0
 IsRedistribute offers known external moment e =
-    (candidates : List Route) × (rows : List TableRow)
-    × (tag : ExternalAnswer) × (price : ExternalAnswer)
-    × offers candidates rows × IsTagOn known external moment rows tag
-    × IsPriceOn known external moment rows price × (e ≡ event.Redistribute tag price)
+    (tag : ExternalAnswer) × (price : ExternalAnswer)
+    × AreAsked offers known external moment tag price × (e ≡ event.Redistribute tag price)
 
 -- the event is that of the work, with answers to its questions
 abbrev pub IsFor : Offers → (known : List Operation) → Work → Moment → Event → Type 0

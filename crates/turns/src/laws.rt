@@ -1,8 +1,14 @@
-//! A law of turns, carried by a function that does nothing.
-ghost use Rattle.turns.specs.Laws.{CountReachesNoEvent};
+//! Laws of turns, carried by functions that do nothing.
+ghost use Rattle.turns.specs.Laws.{AnswersAreBesideATable, CountReachesNoEvent};
 
 /// A program at `count` reaches no event: a turn for a datagram gives the packet that came, whatever
 /// is answered.
 pub fn count_reaches_no_event()
     ensures { CountReachesNoEvent }
+{}
+
+/// The answers of an announcement are beside the rows of a table that is offered, wherever one is:
+/// where no program stands at `tag` and `price`, they are the same beside each.
+pub fn answers_are_beside_a_table()
+    ensures { AnswersAreBesideATable }
 {}

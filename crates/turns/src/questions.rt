@@ -59,8 +59,33 @@ pub fn asked<L: Site, B: Taker<L>, R: Wait>(
     }
 }
 
-// A destination that is to be announced, with its tag and its metric.
+// A destination that is to be announced, with its tag and its metric. Where no program stands at
+// the two hooks no table is asked for, which would take as long as the router's candidates.
 fn redistribution<L: Site, B: Taker<L>, R: Wait>(
+    rt: &R,
+    hub: &Hub<L, B>,
+    asker: &mut Asker,
+    seat: &mut Seat,
+    moment: Second,
+    external: &External,
+) -> Result<Event, TurnError>
+    requires { IsOf L.words seat.old }
+    ensures event { IfOk result (λ event.
+        IsFor B.offers (known_to asker.old) (Work.Add external.now) moment event) }
+    ensures err { IfErr result IsUnasked }
+    ensures seat { IsOf L.words seat.new }
+    ensures history { asks_of asker.new ≡ asks_of asker.old }
+    ensures known { IsPrefix (known_to asker.old) (known_to asker.new) }
+{
+    match asker.configured(external, moment) {
+        Some((tagged, priced)) => Ok(Event::Redistribute(tagged, priced)),
+        None => beside_table(rt, hub, asker, seat, moment, external),
+    }
+}
+
+// The same, where a program may stand at `tag` or `price`: both are asked beside the rows of the
+// table.
+fn beside_table<L: Site, B: Taker<L>, R: Wait>(
     rt: &R,
     hub: &Hub<L, B>,
     asker: &mut Asker,

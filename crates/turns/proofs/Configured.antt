@@ -1,0 +1,40 @@
+-- Answers where no program stands.
+use Rattle.std.proofs.Common.{◌≡◌, inl, inr, List, refl}
+use Rattle.words.specs.Numbers.{Moment}
+use Rattle.words.specs.declared.route.External.{External}
+use Rattle.words.specs.declared.route.Route.{Route}
+use Rattle.words.specs.declared.route.TableRow.{TableRow}
+use Rattle.maps.specs.Words.{SeatView}
+use Rattle.hooks.specs.declared.operation.Operation.{Operation}
+use Rattle.hooks.specs.Questions.{ExternalAnswer, price_input, tag_input}
+use Rattle.hooks.specs.Vacant.{IsAnsweredByNone}
+use Rattle.book.specs.Event.{Event}
+use Rattle.book.specs.Event.TheVariants as event
+use Rattle.turns.specs.Laws.{AnswersAreBesideATable}
+use Rattle.turns.specs.Turns.{AreAsked, AreBeside, IsOfferedBySome, IsRedistribute, Offers}
+use Rattle.turns.proofs.Vetoes.{is_word}
+
+pub configured : (offers : Offers) (known now : List Operation) (seat : SeatView) (external : External) (moment : Moment) (tag price : ExternalAnswer)
+    → (tag.external ≡ external) × (tag.moment ≡ moment) → (price.external ≡ external) × (price.moment ≡ moment)
+    → ((rows : List TableRow) → IsAnsweredByNone known now (tag_input external moment rows) tag.word)
+    → ((rows : List TableRow) → IsAnsweredByNone known now (price_input external moment rows) price.word)
+    → IsRedistribute offers known external moment (event.Redistribute tag price)
+configured offers known now seat external moment tag price on_tag on_price tagged priced = (
+  tag,
+  price,
+  inr (λ rows. (
+    record { destination = on_tag.0; asked = on_tag.1; answered = is_word (tagged rows seat) },
+    record { destination = on_price.0; asked = on_price.1; answered = is_word (priced rows seat) },
+  )),
+  refl,
+)
+
+asked_beside : (known : List Operation) (moment : Moment) (external : External) (candidates : List Route) (rows : List TableRow) (tag price : ExternalAnswer)
+    → IsOfferedBySome candidates rows → AreAsked IsOfferedBySome known external moment tag price
+    → (candidates : List Route) × (rows : List TableRow) × IsOfferedBySome candidates rows × AreBeside known external moment rows tag price
+asked_beside known moment external candidates rows tag price offered (inl beside) = beside
+asked_beside known moment external candidates rows tag price offered (inr beside) = (candidates, rows, offered, beside rows)
+
+pub beside_a_table : AnswersAreBesideATable
+beside_a_table candidates rows known moment external e offered (tag, price, asked, is) =
+    let b = asked_beside known moment external candidates rows tag price offered asked in (b.0, b.1, tag, price, b.2, b.3, is)
