@@ -1,5 +1,6 @@
 mod Configured
 mod Counted
 mod FromSome
+mod LetIn
 pub mod Longer
 mod Vetoes

@@ -198,8 +198,34 @@ pub fn installation<L: Site, B: Taker<L>, R: Wait>(
     Ok(Event::Install(Sequence::from_vec(answers)))
 }
 
-// The answers on the candidates, in their order.
+// The answers on the candidates, in their order. Where no program stands at `veto`, one reading
+// tells so for all of them.
 fn vetoes(
+    shared: &Shared,
+    asker: &mut Asker,
+    seat: &mut Seat,
+    moment: Second,
+    offered: &Offered,
+) -> Result<Vec<VetoAnswer>, TurnError>
+    requires { IsOf shared.now seat.old }
+    ensures answers { IfOk result (λ answers. AreVetoes (known_to asker.old)
+        moment offered.now.rows.items offered.now.candidates.items answers.items) }
+    ensures err { IfErr result IsUnasked }
+    ensures seat { IsOf shared.now seat.new }
+    ensures history { asks_of asker.new ≡ asks_of asker.old }
+    ensures known { IsPrefix (known_to asker.old) (known_to asker.new) }
+{
+    let routes = offered.candidates.as_slice();
+    let alloc = *offered.candidates.allocator();
+    let all = asker.all_let_in(alloc, routes, moment)?;
+    match all {
+        Some(answers) => Ok(answers),
+        None => each_veto(shared, asker, seat, moment, offered),
+    }
+}
+
+// The same, each candidate by a question of its own.
+fn each_veto(
     shared: &Shared,
     asker: &mut Asker,
     seat: &mut Seat,
