@@ -120,37 +120,33 @@ impl<L: Ledger> Book<L> {
         &mut self,
         mine: &mut Share<L>,
         moment: Second,
-        event: &Event,
+        event: Event,
     ) -> Result<Vec<Out>, BookError>
         requires { 0 < mine.old.parts }
         ensures ok { IfOk result (λ outs. Happens
-            self.old.current moment (occurrence_of event.now) outs.items self.new.current) }
+            self.old.current moment (occurrence_of event) outs.items self.new.current) }
         ensures book { OnOk result (self.new ≡ record self.old {
-          journal = self.old.journal ++ entry moment event.now ∷ [];
+          journal = self.old.journal ++ entry moment event ∷ [];
           current = self.new.current;
           taken = self.old.taken + 1;
         }) }
         ensures share { OnOk result (mine.new.amount ≡ mine.old.amount + 1) }
         ensures parts { mine.new.parts ≡ mine.old.parts }
-        ensures refused { Answers self.old moment event.now result }
+        ensures refused { Answers self.old moment event result }
         ensures err { OnErr result
             ((self.new ≡ self.old) × (mine.new.amount ≡ mine.old.amount)) }
     {
         if self.journal.len() == JOURNAL || self.taken == TAKEN {
             return Err(BookError::Journal);
         }
-        if let Some(error) = self.current.refuses(moment, event) {
+        if let Some(error) = self.current.refuses(moment, &event) {
             return Err(BookError::Core(error));
         }
         // What needs memory comes before the step, after which nothing may fail.
         self.journal.reserve(1)?;
-        let event_copy = event.copy()?;
-        let outs = self.current.step(moment, event)?;
-        self.noted = with_event(self.noted, event);
-        self.journal.push_reserved(Entry {
-            moment,
-            event: event_copy,
-        });
+        let outs = self.current.step(moment, &event)?;
+        self.noted = with_event(self.noted, &event);
+        self.journal.push_reserved(Entry { moment, event });
         self.total.add(mine, 1);
         self.taken += 1;
         Ok(outs)
@@ -199,17 +195,17 @@ impl<L: Ledger> Book<L> {
         &mut self,
         mine: &mut Share<L>,
         moment: Second,
-        event: &Event,
+        event: Event,
     ) -> Result<Vec<Out>, BookError>
         requires { 0 < mine.old.parts }
         ensures ok { IfOk result (λ outs. Happens
-            self.old.current moment (occurrence_of event.now) outs.items self.new.current) }
-        ensures noted { OnOk result (IsNoted self.old (entry moment event.now) self.new) }
+            self.old.current moment (occurrence_of event) outs.items self.new.current) }
+        ensures noted { OnOk result (IsNoted self.old (entry moment event) self.new) }
         ensures taken { OnOk result (self.new.taken ≡ self.old.taken + 1) }
         ensures share { OnOk result (mine.new.amount ≡ mine.old.amount + 1) }
         ensures parts { mine.new.parts ≡ mine.old.parts }
-        ensures refused { AnswersAnew self.old moment event.now result }
-        ensures early { (early_refusal self.old.current moment (occurrence_of event.now) ≡ None → ⊥)
+        ensures refused { AnswersAnew self.old moment event result }
+        ensures early { (early_refusal self.old.current moment (occurrence_of event) ≡ None → ⊥)
             → self.new ≡ self.old }
         ensures err { OnErr result
             (IsSameOrMarked self.old self.new × (mine.new.amount ≡ mine.old.amount)) }
@@ -218,7 +214,7 @@ impl<L: Ledger> Book<L> {
             return Err(BookError::Journal);
         }
         // These two come before any want of memory, of the mark's too.
-        if let Some(error) = self.now().refuses(moment, event) {
+        if let Some(error) = self.now().refuses(moment, &event) {
             return Err(BookError::Core(error));
         }
         self.make_room()?;

@@ -44,14 +44,14 @@ fn take<L: Site, B: Taker<L>>(
     book: &mut B,
     mine: &mut Share<L>,
     moment: Second,
-    event: &Event,
+    event: Event,
 ) -> Result<Taken, BookError>
     requires { 0 < mine.old.parts }
-    ensures ok { IfOk result (λ r. B.took moment event.now r.outs.items) }
+    ensures ok { IfOk result (λ r. B.took moment event r.outs.items) }
     ensures share { OnOk result (mine.new.amount ≡ mine.old.amount + 1) }
     ensures parts { mine.new.parts ≡ mine.old.parts }
     ensures err { OnErr result (mine.new.amount ≡ mine.old.amount) }
-    ensures clock { IsInstalling event.now
+    ensures clock { IsInstalling event
         → result ≡ Err (BookError.Core CoreError.ClockBack)
         → clock_end ≤ max moment (B.moment_of book.old) }
 {
@@ -137,14 +137,14 @@ impl<L: Site, B: Taker<L>> Hub<L, B> {
         rt: &R,
         mine: &mut Share<L>,
         moment: Second,
-        event: &Event,
+        event: Event,
     ) -> Result<Taken, BookError>
         requires { 0 < mine.old.parts }
-        ensures ok { IfOk result (λ r. B.took moment event.now r.outs.items) }
+        ensures ok { IfOk result (λ r. B.took moment event r.outs.items) }
         ensures share { OnOk result (mine.new.amount ≡ mine.old.amount + 1) }
         ensures parts { mine.new.parts ≡ mine.old.parts }
         ensures err { OnErr result (mine.new.amount ≡ mine.old.amount) }
-        ensures clock { IsInstalling event.now
+        ensures clock { IsInstalling event
             → result ≡ Err (BookError.Core CoreError.ClockBack)
             → (book : B) × (clock_end ≤ max moment (B.moment_of book)) }
     {
@@ -158,11 +158,11 @@ impl<L: Site, B: Taker<L>> Hub<L, B> {
         rt: &R,
         mine: &mut Share<L>,
         moment: Second,
-        event: &Event,
+        event: Event,
         changes: u64,
     ) -> Result<Taken, TurnError>
         requires { 0 < mine.old.parts }
-        ensures ok { IfOk result (λ r. B.took moment event.now r.outs.items) }
+        ensures ok { IfOk result (λ r. B.took moment event r.outs.items) }
         ensures share { OnOk result (mine.new.amount ≡ mine.old.amount + 1) }
         ensures parts { mine.new.parts ≡ mine.old.parts }
         ensures err { OnErr result (mine.new.amount ≡ mine.old.amount) }

@@ -49,14 +49,14 @@ pub trait Taker<L: Ledger> {
         &mut self,
         mine: &mut Share<L>,
         moment: Second,
-        event: &Event,
+        event: Event,
     ) -> Result<Vec<Out>, BookError>
         requires { 0 < mine.old.parts }
-        ensures ok { IfOk result (λ outs. took moment event.now outs.items) }
+        ensures ok { IfOk result (λ outs. took moment event outs.items) }
         ensures share { OnOk result (mine.new.amount ≡ mine.old.amount + 1) }
         ensures parts { mine.new.parts ≡ mine.old.parts }
         ensures err { OnErr result (mine.new.amount ≡ mine.old.amount) }
-        ensures clock { IsInstalling event.now
+        ensures clock { IsInstalling event
             → result ≡ Err (BookError.Core CoreError.ClockBack)
             → clock_end ≤ max moment (moment_of self.old) };
 
@@ -109,9 +109,9 @@ impl<L: Ledger> Taker<L> for Book<L> {
         &mut self,
         mine: &mut Share<L>,
         moment: Second,
-        event: &Event,
+        event: Event,
     ) -> Result<Vec<Out>, BookError> {
-        let at = taken_at(event, moment, self.now().moment());
+        let at = taken_at(&event, moment, self.now().moment());
         self.apply_anew(mine, at, event)
     }
 

@@ -54,7 +54,7 @@ pub fn turn<L: Site, B: Taker<L>, G: Gate, R: Wait>(
     let changes = hub.changes();
     let event = asked(rt, hub, &mut port.asker, &mut port.seat, moment, work)?;
     gate.pass(port.number);
-    let taken = hub.take(rt, &mut port.share, moment, &event)?;
+    let taken = hub.take(rt, &mut port.share, moment, event)?;
     let refreshed = follow(rt, hub, port, moment, changes, taken.stale);
     Ok(Turned {
         outs: taken.outs,
@@ -103,6 +103,6 @@ fn refresh<L: Site, B: Taker<L>, R: Wait>(
 {
     let event = installation(rt, hub, &mut port.asker, &mut port.seat, moment)?;
     let share = &mut port.share;
-    let taken = hub.take_unless_changed(rt, share, moment, &event, changes)?;
+    let taken = hub.take_unless_changed(rt, share, moment, event, changes)?;
     Ok(taken.outs)
 }

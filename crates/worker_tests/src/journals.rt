@@ -54,6 +54,9 @@ fn called<L: Ledger>(book: &mut Book<L>, share: &mut Share<L>, call: Call, event
     ensures { share.new.parts ≡ share.old.parts }
 {
     let now = Second::new(0);
+    let Ok(event) = event.copy() else {
+        return MEMORY;
+    };
     match call {
         Call::Apply => number_of(book.apply(share, now, event)),
         Call::ApplyAnew => number_of(book.apply_anew(share, now, event)),
