@@ -140,8 +140,16 @@ impl<R: Wait + Drop> Trial<R> {
 
     /// How many of two routes are let in where no program stands at `veto`.
     pub fn let_in(&mut self, alloc: Global) -> Result<Option<usize>, Fail> {
-        let route = route()?;
-        let found = self.asker.all_let_in(alloc, &[route, route], moment())?;
+        let routes = two_routes(alloc)?;
+        let found = self.asker.all_let_in(alloc, &routes, moment())?;
         Ok(found.map(|answers| answers.len()))
     }
+}
+
+fn two_routes(alloc: Global) -> Result<Vec<Route>, Fail> {
+    let mut routes = Vec::new(alloc);
+    for _ in 0..2 {
+        routes.push(route()?)?;
+    }
+    Ok(routes)
 }
