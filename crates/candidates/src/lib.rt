@@ -54,8 +54,8 @@ pub fn candidates(
 
 /// The candidates of a database at a moment, where these are the ways of its links: for each prefix
 /// that anything offers one route, in the order of the prefixes (RFC 2328, section 16). The time is
-/// that of a look-up for each LSA, of one by halving for each summary and external destination, and of two
-/// sorts of the offers.
+/// that of a look-up for each LSA, of one by halving for each summary and external destination, and
+/// of two sorts of the offers.
 ///
 /// # Errors
 /// Where memory for the keys, the offers or the routes is refused.

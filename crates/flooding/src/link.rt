@@ -110,7 +110,8 @@ impl Link {
             self.old.present) }
         ensures draft { IfOk result (λ _. draft.new
             ≡ drafting self.old.present.interface.delay
-            (sent_on (flooded moment from (lsa_now moment copy.now)) self.old.present.neighbor) draft.old) }
+            (sent_on (flooded moment from (lsa_now moment copy.now)) self.old.present.neighbor)
+            draft.old) }
         ensures sent { IfOk result (λ sent. sent
             ≡ is_any (sent_on (flooded moment from (lsa_now moment copy.now))
             self.old.present.neighbor)) }

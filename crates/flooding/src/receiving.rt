@@ -80,7 +80,8 @@ fn send_copy(
         (start (area_of links.now database.old.present))).area) }
     ensures drafts { OnOk result (drafts.new
         ≡ drafted (send_copy moment number (finite.get database.old.present key.now)
-        (start (area_of links.now database.old.present))).sends (map present links.now) drafts.old) }
+        (start (area_of links.now database.old.present))).sends (map present links.now)
+        drafts.old) }
     ensures settled { database.new.settled ≡ database.old.settled }
     ensures router { database.new.router ≡ database.old.router }
 {
@@ -112,7 +113,8 @@ fn after_case(
         (start (area_of links.old database.old.present))).area) }
     ensures drafts { OnOk result (drafts.new
         ≡ drafted (after_case (case_of case) moment number lsa
-        (start (area_of links.old database.old.present))).sends (map present links.old) drafts.old) }
+        (start (area_of links.old database.old.present))).sends (map present links.old)
+        drafts.old) }
     ensures links { map settled links.new ≡ map settled links.old }
     ensures settled { database.new.settled ≡ database.old.settled }
     ensures router { database.new.router ≡ database.old.router }
@@ -155,7 +157,8 @@ pub fn receive(
         (start (area_of links.old database.old.present))).area) }
     ensures drafts { IfOk result (λ c. drafts.new
         ≡ drafted (after_case (case_of c) moment number lsa
-        (start (area_of links.old database.old.present))).sends (map present links.old) drafts.old) }
+        (start (area_of links.old database.old.present))).sends (map present links.old)
+        drafts.old) }
     ensures links { map settled links.new ≡ map settled links.old }
     ensures settled { database.new.settled ≡ database.old.settled }
     ensures router { database.new.router ≡ database.old.router }

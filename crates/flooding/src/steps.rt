@@ -117,7 +117,8 @@ pub fn step_link<S: LinkStep>(
         (start (area_of links.old database.old.present))).area) }
     ensures drafts { OnOk result (drafts.new
         ≡ drafted (one_link moment number (S.after step.now) (S.sends step.now)
-        (start (area_of links.old database.old.present))).sends (map present links.old) drafts.old) }
+        (start (area_of links.old database.old.present))).sends (map present links.old)
+        drafts.old) }
     ensures links { map settled links.new ≡ map settled links.old }
     ensures settled { database.new.settled ≡ database.old.settled }
     ensures router { database.new.router ≡ database.old.router }

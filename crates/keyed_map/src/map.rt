@@ -1,4 +1,5 @@
-ghost use Rattle.std.specs.Prelude.{◌≡◌, ◌==◌, ◌↔◌, ◌<◌, ◌≤◌, Some, length, slice_get, IfOk, OnOk, OnErr, IsTrue, Option, take, option_copied};
+ghost use Rattle.std.specs.Prelude.{◌≡◌, ◌==◌, ◌↔◌, ◌<◌, ◌≤◌, Some, length, slice_get, IfOk, OnOk};
+ghost use Rattle.std.specs.Prelude.{OnErr, IsTrue, Option, take, option_copied};
 ghost use Rattle.std.specs.FinMap as map;
 ghost use Rattle.words.specs.declared.key.Key.{Key as KeyValue};
 ghost use Rattle.keyed_map.specs.declared.slot.Edit.{Edit as EditValue};
@@ -158,7 +159,8 @@ pub trait ChangeTest<X> {
             ↔ same self.now key.now (option_copied before.entry) (option_copied now.entry)) };
 }
 
-// Whether the key of the edit at this place holds the same now as before the edit, or the edit isn't the first of its key.
+// Whether the key of the edit at this place holds the same now as before the edit, or the edit
+// isn't the first of its key.
 fn is_kept<X, T: ChangeTest<X>>(
     alloc: Global,
     test: &T,
@@ -167,7 +169,8 @@ fn is_kept<X, T: ChangeTest<X>>(
     now: Option<&X>,
 ) -> Result<bool, AllocError>
     requires { place < length edits.now }
-    ensures { (edit : EditValue X) → slice_get edits.now place ≡ Some edit → IfOk result (λ kept. IsTrue kept
+    ensures { (edit : EditValue X) → slice_get edits.now place ≡ Some edit
+        → IfOk result (λ kept. IsTrue kept
         ↔ (IsFirst edits.now place edit.key
         → T.same test.now edit.key (held_before edit.before) (option_copied now.entry))) }
 {
@@ -294,7 +297,8 @@ impl<X: Drop> KeyedMap<X> {
 
     /// The first so many keys from a key on, in their order.
     pub fn first_from(&self, alloc: Global, key: &Key, count: usize) -> Result<Vec<Key>, AllocError>
-        ensures { IfOk result (λ keys. keys.items ≡ take count (keys_from key.now (map.keys self.now.present))) }
+        ensures { IfOk result (λ keys. keys.items
+            ≡ take count (keys_from key.now (map.keys self.now.present))) }
     {
         let mut keys = Vec::new(alloc);
         for (found, slot) in self.slots.range(*key..) {
@@ -310,7 +314,8 @@ impl<X: Drop> KeyedMap<X> {
 
     /// The keys that pass a test, in their order. It looks at each.
     pub fn keys_where<T: KeyTest<X>>(&self, alloc: Global, test: &T) -> Result<Vec<Key>, AllocError>
-        ensures { IfOk result (λ keys. keys.items ≡ keys_where (T.accepts test.now) (map.entries self.now.present)) }
+        ensures { IfOk result (λ keys. keys.items ≡ keys_where (T.accepts test.now)
+            (map.entries self.now.present)) }
     {
         let mut keys = Vec::new(alloc);
         for (key, slot) in self.slots.iter() {
@@ -324,8 +329,8 @@ impl<X: Drop> KeyedMap<X> {
         Ok(keys)
     }
 
-    /// Tells whether each key holds the same, by the test, as when the map was last settled. It looks
-    /// at the keys that were edited since. The first edit of a key tells what it held then.
+    /// Tells whether each key holds the same, by the test, as when the map was last settled. It
+    /// looks at the keys that were edited since. The first edit of a key tells what it held then.
     ///
     /// # Errors
     /// Where the test was refused memory.

@@ -1,6 +1,7 @@
 -- Routers with a flag that ways lead to, and what area border routers tell (RFC 2328, sections 16.2
 -- and 16.4).
-use Rattle.std.specs.Prelude.{◌≡◌, ◌≢◌, ◌↔◌, ◌⊎◌, ℕ, ◌+◌, ◌<◌, ◌≤◌, Bool, false, true, List, Some, bit_and}
+use Rattle.std.specs.Prelude.{◌≡◌, ◌≢◌, ◌↔◌, ◌⊎◌, ℕ, ◌+◌, ◌<◌, ◌≤◌, Bool, false, true, List, Some}
+use Rattle.std.specs.Prelude.{bit_and}
 use Rattle.std.specs.Prelude.{slice_index_or}
 use Rattle.std.specs.List.{AllPairs, Contains}
 use Rattle.words.specs.Prefixes.{IsUnder, Network, network_address}

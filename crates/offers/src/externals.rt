@@ -28,7 +28,8 @@ use words::{Key, Route, RouterId, Second};
 #[derive(Drop)]
 pub struct Inner<'a> {
     pub routers: &'a [Route],
-    /// The area border routers and AS boundary routers of the area, in the order of their Router IDs.
+    /// The area border routers and AS boundary routers of the area, in the order of their Router
+    /// IDs.
     pub flagged: &'a [Flagged],
     pub networks: &'a [Route],
     /// Which lengths the networks' prefixes have.

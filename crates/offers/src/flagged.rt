@@ -58,8 +58,8 @@ fn flagged_at<W: Ways>(db: &Lsdb, moment: Second, ways: &W, key: &Key) -> Option
 }
 
 /// The area border routers and AS boundary routers that ways lead to, in the order of their Router
-/// IDs, so that none is looked up in the database for each LSA that it originated. The keys are those
-/// of all LSAs that say something, in their order.
+/// IDs, so that none is looked up in the database for each LSA that it originated. The keys are
+/// those of all LSAs that say something, in their order.
 ///
 /// # Errors
 /// Where memory for them is refused.
