@@ -33,7 +33,7 @@ use crate::ages::{Ages, foresee, foresee_again};
 use crate::database_copy::DatabaseCopy;
 use crate::keyed_bodies::{KeyedBody, bodies_of};
 use crate::limits::{MOST_LSAS, MOST_OWN_EXTERNALS, is_own_external, recount};
-use crate::order::{MAX_AGE, age_at};
+use crate::order::age_at;
 use crate::stored::StoredLsa;
 use crate::times::Times;
 use keyed_map::{ChangeTest, KeyTest, KeyedMap, KeysInOrder};
@@ -42,7 +42,7 @@ use lsa::{Body, HEADER_LENGTH, Lsa, write_at_age};
 pub use others::KeyRule;
 use std::alloc::{AllocError, Global};
 use std::marker::Model;
-use words::{Key, RouterId, Second};
+use words::{Key, MAX_AGE, RouterId, Second};
 
 /// The link state database of a router: at most one copy for each key, and the copies when it was
 /// last settled.

@@ -2,6 +2,7 @@
 use Rattle.std.specs.Prelude.{Bool, true, not, ◌&&◌, ◌==◌, bit_and, if◌then◌else◌, List, [], Option}
 use Rattle.std.specs.Prelude.{None, Some}
 use Rattle.words.specs.Numbers.{Moment, RouterNumber}
+use Rattle.words.specs.Constants.{e_bit}
 use Rattle.packet.specs.declared.model.Hello.{Hello}
 use Rattle.adjacency.specs.Adjacencies.{after_hello}
 use Rattle.adjacency.specs.Contents.{Content, Step}
@@ -16,7 +17,7 @@ abbrev pub agrees_on : Interface → Hello → Bool
 agrees_on interface h =
     h.hello_interval == interface.hello_interval
     && h.dead_interval == interface.dead_interval
-    && not (bit_and h.options 2 == 0)
+    && not (bit_and h.options e_bit == 0)
 
 -- another router is heard only where the neighbor is Down
 abbrev pub may_be_named : Option (RouterNumber × State) → RouterNumber → Bool

@@ -12,7 +12,7 @@ use flooding::{Area, Link, LinkStep};
 use lsdb::Lsdb;
 use packet::Hello;
 use std::alloc::{AllocError, Global};
-use words::{RouterId, Second};
+use words::{E_BIT, RouterId, Second};
 
 /// Tells whether a packet of the router `from` may be of a neighbor: it is of some router, and not
 /// of this one, `own` (RFC 2328, section 8.2).
@@ -27,7 +27,7 @@ fn agrees_on(interface: &Interface, hello: &Hello) -> bool
 {
     hello.hello_interval == interface.hello_interval
         && hello.dead_interval == interface.dead_interval
-        && hello.options & 2 != 0
+        && hello.options & E_BIT != 0
 }
 
 fn agrees(link: &Link, hello: &Hello) -> bool

@@ -31,7 +31,7 @@ use packet::Description;
 use std::alloc::{AllocError, Global};
 use std::cmp::Ordering;
 use std::marker::Model;
-use words::{RouterId, Second, Sequence};
+use words::{E_BIT, RouterId, Second, Sequence};
 
 /// A neighbor (RFC 2328, section 10), and what it was when it was last settled.
 #[derive(Drop)]
@@ -142,7 +142,7 @@ pub fn initial_description(alloc: Global, sequence: u32) -> Description
 {
     Description {
         mtu: 8192,
-        options: 2,
+        options: E_BIT,
         init: true,
         more: true,
         master: true,

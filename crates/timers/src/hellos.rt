@@ -13,7 +13,7 @@ use flooding::{Area, Link, LinkStep};
 use lsdb::Lsdb;
 use packet::Hello;
 use std::alloc::{AllocError, Global};
-use words::{RouterId, Second, Sequence};
+use words::{E_BIT, RouterId, Second, Sequence};
 
 // From the start to the moment, at least so many seconds have passed.
 fn has_passed(start: Second, interval: u16, moment: Second) -> bool
@@ -85,7 +85,7 @@ fn hello_on(alloc: Global, link: &Link) -> Result<Hello, AllocError>
     Ok(Hello {
         mask: mask(interface.length),
         hello_interval: interface.hello_interval,
-        options: 2,
+        options: E_BIT,
         priority: 1,
         dead_interval: interface.dead_interval,
         neighbors,
