@@ -6,7 +6,7 @@ ghost use Rattle.events.specs.Commands.{
   after_redistribute,
   after_withdraw,
   announce_as,
-  answered,
+  answered_external,
   end_want,
   is_announced_as,
   is_for,
@@ -86,7 +86,7 @@ fn is_for(prefix: Prefix, announced: Option<&External>) -> bool
 
 // The destination with the metric that was answered, and the low 32 bits of the tag.
 fn answered(external: External, tag: u64, price: u32) -> External
-    ensures { result ≡ answered external tag price }
+    ensures { result ≡ answered_external external tag price }
 {
     External {
         metric: price,

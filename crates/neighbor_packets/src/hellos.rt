@@ -3,7 +3,7 @@ ghost use Rattle.std.specs.Prelude.{◌≡◌, ◌≤◌, ◌==◌, OnOk, length
 ghost use Rattle.std.specs.List.{list_any};
 ghost use Rattle.events.specs.Hellos.{accepts, agrees, is_foreign, may_be, names};
 ghost use Rattle.events.specs.Packets.{after_hello};
-ghost use Rattle.flooding.specs.Drafted.{drafted};
+ghost use Rattle.flooding.specs.Drafted.{drafts_with};
 ghost use Rattle.flooding.specs.Links.{start};
 ghost use Rattle.neighbor_packets.specs.Heard.{agrees_on, may_be_named};
 
@@ -137,7 +137,7 @@ pub fn hear(
         ≡ (after_hello own moment number from hello.now
         (start area.old.present)).area) }
     ensures drafts { OnOk result (drafts.new
-        ≡ drafted (after_hello own moment number from hello.now
+        ≡ drafts_with (after_hello own moment number from hello.now
         (start area.old.present)).sends area.old.present.links drafts.old) }
     ensures settled { area.new.settled ≡ area.old.settled }
     ensures router { area.new.router ≡ area.old.router }

@@ -2,7 +2,7 @@
 ghost use Rattle.std.specs.Prelude.{◌≡◌, ◌↔◌, ◌⊎◌, IfOk, IsTrue};
 ghost use Rattle.std.specs.List.{Contains};
 ghost use Rattle.std.specs.List.Sorted.{IsSorted};
-ghost use Rattle.routes.specs.Best.{AsGood, joined, offer_cmp, route_of};
+ghost use Rattle.routes.specs.Best.{AsGood, joined_route, offer_cmp, route_of};
 ghost use Rattle.routes.specs.Routes.{AreRoutesAmong};
 
 use crate::offer::Offer;
@@ -57,7 +57,7 @@ fn route_by(offer: Offer) -> Route
 
 // The route with the hops of one more offer, if that is as good.
 fn with_offer(route: Route, offer: Offer) -> Route
-    ensures { (AsGood route offer × (result ≡ joined route offer)) ⊎ ((AsGood route offer → ⊥)
+    ensures { (AsGood route offer × (result ≡ joined_route route offer)) ⊎ ((AsGood route offer → ⊥)
         × (result ≡ route)) }
 {
     if route.kind == offer.kind && route.cost == offer.cost && route.distance == offer.distance {

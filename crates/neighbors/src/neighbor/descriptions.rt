@@ -12,7 +12,7 @@ ghost use Rattle.adjacency.specs.Descriptions.{
   is_wanted,
   left_to_describe,
   master_goes_on,
-  negotiated,
+  negotiated_neighbor,
   next_description,
   repeat,
   slave_replies,
@@ -407,11 +407,11 @@ impl Neighbor {
     ) -> Result<(), AllocError>
         ensures ok { OnOk result (self.new.present
             ≡ (accepted moment database.now.present description.now
-            (negotiated false description.now.sequence moment database.now.present
+            (negotiated_neighbor false description.now.sequence moment database.now.present
             self.old.present)).neighbor) }
         ensures draft { OnOk result ((delay : ℕ) → draft.new
             ≡ drafting delay (accepted moment database.now.present description.now
-            (negotiated false description.now.sequence moment database.now.present
+            (negotiated_neighbor false description.now.sequence moment database.now.present
             self.old.present)).sends draft.old) }
         ensures settled { self.new.settled ≡ self.old.settled }
     {
@@ -430,11 +430,11 @@ impl Neighbor {
     ) -> Result<(), AllocError>
         ensures ok { OnOk result (self.new.present
             ≡ (accepted moment database.now.present description.now
-            (negotiated true self.old.present.sequence moment database.now.present
+            (negotiated_neighbor true self.old.present.sequence moment database.now.present
             self.old.present)).neighbor) }
         ensures draft { OnOk result ((delay : ℕ) → draft.new
             ≡ drafting delay (accepted moment database.now.present description.now
-            (negotiated true self.old.present.sequence moment database.now.present
+            (negotiated_neighbor true self.old.present.sequence moment database.now.present
             self.old.present)).sends draft.old) }
         ensures settled { self.new.settled ≡ self.old.settled }
     {
