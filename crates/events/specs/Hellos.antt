@@ -11,6 +11,7 @@ use Rattle.packet.specs.declared.model.Hello.{Hello}
 use Rattle.packet.specs.declared.model.Packet.{Packet}
 use Rattle.adjacency.specs.Adjacencies.{has_passed}
 use Rattle.adjacency.specs.Neighbors.{Neighbor}
+use Rattle.adjacency.specs.declared.interface.Interface.{Interface}
 use Rattle.received.specs.Links.{Link}
 
 -- ---- received Hellos
@@ -20,11 +21,14 @@ abbrev pub is_foreign : (own : RouterNumber) → (from : RouterNumber) → Bool
 is_foreign own from = not (from == 0) && not (from == own)
 
 -- HelloInterval, RouterDeadInterval and the E bit are those of the interface
-abbrev pub agrees : Link → Hello → Bool
-agrees link h =
-    h.hello_interval == link.interface.hello_interval
-    && h.dead_interval == link.interface.dead_interval
+abbrev pub agrees_on : Interface → Hello → Bool
+agrees_on interface h =
+    h.hello_interval == interface.hello_interval
+    && h.dead_interval == interface.dead_interval
     && not (bit_and h.options e_bit == 0)
+
+abbrev pub agrees : Link → Hello → Bool
+agrees link h = agrees_on link.interface h
 
 -- another router is heard only where the neighbor is Down
 abbrev pub may_be : Option Neighbor → RouterNumber → Bool

@@ -1,11 +1,11 @@
 //! Received Hellos (RFC 2328, section 10.5).
 ghost use Rattle.std.specs.Prelude.{◌≡◌, ◌≤◌, ◌==◌, OnOk, length};
 ghost use Rattle.std.specs.List.{list_any};
-ghost use Rattle.events.specs.Hellos.{accepts, agrees, is_foreign, may_be, names};
+ghost use Rattle.events.specs.Hellos.{accepts, agrees, agrees_on, is_foreign, may_be, names};
 ghost use Rattle.events.specs.Packets.{after_hello};
 ghost use Rattle.flooding.specs.Drafted.{drafts_with};
 ghost use Rattle.flooding.specs.Links.{start};
-ghost use Rattle.neighbor_packets.specs.Heard.{agrees_on, may_be_named};
+ghost use Rattle.neighbor_packets.specs.Heard.{may_be_named};
 
 use adjacency::{Draft, Interface, State};
 use flooding::{Area, Link, LinkStep};
