@@ -4,7 +4,8 @@ use Rattle.std.specs.Prelude.{◌↔◌}
 use Rattle.std.specs.List.{Contains}
 use Rattle.candidates.specs.declared.inner.InnerRoutes.{InnerRoutes}
 use Rattle.offers.specs.Bodies.{OfSaid}
-use Rattle.offers.specs.Borders.{AreBelow, AreCloseBy, AreFlagged, Ascend, AscendByRouter, HasLengths, Tells}
+use Rattle.offers.specs.Borders.{AreBelow, AreCloseBy, AreFlagged, Ascend, AscendByRouter}
+use Rattle.offers.specs.Borders.{HasLengths, Tells}
 use Rattle.offers.specs.Ways.{Ways}
 use Rattle.routes.specs.Routes.{AreRoutesAmong}
 use Rattle.routes.specs.Said.{Said}
