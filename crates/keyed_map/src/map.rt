@@ -1,6 +1,7 @@
 ghost use Rattle.std.specs.Prelude.{◌≡◌, ◌==◌, ◌↔◌, ◌<◌, ◌≤◌, Some, length, slice_get, IfOk, OnOk};
 ghost use Rattle.std.specs.Prelude.{OnErr, IsTrue, Option, take, option_copied};
 ghost use Rattle.std.specs.FinMap as map;
+ghost use Rattle.std.specs.List.{Contains};
 ghost use Rattle.words.specs.declared.key.Key.{Key as KeyValue};
 ghost use Rattle.keyed_map.specs.declared.slot.Edit.{Edit as EditValue};
 ghost use Rattle.keyed_map.specs.Keys.{key_cmp};
@@ -251,6 +252,21 @@ impl<X: Drop> KeyedMap<X> {
         }
     }
 
+    /// The value that a key had when the map was last settled, if the key was there. It looks at the
+    /// edits since.
+    pub fn settled_get(&self, key: &Key) -> Option<&X>
+        ensures { option_copied result ≡ map.get self.now.settled key.now }
+    {
+        let edits = self.edits.as_slice();
+        for place in 0..edits.len() {
+            let edit = &edits[place];
+            if edit.key.compare(key).is_eq() {
+                return held_before(&edit.before);
+            }
+        }
+        self.get(key)
+    }
+
     /// Tells whether the key is there.
     pub fn contains(&self, key: &Key) -> bool
         ensures { result ≡ map.contains_key self.now.present key.now }
@@ -347,6 +363,35 @@ impl<X: Drop> KeyedMap<X> {
             }
         }
         Ok(true)
+    }
+
+    /// The keys that hold something else, by the test, than when the map was last settled. It looks at
+    /// the keys that were edited since.
+    ///
+    /// # Errors
+    /// Where memory for the keys, or to compare what they hold, is refused.
+    pub fn changed_keys<T: ChangeTest<X>>(
+        &self,
+        alloc: Global,
+        test: &T,
+    ) -> Result<Vec<Key>, AllocError>
+        requires { (key : KeyValue) (o : Option X) → T.same test.now key o o }
+        ensures changed { IfOk result (λ keys. (key : KeyValue) → Contains keys.items key
+            → T.same test.now key (map.get self.now.settled key) (map.get self.now.present key)
+            → ⊥) }
+        ensures others { IfOk result (λ keys. (key : KeyValue) → (Contains keys.items key → ⊥)
+            → T.same test.now key (map.get self.now.settled key) (map.get self.now.present key)) }
+    {
+        let mut keys = Vec::new(alloc);
+        let edits = self.edits.as_slice();
+        for place in 0..edits.len() {
+            let edit = &edits[place];
+            let now = self.get(&edit.key);
+            if !is_kept(alloc, test, edits, place, now)? {
+                keys.push(same(&edit.key))?;
+            }
+        }
+        Ok(keys)
     }
 
     // Writes a slot, and notes what stood there.
