@@ -1,6 +1,7 @@
 //! LSAs as values whose text is right.
 ghost use Rattle.std.specs.Prelude.{◌≡◌, ◌≢◌, ◌≤◌, ◌⊎◌, ◌++◌, length, IfOk, OnOk};
-ghost use Rattle.lsa.specs.Text.{IsBody, LsaText, Parts, body_text, max_age, reserved_sequence};
+ghost use Rattle.lsa.specs.Text.{IsBody, LsaText, Parts, body_text, reserved_sequence};
+ghost use Rattle.words.specs.Constants.{max_age};
 ghost use Rattle.lsa.specs.Text.{text};
 ghost use Rattle.lsa.specs.Origination.{aged, sealed_lsa};
 ghost use Rattle.lsa.specs.Outcome.{Reads};

@@ -1,14 +1,12 @@
 use Rattle.std.proofs.Common.{◌≡◌, true, false, [], ◌∷◌, ◌++◌, length, refl, ap, sym, subst, ◌∙◌, arith}
 use Rattle.std.specs.Prelude.{Some, slice_get}
 use Rattle.std.specs.FinMap as map
-use Rattle.std.specs.List.{Contains}
 use Rattle.std.proofs.lemmas.List.Elements.{Contains-push}
 use Rattle.std.proofs.lemmas.Option.{slice_get_read}
-use Rattle.words.specs.declared.key.Key.{Key}
 use Rattle.keyed_map.specs.Changes.{IsFirst, held_before}
 use Rattle.keyed_map.specs.Held.{Held}
 use Rattle.keyed_map.specs.Slots.{slots_of}
-use Rattle.keyed_map.proofs.Changes.{AllKeep, Differ, Keeps, Outside, kept, kept_there, one_differs, one_more, still_outside}
+use Rattle.keyed_map.proofs.Changes.{Keeps, Outside, kept, kept_there, one_differs, one_more, still_outside}
 use Rattle.keyed_map.proofs.map.KeyedMap.changed_keys.Goals as goal
 use Rattle.keyed_map.proofs.map.KeyedMap.changed_keys.Goals.{then-not-branch+in_ok-push, else-not-branch}
 

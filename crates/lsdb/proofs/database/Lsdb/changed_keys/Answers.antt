@@ -1,4 +1,4 @@
-use Rattle.std.proofs.Common.{inl, inr, sym, subst, ◌∙◌}
+use Rattle.std.proofs.Common.{inl, inr, sym, subst}
 use Rattle.std.specs.FinMap as finite
 use Rattle.std.specs.List.{Contains}
 use Rattle.std.proofs.lemmas.List.Elements.{Contains-append_cases, Contains-append_left, Contains-append_right}
@@ -26,7 +26,7 @@ returns-clause-changed c key among says =
           same_bodies moment (finite.get lsas.settled key) (finite.get lsas.present key) (finite.get times.settled key) (finite.get times.present key)
           (c.self.invariant.settled key) (c.self.invariant.present key) apart)
       | inr age ↦
-          c.in_ok-aged.ensures.changed key age (λ of there.
+          c.in_ok-aged.ensures.changed key (subst (λ ks. Contains ks key) c.deref.ensures.value age) (λ of there.
           alike_ages moment (finite.get lsas.settled key) (finite.get lsas.present key) (finite.get times.settled key) (finite.get times.present key)
           (c.self.invariant.settled key) (c.self.invariant.present key) apart there)
     ]
@@ -38,7 +38,7 @@ returns-clause-others c key none =
     let times = c.self.inside.times in
     let among = sym c.in_ok-extend_from_slice.ensures.items in
     let bodies = c.in_ok-keys.ensures.others key (λ t. none (subst (λ ks. Contains ks key) among (Contains-append_left _ _ key t))) tt in
-    let ages = c.in_ok-aged.ensures.others key (λ t. none (subst (λ ks. Contains ks key) among (Contains-append_right _ _ key t))) tt in
+    let ages = c.in_ok-aged.ensures.others key (λ t. none (subst (λ ks. Contains ks key) among (Contains-append_right _ _ key (subst (λ ks. Contains ks key) (sym c.deref.ensures.value) t)))) tt in
     let one = same_copies moment (finite.get lsas.settled key) (finite.get lsas.present key) (finite.get times.settled key) (finite.get times.present key) bodies ages in
     subst (λ (d : RouterDatabase). SaysTheSame moment (finite.get d.settled key) (finite.get d.present key)) c.self.view_is
     (in_joined moment lsas.settled lsas.present times.settled times.present key one)
