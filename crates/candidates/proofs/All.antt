@@ -1,5 +1,5 @@
 -- The routes of all that is gathered are the candidates of the database.
-use Rattle.std.proofs.Common.{◌≡◌, inl, inr, List, [], arith}
+use Rattle.std.proofs.Common.{inl, inr, List, []}
 use Rattle.std.specs.List.{Contains}
 use Rattle.std.specs.Prelude.{◌↔◌}
 use Rattle.words.specs.declared.key.Key.{Key}

@@ -1,6 +1,5 @@
 -- What the LSAs of a list offer is what those of the database offer, if the list has all of their types.
-use Rattle.std.proofs.Common.{◌≡◌, ◌≤◌, ℕ, List, None, Some, arith}
-use Rattle.std.specs.List.{Contains}
+use Rattle.std.proofs.Common.{◌≤◌, ℕ, List, None, arith}
 use Rattle.words.specs.declared.key.Key.{Key}
 use Rattle.words.specs.declared.route.Route.{Route}
 use Rattle.lsa.specs.declared.body.Body.{Body}

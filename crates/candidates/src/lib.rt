@@ -6,7 +6,6 @@ ghost use Rattle.std.specs.Prelude.{◌≡◌, ◌≤◌, IfOk, length};
 ghost use Rattle.std.specs.FinMap as finite;
 ghost use Rattle.std.specs.List.{Contains};
 ghost use Rattle.candidates.specs.Inner.{AreInner, AreSearchable};
-ghost use Rattle.lsdb.specs.Bodies.{InOrder};
 ghost use Rattle.words.specs.declared.route.Route.{Route as RouteValue};
 ghost use Rattle.routes.specs.Candidates.{AreCandidates, Offers};
 ghost use Rattle.routes.specs.declared.offer.Offer.{Offer};
@@ -16,8 +15,9 @@ ghost use Rattle.offers.specs.Ways.{AreNear, AreWays, Ways as WaysTo};
 
 mod inner;
 
-use crate::inner::{InnerRoutes, inner_of};
+use crate::inner::inner_of;
 use candidate_laws::every_offer_has_a_candidate;
+pub use inner::InnerRoutes;
 use lsdb::{KeyedBody, Lsdb};
 use offers::{Inner, Ways, push_externals, routes_of_offers};
 use routes::Root;
@@ -70,38 +70,53 @@ pub fn routes_of<W: Ways>(
     ensures { IfOk result (λ routes. AreCandidates (said_at moment db.now.present) root.now
         routes.items) }
 {
-    let bodies = db.bodies_at(alloc, None, moment)?;
-    let routes = routes_of_bodies(alloc, root, ways, &bodies)?;
-    Ok(routes)
+    let made = calculate(alloc, db, root, moment, ways)?;
+    Ok(made.routes)
 }
 
-// The same from what the LSAs say.
-fn routes_of_bodies<W: Ways>(
+/// Candidates, with what the LSAs of types 1 to 4 give, on which external destinations rest.
+#[derive(Drop)]
+pub struct Calculated {
+    pub inner: InnerRoutes,
+    pub routes: Vec<Route>,
+}
+
+/// The candidates of a database at a moment as `routes_of` gives them, with what those to external
+/// destinations rest on.
+///
+/// # Errors
+/// Where memory for what LSAs say, the offers or the routes is refused.
+pub fn calculate<W: Ways>(
     alloc: Global,
+    db: &Lsdb,
     root: &Root,
+    moment: Second,
     ways: &W,
-    bodies: &[KeyedBody<'_>],
-) -> Result<Vec<Route>, AllocError>
+) -> Result<Calculated, AllocError>
     requires near { AreNear (W.ways ways.now) }
-    requires order { InOrder bodies.now }
-    ensures { IfOk result (λ routes. (said : Said) → AreWays said root.now (W.ways ways.now)
-        → HaveAll 5 said bodies.now → AreCandidates said root.now routes.items) }
+    requires ways { AreWays (said_at moment db.now.present) root.now (W.ways ways.now) }
+    ensures routes { IfOk result (λ made. AreCandidates (said_at moment db.now.present) root.now
+        made.routes.items) }
+    ensures inner { IfOk result (λ made. AreInner (said_at moment db.now.present) root.now
+        (W.ways ways.now) made.inner) }
+    ensures searchable { IfOk result (λ made. AreSearchable made.inner) }
 {
-    let mut inner = inner_of(alloc, root, ways, bodies)?;
-    let routes = with_externals(alloc, root, &mut inner, bodies)?;
-    Ok(routes)
+    let bodies = db.bodies_at(alloc, None, moment)?;
+    let inner = inner_of(alloc, root, ways, &bodies)?;
+    let routes = with_externals(alloc, root, &inner, &bodies)?;
+    Ok(Calculated { inner, routes })
 }
 
 // The routes of what these offer and of what AS-external-LSAs offer beside it.
 fn with_externals(
     alloc: Global,
     root: &Root,
-    inner: &mut InnerRoutes,
+    inner: &InnerRoutes,
     bodies: &[KeyedBody<'_>],
 ) -> Result<Vec<Route>, AllocError>
-    requires { AreSearchable inner.old }
+    requires { AreSearchable inner.now }
     ensures { IfOk result (λ routes. (said : Said) (ways : WaysTo) → AreWays said root.now ways
-        → AreInner said root.now ways inner.old → HaveAll 5 said bodies.now
+        → AreInner said root.now ways inner.now → HaveAll 5 said bodies.now
         → AreCandidates said root.now routes.items) }
 {
     let by = Inner {
@@ -110,7 +125,8 @@ fn with_externals(
         networks: &inner.networks,
         lengths: &inner.lengths,
     };
-    push_externals(root, &by, bodies, &mut inner.offers)?;
-    let routes = routes_of_offers(alloc, &mut inner.offers)?;
+    let mut offers = Vec::from_slice(alloc, &inner.offers)?;
+    push_externals(root, &by, bodies, &mut offers)?;
+    let routes = routes_of_offers(alloc, &mut offers)?;
     Ok(routes)
 }

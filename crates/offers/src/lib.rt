@@ -13,8 +13,9 @@ mod passes;
 mod search;
 mod ways;
 
-pub use externals::Inner;
+pub use externals::{Inner, external_offer};
 pub use flagged::{Flagged, flagged_routers};
+pub use gathering::{network_of, push_offer};
 pub use order::routes_of_offers;
 pub use passes::{inner_offers, push_externals, told_routes};
 pub use search::lengths_of;
