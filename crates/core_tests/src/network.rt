@@ -17,7 +17,7 @@ use crate::member::{Member, begun, router_at};
 use flood::{Core, Event, Out, State};
 use std::alloc::Global;
 use std::mem::replace;
-use words::Second;
+use words::{Prefix, Route, Second};
 
 /// What becomes of the next packet that is under way; nothing, where there is none.
 #[derive(Clone, Copy)]
@@ -58,6 +58,8 @@ pub enum Act {
     Same,
     /// The database of the router at the place holds so many LSAs.
     Holds(usize, usize),
+    /// The router at the place has a route to the destination of a number that leaves by this interface.
+    Leads(usize, u16, u32),
 }
 
 /// Packets come one after the other.
@@ -115,6 +117,16 @@ fn holds_the_same(one: &Core, other: &Core) -> bool {
         }
     }
     true
+}
+
+// Some route to the prefix leaves by the interface.
+fn some_leads(routes: &[Route], prefix: Prefix, interface: u16) -> bool {
+    for route in routes {
+        if route.prefix == prefix && interface < 64 && route.hops.bits() >> interface & 1 == 1 {
+            return true;
+        }
+    }
+    false
 }
 
 // What the router at a place sends; None where it isn't there or doesn't take the event.
@@ -348,12 +360,23 @@ impl Network {
         }
     }
 
+    fn leads(&self, place: usize, interface: u16, number: u32) -> bool {
+        let (Some(member), Some(prefix)) = (self.members.get(place), prefix(number)) else {
+            return false;
+        };
+        match member.core.candidates() {
+            Ok(routes) => some_leads(&routes, prefix, interface),
+            Err(_) => false,
+        }
+    }
+
     fn shows(&self, act: Act) -> bool {
         match act {
             Act::Full => self.all_see(Some(State::Full)),
             Act::Apart => self.all_see(None),
             Act::Same => self.are_the_same(),
             Act::Holds(place, count) => self.holds(place, count),
+            Act::Leads(place, interface, number) => self.leads(place, interface, number),
             _ => false,
         }
     }
