@@ -14,4 +14,4 @@ pub use phase::{Look, Phase, Sum};
 pub use plan::{Plan, Scenario};
 pub use play::Play;
 pub use run::{Outcome, play_scenario};
-pub use search::{Search, Sought};
+pub use search::{Search, Sought, Stage};

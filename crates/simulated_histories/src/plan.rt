@@ -25,21 +25,6 @@ pub enum Scenario {
 }
 
 impl Scenario {
-    /// The word for it.
-    pub fn word(self) -> &'static str {
-        match self {
-            Scenario::Start => "start",
-            Scenario::Link => "link",
-            Scenario::Silent => "silent",
-            Scenario::Restart => "restart",
-            Scenario::Flap => "flap",
-            Scenario::Partition => "partition",
-            Scenario::Announce => "announce",
-            Scenario::Withdraw => "withdraw",
-            Scenario::Storm => "storm",
-        }
-    }
-
     /// The last second in which something is done.
     pub fn last_act(self) -> u64 {
         match self {

@@ -1,8 +1,8 @@
 //! Acts, played one by one.
 use crate::acts::Act;
+use crate::search::Stage;
 use flood::{Core, Event, Out};
-use simulated_networks::{Fault, Routers, Times, Topology, holds_the_same, prefix, sees_full};
-use std::alloc::Global;
+use simulated_networks::{Fault, Routers, Times, holds_the_same, prefix, sees_full};
 use words::Route;
 
 // In a second there are fewer packets.
@@ -17,40 +17,17 @@ struct Sent {
 
 /// A network, whose packets come one by one. It has no `Drop`: who has one closes it.
 pub struct Play<'a> {
-    alloc: Global,
-    topology: &'a Topology,
+    stage: Stage<'a>,
     times: Times,
     moment: u64,
     routers: Routers,
     // all that was sent; what stands before `at` has come, or was lost
     packets: Vec<Sent>,
     at: usize,
-    events: &'a [Event],
 }
 
 fn memory(fits: bool) -> Result<(), Fault> {
     if fits { Ok(()) } else { Err(Fault::Memory) }
-}
-
-// Whether some route of the one leads by its interface to the other, and the other's back, though neither announces the prefix.
-fn lead_to_each_other(
-    one: &Core,
-    one_interface: u8,
-    other: &Core,
-    other_interface: u8,
-) -> Result<bool, Fault> {
-    let routes = one.candidates()?;
-    let others = other.candidates()?;
-    for route in &routes {
-        if leads_by(route, one_interface)
-            && leads_back(&others, route, other_interface)
-            && !one.wants(route.prefix)
-            && !other.wants(route.prefix)
-        {
-            return Ok(true);
-        }
-    }
-    Ok(false)
 }
 
 fn leads_by(route: &Route, interface: u8) -> bool {
@@ -66,26 +43,53 @@ fn leads_back(routes: &[Route], to: &Route, interface: u8) -> bool {
     false
 }
 
+// An end of a link.
+#[derive(Clone, Copy)]
+struct Side<'a> {
+    core: &'a Core,
+    interface: u8,
+}
+
+// Whether the route leads from the one side to the other and back, though neither announces its prefix.
+fn goes_round(one: &Side<'_>, other: &Side<'_>, route: &Route, others: &[Route]) -> bool {
+    leads_by(route, one.interface)
+        && leads_back(others, route, other.interface)
+        && !one.core.wants(route.prefix)
+        && !other.core.wants(route.prefix)
+}
+
+fn some_goes_round(one: &Side<'_>, other: &Side<'_>, routes: &[Route], others: &[Route]) -> bool {
+    for route in routes {
+        if goes_round(one, other, route, others) {
+            return true;
+        }
+    }
+    false
+}
+
+fn lead_to_each_other(one: &Side<'_>, other: &Side<'_>) -> Result<bool, Fault> {
+    let routes = one.core.candidates()?;
+    let others = other.core.candidates()?;
+    Ok(some_goes_round(one, other, &routes, &others))
+}
+
+fn sees_other(side: &Side<'_>) -> bool {
+    sees_full(side.core, side.interface)
+}
+
 impl<'a> Play<'a> {
-    /// The routers of the topology, which begin at 0, with these announcements of the destinations.
+    /// The routers of the stage, which begin at 0.
     ///
     /// # Errors
     /// Where memory is refused, or the times aren't allowed.
-    pub fn new(
-        alloc: Global,
-        topology: &'a Topology,
-        times: Times,
-        events: &'a [Event],
-    ) -> Result<Play<'a>, Fault> {
+    pub fn new(stage: Stage<'a>, times: Times) -> Result<Play<'a>, Fault> {
         let mut play = Play {
-            alloc,
-            topology,
+            stage,
             times,
             moment: 0,
-            routers: Routers::new(alloc),
-            packets: Vec::new(alloc),
+            routers: Routers::new(stage.alloc),
+            packets: Vec::new(stage.alloc),
             at: 0,
-            events,
         };
         match play.begin() {
             Ok(()) => Ok(play),
@@ -97,26 +101,25 @@ impl<'a> Play<'a> {
     }
 
     fn begin(&mut self) -> Result<(), Fault> {
-        self.routers.begin(self.alloc, self.topology, self.times)
+        let stage = self.stage;
+        self.routers.begin(stage.alloc, stage.topology, self.times)
     }
 
     /// Lets the routers go.
     pub fn close(self) {
         let Play {
-            alloc: _,
-            topology: _,
+            stage: _,
             times: _,
             moment: _,
             routers,
             packets: _,
             at: _,
-            events: _,
         } = self;
         routers.close();
     }
 
     fn sends(&mut self, place: usize, out: Out) -> bool {
-        match self.topology.end(place, out.interface) {
+        match self.stage.topology.end(place, out.interface) {
             None => true,
             Some(end) => {
                 let event = Event::Packet(u16::from(end.interface), out.bytes);
@@ -210,7 +213,7 @@ impl<'a> Play<'a> {
     }
 
     fn announces(&mut self, place: usize, number: u32) -> Result<(), Fault> {
-        let events = self.events;
+        let events = self.stage.events;
         match events.get(number as usize) {
             Some(event) => self.takes(place, event),
             None => Ok(()),
@@ -230,8 +233,8 @@ impl<'a> Play<'a> {
     }
 
     fn restarts(&mut self, place: usize) -> Result<(), Fault> {
-        self.routers
-            .restart(self.alloc, self.topology, place, self.times, self.moment)
+        let stage = self.stage;
+        self.routers.restart(stage.alloc, stage.topology, place, self.times, self.moment)
     }
 
     /// Does the act. What an act names and isn't there is left alone.
@@ -269,33 +272,21 @@ impl<'a> Play<'a> {
         Ok(())
     }
 
-    /// Tells whether both ends of each link see each other as Full.
-    pub fn all_are_full(&self) -> bool {
-        for link in &self.topology.links {
-            let (Some(one), Some(other)) = (
-                self.routers.get(link.one),
-                self.routers.get(link.other),
-            ) else {
-                return false;
-            };
-            if !sees_full(one, link.one_interface) || !sees_full(other, link.other_interface) {
-                return false;
-            }
+    fn side(&self, place: usize, interface: u8) -> Option<Side<'_>> {
+        match self.routers.get(place) {
+            Some(core) => Some(Side { core, interface }),
+            None => None,
         }
-        true
     }
 
     /// Tells whether two neighbors that see each other as Full hold different databases.
     pub fn differ(&self) -> bool {
-        for link in &self.topology.links {
+        for link in &self.stage.topology.links {
             if let (Some(one), Some(other)) = (
-                self.routers.get(link.one),
-                self.routers.get(link.other),
+                self.side(link.one, link.one_interface),
+                self.side(link.other, link.other_interface),
             ) {
-                if sees_full(one, link.one_interface)
-                    && sees_full(other, link.other_interface)
-                    && !holds_the_same(one, other)
-                {
+                if sees_other(&one) && sees_other(&other) && !holds_the_same(one.core, other.core) {
                     return true;
                 }
             }
@@ -308,12 +299,12 @@ impl<'a> Play<'a> {
     /// # Errors
     /// Where memory is refused.
     pub fn loop_between_two(&self) -> Result<bool, Fault> {
-        for link in &self.topology.links {
+        for link in &self.stage.topology.links {
             if let (Some(one), Some(other)) = (
-                self.routers.get(link.one),
-                self.routers.get(link.other),
+                self.side(link.one, link.one_interface),
+                self.side(link.other, link.other_interface),
             ) {
-                if lead_to_each_other(one, link.one_interface, other, link.other_interface)? {
+                if lead_to_each_other(&one, &other)? {
                     return Ok(true);
                 }
             }

@@ -5,7 +5,7 @@ use flood::Event;
 use simulated_networks::{
     Counts, Fault, Faults, NOBODY, Network, Random, Tables, Topology, prefix,
 };
-use std::alloc::{AllocError, Global};
+use std::alloc::Global;
 
 /// What came of a plan.
 #[derive(Drop)]
@@ -82,7 +82,7 @@ impl<'a> Run<'a> {
     fn announcer(&self, number: usize) -> usize {
         let many = (self.plan.announcers as usize).max(1);
         let turn = number % many;
-        turn.wrapping_mul(self.network.len()) / many
+        turn.wrapping_mul(self.network.count()) / many
     }
 
     fn announces_all(&mut self) -> Result<(), Fault> {
@@ -138,7 +138,7 @@ impl<'a> Run<'a> {
 
     // The links between the halves of the places go up or down.
     fn divides(&mut self, up: bool) -> Result<(), Fault> {
-        let half = self.network.len() / 2;
+        let half = self.network.count() / 2;
         for number in 0..self.links() {
             if let Some(link) = self.network.topology().links.get(number).copied() {
                 if (link.one < half) != (link.other < half) {
@@ -190,7 +190,7 @@ impl<'a> Run<'a> {
     }
 
     fn restarts_any(&mut self) -> Result<(), Fault> {
-        let count = self.network.len();
+        let count = self.network.count();
         let place = self.random.place(count);
         self.restarts(place)
     }
@@ -287,6 +287,7 @@ impl<'a> Run<'a> {
     }
 
     fn begins(&mut self) -> Result<(), Fault> {
+        self.tables.begin(&self.network, self.events.len())?;
         for _event in self.events {
             self.owners.push(NOBODY)?;
         }
@@ -312,7 +313,7 @@ impl<'a> Run<'a> {
     }
 
     fn tells(&self, outcome: &mut Outcome) {
-        outcome.routers = self.network.len();
+        outcome.routers = self.network.count();
         outcome.links = self.links();
         if let Some(core) = self.network.core(0) {
             outcome.lsas = core.database().len();
@@ -359,30 +360,17 @@ fn network_of(alloc: Global, plan: &Plan, random: &mut Random) -> Result<Network
     Network::new(alloc, topology, plan.times, plan.seed)
 }
 
-fn tables_of(
+// Plays the plan with this network, and lets it go.
+fn play_with(
     alloc: Global,
     network: Network,
+    random: Random,
+    plan: &Plan,
     events: &[Event],
-) -> Result<(Network, Tables), AllocError> {
-    match Tables::new(alloc, &network, events.len()) {
-        Ok(tables) => Ok((network, tables)),
-        Err(error) => {
-            network.close();
-            Err(error)
-        }
-    }
-}
-
-/// Plays the plan with these announcements of the destinations.
-///
-/// # Errors
-/// Where memory is refused, or the times aren't allowed.
-pub fn play_scenario(alloc: Global, plan: &Plan, events: &[Event]) -> Result<Outcome, Fault> {
-    let mut random = Random::new(plan.seed);
-    let (network, tables) = tables_of(alloc, network_of(alloc, plan, &mut random)?, events)?;
+) -> Result<Outcome, Fault> {
     let mut run = Run {
         network,
-        tables,
+        tables: Tables::new(alloc),
         owners: Vec::new(alloc),
         down: Vec::new(alloc),
         random,
@@ -396,4 +384,14 @@ pub fn play_scenario(alloc: Global, plan: &Plan, events: &[Event]) -> Result<Out
         Ok(()) => Ok(outcome),
         Err(fault) => Err(fault),
     }
+}
+
+/// Plays the plan with these announcements of the destinations.
+///
+/// # Errors
+/// Where memory is refused, or the times aren't allowed.
+pub fn play_scenario(alloc: Global, plan: &Plan, events: &[Event]) -> Result<Outcome, Fault> {
+    let mut random = Random::new(plan.seed);
+    let network = network_of(alloc, plan, &mut random)?;
+    play_with(alloc, network, random, plan, events)
 }

@@ -33,21 +33,59 @@ fn answered(
     external: &External,
 ) -> Option<Event>
     requires { IsOf shared.now seat.old }
+    ensures { IsOf shared.now seat.new }
 {
     let tag = asker.tag(external, Second::new(0), &[], shared, seat)?;
     let price = asker.price(external, Second::new(0), &[], shared, seat)?;
     Some(Event::Redistribute(tag, price))
 }
 
-fn announcement<R: Wait + Drop>(alloc: Global, rt: R, external: &External) -> Result<Event, Fault> {
+fn announcement(
+    asker: &mut Asker,
+    shared: &Shared,
+    seat: &mut Seat,
+    number: u32,
+) -> Result<Event, Fault>
+    requires { IsOf shared.now seat.old }
+    ensures { IsOf shared.now seat.new }
+{
+    match destination(number) {
+        Some(external) => answered(asker, shared, seat, &external).ok_or(Fault::Destination),
+        None => Err(Fault::Destination),
+    }
+}
+
+fn add_announcements(
+    events: &mut Vec<Event>,
+    asker: &mut Asker,
+    shared: &Shared,
+    seat: &mut Seat,
+    count: u32,
+) -> Result<(), Fault>
+    requires { IsOf shared.now seat.old }
+{
+    for number in 0..count {
+        let event = announcement(asker, shared, seat, number)?;
+        events.push(event)?;
+    }
+    Ok(())
+}
+
+// The announcements of so many destinations, where no program is published.
+fn unprogrammed<R: Wait + Drop>(
+    alloc: Global,
+    rt: R,
+    count: u32,
+    events: &mut Vec<Event>,
+) -> Result<(), Fault> {
     let (shared, mut seats) = Shared::new(alloc, 1)?;
     let (loader, mut askers) = programs(alloc, rt, 1)?;
     let (Some(mut seat), Some(mut asker)) = (seats.pop(), askers.pop()) else {
         return Err(Fault::Destination);
     };
-    let event = answered(&mut asker, &shared, &mut seat, external);
+    let made = add_announcements(events, &mut asker, &shared, &mut seat, count);
     drop(loader);
-    event.ok_or(Fault::Destination)
+    made
 }
 
 /// The announcements of so many destinations, by their numbers.
@@ -60,9 +98,8 @@ pub fn announcements<R: Wait + Drop + Copy>(
     count: u32,
 ) -> Result<Vec<Event>, Fault> {
     let mut events = Vec::new(alloc);
-    for number in 0..count {
-        let external = destination(number).ok_or(Fault::Destination)?;
-        events.push(announcement(alloc, rt, &external)?)?;
+    match unprogrammed(alloc, rt, count, &mut events) {
+        Ok(()) => Ok(events),
+        Err(fault) => Err(fault),
     }
-    Ok(events)
 }

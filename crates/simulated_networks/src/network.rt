@@ -99,13 +99,8 @@ impl Network {
     }
 
     /// How many routers there are.
-    pub fn len(&self) -> usize {
+    pub fn count(&self) -> usize {
         self.routers.count()
-    }
-
-    /// Tells whether there is no router.
-    pub fn is_empty(&self) -> bool {
-        self.routers.count() == 0
     }
 
     /// The router at a place.
@@ -116,11 +111,6 @@ impl Network {
     /// What joins them.
     pub fn topology(&self) -> &Topology {
         &self.topology
-    }
-
-    /// The second that it is.
-    pub fn moment(&self) -> u64 {
-        self.moment
     }
 
     /// What was counted.

@@ -70,24 +70,29 @@ fn print_of(core: &Core) -> u64 {
 }
 
 impl Tables {
-    /// The tables of the network, with so many external destinations, before they are looked at.
-    ///
-    /// # Errors
-    /// Where memory is refused.
-    pub fn new(alloc: Global, network: &Network, externals: usize) -> Result<Tables, AllocError> {
-        let links = network.topology().links.len();
-        let mut tables = Tables {
+    /// No tables yet.
+    pub fn new(alloc: Global) -> Tables {
+        Tables {
             alloc,
             ways: Vec::new(alloc),
             prints: Vec::new(alloc),
             is_new: Vec::new(alloc),
-            links,
-            prefixes: links.wrapping_add(externals),
-        };
-        for _place in 0..network.len() {
-            tables.add_router()?;
+            links: 0,
+            prefixes: 0,
         }
-        Ok(tables)
+    }
+
+    /// Adds those of the network, with so many external destinations, before they are looked at.
+    ///
+    /// # Errors
+    /// Where memory is refused.
+    pub fn begin(&mut self, network: &Network, externals: usize) -> Result<(), AllocError> {
+        self.links = network.topology().links.len();
+        self.prefixes = self.links.wrapping_add(externals);
+        for _place in 0..network.count() {
+            self.add_router()?;
+        }
+        Ok(())
     }
 
     fn add_router(&mut self) -> Result<(), AllocError> {

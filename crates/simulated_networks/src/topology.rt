@@ -50,28 +50,37 @@ impl Topology {
         routers: usize,
         spread: u32,
     ) -> Result<Topology, AllocError> {
-        let half = half_of(routers);
-        let count = match kind {
-            Kind::FatTree => half.wrapping_mul(half).wrapping_mul(5),
-            _ => routers,
-        };
         let mut made = Topology {
             ends: Vec::new(alloc),
             links: Vec::new(alloc),
             spread,
         };
-        made.add_routers(alloc, count)?;
-        match kind {
-            Kind::Grid => made.join_grid(random, count)?,
-            Kind::Row => made.join_row(random, count)?,
-            Kind::Ring => {
-                made.join_row(random, count)?;
-                made.join(random, count.wrapping_sub(1), 0)?;
-            }
-            Kind::FatTree => made.join_pods(random, half)?,
-            Kind::Random => made.join_any(random, count)?,
+        match made.grow(alloc, random, kind, routers) {
+            Ok(()) => Ok(made),
+            Err(error) => Err(error),
         }
-        Ok(made)
+    }
+
+    fn grow(
+        &mut self,
+        alloc: Global,
+        random: &mut Random,
+        kind: Kind,
+        routers: usize,
+    ) -> Result<(), AllocError> {
+        let half = half_of(routers);
+        let count = match kind {
+            Kind::FatTree => half.wrapping_mul(half).wrapping_mul(5),
+            _ => routers,
+        };
+        self.add_routers(alloc, count)?;
+        match kind {
+            Kind::Grid => self.join_grid(random, count),
+            Kind::Row => self.join_row(random, count),
+            Kind::Ring => self.join_ring(random, count),
+            Kind::FatTree => self.join_pods(random, half),
+            Kind::Random => self.join_any(random, count),
+        }
     }
 
     fn add_routers(&mut self, alloc: Global, count: usize) -> Result<(), AllocError> {
@@ -176,6 +185,11 @@ impl Topology {
             self.join(random, place.wrapping_sub(1), place)?;
         }
         Ok(())
+    }
+
+    fn join_ring(&mut self, random: &mut Random, count: usize) -> Result<(), AllocError> {
+        self.join_row(random, count)?;
+        self.join(random, count.wrapping_sub(1), 0)
     }
 
     fn join_any(&mut self, random: &mut Random, count: usize) -> Result<(), AllocError> {
