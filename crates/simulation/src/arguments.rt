@@ -1,12 +1,18 @@
 //! The commands, the words that each may have, and their help.
+ghost use Rattle.std.specs.Prelude.{◌≡◌, ◌⊎◌, IfOk};
+ghost use Rattle.std.specs.IoError.{error_kind};
+ghost use Rattle.clap.specs.Values.{kind_of};
+
 use clap::error::ErrorKind;
 use clap::{Arg, ArgAction, Command, Error};
 use std::alloc::{AllocError, Global};
+use std::io::{self, ErrorKind as IoKind};
 
 const ABOUT: &str = "Plays networks of many routers in memory, second by second";
 
-const RUN: &str =
-    "Plays a scenario from a start over a change to rest, and tells how long it takes to settle and how often packets go round meanwhile";
+const RUN: &str = "\
+Plays a scenario from a start over a change to rest, and tells how long it takes to settle and how \
+often packets go round meanwhile";
 
 const RUN_MORE: &str = "\
 Example: simulation run --topology grid --routers 50 --externals 20 --scenario link --loss 100
@@ -22,8 +28,8 @@ Statuses:
   3  the output can't be written
   4  memory was refused";
 
-const SEARCH: &str =
-    "Searches by seed for a history after which Full neighbors' databases differ, and makes it short";
+const SEARCH: &str = "\
+Searches by seed for a history after which Full neighbors' databases differ, and makes it short";
 
 const SEARCH_MORE: &str = "\
 Example: simulation search --topology row --routers 3 --externals 2 --hello 2 --dead 10
@@ -46,8 +52,9 @@ Statuses: 0 done, 1 not at rest or found, 2 usage, 3 stream, 4 memory.";
 
 const TOPOLOGY: &str = "grid, row, ring, fat-tree or random (grid)";
 
-const SCENARIO: &str =
-    "start, link, silent, restart, flap, partition, announce, withdraw or storm (start)";
+const SCENARIO: &str = "\
+What happens after the start: start (nothing), link (lost with notice), silent (lost without), \
+restart, flap, partition, announce, withdraw or storm (start)";
 
 const ANNOUNCERS: &str = "How many routers announce them (one for each 1,000)";
 
@@ -208,12 +215,30 @@ pub fn whole<'a>(alloc: Global) -> Result<Command<'a>, AllocError> {
 }
 
 /// An error about the words of a command line.
-pub fn error(alloc: Global, kind: ErrorKind, text: &str) -> Error {
-    match whole(alloc) {
+pub fn error(alloc: Global, kind: ErrorKind, text: &str) -> Result<Error, AllocError>
+    ensures { IfOk result (λ error. kind_of error ≡ kind) }
+{
+    whole(alloc)?.error(kind, text)
+}
+
+/// An error about a wrong word, or want of memory.
+pub fn wrong_value(alloc: Global, text: &str) -> Error
+    ensures { (kind_of result ≡ ErrorKind.OutOfMemory) ⊎ (kind_of result ≡ ErrorKind.InvalidValue) }
+{
+    match error(alloc, ErrorKind::InvalidValue, text) {
+        Ok(error) => error,
         Err(error) => Error::from(error),
-        Ok(mut command) => match command.error(kind, text) {
-            Ok(error) => error,
-            Err(error) => Error::from(error),
-        },
+    }
+}
+
+/// The text for words that can't be read: memory was refused, or a word isn't UTF-8.
+pub fn unread(alloc: Global, error: &io::Error) -> Error
+    ensures memory { error_kind error.now ≡ IoKind.OutOfMemory
+        → kind_of result ≡ ErrorKind.OutOfMemory }
+    ensures value { (kind_of result ≡ ErrorKind.OutOfMemory) ⊎ (kind_of result ≡ ErrorKind.InvalidValue) }
+{
+    match error.kind() {
+        IoKind::OutOfMemory => Error::from(AllocError),
+        _ => wrong_value(alloc, "a word isn't UTF-8"),
     }
 }

@@ -1,4 +1,8 @@
-//! Why the program didn't do what it was asked.
+//! Why the program didn't do what it was asked, and the statuses.
+ghost use Rattle.std.specs.Prelude.{◌≡◌, ◌≤◌};
+ghost use Rattle.simulation.specs.Statuses.{fault_of_network, fault_of_words, status_of};
+ghost use Rattle.simulation.specs.declared.fault.Fault.TheVariants.{Memory, Output};
+
 use clap::error::ErrorKind;
 use std::alloc::{AllocError, AllocFailed};
 use std::io;
@@ -21,9 +25,6 @@ pub enum Fault {
     /// The words of the command line are wrong, or ask for help: the text says which.
     #[error("{0}")]
     Usage(clap::Error),
-    /// A word isn't UTF-8.
-    #[error("a word isn't UTF-8")]
-    Words,
     /// The times of the interfaces aren't allowed.
     #[error("the times of the interfaces are outside of their ranges")]
     Times,
@@ -36,24 +37,32 @@ pub enum Fault {
 }
 
 impl From<AllocError> for Fault {
+    ghost from_gives = { λ _ fault. fault ≡ Memory };
+
     fn from(_error: AllocError) -> Fault {
         Fault::Memory
     }
 }
 
 impl<T: Drop> From<AllocFailed<T>> for Fault {
+    ghost from_gives = { λ _ fault. fault ≡ Memory };
+
     fn from(_error: AllocFailed<T>) -> Fault {
         Fault::Memory
     }
 }
 
 impl From<io::Error> for Fault {
+    ghost from_gives = { λ _ fault. fault ≡ Output };
+
     fn from(_error: io::Error) -> Fault {
         Fault::Output
     }
 }
 
 impl From<simulated_networks::Fault> for Fault {
+    ghost from_gives = { λ error fault. fault ≡ fault_of_network error };
+
     fn from(fault: simulated_networks::Fault) -> Fault {
         match fault {
             simulated_networks::Fault::Configuration => Fault::Times,
@@ -63,6 +72,8 @@ impl From<simulated_networks::Fault> for Fault {
 }
 
 impl From<clap::Error> for Fault {
+    ghost from_gives = { λ error fault. fault ≡ fault_of_words error };
+
     fn from(error: clap::Error) -> Fault {
         match error.kind() {
             ErrorKind::OutOfMemory => Fault::Memory,
@@ -73,11 +84,13 @@ impl From<clap::Error> for Fault {
 
 impl Fault {
     /// The status that the program ends with.
-    pub fn status(&self) -> u8 {
+    pub fn status(&self) -> u8
+        ensures value { result ≡ status_of self.now }
+        ensures within { result ≤ 4 }
+    {
         match self {
             Fault::Usage(error) if error.use_stderr() => USAGE,
             Fault::Usage(_) => DONE,
-            Fault::Words => USAGE,
             Fault::Times => USAGE,
             Fault::Output => OUTSIDE,
             Fault::Memory => MEMORY,

@@ -1,7 +1,11 @@
 //! Words that stand for values.
-use crate::arguments;
+ghost use Rattle.std.specs.Prelude.{◌≡◌, ◌≤◌, IfOk};
+ghost use Rattle.clap.specs.Matches.{found_of, first_value};
+ghost use Rattle.simulation.specs.Words.{IsNumber, OrElse, scenario_word, topology_word};
+
+use crate::arguments::wrong_value;
+use crate::words::{scenario_of, topology_of};
 use address_texts::read_within;
-use clap::error::ErrorKind;
 use clap::{ArgMatches, Error};
 use simulated_histories::Scenario;
 use simulated_networks::{Faults, Kind, Times};
@@ -14,53 +18,20 @@ pub struct Reading<'a> {
     pub matches: &'a ArgMatches<'a>,
 }
 
-fn kind_of(word: &str) -> Option<Kind> {
-    match word {
-        "grid" => Some(Kind::Grid),
-        "row" => Some(Kind::Row),
-        "ring" => Some(Kind::Ring),
-        "fat-tree" => Some(Kind::FatTree),
-        "random" => Some(Kind::Random),
-        _ => None,
-    }
-}
-
-const SCENARIOS: [Scenario; 9] = [
-    Scenario::Start,
-    Scenario::Link,
-    Scenario::Silent,
-    Scenario::Restart,
-    Scenario::Flap,
-    Scenario::Partition,
-    Scenario::Announce,
-    Scenario::Withdraw,
-    Scenario::Storm,
-];
-
-fn scenario_of(word: &str) -> Option<Scenario> {
-    for scenario in &SCENARIOS {
-        if scenario.word() == word {
-            return Some(*scenario);
-        }
-    }
-    None
-}
-
-fn wrong(alloc: Global, text: &str) -> Error {
-    arguments::error(alloc, ErrorKind::InvalidValue, text)
-}
-
 impl<'a> Reading<'a> {
     /// The number under a name, or the usual one where there is none.
     ///
     /// # Errors
     /// Where the word is no number from `least` to `most`.
-    pub fn number(&self, name: &str, usual: u64, least: u64, most: u64) -> Result<u64, Error> {
+    pub fn number(&self, name: &str, usual: u64, least: u64, most: u64) -> Result<u64, Error>
+        ensures { IfOk result (λ n. OrElse (first_value (found_of self.now.matches.now) name.now)
+            (n ≡ usual) (λ word. IsNumber least most word n)) }
+    {
         match self.matches.get_str(name) {
             None => Ok(usual),
             Some(word) => match read_within(word, least, most) {
                 Some(number) => Ok(number),
-                None => Err(wrong(self.alloc, "a number is outside of its range")),
+                None => Err(wrong_value(self.alloc, "a number is outside of its range")),
             },
         }
     }
@@ -69,7 +40,10 @@ impl<'a> Reading<'a> {
     ///
     /// # Errors
     /// Where the word is no number from `least` to `most`.
-    pub fn small(&self, name: &str, usual: u32, least: u32, most: u32) -> Result<u32, Error> {
+    pub fn small(&self, name: &str, usual: u32, least: u32, most: u32) -> Result<u32, Error>
+        ensures { IfOk result (λ n. OrElse (first_value (found_of self.now.matches.now) name.now)
+            (n ≡ usual) (λ word. IsNumber least most word n)) }
+    {
         let number = self.number(name, u64::from(usual), u64::from(least), u64::from(most))?;
         Ok(u32::try_from(number).unwrap_or(usual))
     }
@@ -86,9 +60,9 @@ impl<'a> Reading<'a> {
     pub fn topology(&self) -> Result<Kind, Error> {
         match self.matches.get_str("topology") {
             None => Ok(Kind::Grid),
-            Some(word) => match kind_of(word) {
+            Some(word) => match topology_of(word) {
                 Some(kind) => Ok(kind),
-                None => Err(wrong(self.alloc, "there is no such topology")),
+                None => Err(wrong_value(self.alloc, "there is no such topology")),
             },
         }
     }
@@ -102,7 +76,7 @@ impl<'a> Reading<'a> {
             None => Ok(Scenario::Start),
             Some(word) => match scenario_of(word) {
                 Some(scenario) => Ok(scenario),
-                None => Err(wrong(self.alloc, "there is no such scenario")),
+                None => Err(wrong_value(self.alloc, "there is no such scenario")),
             },
         }
     }

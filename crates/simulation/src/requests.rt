@@ -1,5 +1,5 @@
 //! What the words of a command line ask for.
-use crate::arguments;
+use crate::arguments::{error, whole};
 use crate::reading::Reading;
 use clap::error::ErrorKind;
 use clap::{ArgMatches, Error};
@@ -88,15 +88,16 @@ fn request_of(alloc: Global, matches: &ArgMatches<'_>) -> Result<Request, Error>
             alloc,
             matches: words,
         }),
-        _ => Err(arguments::error(alloc, ErrorKind::MissingSubcommand, "no command is given")),
+        _ => Err(error(alloc, ErrorKind::MissingSubcommand, "no command is given")?),
     }
 }
 
 /// Reads the words of a command line, of which the first is the program's name.
 ///
 /// # Errors
-/// Where the words are wrong or ask for help, with the text for the user; and where memory is refused.
+/// Where the words are wrong or ask for help, with the text for the user; and where memory is
+/// refused.
 pub fn parse(alloc: Global, words: &[&str]) -> Result<Request, Error> {
-    let matches = arguments::whole(alloc)?.try_get_matches_from(words)?;
+    let matches = whole(alloc)?.try_get_matches_from(words)?;
     request_of(alloc, &matches)
 }

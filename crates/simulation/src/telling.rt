@@ -1,4 +1,5 @@
 //! What is printed for people.
+use crate::words::scenario_word;
 use simulated_histories::{Act, Outcome, Phase, Plan, Scenario};
 use std::io::{self, Write};
 
@@ -26,10 +27,8 @@ fn tell_counts<O: Write>(output: &mut O, outcome: &Outcome) -> io::Result<()> {
     let (events, refused, walks) = (counts.events, counts.refused, outcome.walks);
     let (packets, bytes, lost) = (counts.packets, counts.bytes, counts.lost);
     let (copies, most) = (counts.copies, counts.most_under_way);
-    writeln!(
-        output,
-        "events {events}, refused {refused}, walks {walks}, packets {packets}, bytes {bytes}, lost {lost}"
-    )?;
+    writeln!(output, "events {events}, refused {refused}, walks {walks}")?;
+    writeln!(output, "packets {packets}, bytes {bytes}, lost {lost}")?;
     writeln!(
         output,
         "LSAs in Updates {copies}, packets under way at most {most}"
@@ -53,8 +52,9 @@ fn tell_rest<O: Write>(output: &mut O, outcome: &Outcome) -> io::Result<()> {
         let (other_cost, stray) = (seen.other_cost, seen.stray);
         write!(
             output,
-            ", loops {looping}, into nothing {nowhere}, missing {missing}, of another cost {other_cost}, of nobody {stray}"
+            ", loops {looping}, into nothing {nowhere}, missing {missing}"
         )?;
+        write!(output, ", of another cost {other_cost}, of nobody {stray}")?;
     }
     writeln!(output, "")
 }
@@ -71,7 +71,7 @@ pub fn tell_run<O: Write>(output: &mut O, plan: &Plan, outcome: &Outcome) -> io:
     )?;
     tell_phase(output, "start", &outcome.start)?;
     if plan.scenario != Scenario::Start {
-        tell_phase(output, plan.scenario.word(), &outcome.change)?;
+        tell_phase(output, scenario_word(plan.scenario), &outcome.change)?;
     }
     tell_counts(output, outcome)?;
     tell_rest(output, outcome)

@@ -1,4 +1,7 @@
 //! Requests, carried out.
+ghost use Rattle.std.specs.Prelude.{IfOk};
+ghost use Rattle.simulation.specs.Endings.{IsVerdict};
+
 use crate::fault::{DONE, FOUND, Fault};
 use crate::json::write_run;
 use crate::requests::{Request, parse};
@@ -35,7 +38,9 @@ fn play_all<O: Write>(
     json: bool,
     events: &[Event],
     output: &mut O,
-) -> Result<u8, Fault> {
+) -> Result<u8, Fault>
+    ensures { IfOk result IsVerdict }
+{
     let mut plan = first;
     let mut well = 0_u64;
     for turn in 0..seeds {
@@ -58,7 +63,9 @@ fn search_all<O: Write>(
     seeds: (u64, u64),
     events: &[Event],
     output: &mut O,
-) -> Result<u8, Fault> {
+) -> Result<u8, Fault>
+    ensures { IfOk result IsVerdict }
+{
     let (first, count) = seeds;
     let mut found = 0_u64;
     for turn in 0..count {
@@ -87,7 +94,9 @@ pub fn carry_out<R: Wait + Drop + Copy, O: Write>(
     rt: R,
     words: &[&str],
     output: &mut O,
-) -> Result<u8, Fault> {
+) -> Result<u8, Fault>
+    ensures { IfOk result IsVerdict }
+{
     match parse(alloc, words)? {
         Request::Run { plan, seeds, json } => {
             let events = announcements(alloc, rt, plan.externals)?;
