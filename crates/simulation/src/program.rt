@@ -28,8 +28,8 @@ fn tell<O: Write, E: Write>(fault: &Fault, output: &mut O, errors: &mut E) -> u8
 
 // Answers the status of what was played, or tells what its fault is.
 fn end<O: Write, E: Write>(outcome: Result<u8, Fault>, output: &mut O, errors: &mut E) -> u8
-    requires { IfOk outcome.entry IsVerdict }
-    ensures ended { Ends outcome.entry (O.contents output.old) (O.contents output.new)
+    requires { IfOk outcome IsVerdict }
+    ensures ended { Ends outcome (O.contents output.old) (O.contents output.new)
         (E.contents errors.old) (E.contents errors.new) result }
     ensures within { result ≤ 4 }
 {
