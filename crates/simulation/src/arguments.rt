@@ -223,7 +223,8 @@ pub fn error(alloc: Global, kind: ErrorKind, text: &str) -> Result<Error, AllocE
 
 /// An error about a wrong word, or want of memory.
 pub fn wrong_value(alloc: Global, text: &str) -> Error
-    ensures { (kind_of result ≡ ErrorKind.OutOfMemory) ⊎ (kind_of result ≡ ErrorKind.InvalidValue) }
+    ensures { (kind_of result ≡ ErrorKind.OutOfMemory)
+        ⊎ (kind_of result ≡ ErrorKind.InvalidValue) }
 {
     match error(alloc, ErrorKind::InvalidValue, text) {
         Ok(error) => error,
@@ -235,7 +236,8 @@ pub fn wrong_value(alloc: Global, text: &str) -> Error
 pub fn unread(alloc: Global, error: &io::Error) -> Error
     ensures memory { error_kind error.now ≡ IoKind.OutOfMemory
         → kind_of result ≡ ErrorKind.OutOfMemory }
-    ensures value { (kind_of result ≡ ErrorKind.OutOfMemory) ⊎ (kind_of result ≡ ErrorKind.InvalidValue) }
+    ensures value { (kind_of result ≡ ErrorKind.OutOfMemory)
+        ⊎ (kind_of result ≡ ErrorKind.InvalidValue) }
 {
     match error.kind() {
         IoKind::OutOfMemory => Error::from(AllocError),

@@ -1,6 +1,6 @@
 //! What the words of a command line ask for.
 use crate::arguments::{error, whole};
-use crate::reading::Reading;
+use crate::reading::{faults_in, flag_in, number_of, scenario_in, small_of, times_in, topology_in};
 use clap::error::ErrorKind;
 use clap::{ArgMatches, Error};
 use simulated_histories::{Plan, Search, Sought};
@@ -28,67 +28,70 @@ pub enum Request {
 
 const MOST: u64 = 4_611_686_018_427_387_903;
 
-fn run(reading: &Reading<'_>) -> Result<Request, Error> {
-    let externals = reading.small("externals", 0, 0, 100_000)?;
+fn run(alloc: Global, matches: &ArgMatches<'_>) -> Result<Request, Error> {
+    let externals = small_of(alloc, matches, "externals", 0, 0, 100_000)?;
     let usual = externals.saturating_add(999) / 1_000;
     let plan = Plan {
-        topology: reading.topology()?,
-        routers: reading.small("routers", 9, 1, 10_000)?,
+        topology: topology_in(alloc, matches)?,
+        routers: small_of(alloc, matches, "routers", 9, 1, 10_000)?,
         externals,
-        announcers: reading.small("announcers", usual, 0, 10_000)?,
-        spread: reading.small("spread", 1, 1, 10_000)?,
-        times: reading.times()?,
-        faults: reading.faults()?,
-        scenario: reading.scenario()?,
-        seed: reading.number("seed", 1, 0, MOST)?,
-        seconds: reading.number("seconds", 300, 1, MOST)?,
-        stay: reading.number("stay", 12, 0, MOST)?,
-        calm: reading.number("calm", 60, 0, MOST)?,
-        watches: reading.flag("watch"),
+        announcers: small_of(alloc, matches, "announcers", usual, 0, 10_000)?,
+        spread: small_of(alloc, matches, "spread", 1, 1, 10_000)?,
+        times: times_in(alloc, matches)?,
+        faults: faults_in(alloc, matches)?,
+        scenario: scenario_in(alloc, matches)?,
+        seed: number_of(alloc, matches, "seed", 1, 0, MOST)?,
+        seconds: number_of(alloc, matches, "seconds", 300, 1, MOST)?,
+        stay: number_of(alloc, matches, "stay", 12, 0, MOST)?,
+        calm: number_of(alloc, matches, "calm", 60, 0, MOST)?,
+        watches: flag_in(matches, "watch"),
     };
     Ok(Request::Run {
         plan,
-        seeds: reading.number("seeds", 1, 1, MOST)?,
-        json: reading.flag("json"),
+        seeds: number_of(alloc, matches, "seeds", 1, 1, MOST)?,
+        json: flag_in(matches, "json"),
     })
 }
 
-fn search(reading: &Reading<'_>) -> Result<Request, Error> {
-    let sought = if reading.flag("loops") {
+fn search(alloc: Global, matches: &ArgMatches<'_>) -> Result<Request, Error> {
+    let sought = if flag_in(matches, "loops") {
         Sought::Loops
     } else {
         Sought::Databases
     };
     let search = Search {
         sought,
-        routers: reading.small("routers", 9, 1, 10_000)?,
-        externals: reading.small("externals", 0, 0, 100_000)?,
-        times: reading.times()?,
-        faults: reading.faults()?,
-        restarts: reading.flag("restarts"),
-        steps: reading.small("steps", 500, 0, 1_000_000)?,
-        calm: reading.small("calm", 60, 0, 1_000_000)?,
+        routers: small_of(alloc, matches, "routers", 9, 1, 10_000)?,
+        externals: small_of(alloc, matches, "externals", 0, 0, 100_000)?,
+        times: times_in(alloc, matches)?,
+        faults: faults_in(alloc, matches)?,
+        restarts: flag_in(matches, "restarts"),
+        steps: small_of(alloc, matches, "steps", 500, 0, 1_000_000)?,
+        calm: small_of(alloc, matches, "calm", 60, 0, 1_000_000)?,
     };
     Ok(Request::Search {
         search,
-        topology: reading.topology()?,
-        spread: reading.small("spread", 1, 1, 10_000)?,
-        seed: reading.number("seed", 1, 0, MOST)?,
-        seeds: reading.number("seeds", 1, 1, MOST)?,
+        topology: topology_in(alloc, matches)?,
+        spread: small_of(alloc, matches, "spread", 1, 1, 10_000)?,
+        seed: number_of(alloc, matches, "seed", 1, 0, MOST)?,
+        seeds: number_of(alloc, matches, "seeds", 1, 1, MOST)?,
     })
 }
 
-fn request_of(alloc: Global, matches: &ArgMatches<'_>) -> Result<Request, Error> {
+// What the command of this name makes of its words. None where there is no such command.
+fn made_by(alloc: Global, name: &str, matches: &ArgMatches<'_>) -> Result<Option<Request>, Error> {
+    match name {
+        "run" => Ok(Some(run(alloc, matches)?)),
+        "search" => Ok(Some(search(alloc, matches)?)),
+        _ => Ok(None),
+    }
+}
+
+// What the command that the words name makes of its words. None where they name no command.
+fn request_of(alloc: Global, matches: &ArgMatches<'_>) -> Result<Option<Request>, Error> {
     match matches.subcommand() {
-        Some(("run", words)) => run(&Reading {
-            alloc,
-            matches: words,
-        }),
-        Some(("search", words)) => search(&Reading {
-            alloc,
-            matches: words,
-        }),
-        _ => Err(error(alloc, ErrorKind::MissingSubcommand, "no command is given")?),
+        Some((name, matches)) => made_by(alloc, name, matches),
+        None => Ok(None),
     }
 }
 
@@ -99,5 +102,8 @@ fn request_of(alloc: Global, matches: &ArgMatches<'_>) -> Result<Request, Error>
 /// refused.
 pub fn parse(alloc: Global, words: &[&str]) -> Result<Request, Error> {
     let matches = whole(alloc)?.try_get_matches_from(words)?;
-    request_of(alloc, &matches)
+    match request_of(alloc, &matches)? {
+        Some(request) => Ok(request),
+        None => Err(error(alloc, ErrorKind::MissingSubcommand, "no command is given")?),
+    }
 }

@@ -77,6 +77,32 @@ pub fn tell_run<O: Write>(output: &mut O, plan: &Plan, outcome: &Outcome) -> io:
     tell_rest(output, outcome)
 }
 
+// The act's name, and the router, destination, interface or count that it names.
+fn parts_of(act: Act) -> (&'static str, Option<u32>, Option<u32>) {
+    match act {
+        Act::Comes => ("Comes", None, None),
+        Act::Lost => ("Lost", None, None),
+        Act::Twice => ("Twice", None, None),
+        Act::Exchanged => ("Exchanged", None, None),
+        Act::Again(back) => ("Again", Some(back), None),
+        Act::Tick(place) => ("Tick", Some(place), None),
+        Act::Passes => ("Passes", None, None),
+        Act::Announce(place, number) => ("Announce", Some(place), Some(number)),
+        Act::Withdraw(place, number) => ("Withdraw", Some(place), Some(number)),
+        Act::LinkDown(place, interface) => ("LinkDown", Some(place), Some(interface)),
+        Act::Restart(place) => ("Restart", Some(place), None),
+        Act::Calm(seconds) => ("Calm", Some(seconds), None),
+    }
+}
+
+fn tell_act<O: Write>(output: &mut O, act: Act) -> io::Result<()> {
+    match parts_of(act) {
+        (name, Some(one), Some(other)) => writeln!(output, "  {name}({one}, {other})"),
+        (name, Some(one), None) => writeln!(output, "  {name}({one})"),
+        (name, _, _) => writeln!(output, "  {name}"),
+    }
+}
+
 /// Tells of a history that was found.
 ///
 /// # Errors
@@ -85,7 +111,7 @@ pub fn tell_history<O: Write>(output: &mut O, seed: u64, acts: &[Act]) -> io::Re
     let length = acts.len();
     writeln!(output, "seed {seed}: {length} acts")?;
     for act in acts {
-        writeln!(output, "  {act:?}")?;
+        tell_act(output, *act)?;
     }
     Ok(())
 }

@@ -7,7 +7,7 @@ use crate::json::write_run;
 use crate::requests::{Request, parse};
 use crate::telling::{tell_history, tell_run};
 use flood::Event;
-use simulated_histories::{Plan, Search, play_scenario};
+use simulated_histories::{Plan, Search, Stage, play_scenario};
 use simulated_networks::{Kind, Random, Topology, announcements};
 use std::alloc::Global;
 use std::io::Write;
@@ -57,11 +57,9 @@ fn play_all<O: Write>(
 
 // Searches among so many seeds from the first one on.
 fn search_all<O: Write>(
-    alloc: Global,
     search: &Search,
-    topology: &Topology,
+    stage: Stage<'_>,
     seeds: (u64, u64),
-    events: &[Event],
     output: &mut O,
 ) -> Result<u8, Fault>
     ensures { IfOk result IsVerdict }
@@ -70,7 +68,7 @@ fn search_all<O: Write>(
     let mut found = 0_u64;
     for turn in 0..count {
         let seed = first.saturating_add(turn);
-        if let Some(acts) = search.found(alloc, topology, events, seed)? {
+        if let Some(acts) = search.found(stage, seed)? {
             tell_history(output, seed, &acts)?;
             found = found.saturating_add(1);
         }
@@ -111,7 +109,12 @@ pub fn carry_out<R: Wait + Drop + Copy, O: Write>(
         } => {
             let events = announcements(alloc, rt, search.externals)?;
             let made = topology_of(alloc, topology, search.routers, spread)?;
-            search_all(alloc, &search, &made, (seed, seeds), &events, output)
+            let stage = Stage {
+                alloc,
+                topology: &made,
+                events: &events,
+            };
+            search_all(&search, stage, (seed, seeds), output)
         }
     }
 }
