@@ -3,8 +3,6 @@
 #![tactic(auto)]
 
 #[cfg(test)]
-mod announced;
-#[cfg(test)]
 mod destinations;
 #[cfg(test)]
 mod exchanges;

@@ -12,9 +12,9 @@
 //! sent: so that all senders know what they tell is what "acknowledged was received" rests on. What
 //! was flooded to a neighbor that is Full ever since shows besides what its list holds: at a Tick
 //! it comes again once RxmtInterval has passed, unless the neighbor has acknowledged it.
-use crate::announced::prefix;
 use crate::member::{Member, begun, router_at};
 use flood::{Core, Event, Out, State};
+use simulated_networks::{holds_the_same, prefix};
 use std::alloc::Global;
 use std::mem::replace;
 use words::{Prefix, Route, Second};
@@ -62,6 +62,9 @@ pub enum Act {
     Leads(usize, u16, u32),
 }
 
+/// How many destinations there are.
+pub const DESTINATIONS: u32 = 4;
+
 /// Packets come one after the other.
 pub const CALM: &[Fate] = &[Fate::Comes];
 
@@ -100,23 +103,6 @@ fn other_end(place: usize, interface: u16) -> Option<(usize, u16)> {
         (2, 1) => Some((1, 2)),
         _ => None,
     }
-}
-
-// Both hold LSAs of the same keys with the same lengths, sequence numbers and checksums.
-fn holds_the_same(one: &Core, other: &Core) -> bool {
-    if one.database().len() != other.database().len() {
-        return false;
-    }
-    for key in one.database().keys() {
-        let (Some(a), Some(b)) = (one.database().get(&key), other.database().get(&key)) else {
-            return false;
-        };
-        let (a, b) = (a.lsa.header(), b.lsa.header());
-        if a.sequence != b.sequence || a.checksum != b.checksum || a.length != b.length {
-            return false;
-        }
-    }
-    true
 }
 
 // Some route to the prefix leaves by the interface.

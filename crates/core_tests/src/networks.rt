@@ -1,8 +1,8 @@
 //! Two and three routers in a row: they become Full, and their databases the same, whatever is
 //! lost, comes twice or in another order.
-use crate::announced::announcements;
-use crate::network::{Act, CALM, Fate, Network};
+use crate::network::{Act, CALM, DESTINATIONS, Fate, Network};
 use flood::Event;
+use simulated_networks::announcements;
 use std::alloc::Global;
 use std::sync::Wait;
 use std::test::Fail;
@@ -23,7 +23,7 @@ fn play<R: Wait + Drop + Copy>(
     routers: usize,
     acts: &[Act],
 ) -> Result<(), Fail> {
-    let events = announcements(alloc, rt)?;
+    let events = announcements(alloc, rt, DESTINATIONS)?;
     let mut network = Network::new(alloc, routers).ok_or("no network")?;
     let played = play_at(&mut network, &events, acts);
     network.close();

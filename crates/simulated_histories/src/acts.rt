@@ -2,7 +2,7 @@
 use simulated_networks::{Faults, Random};
 
 /// What is done with a network. Routers and destinations go by their places and numbers.
-#[derive(Clone, Copy, Debug)]
+#[derive(Clone, Copy)]
 pub enum Act {
     /// The next packet that is under way comes; it is lost; it comes twice; or it comes after the one behind it.
     Comes,

@@ -55,8 +55,8 @@ impl<'a> Run<'a> {
     }
 
     fn set_owner(&mut self, number: usize, place: usize) {
-        if let Some(owner) = self.owners.get_mut(number) {
-            *owner = place;
+        if number < self.owners.len() {
+            self.owners[number] = place;
         }
     }
 
@@ -151,10 +151,11 @@ impl<'a> Run<'a> {
 
     // A link that is down for a while comes up again when that is over.
     fn waits_for(&mut self, number: usize) -> Result<(), Fault> {
-        let left = self.down.get(number).copied().unwrap_or(0);
-        if let Some(down) = self.down.get_mut(number) {
-            *down = left.saturating_sub(1);
+        if number >= self.down.len() {
+            return Ok(());
         }
+        let left = self.down[number];
+        self.down[number] = left.saturating_sub(1);
         if left == 1 {
             self.network.set_link(number, true, false)?;
         }
@@ -166,12 +167,10 @@ impl<'a> Run<'a> {
         let number = self.random.place(links);
         let seconds = u64::from(self.random.below(20)).saturating_add(1);
         let notice = self.random.below(2) == 0;
-        if self.down.get(number).copied().unwrap_or(1) > 0 {
+        if number >= self.down.len() || self.down[number] > 0 {
             return Ok(());
         }
-        if let Some(down) = self.down.get_mut(number) {
-            *down = seconds;
-        }
+        self.down[number] = seconds;
         self.network.set_link(number, false, notice)
     }
 

@@ -1,18 +1,18 @@
 //! Destinations, as an operator has them announced while no program is published.
 ghost use Rattle.maps.specs.Words.{IsOf};
 
+use crate::addresses::of_destination;
 use crate::fault::Fault;
 use flood::Event;
 use hooks::{Asker, programs};
 use maps::{Seat, Shared};
 use std::alloc::Global;
 use std::sync::Wait;
-use words::{Address, External, ExternalType, Prefix, Second};
+use words::{External, ExternalType, Prefix, Second};
 
 /// The destination of this number: 20.0.0.0/24 and so on.
 pub fn prefix(number: u32) -> Option<Prefix> {
-    let address = 0x1400_0000_u32.wrapping_add(number.wrapping_mul(256));
-    Prefix::new(Address::new(address), 24)
+    Prefix::new(of_destination(number), 24)
 }
 
 fn destination(number: u32) -> Option<External> {

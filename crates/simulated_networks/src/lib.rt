@@ -2,6 +2,7 @@
 //! comes later or comes twice, as numbers made from a seed say. The same seed makes the same run on any machine.
 #![tactic(auto)]
 
+mod addresses;
 mod counts;
 mod destinations;
 mod fault;

@@ -8,7 +8,6 @@ use crate::wires::{Coming, Wires};
 use flood::{Core, Event, Out};
 use forwarding_loops::Link;
 use std::alloc::{AllocError, Global};
-use std::mem::replace;
 
 // In a second there are fewer rounds.
 const MOST_ROUNDS: u32 = 100_000;
@@ -130,15 +129,17 @@ impl Network {
 
     /// Tells whether the router's table may be another one than when this was last asked.
     pub fn takes_change(&mut self, place: usize) -> bool {
-        match self.has_changed.get_mut(place) {
-            Some(changed) => replace(changed, false),
-            None => false,
+        if place >= self.has_changed.len() {
+            return false;
         }
+        let changed = self.has_changed[place];
+        self.has_changed[place] = false;
+        changed
     }
 
     fn note_change(&mut self, place: usize) {
-        if let Some(changed) = self.has_changed.get_mut(place) {
-            *changed = true;
+        if place < self.has_changed.len() {
+            self.has_changed[place] = true;
         }
     }
 

@@ -20,7 +20,8 @@ fn is_none(way: &Way) -> bool {
     way.cost == NO_COST
 }
 
-fn way_at(ways: &[Way], place: usize) -> Way {
+/// The way of this place or number; none, where there is none.
+pub fn way_at(ways: &[Way], place: usize) -> Way {
     ways.get(place).copied().unwrap_or(NONE)
 }
 

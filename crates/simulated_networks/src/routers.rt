@@ -1,10 +1,12 @@
 //! Routers as they begin, and what two of them have in common.
+use crate::addresses::on_link;
 use crate::fault::Fault;
 use crate::topology::{End, Topology};
 use flood::{Config, Core, CoreError, Event, Interface, Out, State};
+use lsa::Header;
 use std::alloc::{AllocError, Global};
 use std::mem::replace;
-use words::{Address, RouterId, Second, Sequence};
+use words::{Address, Key, RouterId, Second, Sequence};
 
 /// The times of all interfaces, in seconds.
 #[derive(Clone, Copy)]
@@ -19,13 +21,16 @@ fn router_at(place: usize) -> RouterId {
     RouterId::new(u32::try_from(place.wrapping_add(1)).unwrap_or(1))
 }
 
-// Link n is 10.0.0.0 and 4 n more, /30; its end at the router with the lower place comes first.
-fn interface(end: &End, is_first: bool, times: Times) -> Interface {
+// The end of a link at the router with the lower place has its first address.
+fn address(end: &End, place: usize) -> Address {
     let number = u32::try_from(end.link).unwrap_or(0);
-    let host = if is_first { 1 } else { 2 };
-    let subnet = 0x0a00_0000_u32.wrapping_add(number.wrapping_mul(4));
+    let host = if place < end.place { 1 } else { 2 };
+    on_link(number, host)
+}
+
+fn interface(end: &End, address: Address, times: Times) -> Interface {
     Interface {
-        address: Address::new(subnet.wrapping_add(host)),
+        address,
         length: 30,
         cost: end.cost,
         hello_interval: times.hello,
@@ -43,7 +48,7 @@ fn interfaces(
 ) -> Result<Vec<Interface>, AllocError> {
     let mut made = Vec::new(alloc);
     for end in ends {
-        made.push(interface(end, place < end.place, times))?;
+        made.push(interface(end, address(end, place), times))?;
     }
     Ok(made)
 }
@@ -98,17 +103,24 @@ pub fn sees_full(core: &Core, interface: u8) -> bool {
     }
 }
 
+fn are_instances_of_one(a: &Header, b: &Header) -> bool {
+    a.sequence == b.sequence && a.checksum == b.checksum && a.length == b.length
+}
+
+fn both_hold(one: &Core, other: &Core, key: &Key) -> bool {
+    match (one.database().get(key), other.database().get(key)) {
+        (Some(a), Some(b)) => are_instances_of_one(&a.lsa.header(), &b.lsa.header()),
+        _ => false,
+    }
+}
+
 /// Tells whether both hold LSAs of the same keys with the same lengths, sequence numbers and checksums.
 pub fn holds_the_same(one: &Core, other: &Core) -> bool {
     if one.database().len() != other.database().len() {
         return false;
     }
     for key in one.database().keys() {
-        let (Some(a), Some(b)) = (one.database().get(&key), other.database().get(&key)) else {
-            return false;
-        };
-        let (a, b) = (a.lsa.header(), b.lsa.header());
-        if a.sequence != b.sequence || a.checksum != b.checksum || a.length != b.length {
+        if !both_hold(one, other, &key) {
             return false;
         }
     }

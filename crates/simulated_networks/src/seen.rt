@@ -1,7 +1,7 @@
 //! What the tables of all routers say together.
 
 /// How many pairs of a router and a prefix show this.
-#[derive(Clone, Copy, Debug, PartialEq, Eq)]
+#[derive(Clone, Copy, PartialEq)]
 pub struct Seen {
     /// A walk over next hops comes back to the router.
     pub looping: u64,

@@ -1,6 +1,7 @@
 //! The tables of all routers at once, and what they say of each prefix.
+use crate::addresses::{destination_at, link_at};
 use crate::network::Network;
-use crate::pairs::{HERE, NONE, see_ways};
+use crate::pairs::{HERE, NONE, see_ways, way_at};
 use crate::seen::Seen;
 use flood::Core;
 use forwarding_loops::{Link, Way, count_looping};
@@ -25,11 +26,10 @@ pub struct Tables {
 
 // The number of the route's prefix: that of its link, or of its destination behind them.
 fn number_of(links: usize, route: &Route) -> usize {
-    let bits = route.prefix.address().bits();
-    if bits >> 24 == 10 {
-        (bits & 0xff_ffff) as usize / 4
-    } else {
-        links.wrapping_add(bits.wrapping_sub(0x1400_0000) as usize / 256)
+    let address = route.prefix.address();
+    match link_at(address) {
+        Some(link) => link as usize,
+        None => links.wrapping_add(destination_at(address) as usize),
     }
 }
 
@@ -45,9 +45,7 @@ fn way_of(route: &Route) -> Way {
 }
 
 fn mixed(hash: u64, word: u64) -> u64 {
-    (hash ^ word)
-        .wrapping_mul(0x9e37_79b9_7f4a_7c15)
-        .rotate_left(29)
+    hash.wrapping_add(word).wrapping_mul(0x9e37_79b9_7f4a_7c15)
 }
 
 // A number that the instances give which the router holds below MaxAge.
@@ -104,11 +102,11 @@ impl Tables {
     }
 
     fn note_router(&mut self, place: usize) {
-        if let Some(is_new) = self.is_new.get_mut(place) {
-            *is_new = true;
+        if place < self.is_new.len() {
+            self.is_new[place] = true;
         }
-        if let Some(print) = self.prints.get_mut(place) {
-            *print = 0;
+        if place < self.prints.len() {
+            self.prints[place] = 0;
         }
     }
 
@@ -126,10 +124,8 @@ impl Tables {
     }
 
     fn set_print(&mut self, place: usize, core: &Core) {
-        if let Some(print) = self.prints.get_mut(place) {
-            if *print == 0 {
-                *print = print_of(core);
-            }
+        if place < self.prints.len() && self.prints[place] == 0 {
+            self.prints[place] = print_of(core);
         }
     }
 
@@ -166,8 +162,8 @@ impl Tables {
         if let Some(old) = self.ways.get_mut(place) {
             *old = ways;
         }
-        if let Some(is_new) = self.is_new.get_mut(place) {
-            *is_new = false;
+        if place < self.is_new.len() {
+            self.is_new[place] = false;
         }
         Ok(())
     }
@@ -190,7 +186,7 @@ impl Tables {
 
     fn way(&self, place: usize, number: usize) -> Way {
         match self.ways.get(place) {
-            Some(ways) => ways.get(number).copied().unwrap_or(NONE),
+            Some(ways) => way_at(ways, number),
             None => NONE,
         }
     }

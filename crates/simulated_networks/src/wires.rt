@@ -23,6 +23,25 @@ pub struct Wires {
     late: Vec<Coming>,
 }
 
+fn keep(list: &mut Vec<Coming>, coming: Coming) -> bool {
+    list.push(coming).is_ok()
+}
+
+fn add(list: &mut Vec<Coming>, end: &End, event: Event, due: u64) -> bool {
+    let coming = Coming {
+        place: end.place,
+        link: end.link,
+        event,
+        due,
+    };
+    keep(list, coming)
+}
+
+// All of the list, which is empty then.
+fn taken(list: &mut Vec<Coming>, alloc: Global) -> Vec<Coming> {
+    replace(list, Vec::new(alloc))
+}
+
 impl Wires {
     /// No links yet.
     pub fn new(alloc: Global) -> Wires {
@@ -46,46 +65,32 @@ impl Wires {
 
     /// The link goes up or down.
     pub fn set_up(&mut self, link: usize, up: bool) {
-        if let Some(is_up) = self.is_up.get_mut(link) {
-            *is_up = up;
+        if link < self.is_up.len() {
+            self.is_up[link] = up;
         }
     }
 
     /// The event is under way to an end, and comes with the next round. False where memory is refused.
     pub fn send(&mut self, end: &End, event: Event) -> bool {
-        self.next
-            .push(Coming {
-                place: end.place,
-                link: end.link,
-                event,
-                due: 0,
-            })
-            .is_ok()
+        add(&mut self.next, end, event, 0)
     }
 
     /// The event is under way to an end, and comes at a later moment. False where memory is refused.
     pub fn send_late(&mut self, end: &End, event: Event, due: u64) -> bool {
-        self.late
-            .push(Coming {
-                place: end.place,
-                link: end.link,
-                event,
-                due,
-            })
-            .is_ok()
+        add(&mut self.late, end, event, due)
     }
 
     fn sort(&mut self, coming: Coming, moment: u64) -> bool {
         if coming.due <= moment {
-            self.next.push(coming).is_ok()
+            keep(&mut self.next, coming)
         } else {
-            self.late.push(coming).is_ok()
+            keep(&mut self.late, coming)
         }
     }
 
     /// What is due at the moment comes with the next round. False where memory is refused.
     pub fn wake(&mut self, moment: u64) -> bool {
-        let waiting = replace(&mut self.late, Vec::new(self.alloc));
+        let waiting = taken(&mut self.late, self.alloc);
         let mut fits = true;
         for coming in waiting {
             fits = self.sort(coming, moment) && fits;
@@ -95,7 +100,7 @@ impl Wires {
 
     /// All that comes with this round.
     pub fn take(&mut self) -> Vec<Coming> {
-        replace(&mut self.next, Vec::new(self.alloc))
+        taken(&mut self.next, self.alloc)
     }
 
     /// Tells whether nothing comes with the next round.
