@@ -4,7 +4,7 @@ use crate::fault::Fault;
 use crate::topology::{End, Topology};
 use flood::{Config, Core, CoreError, Event, Interface, Out, State};
 use lsa::Header;
-use std::alloc::{AllocError, Global};
+use std::alloc::{AllocError, AllocFailed, Global};
 use std::mem::replace;
 use words::{Address, Key, RouterId, Second, Sequence};
 
@@ -148,11 +148,20 @@ impl Routers {
     pub fn begin(&mut self, alloc: Global, topology: &Topology, times: Times) -> Result<(), Fault> {
         for place in 0..topology.ends.len() {
             let core = begun(alloc, topology, place, times, 0)?;
-            if self.cores.push(core).is_err() {
-                return Err(Fault::Memory);
-            }
+            self.add(core)?;
         }
         Ok(())
+    }
+
+    fn add(&mut self, core: Core) -> Result<(), Fault> {
+        match self.cores.push(core) {
+            Ok(()) => Ok(()),
+            Err(failed) => {
+                let AllocFailed { value } = failed;
+                value.close();
+                Err(Fault::Memory)
+            }
+        }
     }
 
     /// How many there are.
@@ -213,6 +222,10 @@ impl Routers {
 
     /// Lets the routers go.
     pub fn close(self) {
-        let Routers { cores: _ } = self;
+        let Routers { mut cores } = self;
+        while let Some(core) = cores.pop() {
+            core.close();
+        }
+        cores.destroy_empty();
     }
 }
