@@ -1,5 +1,6 @@
 //! What an abstract value has to keep.
-ghost use Rattle.std.specs.Prelude.{◌≡◌, ℕ, ◌<◌, ◌≤◌, ◌^◌, ◌%◌, Bool, Option, IsTrue, IsSomeAnd, bit_and};
+ghost use Rattle.std.specs.Prelude.{◌≡◌, ℕ, ◌<◌, ◌≤◌, ◌^◌, ◌%◌, Bool, Option, IsTrue, IsSomeAnd};
+ghost use Rattle.std.specs.Prelude.{bit_and};
 ghost use Rattle.isa.specs.declared.instruction.Operation.{Operation};
 ghost use Rattle.isa.specs.declared.instruction.Test.{Test};
 ghost use Rattle.isa.specs.declared.instruction.Width.{Width};
@@ -12,8 +13,8 @@ use isa::{Operation, Test, Width};
 
 /// An abstract value: a set of numbers below 2^64.
 ///
-/// The laws say that no number is lost. What a domain promises besides, of how narrow its answers are, stands in the
-/// members whose names end in `gives`.
+/// The laws say that no number is lost. What a domain promises besides, of how narrow its answers
+/// are, stands in the members whose names end in `gives`.
 pub trait Domain: Copy {
     /// The numbers that a value stands for.
     ghost contains: { Self → ℕ → Type 0 };
@@ -54,10 +55,11 @@ pub trait Domain: Copy {
         ensures everything { ((n : ℕ) → n < 2 ^ 64 → contains other n) → IsTrue result }
         ensures gives { within_gives self other result };
 
-    /// A value for the results of the operation on the low bits of two numbers. An operation of 32 bits gives a result
-    /// below 2^32.
+    /// A value for the results of the operation on the low bits of two numbers. An operation of 32
+    /// bits gives a result below 2^32.
     fn alu(operation: Operation, width: Width, left: Self, right: Self) -> Self
-        ensures holds { (a b : ℕ) → contains left a → contains right b → contains result (operate width operation (low width a) (low width b)) }
+        ensures holds { (a b : ℕ) → contains left a → contains right b
+            → contains result (operate width operation (low width a) (low width b)) }
         ensures gives { alu_gives operation width left right result };
 
     /// A value for the results of the operation on one number.
@@ -67,7 +69,9 @@ pub trait Domain: Copy {
 
     /// Values for the pairs whose low bits meet the test. None only where no pair meets it.
     fn assume(test: Test, width: Width, left: Self, right: Self) -> Option<(Self, Self)>
-        ensures holds { (a b : ℕ) → contains left a → contains right b → IsTrue (test_holds width test (low width a) (low width b)) → IsSomeAnd result (λ pair. contains pair.0 a × contains pair.1 b) }
+        ensures holds { (a b : ℕ) → contains left a → contains right b
+            → IsTrue (test_holds width test (low width a) (low width b))
+            → IsSomeAnd result (λ pair. contains pair.0 a × contains pair.1 b) }
         ensures gives { assume_gives test width left right result };
 
     /// Two bounds of the numbers: none is below the first or above the second.

@@ -10,8 +10,10 @@ use isa::{Test, Width};
 
 /// What the test against a number leaves of the value.
 fn left_by<D: Domain>(test: Test, value: D, number: u64) -> Option<D>
-    ensures holds { (n : ℕ) → D.contains value n → IsTrue (test_holds Bits64 test n number) → IsSomeAnd result (λ left. D.contains left n) }
-    ensures gives { IfSome result (λ left. IsLeft D.constant_gives D.assume_gives test value number left) }
+    ensures holds { (n : ℕ) → D.contains value n → IsTrue (test_holds Bits64 test n number)
+        → IsSomeAnd result (λ left. D.contains left n) }
+    ensures gives { IfSome result (λ left. IsLeft D.constant_gives D.assume_gives test value number
+        left) }
 {
     let (left, _) = D::assume(test, Width::Bits64, value, D::constant(number))?;
     Some(left)
@@ -19,8 +21,10 @@ fn left_by<D: Domain>(test: Test, value: D, number: u64) -> Option<D>
 
 /// The numbers of the value from the range's first to its second.
 fn within_range<D: Domain>(value: D, range: (u64, u64)) -> Option<D>
-    ensures holds { (n : ℕ) → D.contains value n → range.0 ≤ n → n ≤ range.1 → IsSomeAnd result (λ left. D.contains left n) }
-    ensures gives { IfSome result (λ left. IsWithinRange D.constant_gives D.assume_gives value range left) }
+    ensures holds { (n : ℕ) → D.contains value n → range.0 ≤ n → n ≤ range.1
+        → IsSomeAnd result (λ left. D.contains left n) }
+    ensures gives { IfSome result (λ left. IsWithinRange D.constant_gives D.assume_gives value range
+        left) }
 {
     let above = left_by(Test::GreaterOrEqual, value, range.0)?;
     left_by(Test::LessOrEqual, above, range.1)
@@ -28,8 +32,10 @@ fn within_range<D: Domain>(value: D, range: (u64, u64)) -> Option<D>
 
 /// The number of the range, if it has one alone, and else the value.
 fn within_single<D: Domain>(value: D, range: (u64, u64)) -> Option<D>
-    ensures holds { (n : ℕ) → D.contains value n → range.0 ≤ n → n ≤ range.1 → IsSomeAnd result (λ left. D.contains left n) }
-    ensures gives { IfSome result (λ left. IsWithinSingle D.constant_gives D.assume_gives value range left) }
+    ensures holds { (n : ℕ) → D.contains value n → range.0 ≤ n → n ≤ range.1
+        → IsSomeAnd result (λ left. D.contains left n) }
+    ensures gives { IfSome result (λ left. IsWithinSingle D.constant_gives D.assume_gives value
+        range left) }
 {
     if range.0 == range.1 {
         left_by(Test::Equal, value, range.0)
@@ -38,11 +44,14 @@ fn within_single<D: Domain>(value: D, range: (u64, u64)) -> Option<D>
     }
 }
 
-/// The pair of both values, each narrowed by the other: the first to the range of the second, and the second to the
-/// first's only number, if that has one alone. None only where no number is in both.
+/// The pair of both values, each narrowed by the other: the first to the range of the second, and
+/// the second to the first's only number, if that has one alone. None only where no number is in
+/// both.
 pub(crate) fn narrowed<A: Domain, B: Domain>(first: A, second: B) -> Option<Pair<A, B>>
-    ensures holds { (n : ℕ) → A.contains first n → B.contains second n → IsSomeAnd result (λ pair. A.contains pair.first n × B.contains pair.second n) }
-    ensures gives { IfSome result (λ pair. IsNarrowed A.constant_gives A.assume_gives A.range_gives B.constant_gives B.assume_gives B.range_gives first second pair) }
+    ensures holds { (n : ℕ) → A.contains first n → B.contains second n
+        → IsSomeAnd result (λ pair. A.contains pair.first n × B.contains pair.second n) }
+    ensures gives { IfSome result (λ pair. IsNarrowed A.constant_gives A.assume_gives A.range_gives
+        B.constant_gives B.assume_gives B.range_gives first second pair) }
 {
     let first = within_range(first, second.range())?;
     let second = within_single(second, first.range())?;
@@ -51,8 +60,11 @@ pub(crate) fn narrowed<A: Domain, B: Domain>(first: A, second: B) -> Option<Pair
 
 /// The pair of both values, narrowed. Where no number is in both, they stay as they are.
 pub(crate) fn paired<A: Domain, B: Domain>(first: A, second: B) -> Pair<A, B>
-    ensures holds { (n : ℕ) → A.contains first n → B.contains second n → A.contains result.first n × B.contains result.second n }
-    ensures gives { (n : ℕ) → A.contains first n → B.contains second n → IsNarrowed A.constant_gives A.assume_gives A.range_gives B.constant_gives B.assume_gives B.range_gives first second result }
+    ensures holds { (n : ℕ) → A.contains first n → B.contains second n → A.contains result.first n
+        × B.contains result.second n }
+    ensures gives { (n : ℕ) → A.contains first n → B.contains second n
+        → IsNarrowed A.constant_gives A.assume_gives A.range_gives B.constant_gives B.assume_gives
+        B.range_gives first second result }
 {
     match narrowed(first, second) {
         Some(pair) => pair,

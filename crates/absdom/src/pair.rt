@@ -9,8 +9,8 @@ use isa::{Operation, Test, Width};
 
 /// The numbers that both parts stand for.
 ///
-/// What a call makes is narrowed: the first part lies in the range of the second, and the second is the first's only
-/// number where that has one alone, as far as the tests of the two domains tell.
+/// What a call makes is narrowed: the first part lies in the range of the second, and the second is
+/// the first's only number where that has one alone, as far as the tests of the two domains tell.
 #[derive(Clone, Copy, Debug, PartialEq, Eq)]
 pub struct Pair<A, B> {
     pub first: A,
@@ -22,19 +22,37 @@ impl<A: Domain, B: Domain> Domain for Pair<A, B> {
 
     ghost constant_gives = { λ n p. A.constant_gives n p.first × B.constant_gives n p.second };
 
-    ghost stated_gives = { λ low high mask value p. (x : A) × (y : B) × A.stated_gives low high mask value x × B.stated_gives low high mask value y × ((n : ℕ) → A.contains x n → B.contains y n → IsNarrowed A.constant_gives A.assume_gives A.range_gives B.constant_gives B.assume_gives B.range_gives x y p) };
+    ghost stated_gives = { λ low high mask value p. (x : A) × (y : B)
+        × A.stated_gives low high mask value x × B.stated_gives low high mask value y
+        × ((n : ℕ) → A.contains x n → B.contains y n → IsNarrowed A.constant_gives A.assume_gives
+        A.range_gives B.constant_gives B.assume_gives B.range_gives x y p) };
 
-    ghost within_gives = { λ p other answer. (x : Bool) × (y : Bool) × A.within_gives p.first other.first x × B.within_gives p.second other.second y × (answer ≡ (if x then y else false)) };
+    ghost within_gives = { λ p other answer. (x : Bool) × (y : Bool)
+        × A.within_gives p.first other.first x × B.within_gives p.second other.second y
+        × (answer ≡ (if x then y else false)) };
 
-    ghost alu_gives = { λ operation width left right p. (x : A) × (y : B) × A.alu_gives operation width left.first right.first x × B.alu_gives operation width left.second right.second y × ((n : ℕ) → A.contains x n → B.contains y n → IsNarrowed A.constant_gives A.assume_gives A.range_gives B.constant_gives B.assume_gives B.range_gives x y p) };
+    ghost alu_gives = { λ operation width left right p. (x : A) × (y : B)
+        × A.alu_gives operation width left.first right.first x
+        × B.alu_gives operation width left.second right.second y × ((n : ℕ) → A.contains x n
+        → B.contains y n → IsNarrowed A.constant_gives A.assume_gives A.range_gives B.constant_gives
+        B.assume_gives B.range_gives x y p) };
 
-    ghost unary_gives = { λ operation operand p. (x : A) × (y : B) × A.unary_gives operation operand.first x × B.unary_gives operation operand.second y × ((n : ℕ) → A.contains x n → B.contains y n → IsNarrowed A.constant_gives A.assume_gives A.range_gives B.constant_gives B.assume_gives B.range_gives x y p) };
+    ghost unary_gives = { λ operation operand p. (x : A) × (y : B)
+        × A.unary_gives operation operand.first x × B.unary_gives operation operand.second y
+        × ((n : ℕ) → A.contains x n → B.contains y n → IsNarrowed A.constant_gives A.assume_gives
+        A.range_gives B.constant_gives B.assume_gives B.range_gives x y p) };
 
-    ghost assume_gives = { λ test width left right answer. IfSome answer (λ both. (x : A × A) × (y : B × B) × A.assume_gives test width left.first right.first (Some x) × B.assume_gives test width left.second right.second (Some y) × IsNarrowed A.constant_gives A.assume_gives A.range_gives B.constant_gives B.assume_gives B.range_gives x.0 y.0 both.0 × IsNarrowed A.constant_gives A.assume_gives A.range_gives B.constant_gives B.assume_gives B.range_gives x.1 y.1 both.1) };
+    ghost assume_gives = { λ test width left right answer. IfSome answer (λ both. (x : A × A)
+        × (y : B × B) × A.assume_gives test width left.first right.first (Some x)
+        × B.assume_gives test width left.second right.second (Some y)
+        × IsNarrowed A.constant_gives A.assume_gives A.range_gives B.constant_gives B.assume_gives
+        B.range_gives x.0 y.0 both.0 × IsNarrowed A.constant_gives A.assume_gives A.range_gives
+        B.constant_gives B.assume_gives B.range_gives x.1 y.1 both.1) };
 
     ghost range_gives = { λ p answer. A.range_gives p.first answer };
 
-    ghost multiple_gives = { λ p k. (x : ℕ) × (y : ℕ) × A.multiple_gives p.first x × B.multiple_gives p.second y × (k ≡ max x y) };
+    ghost multiple_gives = { λ p k. (x : ℕ) × (y : ℕ) × A.multiple_gives p.first x
+        × B.multiple_gives p.second y × (k ≡ max x y) };
 
     fn constant(number: u64) -> Self {
         Pair {

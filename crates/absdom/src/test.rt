@@ -7,7 +7,8 @@ use isa::Test;
 
 /// The test that holds exactly where this one does not. There is none for the test of bits.
 pub fn opposite(test: Test) -> Option<Test>
-    ensures opposite { IfSome result (λ other. (width : Width) (a b : ℕ) → test_holds width other a b ≡ not (test_holds width test a b)) }
+    ensures opposite { IfSome result (λ other. (width : Width) (a b : ℕ)
+        → test_holds width other a b ≡ not (test_holds width test a b)) }
     ensures none { IfNone result (test ≡ Test.AnyBitSet) }
 {
     match test {

@@ -12,12 +12,12 @@ use Rattle.lsdb.specs.Keys.{ByKey, KeySet}
 use Rattle.packet.specs.declared.model.Description.{Description}
 use Rattle.adjacency.specs.declared.state.State.{State}
 use Rattle.adjacency.specs.declared.state.State.TheVariants.{Init, ExStart, Exchange, Loading, Full}
-use Rattle.adjacency.specs.Adjacencies.{after_hello, loading_done, has_passed, with_hello_heard, mismatched, two_way_received, two_way_received_in, requests_nothing, enter_exstart}
+use Rattle.adjacency.specs.Adjacencies.{after_hello, loading_done, has_passed, with_hello_heard, mismatch_step, two_way_received, two_way_received_in, requests_nothing, enter_exstart}
 use Rattle.adjacency.specs.Contents.{Requests, Step, Updates, no_sends}
-use Rattle.adjacency.specs.Descriptions.{Verdict, accept, act, after_description, aged_copies, announced_more, changes_options, describe, exchange_done, exchange_over, exchanging, expected, in_state, is_duplicate, is_kept, is_over_for, is_wanted, judge, knows_types, as_received, master_goes_on, negotiated, negotiating, is_initial_description, repeat, same_flag, slave_replies, with_requests, without_old_description}
+use Rattle.adjacency.specs.Descriptions.{Verdict, accept, act, after_description, aged_copies, announced_more, changes_options, describe, exchange_done, exchange_over, exchanging, expected_sequence, in_state, is_duplicate, is_kept, is_over_for, is_wanted, judge, knows_types, as_received, master_goes_on, negotiated_neighbor, negotiating, is_initial_description, repeat, same_flag, slave_replies, with_requests, without_old_description}
 use Rattle.adjacency.specs.Neighbors.{Neighbor, is_exchange_or_loading, is_exchange_or_later}
 use Rattle.adjacency.specs.Requests.{may_request, next_request, request_next, still_outstanding, without_request}
-use Rattle.adjacency.specs.Retransmissions.{acknowledged, after_acknowledgment, describe_again, is_entry, next_retransmissions, add_retransmission, remove_retransmission, repeats_description, request_again, send_again, update_again}
+use Rattle.adjacency.specs.Retransmissions.{acknowledged_neighbor, after_acknowledgment, describe_again, is_entry, next_retransmissions, add_retransmission, remove_retransmission, repeats_description, request_again, send_again, update_again}
 
 -- ---- choices
 
@@ -83,7 +83,7 @@ module _ (V : Verdict → Type 0) (n : Neighbor) (d : Description) where
   exchanging_one_of : V Verdict.Discarded → V Verdict.Repeated → V Verdict.Mismatch → V Verdict.Accepted → V (exchanging n d)
   exchanging_one_of discarded repeated mismatch accepted =
       first_two (is_duplicate n.received d && n.is_master) (is_duplicate n.received d) _ discarded repeated
-      (mismatch_or_accepted mismatch accepted (same_flag d.master n.is_master) d.init (changes_options n.received d) (not (d.sequence == expected n)))
+      (mismatch_or_accepted mismatch accepted (same_flag d.master n.is_master) d.init (changes_options n.received d) (not (d.sequence == expected_sequence n)))
 
   over_one_of : V Verdict.Discarded → V Verdict.Repeated → V Verdict.Mismatch → V (exchange_over n d)
   over_one_of discarded repeated mismatch = first_two (is_duplicate n.received d && n.is_master) (is_duplicate n.received d && is_kept n.described) Verdict.Mismatch discarded repeated mismatch
@@ -91,7 +91,7 @@ module _ (V : Verdict → Type 0) (n : Neighbor) (d : Description) where
 module _ {Begins : ByKey ListEntry → Type 0} {Adds : Key → ListEntry → Type 0} (Q : Fact) (kept : IsKeptWith Begins Adds Q) where
   -- ---- attempts and Hellos
 
-  pub mismatched_kept : (moment : ℕ) (n : Neighbor) → Of Q n → Of Q (mismatched moment n).neighbor
+  pub mismatched_kept : (moment : ℕ) (n : Neighbor) → Of Q n → Of Q (mismatch_step moment n).neighbor
   mismatched_kept moment n h = chosen (λ (s : Step). Of Q s.neighbor) (is_exchange_or_later n.state) (enter_exstart moment n) (no_sends n) (λ e. kept.restarts) (λ e. h)
 
   named_in_kept : (s : State) (moment : ℕ) (n : Neighbor) → Of Q n → Of Q (two_way_received_in s moment n).neighbor
@@ -152,7 +152,7 @@ module _ {Begins : ByKey ListEntry → Type 0} {Adds : Key → ListEntry → Typ
   accept_kept moment db d n h =
       let m : Neighbor = with_requests moment db d.headers (record n { state = Exchange; received = Some (as_received d) }) in
       let asked : Of Q (in_exchange m) = requests_kept moment db d.headers (record n { received = Some (as_received d) }) h in
-      chosen (λ (s : Step). Of Q s.neighbor) (knows_types d) (cond m.is_master (master_goes_on moment d m) (slave_replies moment d m)) (mismatched moment (in_exchange n))
+      chosen (λ (s : Step). Of Q s.neighbor) (knows_types d) (cond m.is_master (master_goes_on moment d m) (slave_replies moment d m)) (mismatch_step moment (in_exchange n))
       (λ e. chosen (λ (s : Step). Of Q s.neighbor) m.is_master (master_goes_on moment d m) (slave_replies moment d m) (λ e. master_kept moment d m asked) (λ e. slave_kept moment d m asked))
       (λ e. mismatched_kept moment (in_exchange n) h)
 
@@ -162,9 +162,9 @@ module _ {Begins : ByKey ListEntry → Type 0} {Adds : Key → ListEntry → Typ
     Keeps m v = Of Q (act v moment db d m).neighbor
 
     negotiated_kept : (is_master : Bool) (sequence : ℕ) (m : Neighbor) → Of Q (record m { state = ExStart })
-        → Of Q (accept moment db d (negotiated is_master sequence moment db (record m { state = ExStart }))).neighbor
+        → Of Q (accept moment db d (negotiated_neighbor is_master sequence moment db (record m { state = ExStart }))).neighbor
     negotiated_kept is_master sequence m k =
-        let t : Neighbor = negotiated is_master sequence moment db (record m { state = ExStart }) in
+        let t : Neighbor = negotiated_neighbor is_master sequence moment db (record m { state = ExStart }) in
         accept_kept moment db d t (kept.negotiates m.summary m.requests m.retransmissions t.summary t.retransmissions m.outstanding begun k)
 
     judged_in : (s : State) (own : ℕ) (n : Neighbor) → Of Q (record n { state = s }) → Of Q (judge own moment db d (record n { state = s })).neighbor
@@ -237,7 +237,7 @@ module _ {Begins : ByKey ListEntry → Type 0} {Adds : Key → ListEntry → Typ
   pub acknowledgment_kept : (moment : ℕ) (hs : List Header) (n : Neighbor) → Of Q n → Of Q (after_acknowledgment moment hs n)
   acknowledgment_kept moment [] n h = h
   acknowledgment_kept moment (x ∷ hs) n h =
-      acknowledgment_kept moment hs (acknowledged moment n x)
+      acknowledgment_kept moment hs (acknowledged_neighbor moment n x)
       (chosen (Of Q) (is_entry moment x (finite.get n.retransmissions (key_of x))) (remove_retransmission (key_of x) n) n (λ e. released_kept (key_of x) n h) (λ e. h))
 
   pub again_kept : (moment interval : ℕ) (db : Database) (n : Neighbor) → Of Q n → Of Q (send_again moment interval db n).neighbor

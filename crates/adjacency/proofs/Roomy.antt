@@ -20,12 +20,12 @@ use Rattle.lsdb.proofs.Keys.{keys_total}
 use Rattle.packet.specs.declared.model.Description.{Description}
 use Rattle.adjacency.specs.declared.state.State.{State}
 use Rattle.adjacency.specs.declared.state.State.TheVariants.{Init, ExStart, Exchange, Loading, Full}
-use Rattle.adjacency.specs.Adjacencies.{after_hello, loading_done, loading_done_in, has_passed, with_hello_heard, mismatched, two_way_received, two_way_received_in, next_dd_sequence_start, one_way_received, initial_description, requests_nothing, enter_exstart, after_inactivity_timer}
+use Rattle.adjacency.specs.Adjacencies.{after_hello, loading_done, loading_done_in, has_passed, with_hello_heard, mismatch_step, two_way_received, two_way_received_in, next_dd_sequence_start, one_way_received, initial_description, requests_nothing, enter_exstart, after_inactivity_timer}
 use Rattle.adjacency.specs.Contents.{Requests, Step, Updates, no_sends, then_}
-use Rattle.adjacency.specs.Descriptions.{Verdict, accept, act, after_description, announced_more, describe, exchange_done, in_state, is_over_for, judge, knows_types, as_received, master_goes_on, negotiated, next_description, repeat, slave_replies, verdict, with_requests, without_old_description}
+use Rattle.adjacency.specs.Descriptions.{Verdict, accept, act, after_description, announced_more, describe, exchange_done, in_state, is_over_for, judge, knows_types, as_received, master_goes_on, negotiated_neighbor, next_description, repeat, slave_replies, verdict, with_requests, without_old_description}
 use Rattle.adjacency.specs.Neighbors.{Neighbor, fresh, is_exchange_or_later}
 use Rattle.adjacency.specs.Requests.{may_request, next_request, request_next, still_outstanding, without_request}
-use Rattle.adjacency.specs.Retransmissions.{acknowledged, after_acknowledgment, describe_again, is_entry, lsa_of, next_retransmissions, add_retransmission, retransmission_lsas, remove_retransmission, repeats_description, request_again, send_again, that_fit, update_again}
+use Rattle.adjacency.specs.Retransmissions.{acknowledged_neighbor, after_acknowledgment, describe_again, is_entry, lsa_of, next_retransmissions, add_retransmission, retransmission_lsas, remove_retransmission, repeats_description, request_again, send_again, that_fit, update_again}
 use Rattle.adjacency.specs.Rooms.{AllFit, Fits, HasRoom, HasRoomyLists, HasRoomyListsIfAny, IsRoomyStep, StepsHaveRoom}
 use Rattle.adjacency.proofs.Kept.{chosen}
 
@@ -156,7 +156,7 @@ restart_roomy moment n =
     let first : Description = initial_description (next_dd_sequence_start moment n.dd_sequence_start) in
     step (enter_exstart moment n) (one_description first (opening_short (next_dd_sequence_start moment n.dd_sequence_start))) none_few (opening_short (next_dd_sequence_start moment n.dd_sequence_start), tt)
 
-pub mismatched_roomy : (moment : ℕ) (n : Neighbor) → HasRoomyLists n → IsRoomyStep (mismatched moment n)
+pub mismatched_roomy : (moment : ℕ) (n : Neighbor) → HasRoomyLists n → IsRoomyStep (mismatch_step moment n)
 mismatched_roomy moment n h = chosen IsRoomyStep (is_exchange_or_later n.state) (enter_exstart moment n) (no_sends n) (λ e. restart_roomy moment n) (λ e. quiet_roomy n h)
 
 named_in_roomy : (s : State) (moment : ℕ) (n : Neighbor) → HasRoomyLists n → IsRoomyStep (two_way_received_in s moment n)
@@ -217,19 +217,19 @@ accept_roomy : (moment : ℕ) (db : Database) (d : Description) (n : Neighbor) �
 accept_roomy moment db d n h =
     let m : Neighbor = with_requests moment db d.headers (record n { received = Some (as_received d) }) in
     let asked : HasRoomyLists m = roomy m h.described h.outstanding in
-    chosen IsRoomyStep (knows_types d) (cond m.is_master (master_goes_on moment d m) (slave_replies moment d m)) (mismatched moment n)
+    chosen IsRoomyStep (knows_types d) (cond m.is_master (master_goes_on moment d m) (slave_replies moment d m)) (mismatch_step moment n)
     (λ e. chosen IsRoomyStep m.is_master (master_goes_on moment d m) (slave_replies moment d m) (λ e. master_roomy moment d m asked) (λ e. slave_roomy moment d m asked))
     (λ e. mismatched_roomy moment n h)
 
-negotiated_roomy : (is_master : Bool) (sequence moment : ℕ) (db : Database) (n : Neighbor) → HasRoomyLists n → HasRoomyLists (negotiated is_master sequence moment db n)
-negotiated_roomy is_master sequence moment db n h = roomy (negotiated is_master sequence moment db n) h.described h.outstanding
+negotiated_roomy : (is_master : Bool) (sequence moment : ℕ) (db : Database) (n : Neighbor) → HasRoomyLists n → HasRoomyLists (negotiated_neighbor is_master sequence moment db n)
+negotiated_roomy is_master sequence moment db n h = roomy (negotiated_neighbor is_master sequence moment db n) h.described h.outstanding
 
 act_roomy : (v : Verdict) (moment : ℕ) (db : Database) (d : Description) (n : Neighbor) → HasRoomyLists n → IsRoomyStep (act v moment db d n)
 act_roomy Verdict.Discarded moment db d n h = quiet_roomy n h
 act_roomy Verdict.NegotiatedAsSlave moment db d n h =
-    accept_roomy moment db d (negotiated false d.sequence moment db n) (negotiated_roomy false d.sequence moment db n h)
+    accept_roomy moment db d (negotiated_neighbor false d.sequence moment db n) (negotiated_roomy false d.sequence moment db n h)
 act_roomy Verdict.NegotiatedAsMaster moment db d n h =
-    accept_roomy moment db d (negotiated true n.sequence moment db n) (negotiated_roomy true n.sequence moment db n h)
+    accept_roomy moment db d (negotiated_neighbor true n.sequence moment db n) (negotiated_roomy true n.sequence moment db n h)
 act_roomy Verdict.Repeated moment db d n h = repeat_roomy moment n h
 act_roomy Verdict.Accepted moment db d n h = accept_roomy moment db d n h
 act_roomy Verdict.Mismatch moment db d n h = mismatched_roomy moment n h
@@ -287,7 +287,7 @@ owed_roomy moment x n h = roomy (add_retransmission moment x n) h.described h.ou
 pub acknowledgment_roomy : (moment : ℕ) (hs : List Header) (n : Neighbor) → HasRoomyLists n → HasRoomyLists (after_acknowledgment moment hs n)
 acknowledgment_roomy moment [] n h = h
 acknowledgment_roomy moment (x ∷ hs) n h =
-    acknowledgment_roomy moment hs (acknowledged moment n x)
+    acknowledgment_roomy moment hs (acknowledged_neighbor moment n x)
     (chosen HasRoomyLists (is_entry moment x (finite.get n.retransmissions (key_of x))) (remove_retransmission (key_of x) n) n (λ e. released_roomy (key_of x) n h) (λ e. h))
 
 -- ---- LSAs at another age

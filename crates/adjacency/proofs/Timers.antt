@@ -11,7 +11,7 @@ use Rattle.packet.specs.declared.model.Description.{Description}
 use Rattle.adjacency.specs.declared.standing.Standing.{Standing}
 use Rattle.adjacency.specs.declared.state.State.{State}
 use Rattle.adjacency.specs.declared.state.State.TheVariants.{Init, ExStart, Exchange, Loading, Full}
-use Rattle.adjacency.specs.Adjacencies.{enter_exstart, has_passed, loading_done, loading_done_in, mismatched, requests_nothing}
+use Rattle.adjacency.specs.Adjacencies.{enter_exstart, has_passed, loading_done, loading_done_in, mismatch_step, requests_nothing}
 use Rattle.adjacency.specs.Contents.{Step, Updates, no_sends, sent_on, step_on, then_}
 use Rattle.adjacency.specs.Descriptions.{without_old_description}
 use Rattle.adjacency.specs.Drafts.{Drafted, drafting}
@@ -129,18 +129,18 @@ module _ (moment dead : ℕ) where
 -- ---- a bad request
 
 module _ (moment : ℕ) where
-  pub begins_anew : (o : Option Neighbor) → any_exchange_or_later o ≡ true → step_on (enter_exstart moment) o ≡ step_on (mismatched moment) o
+  pub begins_anew : (o : Option Neighbor) → any_exchange_or_later o ≡ true → step_on (enter_exstart moment) o ≡ step_on (mismatch_step moment) o
   begins_anew None is = refl
   begins_anew (Some n) is = ap (λ b. Some (cond b (enter_exstart moment n) (no_sends n)).neighbor) (sym is)
 
-  pub sends_anew : (o : Option Neighbor) → any_exchange_or_later o ≡ true → sent_on (enter_exstart moment) o ≡ sent_on (mismatched moment) o
+  pub sends_anew : (o : Option Neighbor) → any_exchange_or_later o ≡ true → sent_on (enter_exstart moment) o ≡ sent_on (mismatch_step moment) o
   sends_anew None is = refl
   sends_anew (Some n) is = ap (λ b. (cond b (enter_exstart moment n) (no_sends n)).sends) (sym is)
 
-  pub rests_there : (o : Option Neighbor) → any_exchange_or_later o ≡ false → o ≡ step_on (mismatched moment) o
+  pub rests_there : (o : Option Neighbor) → any_exchange_or_later o ≡ false → o ≡ step_on (mismatch_step moment) o
   rests_there None is = refl
   rests_there (Some n) is = ap (λ b. Some (cond b (enter_exstart moment n) (no_sends n)).neighbor) (sym is)
 
-  pub rests_unsent : (o : Option Neighbor) → any_exchange_or_later o ≡ false → [] ≡ sent_on (mismatched moment) o
+  pub rests_unsent : (o : Option Neighbor) → any_exchange_or_later o ≡ false → [] ≡ sent_on (mismatch_step moment) o
   rests_unsent None is = refl
   rests_unsent (Some n) is = ap (λ b. (cond b (enter_exstart moment n) (no_sends n)).sends) (sym is)

@@ -13,12 +13,12 @@ use Rattle.lsdb.specs.Instances.{ListEntry}
 use Rattle.packet.specs.declared.model.Description.{Description}
 use Rattle.adjacency.specs.declared.state.State.{State}
 use Rattle.adjacency.specs.declared.state.State.TheVariants.{Init, ExStart, Exchange, Loading, Full}
-use Rattle.adjacency.specs.Adjacencies.{after_hello, loading_done, loading_done_in, has_passed, with_hello_heard, mismatched, two_way_received, two_way_received_in, one_way_received, requests_nothing, enter_exstart, after_inactivity_timer}
+use Rattle.adjacency.specs.Adjacencies.{after_hello, loading_done, loading_done_in, has_passed, with_hello_heard, mismatch_step, two_way_received, two_way_received_in, one_way_received, requests_nothing, enter_exstart, after_inactivity_timer}
 use Rattle.adjacency.specs.Contents.{Content, Requests, Step, Updates, no_sends, then_}
-use Rattle.adjacency.specs.Descriptions.{Verdict, accept, act, after_description, announced_more, describe, exchange_done, in_state, is_over_for, judge, knows_types, as_received, master_goes_on, negotiated, repeat, slave_replies, verdict, with_requests, without_old_description}
+use Rattle.adjacency.specs.Descriptions.{Verdict, accept, act, after_description, announced_more, describe, exchange_done, in_state, is_over_for, judge, knows_types, as_received, master_goes_on, negotiated_neighbor, repeat, slave_replies, verdict, with_requests, without_old_description}
 use Rattle.adjacency.specs.Neighbors.{Neighbor, is_exchange_or_later}
 use Rattle.adjacency.specs.Requests.{may_request, next_request, request_next, still_outstanding}
-use Rattle.adjacency.specs.Retransmissions.{acknowledged, after_acknowledgment, describe_again, is_entry, lsa_of, next_retransmissions, add_retransmission, retransmission_lsas, remove_retransmission, repeats_description, request_again, send_again, that_fit, update_again}
+use Rattle.adjacency.specs.Retransmissions.{acknowledged_neighbor, after_acknowledgment, describe_again, is_entry, lsa_of, next_retransmissions, add_retransmission, retransmission_lsas, remove_retransmission, repeats_description, request_again, send_again, that_fit, update_again}
 use Rattle.adjacency.proofs.Kept.{chosen}
 use Rattle.adjacency.proofs.Maps.{AllIn, IfThere, OfEntry, entries_in, inserted_in, made_in, none_in, removed_in}
 
@@ -82,7 +82,7 @@ module _ (t : Telling) where
   restart_told : (moment : ℕ) (n : Neighbor) → OfStep t (enter_exstart moment n)
   restart_told moment n = record { neighbor = none_in (OfListed t); sends = (tt, tt) }
 
-  pub mismatched_told : (moment : ℕ) (n : Neighbor) → OfOwed t n → OfStep t (mismatched moment n)
+  pub mismatched_told : (moment : ℕ) (n : Neighbor) → OfOwed t n → OfStep t (mismatch_step moment n)
   mismatched_told moment n h = chosen (OfStep t) (is_exchange_or_later n.state) (enter_exstart moment n) (no_sends n) (λ e. restart_told moment n) (λ e. quiet_told n h)
 
   named_in_told : (s : State) (moment : ℕ) (n : Neighbor) → OfOwed t n → OfStep t (two_way_received_in s moment n)
@@ -132,7 +132,7 @@ module _ (t : Telling) where
   accept_told : (moment : ℕ) (db : Database) (d : Description) (n : Neighbor) → OfOwed t n → OfStep t (accept moment db d n)
   accept_told moment db d n h =
       let m : Neighbor = with_requests moment db d.headers (record n { received = Some (as_received d) }) in
-      chosen (OfStep t) (knows_types d) (cond m.is_master (master_goes_on moment d m) (slave_replies moment d m)) (mismatched moment n)
+      chosen (OfStep t) (knows_types d) (cond m.is_master (master_goes_on moment d m) (slave_replies moment d m)) (mismatch_step moment n)
       (λ e. chosen (OfStep t) m.is_master (master_goes_on moment d m) (slave_replies moment d m) (λ e. master_told moment d m h) (λ e. slave_told moment d m h))
       (λ e. mismatched_told moment n h)
 
@@ -152,15 +152,15 @@ module _ (t : Telling) where
       by_test true rest = (t.header (lsa_now moment e.1) (now_told moment e.1 h.0), rest)
       by_test false rest = rest
 
-  negotiated_told : (is_master : Bool) (sequence moment : ℕ) (db : Database) (n : Neighbor) → OfCopies t db → OfOwed t (negotiated is_master sequence moment db n)
+  negotiated_told : (is_master : Bool) (sequence moment : ℕ) (db : Database) (n : Neighbor) → OfCopies t db → OfOwed t (negotiated_neighbor is_master sequence moment db n)
   negotiated_told is_master sequence moment db n copies = made_in (OfListed t) _ (listed_told moment (finite.entries db) (entries_in (OfCopy t) db copies))
 
   act_told : (v : Verdict) (moment : ℕ) (db : Database) (d : Description) (n : Neighbor) → OfCopies t db → OfOwed t n → OfStep t (act v moment db d n)
   act_told Verdict.Discarded moment db d n copies h = quiet_told n h
   act_told Verdict.NegotiatedAsSlave moment db d n copies h =
-      accept_told moment db d (negotiated false d.sequence moment db n) (negotiated_told false d.sequence moment db n copies)
+      accept_told moment db d (negotiated_neighbor false d.sequence moment db n) (negotiated_told false d.sequence moment db n copies)
   act_told Verdict.NegotiatedAsMaster moment db d n copies h =
-      accept_told moment db d (negotiated true n.sequence moment db n) (negotiated_told true n.sequence moment db n copies)
+      accept_told moment db d (negotiated_neighbor true n.sequence moment db n) (negotiated_told true n.sequence moment db n copies)
   act_told Verdict.Repeated moment db d n copies h = repeat_told moment n h
   act_told Verdict.Accepted moment db d n copies h = accept_told moment db d n h
   act_told Verdict.Mismatch moment db d n copies h = mismatched_told moment n h
@@ -213,7 +213,7 @@ module _ (t : Telling) where
   pub acknowledgment_told : (moment : ℕ) (hs : List Header) (n : Neighbor) → OfOwed t n → OfOwed t (after_acknowledgment moment hs n)
   acknowledgment_told moment [] n h = h
   acknowledgment_told moment (x ∷ hs) n h =
-      acknowledgment_told moment hs (acknowledged moment n x)
+      acknowledgment_told moment hs (acknowledged_neighbor moment n x)
       (chosen (OfOwed t) (is_entry moment x (finite.get n.retransmissions (key_of x))) (remove_retransmission (key_of x) n) n (λ e. released_told (key_of x) n h) (λ e. h))
 
   -- ---- copies

@@ -1,6 +1,7 @@
 -- What is to be sent at an interface in an event, by kinds, each in the order in which it arose.
 use Rattle.std.specs.Prelude.{ℕ, ◌+◌, min, List, [], ◌∷◌, ◌++◌}
 use Rattle.std.specs.List.{fold}
+use Rattle.words.specs.Constants.{max_age}
 use Rattle.words.specs.declared.key.Key.{Key}
 use Rattle.lsa.specs.Text.{text}
 use Rattle.lsdb.specs.Headers.{Header, Lsa, lsa_aged, lsa_key}
@@ -18,7 +19,7 @@ pub record Drafted : Type 0 where
 
 -- the age of a sent LSA grows by InfTransDelay, at most to MaxAge (RFC 2328, section 13.3)
 abbrev pub sent_lsa : ℕ → Lsa → Lsa
-sent_lsa delay lsa = lsa_aged (min 3600 (lsa.header.age + delay)) lsa
+sent_lsa delay lsa = lsa_aged (min max_age (lsa.header.age + delay)) lsa
 
 abbrev pub update_of : ℕ → Lsa → Update
 update_of delay lsa = record { key = lsa_key lsa; text = text (sent_lsa delay lsa) }

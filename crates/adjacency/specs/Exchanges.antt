@@ -18,7 +18,7 @@ use Rattle.adjacency.specs.declared.verdict.Verdict.TheVariants as said
 use Rattle.adjacency.specs.declared.verdict.Mismatch.{Mismatch}
 use Rattle.adjacency.specs.Contents.{Step, no_sends}
 use Rattle.adjacency.specs.Descriptions.{Verdict, as_received, is_initial_description, judge}
-use Rattle.adjacency.specs.Descriptions.{knows_types, master_goes_on, negotiated, repeat}
+use Rattle.adjacency.specs.Descriptions.{knows_types, master_goes_on, negotiated_neighbor, repeat}
 use Rattle.adjacency.specs.Descriptions.{slave_replies, verdict, with_requests}
 use Rattle.adjacency.specs.Neighbors.{Neighbor}
 
@@ -107,9 +107,9 @@ accepted moment db d n =
 unfoldable pub proceeding : Verdict → Moment → Database → Description → Neighbor → Step
 proceeding Verdict.Discarded moment db d n = no_sends n
 proceeding Verdict.NegotiatedAsSlave moment db d n =
-    accepted moment db d (negotiated false d.sequence moment db n)
+    accepted moment db d (negotiated_neighbor false d.sequence moment db n)
 proceeding Verdict.NegotiatedAsMaster moment db d n =
-    accepted moment db d (negotiated true n.sequence moment db n)
+    accepted moment db d (negotiated_neighbor true n.sequence moment db n)
 proceeding Verdict.Repeated moment db d n = repeat moment n
 proceeding Verdict.Accepted moment db d n = accepted moment db d n
 proceeding Verdict.Mismatch moment db d n = no_sends n

@@ -5,7 +5,7 @@ use Rattle.lsdb.specs.Headers.{Lsa, lsa_key}
 use Rattle.lsdb.specs.Instances.{ListEntry, newer_than_listed, older_than_listed}
 use Rattle.adjacency.specs.Contents.{Step, Updates, no_sends}
 use Rattle.adjacency.specs.Neighbors.{Neighbor, is_exchange_or_loading, is_exchange_or_later}
-use Rattle.adjacency.specs.Requests.{requested, without_request}
+use Rattle.adjacency.specs.Requests.{requested_entry, without_request}
 use Rattle.adjacency.specs.Retransmissions.{add_retransmission, remove_retransmission}
 
 -- the instance that is requested isn't newer than the LSA, so that the LSA meets the request
@@ -20,7 +20,7 @@ passes moment lsa (Some r) = newer_than_listed moment lsa.header r
 
 -- what a neighbor in Exchange or Loading is requested under the LSA's key
 abbrev pub request_of : Neighbor → Lsa → Option ListEntry
-request_of n lsa = if is_exchange_or_loading n.state then requested n (lsa_key lsa) else None
+request_of n lsa = if is_exchange_or_loading n.state then requested_entry n (lsa_key lsa) else None
 
 abbrev pub without_met_request : ℕ → Lsa → Neighbor → Neighbor
 without_met_request moment lsa n =

@@ -6,16 +6,16 @@ use Rattle.words.specs.Numbers.{Moment, RouterNumber}
 use Rattle.words.specs.declared.key.Key.{Key}
 use Rattle.lsdb.specs.Copies.{Database}
 use Rattle.lsdb.specs.Headers.{Lsa}
-use Rattle.adjacency.specs.Adjacencies.{mismatched}
+use Rattle.adjacency.specs.Adjacencies.{mismatch_step}
 use Rattle.adjacency.specs.Contents.{Step, Updates, no_sends}
 use Rattle.adjacency.specs.declared.state.State.{State}
 use Rattle.adjacency.specs.Neighbors.{Neighbor, is_exchange_or_later}
 use Rattle.adjacency.specs.Retransmissions.{lsa_of}
 
 -- the Router ID and the state of the neighbor that is there, if one is
-abbrev pub named : Option Neighbor → Option (RouterNumber × State)
-named None = None
-named (Some n) = Some (n.router, n.state)
+abbrev pub named_neighbor : Option Neighbor → Option (RouterNumber × State)
+named_neighbor None = None
+named_neighbor (Some n) = Some (n.router, n.state)
 
 -- the neighbor that is there, if one is, was heard
 abbrev pub heard : Moment → Option Neighbor → Option Neighbor
@@ -37,13 +37,13 @@ abbrev pub lsas_of : Moment → Database → List Key → List Lsa
 lsas_of moment db keys = filter_map (λ (key : Key). lsa_of moment (finite.get db key)) keys
 
 -- the LSAs are sent and go on no list; where one is missing, none is (BadLSReq)
-abbrev pub answered : Moment → Database → List Key → Neighbor → Step
-answered moment db keys n =
+abbrev pub answer_to_request : Moment → Database → List Key → Neighbor → Step
+answer_to_request moment db keys n =
     if list_all (is_there db) keys
     then record { neighbor = n; sends = map Updates (lsas_of moment db keys) }
-    else mismatched moment n
+    else mismatch_step moment n
 
 -- a Request counts from Exchange on
 unfoldable pub after_request : Moment → Database → List Key → Neighbor → Step
 after_request moment db keys n =
-    if is_exchange_or_later n.state then answered moment db keys n else no_sends n
+    if is_exchange_or_later n.state then answer_to_request moment db keys n else no_sends n

@@ -1,4 +1,5 @@
-//! What is asked of a received Database Description, and the verdict on it (RFC 2328, section 10.6).
+//! What is asked of a received Database Description, and the verdict on it (RFC 2328, section
+//! 10.6).
 ghost use Rattle.std.specs.Prelude.{◌≡◌, not, ◌&&◌, [], ◌∷◌};
 ghost use Rattle.std.specs.List.{list_all};
 ghost use Rattle.lsa.specs.Reading.{is_known_type};
@@ -121,8 +122,8 @@ fn knows_types(description: &Description) -> bool
     know_types(description.headers.as_slice())
 }
 
-/// Tells whether the adjacency begins anew: at a mismatch, or where one that is to be accepted has a
-/// header of an unknown type.
+/// Tells whether the adjacency begins anew: at a mismatch, or where one that is to be accepted has
+/// a header of an unknown type.
 pub fn starts_over(verdict: Verdict, description: &Description) -> bool
     ensures { result ≡ starts_over (verdict_of verdict) description.now }
 {
@@ -136,7 +137,8 @@ pub fn starts_over(verdict: Verdict, description: &Description) -> bool
     }
 }
 
-/// Tells whether this router follows: the other side opens the exchange and has the larger Router ID.
+/// Tells whether this router follows: the other side opens the exchange and has the larger Router
+/// ID.
 pub fn follows(own: RouterId, other: RouterId, description: &Description) -> bool
     ensures { result ≡ follows own other description.now }
 {
@@ -144,8 +146,8 @@ pub fn follows(own: RouterId, other: RouterId, description: &Description) -> boo
     is_initial_description(description) && smaller
 }
 
-/// Tells whether this router leads: the other side, which has the smaller Router ID, took its number
-/// over.
+/// Tells whether this router leads: the other side, which has the smaller Router ID, took its
+/// number over.
 pub fn leads(own: RouterId, other: RouterId, sequence: u32, description: &Description) -> bool
     ensures { result ≡ leads own other sequence description.now }
 {

@@ -9,7 +9,7 @@ use lsdb::DatabaseCopy;
 use packet::{Description, Hello};
 use std::alloc::{AllocError, Global};
 use std::marker::Model;
-use words::{Key, Second, Sequence};
+use words::{Key, MAX_AGE, Second, Sequence};
 
 /// An LSA that is sent: its key, and its text at the age that it is sent with.
 #[derive(Debug, Drop)]
@@ -114,7 +114,7 @@ impl Draft {
             self.old) }
     {
         let header = copy.header(moment);
-        let age = (u32::from(header.age) + u32::from(delay)).min(3600) as u16;
+        let age = (u32::from(header.age) + u32::from(delay)).min(u32::from(MAX_AGE)) as u16;
         let text = copy.text(alloc, age)?;
         let key = header.key();
         self.updates.push(Update { key, text })?;

@@ -10,9 +10,9 @@ use isa::Hook;
 use object::Statement;
 use std::alloc::Global;
 
-/// Finds statements and ranks for the code at the hook, with which the verifier accepts it. The statements
-/// that are given stay as they are where the verifier accepts them so; else they lend their slots, their
-/// numbers and their ranks' registers.
+/// Finds statements and ranks for the code at the hook, with which the verifier accepts it. The
+/// statements that are given stay as they are where the verifier accepts them so; else they lend
+/// their slots, their numbers and their ranks' registers.
 #[tactic(auto, using(crate::proofs::Faults::no_verdict))]
 pub fn annotate(
     alloc: Global,
@@ -20,7 +20,8 @@ pub fn annotate(
     bytes: &[u8],
     given: &[Statement],
 ) -> Result<Annotated, Shortfall>
-    ensures accepted { IfOk result (λ a. IsAnnotated hook bytes.now a.object a.bytes.items a.accepted) }
+    ensures accepted { IfOk result (λ a. IsAnnotated hook bytes.now a.object a.bytes.items
+        a.accepted) }
     ensures refused { IfErr result (IsShortfall hook bytes.now) }
 {
     match try_both(alloc, hook, bytes, given)? {

@@ -101,8 +101,9 @@ fn outcome(
     }
 }
 
-/// Finds statements and ranks for the code at the hook, and has the verifier judge them. The statements
-/// that are given stay as they are, or they lend their slots, their numbers and their ranks' registers.
+/// Finds statements and ranks for the code at the hook, and has the verifier judge them. The
+/// statements that are given stay as they are, or they lend their slots, their numbers and their
+/// ranks' registers.
 pub fn try_statements(
     alloc: Global,
     hook: Hook,

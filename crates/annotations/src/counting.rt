@@ -150,9 +150,9 @@ fn try_heads(
     }
 }
 
-/// Finds statements and ranks as `annotate` does. Where a loop has no rank, its turns are counted: the
-/// object has other code, which answers 0 instead of more than `turns` turns in all. Loops that have a rank
-/// stay as they are.
+/// Finds statements and ranks as `annotate` does. Where a loop has no rank, its turns are counted:
+/// the object has other code, which answers 0 instead of more than `turns` turns in all. Loops that
+/// have a rank stay as they are.
 #[tactic(auto, using(crate::proofs::Faults::no_verdict_with_turns))]
 pub fn annotate_counted(
     alloc: Global,
@@ -161,7 +161,8 @@ pub fn annotate_counted(
     given: &[Statement],
     turns: u32,
 ) -> Result<Annotated, Shortfall>
-    ensures accepted { IfOk result (λ a. IsCodeAnnotation hook (Some turns) bytes.now a.object a.bytes.items a.accepted) }
+    ensures accepted { IfOk result (λ a. IsCodeAnnotation hook (Some turns) bytes.now a.object
+        a.bytes.items a.accepted) }
     ensures refused { IfErr result (IsTurnsShortfall hook (Some turns) bytes.now) }
 {
     let code = decode(alloc, bytes)?;

@@ -28,7 +28,8 @@ fn annotate_code(
     given: &[Statement],
     turns: Option<u32>,
 ) -> Result<Annotated, Shortfall>
-    ensures accepted { IfOk result (λ a. IsCodeAnnotation hook turns code.now a.object a.bytes.items a.accepted) }
+    ensures accepted { IfOk result (λ a. IsCodeAnnotation hook turns code.now a.object a.bytes.items
+        a.accepted) }
     ensures refused { IfErr result (IsTurnsShortfall hook turns code.now) }
 {
     match turns {
@@ -49,7 +50,8 @@ fn annotate_bare(
     turns: Option<u32>,
 ) -> Result<Annotated, Shortfall>
     requires { take 4 file.now ≢ magic }
-    ensures accepted { IfOk result (λ a. IsAnnotation hook turns file.now a.object a.bytes.items a.accepted) }
+    ensures accepted { IfOk result (λ a. IsAnnotation hook turns file.now a.object a.bytes.items
+        a.accepted) }
     ensures refused { IfErr result (IsFileShortfall hook turns file.now) }
 {
     let annotated = annotate_code(alloc, hook, file, &[], turns)?;
@@ -64,7 +66,8 @@ fn annotate_object(
     file: &[u8],
     turns: Option<u32>,
 ) -> Result<Annotated, Shortfall>
-    ensures accepted { IfOk result (λ a. IsAnnotation hook turns file.now a.object a.bytes.items a.accepted) }
+    ensures accepted { IfOk result (λ a. IsAnnotation hook turns file.now a.object a.bytes.items
+        a.accepted) }
     ensures refused { IfErr result (IsFileShortfall hook turns file.now) }
 {
     let object = read(alloc, file)?;
@@ -75,21 +78,22 @@ fn annotate_object(
     Ok(annotated)
 }
 
-/// Finds statements and ranks for the code in the file: bare code, or an object with statements of its own,
-/// which may be partial. With `turns` the turns are counted of loops that have no rank.
+/// Finds statements and ranks for the code in the file: bare code, or an object with statements of
+/// its own, which may be partial. With `turns` the turns are counted of loops that have no rank.
 ///
 /// # Errors
 ///
-/// Where the file is no code, or begins as an object's and is none, or is an object for another hook; where
-/// the verifier refuses the code with the best statements that were found; where turns can't be counted;
-/// and where memory is refused.
+/// Where the file is no code, or begins as an object's and is none, or is an object for another
+/// hook; where the verifier refuses the code with the best statements that were found; where turns
+/// can't be counted; and where memory is refused.
 pub fn annotate_file(
     alloc: Global,
     hook: Hook,
     file: &[u8],
     turns: Option<u32>,
 ) -> Result<Annotated, Shortfall>
-    ensures accepted { IfOk result (λ a. IsAnnotation hook turns file.now a.object a.bytes.items a.accepted) }
+    ensures accepted { IfOk result (λ a. IsAnnotation hook turns file.now a.object a.bytes.items
+        a.accepted) }
     ensures refused { IfErr result (IsFileShortfall hook turns file.now) }
 {
     if is_object(file) {

@@ -1,4 +1,5 @@
-//! From code to an object that the verifier accepts: with statements and ranks that were found for it.
+//! From code to an object that the verifier accepts: with statements and ranks that were found for
+//! it.
 #![tactic(auto)]
 
 mod annotating;

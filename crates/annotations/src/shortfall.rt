@@ -18,8 +18,8 @@ pub enum Shortfall {
     OtherHook(Hook),
     /// The turns of its loops can't be counted.
     Uncounted(CountError),
-    /// The verifier refuses the program with the best statements that were found; where that is for a
-    /// loop, why the loop has no rank.
+    /// The verifier refuses the program with the best statements that were found; where that is for
+    /// a loop, why the loop has no rank.
     Refused(Rejected, Option<Endless>),
     /// The statements that were found can't stand in an object.
     Statements,

@@ -66,7 +66,8 @@ fn trimmed_within(
     Ok(all)
 }
 
-/// The object without the known bits of these statements, if the verifier accepts it so; else as it is.
+/// The object without the known bits of these statements, if the verifier accepts it so; else as it
+/// is.
 fn retried(
     alloc: Global,
     hook: Hook,
@@ -75,8 +76,10 @@ fn retried(
     from: usize,
     to: usize,
 ) -> Result<Annotated, Shortfall>
-    requires { IsAnnotated hook bytes.now annotated.object annotated.bytes.items annotated.accepted }
-    ensures accepted { IfOk result (λ a. IsAnnotated hook bytes.now a.object a.bytes.items a.accepted) }
+    requires { IsAnnotated hook bytes.now annotated.object annotated.bytes.items
+        annotated.accepted }
+    ensures accepted { IfOk result (λ a. IsAnnotated hook bytes.now a.object a.bytes.items
+        a.accepted) }
     ensures fault { IfErr result IsNoVerdict }
 {
     let statements = trimmed_within(alloc, annotated.object.statements(), from, to)?;
@@ -90,7 +93,8 @@ fn retried(
     }
 }
 
-/// The object without the known bits that the verifier does without, of one statement after the other.
+/// The object without the known bits that the verifier does without, of one statement after the
+/// other.
 fn one_by_one(
     alloc: Global,
     hook: Hook,
@@ -99,8 +103,10 @@ fn one_by_one(
     count: usize,
 ) -> Result<Annotated, Shortfall>
     requires few { count ≤ 4096 }
-    requires annotated { IsAnnotated hook bytes.now annotated.object annotated.bytes.items annotated.accepted }
-    ensures accepted { IfOk result (λ a. IsAnnotated hook bytes.now a.object a.bytes.items a.accepted) }
+    requires annotated { IsAnnotated hook bytes.now annotated.object annotated.bytes.items
+        annotated.accepted }
+    ensures accepted { IfOk result (λ a. IsAnnotated hook bytes.now a.object a.bytes.items
+        a.accepted) }
     ensures fault { IfErr result IsNoVerdict }
 {
     let mut annotated = annotated;
@@ -110,16 +116,18 @@ fn one_by_one(
     Ok(annotated)
 }
 
-/// The object without the known bits that the verifier does without: of all statements, or of one after
-/// the other where there are few.
+/// The object without the known bits that the verifier does without: of all statements, or of one
+/// after the other where there are few.
 pub fn without_idle_bits(
     alloc: Global,
     hook: Hook,
     bytes: &[u8],
     annotated: Annotated,
 ) -> Result<Annotated, Shortfall>
-    requires { IsAnnotated hook bytes.now annotated.object annotated.bytes.items annotated.accepted }
-    ensures accepted { IfOk result (λ a. IsAnnotated hook bytes.now a.object a.bytes.items a.accepted) }
+    requires { IsAnnotated hook bytes.now annotated.object annotated.bytes.items
+        annotated.accepted }
+    ensures accepted { IfOk result (λ a. IsAnnotated hook bytes.now a.object a.bytes.items
+        a.accepted) }
     ensures fault { IfErr result IsNoVerdict }
 {
     let count = annotated.object.statements().len();

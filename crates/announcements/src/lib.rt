@@ -6,7 +6,7 @@ ghost use Rattle.events.specs.Commands.{
   after_redistribute,
   after_withdraw,
   announce_as,
-  answered,
+  answered_external,
   end_want,
   is_announced_as,
   is_for,
@@ -25,8 +25,9 @@ use words::{External, ExternalType, Key, LinkStateId, Prefix, RouterId, Second};
 // LSInfinity: a metric of this or more announces nothing.
 const LS_INFINITY: u64 = 0xffffff;
 
-// What names the AS-external-LSA of a destination (RFC 2328, section 12.4.4).
-fn external_key(own: RouterId, prefix: Prefix) -> Key
+/// What names the AS-external-LSA of a destination: its address is the Link State ID (RFC 2328,
+/// section 12.4.4).
+pub fn external_key(own: RouterId, prefix: Prefix) -> Key
     ensures { result ≡ external_key own prefix }
 {
     Key {
@@ -36,7 +37,8 @@ fn external_key(own: RouterId, prefix: Prefix) -> Key
     }
 }
 
-fn same_network(a: Prefix, b: Prefix) -> bool
+/// Tells whether two prefixes are the same: of one address and one length.
+pub fn same_network(a: Prefix, b: Prefix) -> bool
     ensures { result ≡ same_network a b }
 {
     a.address() == b.address() && a.length() == b.length()
@@ -57,7 +59,8 @@ fn same_kind(a: ExternalType, b: ExternalType) -> bool
     }
 }
 
-fn same_external(a: &External, b: &External) -> bool
+/// Tells whether two destinations are the same in each part: prefix, metric, type and tag.
+pub fn same_external(a: &External, b: &External) -> bool
     ensures { result ≡ same_external a.now b.now }
 {
     same_network(a.prefix, b.prefix)
@@ -86,7 +89,7 @@ fn is_for(prefix: Prefix, announced: Option<&External>) -> bool
 
 // The destination with the metric that was answered, and the low 32 bits of the tag.
 fn answered(external: External, tag: u64, price: u32) -> External
-    ensures { result ≡ answered external tag price }
+    ensures { result ≡ answered_external external tag price }
 {
     External {
         metric: price,

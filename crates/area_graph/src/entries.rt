@@ -1,10 +1,12 @@
-//! All that LSAs tell of routers, in order. It is made once for a graph, so that no link or list is looked through for each link or network.
+//! All that LSAs tell of routers, in order. It is made once for a graph, so that no link or list is
+//! looked through for each link or network.
 ghost use Rattle.std.specs.Prelude.{◌≡◌, ◌↔◌, ℕ, IfOk, OnOk, Some};
 ghost use Rattle.std.specs.List.{Contains};
 ghost use Rattle.std.specs.List.Sorted.{IsSorted};
 ghost use Rattle.lsa.specs.declared.body.Link.{Link as LinkValue};
 ghost use Rattle.routes.specs.Said.{said_at};
-ghost use Rattle.area_graph.specs.Entries.{AreEntries, TellsOf, attached_entry, entry_cmp, entry_of};
+ghost use Rattle.area_graph.specs.Entries.{AreEntries, TellsOf, attached_entry, entry_cmp};
+ghost use Rattle.area_graph.specs.Entries.{entry_of};
 ghost use Rattle.area_graph.specs.Graphs.{Adds, OfEach};
 ghost use Rattle.area_graph.specs.Nodes.{AreNodes};
 ghost use Rattle.area_graph.specs.declared.entry.Entry.{Entry as EntryValue};
@@ -17,8 +19,8 @@ use routes::Node;
 use std::alloc::{AllocError, Global};
 use words::{LinkStateId, RouterId, Second};
 
-/// What the LSAs of the nodes tell of each router, in order: an entry for each point-to-point and transit link of a router-LSA, and for each
-/// router that a network-LSA lists.
+/// What the LSAs of the nodes tell of each router, in order: an entry for each point-to-point and
+/// transit link of a router-LSA, and for each router that a network-LSA lists.
 ///
 /// # Errors
 /// Where memory for them is refused.
@@ -29,7 +31,8 @@ pub fn entries_of(
     nodes: &[Node],
 ) -> Result<Vec<Entry>, AllocError>
     requires { AreNodes (said_at moment db.now.present) nodes.now }
-    ensures { IfOk result (λ entries. AreEntries (said_at moment db.now.present) nodes.now entries.items) }
+    ensures { IfOk result (λ entries. AreEntries (said_at moment db.now.present) nodes.now
+        entries.items) }
 {
     let mut entries = Vec::new(alloc);
     for at in 0..nodes.len() {
@@ -47,7 +50,8 @@ fn add_node(
     place: usize,
     entries: &mut Vec<Entry>,
 ) -> Result<(), AllocError>
-    ensures { OnOk result (Adds (TellsOf (said_at moment db.now.present) node.now place) entries.old.items entries.new.items) }
+    ensures { OnOk result (Adds (TellsOf (said_at moment db.now.present) node.now place)
+        entries.old.items entries.new.items) }
 {
     match node {
         Node::ARouter(router) => match router_lsa(db, moment, *router) {
@@ -63,7 +67,8 @@ fn add_node(
 
 // Adds an entry for each link that has one.
 fn add_links(router: RouterId, lsa: &RouterLsa, entries: &mut Vec<Entry>) -> Result<(), AllocError>
-    ensures { OnOk result (Adds (OfEach (λ (link : LinkValue) (entry : EntryValue). entry_of router link ≡ Some entry) lsa.now.links) entries.old.items entries.new.items) }
+    ensures { OnOk result (Adds (OfEach (λ (link : LinkValue) (entry : EntryValue).
+        entry_of router link ≡ Some entry) lsa.now.links) entries.old.items entries.new.items) }
 {
     for link in lsa.links.as_slice() {
         if let Some(entry) = of_link(router, link) {
@@ -80,7 +85,8 @@ fn add_list(
     lsa: &NetworkLsa,
     entries: &mut Vec<Entry>,
 ) -> Result<(), AllocError>
-    ensures { OnOk result (Adds (OfEach (λ (router : ℕ) (entry : EntryValue). entry ≡ attached_entry id place router) lsa.now.attached) entries.old.items entries.new.items) }
+    ensures { OnOk result (Adds (OfEach (λ (router : ℕ) (entry : EntryValue). entry
+        ≡ attached_entry id place router) lsa.now.attached) entries.old.items entries.new.items) }
 {
     for router in lsa.attached.as_slice() {
         entries.push(of_list(id, place, *router))?;
@@ -90,7 +96,8 @@ fn add_list(
 
 fn sort(entries: &mut Vec<Entry>)
     ensures sorted { IsSorted entry_cmp entries.new.items }
-    ensures same { (entry : EntryValue) → Contains entries.new.items entry ↔ Contains entries.old.items entry }
+    ensures same { (entry : EntryValue) → Contains entries.new.items entry
+        ↔ Contains entries.old.items entry }
 {
     entries.sort_unstable_by(|a, b| compare(a, b));
 }

@@ -1,6 +1,7 @@
 //! What one link or one list tells of a router, and the order in which such entries are looked up.
 ghost use Rattle.std.specs.Prelude.{◌≡◌, ◌↔◌, IsTrue, Some};
-ghost use Rattle.area_graph.specs.Entries.{IsBeside, attached_entry, entry_cmp, entry_of, rank, with_kind};
+ghost use Rattle.area_graph.specs.Entries.{IsBeside, attached_entry, entry_cmp, entry_of, rank};
+ghost use Rattle.area_graph.specs.Entries.{with_kind};
 
 use lsa::{Link, LinkKind};
 use std::cmp::Ordering;
@@ -86,7 +87,8 @@ fn with_kind(router: RouterId, kind: EntryKind, link: &Link) -> Entry
     }
 }
 
-/// The entry of a router that the network-LSA of this Link State ID lists, whose node stands at the place.
+/// The entry of a router that the network-LSA of this Link State ID lists, whose node stands at the
+/// place.
 pub fn of_list(id: LinkStateId, place: usize, router: RouterId) -> Entry
     ensures { result ≡ attached_entry id place router }
 {

@@ -1,4 +1,5 @@
-//! The graph of an area: the routers and transit networks of its database, and the links between them that count (RFC 2328, section 16.1).
+//! The graph of an area: the routers and transit networks of its database, and the links between
+//! them that count (RFC 2328, section 16.1).
 #![tactic(auto)]
 
 mod advertised;

@@ -5,7 +5,8 @@ ghost use Rattle.std.specs.List.Sorted.{IsSorted};
 ghost use Rattle.routes.specs.Said.{said_at};
 ghost use Rattle.area_graph.specs.Entries.{AreEntries, AreOrdered, entry_cmp, rank};
 ghost use Rattle.area_graph.specs.Graphs.{Adds, AreLinksFrom, CostFits, OfEach};
-ghost use Rattle.area_graph.specs.Links.{IsCheapest, IsExitTo, IsNeighborAt, IsOwnTo, IsOwnTransit, IsToListed, IsToNetwork, IsToRouter, IsToSomeNetwork};
+ghost use Rattle.area_graph.specs.Links.{IsCheapest, IsExitTo, IsNeighborAt, IsOwnTo, IsOwnTransit};
+ghost use Rattle.area_graph.specs.Links.{IsToListed, IsToNetwork, IsToRouter, IsToSomeNetwork};
 ghost use Rattle.area_graph.specs.Nodes.{AreNodes};
 
 use crate::advertised::{network_lsa, router_lsa};
@@ -18,8 +19,8 @@ use routes::{Link, Node, Root};
 use std::alloc::{AllocError, Global};
 use words::{LinkStateId, RouterId, Second};
 
-/// The links of the graph from a node, to the places of the nodes in their list. Of a router's links to one network only a cheapest is among
-/// them, but of the root's one for each interface.
+/// The links of the graph from a node, to the places of the nodes in their list. Of a router's
+/// links to one network only a cheapest is among them, but of the root's one for each interface.
 pub fn links_from(
     alloc: Global,
     db: &Lsdb,
@@ -32,7 +33,8 @@ pub fn links_from(
     requires nodes { AreNodes (said_at moment db.now.present) nodes.now }
     requires entries { AreEntries (said_at moment db.now.present) nodes.now entries.now }
     requires interfaces { length root.now.addresses ≤ 63 }
-    ensures links { IfOk result (λ links. AreLinksFrom (said_at moment db.now.present) root.now nodes.now from.now links.items) }
+    ensures links { IfOk result (λ links. AreLinksFrom (said_at moment db.now.present) root.now
+        nodes.now from.now links.items) }
     ensures fits { IfOk result (λ links. All CostFits links.items) }
 {
     let mut links = Vec::new(alloc);
@@ -65,7 +67,8 @@ fn add_routers(
 ) -> Result<(), AllocError>
     requires ordered { AreOrdered nodes.now entries.now }
     requires interfaces { length root.now.addresses ≤ 63 }
-    ensures adds { OnOk result (Adds (OfEach (IsToRouter root.now nodes.now entries.now router) lsa.now.links) links.old.items links.new.items) }
+    ensures adds { OnOk result (Adds (OfEach (IsToRouter root.now nodes.now entries.now router)
+        lsa.now.links) links.old.items links.new.items) }
     ensures fits { OnOk result (All CostFits links.old.items → All CostFits links.new.items) }
 {
     for told in lsa.links.as_slice() {
@@ -96,7 +99,8 @@ fn add_router(
     requires interfaces { length root.now.addresses ≤ 63 }
     requires is_kind { told.now.kind ≡ LinkKind.PointToPoint }
     requires counts { 0 < told.now.metric }
-    ensures adds { OnOk result (Adds (IsToRouter root.now nodes.now entries.now router told.now) links.old.items links.new.items) }
+    ensures adds { OnOk result (Adds (IsToRouter root.now nodes.now entries.now router told.now)
+        links.old.items links.new.items) }
     ensures fits { OnOk result (All CostFits links.old.items → All CostFits links.new.items) }
 {
     let far = RouterId::new(told.link_id);
@@ -141,7 +145,8 @@ fn add_exits(
     links: &mut Vec<Link>,
 ) -> Result<(), AllocError>
     requires { length root.now.addresses ≤ 63 }
-    ensures adds { OnOk result (Adds (IsExitTo root.now router to cost address) links.old.items links.new.items) }
+    ensures adds { OnOk result (Adds (IsExitTo root.now router to cost address) links.old.items
+        links.new.items) }
     ensures fits { OnOk result (All CostFits links.old.items → All CostFits links.new.items) }
 {
     if is_root(root, router) {
@@ -170,7 +175,8 @@ fn add_own(
     links: &mut Vec<Link>,
 ) -> Result<(), AllocError>
     requires { length root.now.addresses ≤ 63 }
-    ensures adds { OnOk result (Adds (IsOwnTo root.now to cost address) links.old.items links.new.items) }
+    ensures adds { OnOk result (Adds (IsOwnTo root.now to cost address) links.old.items
+        links.new.items) }
     ensures fits { OnOk result (All CostFits links.old.items → All CostFits links.new.items) }
 {
     let addresses = root.addresses.as_slice();
@@ -198,7 +204,8 @@ fn add_networks(
 ) -> Result<(), AllocError>
     requires sorted { IsSorted entry_cmp entries.now }
     requires interfaces { length root.now.addresses ≤ 63 }
-    ensures adds { OnOk result (Adds (IsToSomeNetwork root.now entries.now router lsa.now.links) links.old.items links.new.items) }
+    ensures adds { OnOk result (Adds (IsToSomeNetwork root.now entries.now router lsa.now.links)
+        links.old.items links.new.items) }
     ensures fits { OnOk result (All CostFits links.old.items → All CostFits links.new.items) }
 {
     let least = of_list(LinkStateId::new(0), 0, router);
@@ -214,7 +221,8 @@ fn add_networks(
 }
 
 fn is_listed(entry: &Entry, router: RouterId) -> bool
-    ensures { IsTrue result ↔ ((entry.now.router ≡ router) × (entry.now.kind ≡ EntryKind.Attached)) }
+    ensures { IsTrue result ↔ ((entry.now.router ≡ router)
+        × (entry.now.kind ≡ EntryKind.Attached)) }
 {
     entry.router.number() == router.number() && entry.kind == EntryKind::Attached
 }
@@ -230,7 +238,8 @@ fn add_network(
 ) -> Result<(), AllocError>
     requires sorted { IsSorted entry_cmp entries.now }
     requires interfaces { length root.now.addresses ≤ 63 }
-    ensures adds { OnOk result (Adds (IsToNetwork root.now entries.now router lsa.now.links entry.now) links.old.items links.new.items) }
+    ensures adds { OnOk result (Adds (IsToNetwork root.now entries.now router lsa.now.links
+        entry.now) links.old.items links.new.items) }
     ensures fits { OnOk result (All CostFits links.old.items → All CostFits links.new.items) }
 {
     if is_root(root, router) {
@@ -239,7 +248,8 @@ fn add_network(
     add_cheapest(entries, router, entry, links)
 }
 
-// Adds the root's links to one network: for each of its transit links one for each own interface of that link.
+// Adds the root's links to one network: for each of its transit links one for each own interface of
+// that link.
 fn add_own_transits(
     root: &Root,
     lsa: &RouterLsa,
@@ -248,7 +258,8 @@ fn add_own_transits(
     links: &mut Vec<Link>,
 ) -> Result<(), AllocError>
     requires { length root.now.addresses ≤ 63 }
-    ensures adds { OnOk result (Adds (OfEach (IsOwnTransit root.now id to) lsa.now.links) links.old.items links.new.items) }
+    ensures adds { OnOk result (Adds (OfEach (IsOwnTransit root.now id to) lsa.now.links)
+        links.old.items links.new.items) }
     ensures fits { OnOk result (All CostFits links.old.items → All CostFits links.new.items) }
 {
     for told in lsa.links.as_slice() {
@@ -261,12 +272,14 @@ fn add_own_transits(
 
 // Tells whether it is a transit link to this ID that may count.
 fn is_transit_to(told: &ToldLink, id: u32) -> bool
-    ensures { IsTrue result ↔ ((told.now.kind ≡ LinkKind.Transit) × (told.now.link_id ≡ id) × (0 < told.now.metric)) }
+    ensures { IsTrue result ↔ ((told.now.kind ≡ LinkKind.Transit) × (told.now.link_id ≡ id)
+        × (0 < told.now.metric)) }
 {
     told.kind == LinkKind::Transit && told.link_id == id && told.metric > 0
 }
 
-// Adds one link to a network: of several transit links to its Link State ID only the cheapest can be on a least walk.
+// Adds one link to a network: of several transit links to its Link State ID only the cheapest can
+// be on a least walk.
 fn add_cheapest(
     entries: &[Entry],
     router: RouterId,
@@ -274,7 +287,8 @@ fn add_cheapest(
     links: &mut Vec<Link>,
 ) -> Result<(), AllocError>
     requires { IsSorted entry_cmp entries.now }
-    ensures adds { OnOk result (Adds (IsCheapest entries.now router entry.now) links.old.items links.new.items) }
+    ensures adds { OnOk result (Adds (IsCheapest entries.now router entry.now) links.old.items
+        links.new.items) }
     ensures fits { OnOk result (All CostFits links.old.items → All CostFits links.new.items) }
 {
     if let Some(cost) = least_metric(entries, router, EntryKind::Transit, entry.id, 1) {
@@ -289,7 +303,8 @@ fn add_cheapest(
 
 // ---- from networks
 
-// Adds the links of the network of this Link State ID to the routers that its LSA lists and that have a link back.
+// Adds the links of the network of this Link State ID to the routers that its LSA lists and that
+// have a link back.
 fn add_listed(
     nodes: &[Node],
     entries: &[Entry],
@@ -298,7 +313,8 @@ fn add_listed(
     links: &mut Vec<Link>,
 ) -> Result<(), AllocError>
     requires { AreOrdered nodes.now entries.now }
-    ensures adds { OnOk result (Adds (OfEach (IsToListed nodes.now entries.now id) lsa.now.attached) links.old.items links.new.items) }
+    ensures adds { OnOk result (Adds (OfEach (IsToListed nodes.now entries.now id) lsa.now.attached)
+        links.old.items links.new.items) }
     ensures fits { OnOk result (All CostFits links.old.items → All CostFits links.new.items) }
 {
     for router in lsa.attached.as_slice() {

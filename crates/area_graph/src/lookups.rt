@@ -12,8 +12,10 @@ use words::RouterId;
 pub fn first_at(entries: &[Entry], entry: &Entry) -> usize
     requires { IsSorted entry_cmp entries.now }
     ensures within { result ≤ length entries.now }
-    ensures before { (k : ℕ) (other : EntryValue) → slice_get entries.now k ≡ Some other → k < result → entry_cmp other entry.now ≡ Less }
-    ensures beyond { (k : ℕ) (other : EntryValue) → slice_get entries.now k ≡ Some other → result ≤ k → entry_cmp other entry.now ≡ Less → ⊥ }
+    ensures before { (k : ℕ) (other : EntryValue) → slice_get entries.now k ≡ Some other
+        → k < result → entry_cmp other entry.now ≡ Less }
+    ensures beyond { (k : ℕ) (other : EntryValue) → slice_get entries.now k ≡ Some other
+        → result ≤ k → entry_cmp other entry.now ≡ Less → ⊥ }
 {
     entries.partition_point(|other| compare(other, entry).is_lt())
 }

@@ -14,8 +14,8 @@ use std::alloc::{AllocError, Global};
 use std::cmp::Ordering;
 use words::{Key, Second};
 
-/// The routers and transit networks whose LSAs stand in the database and aren't at MaxAge, routers first, by their numbers: the order of the
-/// keys (RFC 2328, section 16.1).
+/// The routers and transit networks whose LSAs stand in the database and aren't at MaxAge, routers
+/// first, by their numbers: the order of the keys (RFC 2328, section 16.1).
 ///
 /// # Errors
 /// Where memory for them or for the keys is refused.
@@ -57,8 +57,10 @@ fn node_at(db: &Lsdb, moment: Second, key: &Key) -> Option<Node>
 pub fn place_of(nodes: &[Node], node: &Node) -> usize
     requires { Ascend nodes.now }
     ensures within { result ≤ length nodes.now }
-    ensures before { (k : ℕ) (other : Node) → slice_get nodes.now k ≡ Some other → k < result → node_cmp other node.now ≡ Less }
-    ensures beyond { (k : ℕ) (other : Node) → slice_get nodes.now k ≡ Some other → result ≤ k → node_cmp other node.now ≡ Less → ⊥ }
+    ensures before { (k : ℕ) (other : Node) → slice_get nodes.now k ≡ Some other → k < result
+        → node_cmp other node.now ≡ Less }
+    ensures beyond { (k : ℕ) (other : Node) → slice_get nodes.now k ≡ Some other → result ≤ k
+        → node_cmp other node.now ≡ Less → ⊥ }
 {
     let mut low = 0;
     let mut high = nodes.len();
@@ -91,7 +93,8 @@ fn compare(a: &Node, b: &Node) -> Ordering
     }
 }
 
-/// Tells whether the first comes before the other: routers by Router ID, then networks by Link State ID and Advertising Router.
+/// Tells whether the first comes before the other: routers by Router ID, then networks by Link
+/// State ID and Advertising Router.
 pub fn is_before(a: &Node, b: &Node) -> bool
     ensures { result ≡ is_lt (node_cmp a.now b.now) }
 {

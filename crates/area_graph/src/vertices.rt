@@ -15,12 +15,13 @@ use routes::{Kind, Node, Root, Vertex};
 use std::alloc::{AllocError, Global};
 use words::Second;
 
-/// The graph of the database: each of its links is one that counts (RFC 2328, section 16.1), for each that counts there is one to the same
-/// node by the same interface that is no dearer, and each node stands at its place in the list. The nodes are those of `nodes_of` at that
-/// moment; the root has at most 63 interfaces.
+/// The graph of the database: each of its links is one that counts (RFC 2328, section 16.1), for
+/// each that counts there is one to the same node by the same interface that is no dearer, and each
+/// node stands at its place in the list. The nodes are those of `nodes_of` at that moment; the root
+/// has at most 63 interfaces.
 ///
-/// The time is that of sorting the links of router-LSAs and the routers in network-LSAs, and for the root one step more for each of its
-/// links at each network that lists it.
+/// The time is that of sorting the links of router-LSAs and the routers in network-LSAs, and for
+/// the root one step more for each of its links at each network that lists it.
 ///
 /// # Errors
 /// Where memory for the graph is refused.
@@ -34,7 +35,8 @@ pub fn graph_of(
     requires nodes { AreNodes (said_at moment db.now.present) nodes.now }
     requires interfaces { length root.now.addresses ≤ 63 }
     ensures count { IfOk result (λ graph. length graph.items ≡ length nodes.now) }
-    ensures stands { IfOk result (λ graph. IsGraphOf (Leads (said_at moment db.now.present) root.now) (StandsAt nodes.now) graph.items) }
+    ensures stands { IfOk result (λ graph. IsGraphOf (Leads (said_at moment db.now.present)
+        root.now) (StandsAt nodes.now) graph.items) }
     ensures lawful { IfOk result (λ graph. IsGraph graph.items) }
 {
     let entries = entries_of(alloc, db, moment, nodes)?;
@@ -59,7 +61,8 @@ fn vertex_of(
     requires nodes { AreNodes (said_at moment db.now.present) nodes.now }
     requires entries { AreEntries (said_at moment db.now.present) nodes.now entries.now }
     requires interfaces { length root.now.addresses ≤ 63 }
-    ensures { IfOk result (λ vertex. IsVertexOf (said_at moment db.now.present) root.now nodes.now node.now vertex) }
+    ensures { IfOk result (λ vertex. IsVertexOf (said_at moment db.now.present) root.now nodes.now
+        node.now vertex) }
 {
     let kind = kind_of(node);
     let links = links_from(alloc, db, root, moment, nodes, entries, node)?;

@@ -247,8 +247,8 @@ impl AreaRoutes {
 
     /// The candidates at a moment: for each prefix that anything in the database offers one route,
     /// in the order of the prefixes (RFC 2328, section 16). Where they are kept, it is a copy of
-    /// them. Where no walk serves, one is made for them alone. There are at most 63 links and 16,384
-    /// LSAs.
+    /// them. Where no walk serves, one is made for them alone. There are at most 63 links and
+    /// 16,384 LSAs.
     ///
     /// # Errors
     /// Where memory for the walk, the offers or the routes is refused.

@@ -1,7 +1,11 @@
 //! From a text to the object that it spells.
-ghost use Rattle.std.specs.Prelude.{◌≡◌, ◌⊎◌, ℕ, Option, Some, None, Ok, Err, List, [], IfSome, IfErr, MatchResult, length, map, option_map};
+ghost use Rattle.std.specs.Prelude.{◌≡◌, ◌⊎◌, ℕ, Option, Some, None, Ok, Err, List, [], IfSome};
+ghost use Rattle.std.specs.Prelude.{IfErr, MatchResult, length, map, option_map};
 ghost use Rattle.asm_words.specs.Words.{Word};
-ghost use Rattle.asm.specs.Assembling.{hook_step, rank_step, instruction_step, state_step, with_line_step, bytes_line_step, body_step, line_step, has_slot, order_fault, slot_at, shifted, nothing, Takes, IsMade, Declines, TextSpells, Refuses};
+ghost use Rattle.asm.specs.Assembling.{hook_step, rank_step, instruction_step, state_step};
+ghost use Rattle.asm.specs.Assembling.{with_line_step, bytes_line_step, body_step, line_step};
+ghost use Rattle.asm.specs.Assembling.{has_slot, order_fault, slot_at, shifted, nothing, Takes};
+ghost use Rattle.asm.specs.Assembling.{IsMade, Declines, TextSpells, Refuses};
 ghost use Rattle.asm.specs.Faults.{error_at, IsWantOfMemory};
 ghost use Rattle.asm.specs.Lawful.{AreAscending, IsLawful};
 ghost use Rattle.asm.specs.Views.{parts_of, sketch};
@@ -120,7 +124,8 @@ impl Draft {
 
     /// Puts the last statement, if there is one, behind those before it.
     fn shift(&mut self) -> Result<(), AsmFault>
-        ensures kept { MatchResult result (λ _. sketch self.new ≡ shifted (sketch self.old) (sketch self.new).last)
+        ensures kept { MatchResult result (λ _. sketch self.new ≡ shifted (sketch self.old)
+            (sketch self.new).last)
             (λ fault. fault ≡ AsmFault.Memory) }
     {
         push_open(&mut self.before, self.open)
@@ -136,7 +141,8 @@ impl Draft {
         rest: &[Option<Line>],
     ) -> Result<(), AsmFault>
         requires { AreAscending (sketch self.old).before (sketch self.old).last }
-        ensures { Takes result (sketch self.new) (state_step (sketch self.old) slot constant terms place rest.now) }
+        ensures { Takes result (sketch self.new) (state_step (sketch self.old) slot constant terms
+            place rest.now) }
     {
         let slot = slot_of(slot, place)?;
         if slot >= self.code.len() as u64 {
@@ -156,7 +162,8 @@ impl Draft {
 
     /// Takes a `with` line.
     fn with(&mut self, register: Register, content: Content) -> Result<(), AsmFault>
-        ensures { Takes result (sketch self.new) (with_line_step (sketch self.old) register content) }
+        ensures { Takes result (sketch self.new) (with_line_step (sketch self.old) register
+            content) }
     {
         let Some(open) = self.open else {
             return Err(AsmFault::Syntax);
@@ -178,7 +185,8 @@ impl Draft {
         Ok(())
     }
 
-    /// Takes the line `at`, counted from 0, which the lines `rest` follow. `place` is what the label that it gives or uses names.
+    /// Takes the line `at`, counted from 0, which the lines `rest` follow. `place` is what the
+    /// label that it gives or uses names.
     fn line(
         &mut self,
         line: Line,
@@ -187,7 +195,8 @@ impl Draft {
         rest: &[Option<Line>],
     ) -> Result<(), AsmFault>
         requires { AreAscending (sketch self.old).before (sketch self.old).last }
-        ensures { Takes result (sketch self.new) (line_step (sketch self.old) line at place rest.now) }
+        ensures { Takes result (sketch self.new) (line_step (sketch self.old) line at place
+            rest.now) }
     {
         match line {
             Line::Empty => Ok(()),
@@ -211,7 +220,8 @@ impl Draft {
         rest: &[Option<Line>],
     ) -> Result<(), AsmFault>
         requires { AreAscending (sketch self.old).before (sketch self.old).last }
-        ensures { Takes result (sketch self.new) (body_step (sketch self.old) line at place rest.now) }
+        ensures { Takes result (sketch self.new) (body_step (sketch self.old) line at place
+            rest.now) }
     {
         match line {
             Line::Label => match place {
@@ -284,8 +294,8 @@ fn at_line(line: usize, kind: AsmFault) -> AsmError
 
 /// The object that a text of assembly spells.
 ///
-/// The refusal names the first bad line. A text without a bad line and without an instruction is `Syntax` at line 1.
-/// Where memory ran out the line is 0.
+/// The refusal names the first bad line. A text without a bad line and without an instruction is
+/// `Syntax` at line 1. Where memory ran out the line is 0.
 pub fn assemble(alloc: Global, text: &str) -> Result<Object, AsmError>
     ensures spells { MatchResult result (TextSpells text.now)
         (λ error. IsWantOfMemory error ⊎ Refuses text.now error.line error.kind) }

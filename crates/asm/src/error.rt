@@ -14,7 +14,8 @@ pub enum AsmFault {
     /// No line gives the label that this one uses.
     #[error("no line gives this label")]
     Label,
-    /// A number that its field can't hold, or what an object file may not say of a statement. Also the line that passes 4096 slots.
+    /// A number that its field can't hold, or what an object file may not say of a statement. Also
+    /// the line that passes 4096 slots.
     #[error("a number is out of its range, or the code is too long")]
     Range,
     /// A label or a statement's slot is given again, or a register in two lines of one statement.
@@ -40,7 +41,8 @@ impl AsmFault {
     }
 }
 
-/// The first bad line, counted from 1, and what is wrong with it. Where memory ran out the line is 0.
+/// The first bad line, counted from 1, and what is wrong with it. Where memory ran out the line is
+/// 0.
 #[derive(Clone, Copy, PartialEq, Eq, Debug, Error)]
 #[error("line {line}: {kind}")]
 pub struct AsmError {

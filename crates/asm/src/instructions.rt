@@ -1,6 +1,8 @@
 //! The instruction of a line, both ways.
-ghost use Rattle.std.specs.Prelude.{◌≡◌, ◌⊎◌, ℕ, Option, true, false, Some, Ok, Err, MatchResult, OnErr};
-ghost use Rattle.asm.specs.Instructions.{ranged, source_of, distance_to, distance_of, instruction_of, code_step};
+ghost use Rattle.std.specs.Prelude.{◌≡◌, ◌⊎◌, ℕ, Option, true, false, Some, Ok, Err, MatchResult};
+ghost use Rattle.std.specs.Prelude.{OnErr};
+ghost use Rattle.asm.specs.Instructions.{ranged, source_of, distance_to, distance_of};
+ghost use Rattle.asm.specs.Instructions.{instruction_of, code_step};
 ghost use Rattle.asm_lines.specs.Forms.{names_label};
 ghost use Rattle.asm.specs.declared.error.AsmFault.{AsmFault};
 ghost use Rattle.asm.specs.Shapes.{is_jump, is_register, is_access};
@@ -63,7 +65,8 @@ fn distance_of(target: Target, slot: usize, place: Option<usize>) -> Result<Nume
     }
 }
 
-/// The instruction of a line at this slot, where `place` is the slot that the line's label names: `Syntax` where the line has none.
+/// The instruction of a line at this slot, where `place` is the slot that the line's label names:
+/// `Syntax` where the line has none.
 pub(crate) fn instruction_of(
     line: Line,
     slot: usize,
@@ -233,7 +236,8 @@ fn wide_instruction_of(
     }
 }
 
-/// Adds the instruction of a line behind the code so far. After a refusal the code is as before; `Range` comes also where there would be more than 4096 slots.
+/// Adds the instruction of a line behind the code so far. After a refusal the code is as before;
+/// `Range` comes also where there would be more than 4096 slots.
 pub(crate) fn push_instruction(
     code: &mut CodeBuilder,
     line: Line,
@@ -267,7 +271,8 @@ fn operand_of(source: Source) -> Operand
 pub(crate) fn line_of(instruction: Instruction) -> Line
     ensures line { result ≡ instruction_line instruction }
     ensures plain { names_label result ≡ false }
-    ensures again { (slot : ℕ) (place : Option ℕ) → instruction_of result slot place ≡ Ok instruction }
+    ensures again { (slot : ℕ) (place : Option ℕ) → instruction_of result slot place
+        ≡ Ok instruction }
 {
     instruction.check_ranges();
     match instruction {
@@ -301,7 +306,8 @@ fn data_line_of(instruction: Instruction) -> Line
     requires { is_jump (instruction_line instruction) ≡ false }
     ensures line { result ≡ instruction_line instruction }
     ensures plain { names_label result ≡ false }
-    ensures again { (slot : ℕ) (place : Option ℕ) → instruction_of result slot place ≡ Ok instruction }
+    ensures again { (slot : ℕ) (place : Option ℕ) → instruction_of result slot place
+        ≡ Ok instruction }
 {
     match instruction {
         Instruction::Arithmetic {
@@ -344,7 +350,8 @@ fn memory_line_of(instruction: Instruction) -> Line
     requires register { is_register (instruction_line instruction) ≡ false }
     ensures line { result ≡ instruction_line instruction }
     ensures plain { names_label result ≡ false }
-    ensures again { (slot : ℕ) (place : Option ℕ) → instruction_of result slot place ≡ Ok instruction }
+    ensures again { (slot : ℕ) (place : Option ℕ) → instruction_of result slot place
+        ≡ Ok instruction }
 {
     instruction.check_ranges();
     match instruction {
@@ -381,7 +388,8 @@ fn wide_line_of(instruction: Instruction) -> Line
     requires access { is_access (instruction_line instruction) ≡ false }
     ensures line { result ≡ instruction_line instruction }
     ensures plain { names_label result ≡ false }
-    ensures again { (slot : ℕ) (place : Option ℕ) → instruction_of result slot place ≡ Ok instruction }
+    ensures again { (slot : ℕ) (place : Option ℕ) → instruction_of result slot place
+        ≡ Ok instruction }
 {
     instruction.check_ranges();
     match instruction {

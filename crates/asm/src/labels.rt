@@ -53,7 +53,8 @@ fn note_place<'a>(
     name: &'a str,
     place: Place,
 ) -> Result<(), AllocError>
-    ensures { OnOk result ((word : Word) → place_in places.new word ≡ place_in places.old word or_else (if bytes_eq name.now word then Some place else None)) }
+    ensures { OnOk result ((word : Word) → place_in places.new word ≡ place_in places.old word
+        or_else (if bytes_eq name.now word then Some place else None)) }
 {
     if !places.contains_key(name) {
         places.insert(name, place)?;
@@ -68,7 +69,8 @@ pub(crate) fn places_of<'a>(
     names: &[&'a str],
 ) -> Result<IndexMap<&'a str, Place>, AllocError>
     requires { length lines.now ≡ length names.now }
-    ensures { IfOk result (λ places. (word : Word) → place_in places word ≡ place_from 0 0 lines.now (views names.now) word) }
+    ensures { IfOk result (λ places. (word : Word) → place_in places word ≡ place_from 0 0 lines.now
+        (views names.now) word) }
 {
     let mut places = IndexMap::new(alloc);
     let mut slot = 0;

@@ -1,4 +1,5 @@
-//! Laws of assembly texts. Each function does nothing: what it ensures holds for all texts and all objects.
+//! Laws of assembly texts. Each function does nothing: what it ensures holds for all texts and all
+//! objects.
 ghost use Rattle.std.specs.Prelude.{◌≡◌, ℕ, List};
 ghost use Rattle.object.specs.Objects.{ObjectParts};
 ghost use Rattle.asm.specs.Assembling.{TextSpells, Refuses};
@@ -17,7 +18,8 @@ pub fn text_spells_one_object()
 
 /// A text with a bad line, or without an instruction, spells no object.
 pub fn refused_text_spells_none()
-    ensures { (text : List ℕ) (line : ℕ) (fault : AsmFault) (object : ObjectParts) → Refuses text line fault → TextSpells text object → ⊥ }
+    ensures { (text : List ℕ) (line : ℕ) (fault : AsmFault) (object : ObjectParts)
+        → Refuses text line fault → TextSpells text object → ⊥ }
 {
     one_reading();
 }

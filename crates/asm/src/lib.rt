@@ -1,4 +1,5 @@
-//! Assembly text: from a text to the object that it spells, and from an object to a text that spells it.
+//! Assembly text: from a text to the object that it spells, and from an object to a text that
+//! spells it.
 #![tactic(auto)]
 
 mod assembling;

@@ -3,7 +3,8 @@ ghost use Rattle.std.specs.Prelude.{◌≡◌, map, option_map, MatchResult, Mat
 ghost use Rattle.asm.specs.Assembling.{is_empty, all_of, AreUnlawful};
 ghost use Rattle.asm.specs.Views.{parts_of};
 ghost use Rattle.asm.specs.declared.error.AsmFault.{AsmFault};
-ghost use Rattle.asm.specs.Rules.{is_stated_number, term_of, rank_of, slot_of, numbers_of, map_of, kind_of, bytes_of};
+ghost use Rattle.asm.specs.Rules.{is_stated_number, term_of, rank_of, slot_of, numbers_of, map_of};
+ghost use Rattle.asm.specs.Rules.{kind_of, bytes_of};
 
 use crate::error::AsmFault;
 use crate::numbers::{natural_32, natural_64};
@@ -15,7 +16,8 @@ use object::{
 };
 use std::alloc::{AllocError, Global};
 
-/// Whether a line of the statement that these lines follow says that the register is a number. The statement ends at the next `state` line.
+/// Whether a line of the statement that these lines follow says that the register is a number. The
+/// statement ends at the next `state` line.
 fn is_stated_number(rest: &[Option<Line>], register: Register) -> bool
     ensures { result ≡ is_stated_number rest.now register }
 {
@@ -152,7 +154,8 @@ pub(crate) fn kind_of(content: Content) -> Option<Kind>
     }
 }
 
-/// The bytes of a `bytes` line, from the first up to the second. None where they aren't in the stack or turned round.
+/// The bytes of a `bytes` line, from the first up to the second. None where they aren't in the
+/// stack or turned round.
 pub(crate) fn bytes_of(start: Numeral, end: Numeral) -> Option<(usize, usize)>
     ensures { result ≡ bytes_of start end }
 {
@@ -235,7 +238,8 @@ impl OpenStatement {
         }
     }
 
-    /// The whole statement. None where its rank speaks of a register that it doesn't state as a number.
+    /// The whole statement. None where its rank speaks of a register that it doesn't state as a
+    /// number.
     pub(crate) fn close(self) -> Option<Statement>
         ensures some { IsSome result ↔ IsRankOver self.kinds self.rank }
         ensures value { IfSome result (λ statement. statement ≡ parts_of self) }
@@ -255,7 +259,9 @@ pub(crate) fn push_open(
     before: &mut Vec<OpenStatement>,
     last: Option<OpenStatement>,
 ) -> Result<(), AsmFault>
-    ensures { MatchResult result (λ _. map parts_of before.new.items ≡ all_of (map parts_of before.old.items) (option_map parts_of last)) (λ fault. fault ≡ AsmFault.Memory) }
+    ensures { MatchResult result (λ _. map parts_of before.new.items
+        ≡ all_of (map parts_of before.old.items) (option_map parts_of last)) (λ fault. fault
+        ≡ AsmFault.Memory) }
 {
     // Names the types of a statement's parts, whose places the generated proof has to know.
     let _rank: Option<(Rank, RankTerm, StackBytes)> = None;
@@ -269,13 +275,16 @@ pub(crate) fn push_open(
     }
 }
 
-/// The statements before the last one, and the last one. None where the rank of one speaks of a register that it doesn't state as a number.
+/// The statements before the last one, and the last one. None where the rank of one speaks of a
+/// register that it doesn't state as a number.
 pub(crate) fn statements_of(
     alloc: Global,
     before: &[OpenStatement],
     last: Option<OpenStatement>,
 ) -> Result<Option<Vec<Statement>>, AllocError>
-    ensures { IfOk result (λ found. MatchOption found (AreUnlawful (all_of (map parts_of before.now) (option_map parts_of last))) (λ statements. statements.items ≡ all_of (map parts_of before.now) (option_map parts_of last))) }
+    ensures { IfOk result (λ found. MatchOption found (AreUnlawful (all_of (map parts_of before.now)
+        (option_map parts_of last))) (λ statements. statements.items
+        ≡ all_of (map parts_of before.now) (option_map parts_of last))) }
 {
     let mut statements = Vec::new(alloc);
     for open in before {

@@ -1,5 +1,7 @@
 //! From an object to a text that spells it.
-ghost use Rattle.std.specs.Prelude.{◌≡◌, ◌≤◌, ◌<◌, ◌-◌, ◌++◌, List, [], ◌∷◌, length, map, take, replicate, true, false, Option, Some, IfOk, IfErr, OnOk, MatchOption, string_bytes};
+ghost use Rattle.std.specs.Prelude.{◌≡◌, ◌≤◌, ◌<◌, ◌-◌, ◌++◌, List, [], ◌∷◌, length, map, take};
+ghost use Rattle.std.specs.Prelude.{replicate, true, false, Option, Some, IfOk, IfErr, OnOk};
+ghost use Rattle.std.specs.Prelude.{MatchOption, string_bytes};
 ghost use Rattle.std.specs.List.{flat_map};
 ghost use Rattle.isa.specs.declared.code.Slot.{Slot};
 ghost use Rattle.isa.specs.Spelling.{Spells};
@@ -12,8 +14,12 @@ ghost use Rattle.asm_lines.specs.Written.{line_text};
 ghost use Rattle.asm.specs.Rules.{term_of, rank_of, numbers_of, kind_of};
 ghost use Rattle.asm.specs.Assembling.{TextSpells};
 ghost use Rattle.asm.specs.Faults.{told};
-ghost use Rattle.asm.specs.Listed.{AddsLine, AddsCode, AddsKinds, AddsStack, AddsStatement, AddsStatements, Listed, Any, coded, is_stated, is_number, gives_number};
-ghost use Rattle.asm.specs.Listing.{AddsText, IsListing, slot_lines, the_term, the_terms, the_range, the_content, with_lines, longest_ranges, bytes_line, statement_lines, listing_lines, text_of};
+ghost use Rattle.asm.specs.Listed.{AddsLine, AddsCode, AddsKinds, AddsStack, AddsStatement};
+ghost use Rattle.asm.specs.Listed.{AddsStatements, Listed, Any, coded, is_stated, is_number};
+ghost use Rattle.asm.specs.Listed.{gives_number};
+ghost use Rattle.asm.specs.Listing.{AddsText, IsListing, slot_lines, the_term, the_terms};
+ghost use Rattle.asm.specs.Listing.{the_range, the_content, with_lines, longest_ranges, bytes_line};
+ghost use Rattle.asm.specs.Listing.{statement_lines, listing_lines, text_of};
 ghost use Rattle.asm.specs.declared.error.ListError.{ListError};
 
 use crate::error::ListError;
@@ -28,7 +34,8 @@ use std::alloc::{AllocError, Global};
 fn put(text: &mut String, line: Line) -> Result<(), AllocError>
     requires { names_label line ≡ false }
     ensures says { OnOk result (AddsLine (string_bytes text.old) (string_bytes text.new) line) }
-    ensures text { OnOk result (string_bytes text.new ≡ string_bytes text.old ++ line_text line []) }
+    ensures text { OnOk result (string_bytes text.new ≡ string_bytes text.old
+        ++ line_text line []) }
 {
     write_line(text, line, "")
 }
@@ -42,7 +49,8 @@ fn number(n: u32) -> Numeral
 /// A term of a rank: `r0 * 0` where there is none.
 fn term_of(term: Option<RankTerm>) -> Term
     ensures line { result ≡ the_term term }
-    ensures again { (rest : List (Option Line)) → is_stated rest term ≡ true → term_of rest result ≡ Some term }
+    ensures again { (rest : List (Option Line)) → is_stated rest term ≡ true → term_of rest result
+        ≡ Some term }
 {
     let (register, coefficient) = match term {
         Some(term) => (term.register(), term.coefficient()),
@@ -60,7 +68,8 @@ fn term_of(term: Option<RankTerm>) -> Term
 /// The terms of a rank: `r0 * 0` stands for a first one that isn't there before a second.
 fn terms_of(rank: Rank) -> Terms
     ensures line { result ≡ the_terms rank.first rank.second }
-    ensures again { (rest : List (Option Line)) → is_stated rest rank.first ≡ true → is_stated rest rank.second ≡ true
+    ensures again { (rest : List (Option Line)) → is_stated rest rank.first ≡ true
+        → is_stated rest rank.second ≡ true
         → rank_of (Numeral.Natural rank.constant) result rest ≡ Some rank }
 {
     match rank.second {
@@ -87,7 +96,8 @@ fn range_of(numbers: StatedNumber) -> Range
 /// What a `with` line says of a register that holds this; None for an empty one.
 fn content_of(kind: Kind) -> Option<Content>
     ensures line { result ≡ the_content kind }
-    ensures again { MatchOption result (kind ≡ Kind.Empty) (λ content. kind_of content ≡ Some kind) }
+    ensures again { MatchOption result (kind ≡ Kind.Empty) (λ content. kind_of content
+        ≡ Some kind) }
     ensures numbers { is_number kind ≡ gives_number result }
 {
     match kind {
@@ -132,7 +142,8 @@ fn write_code(text: &mut String, code: &Code) -> Result<(), AllocError>
 /// A `with` line for each register that isn't empty, ascending.
 fn write_kinds(text: &mut String, kinds: &[Kind]) -> Result<(), AllocError>
     requires { length kinds.now ≡ 10 }
-    ensures says { OnOk result (AddsKinds (string_bytes text.old) (string_bytes text.new) kinds.now) }
+    ensures says { OnOk result (AddsKinds (string_bytes text.old) (string_bytes text.new)
+        kinds.now) }
     ensures text { OnOk result (AddsText (string_bytes text.old) (string_bytes text.new)
         (with_lines 0 kinds.now)) }
 {
@@ -166,7 +177,8 @@ fn end_of_range(stack: &StackBytes, start: usize) -> usize
 
 /// A `bytes` line for each longest range of bytes, ascending.
 fn write_stack(text: &mut String, stack: &StackBytes) -> Result<(), AllocError>
-    ensures says { OnOk result (AddsStack (string_bytes text.old) (string_bytes text.new) stack.now) }
+    ensures says { OnOk result (AddsStack (string_bytes text.old) (string_bytes text.new)
+        stack.now) }
     ensures text { OnOk result (AddsText (string_bytes text.old) (string_bytes text.new)
         (map bytes_line (longest_ranges 0 stack.now))) }
 {
@@ -189,7 +201,8 @@ fn write_stack(text: &mut String, stack: &StackBytes) -> Result<(), AllocError>
 
 /// The lines of a statement.
 fn write_statement(text: &mut String, statement: &Statement) -> Result<(), AllocError>
-    ensures says { OnOk result (AddsStatement (string_bytes text.old) (string_bytes text.new) statement.now) }
+    ensures says { OnOk result (AddsStatement (string_bytes text.old) (string_bytes text.new)
+        statement.now) }
     ensures text { OnOk result (AddsText (string_bytes text.old) (string_bytes text.new)
         (statement_lines statement.now)) }
 {
@@ -207,7 +220,8 @@ fn write_statement(text: &mut String, statement: &Statement) -> Result<(), Alloc
 
 /// The lines of the statements.
 fn write_statements(text: &mut String, statements: &[Statement]) -> Result<(), AllocError>
-    ensures says { OnOk result (AddsStatements (string_bytes text.old) (string_bytes text.new) statements.now) }
+    ensures says { OnOk result (AddsStatements (string_bytes text.old) (string_bytes text.new)
+        statements.now) }
     ensures text { OnOk result (AddsText (string_bytes text.old) (string_bytes text.new)
         (flat_map statement_lines statements.now)) }
 {
@@ -221,7 +235,8 @@ fn write_statements(text: &mut String, statements: &[Statement]) -> Result<(), A
 fn write_object(alloc: Global, object: &Object, code: &Code) -> Result<String, AllocError>
     requires { Spells object.now.code code.now }
     ensures spells { IfOk result (λ text. TextSpells (string_bytes text) object.now) }
-    ensures lines { IfOk result (λ text. string_bytes text ≡ text_of (listing_lines object.now code.now)) }
+    ensures lines { IfOk result (λ text. string_bytes text
+        ≡ text_of (listing_lines object.now code.now)) }
 {
     let mut text = write_head(alloc, object.hook(), object.entry_rank())?;
     write_code(&mut text, code)?;
@@ -239,7 +254,8 @@ fn told(fault: DecodeFault) -> ListError
     }
 }
 
-/// A text that spells the object: distances in place of labels, registers ascending, each longest range of stack bytes in one line.
+/// A text that spells the object: distances in place of labels, registers ascending, each longest
+/// range of stack bytes in one line.
 ///
 /// `Code` comes where the object's code doesn't decode, `Memory` only where it does.
 pub fn listing(alloc: Global, object: &Object) -> Result<String, ListError>

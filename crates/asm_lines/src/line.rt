@@ -50,7 +50,8 @@ pub enum Content {
     Map { map: Numeral, offset: Range },
 }
 
-/// What a line says. Its numbers are those that it writes, whatever their fields can hold; the name of a label stands beside it.
+/// What a line says. Its numbers are those that it writes, whatever their fields can hold; the name
+/// of a label stands beside it.
 #[derive(Clone, Copy, PartialEq, Eq, Debug)]
 pub enum Line {
     Empty,
@@ -164,7 +165,8 @@ impl Terms {
 impl Line {
     ghost use Rattle.asm_lines.specs.Forms.{IsLine};
 
-    /// Says that each register of the line is one of r0 to r10, as its type keeps it. It does nothing when the program runs.
+    /// Says that each register of the line is one of r0 to r10, as its type keeps it. It does
+    /// nothing when the program runs.
     pub fn check_ranges(&self)
         ensures { IsLine self.now }
     {
@@ -204,7 +206,8 @@ impl Line {
     }
 }
 
-/// A line of a text: what it says, and the name of the label that it gives or uses, empty where it does neither.
+/// A line of a text: what it says, and the name of the label that it gives or uses, empty where it
+/// does neither.
 #[derive(Clone, Copy, Debug)]
 pub(crate) struct Item<'a> {
     pub line: Line,

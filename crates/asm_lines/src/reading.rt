@@ -1,9 +1,17 @@
 //! What the words of a line spell.
-ghost use Rattle.std.specs.Prelude.{◌≡◌, ◌≤◌, false, List, [], ◌∷◌, codes, ◌++◌, length, option_map, None, IfSome, IfOk, OnOk};
-ghost use Rattle.asm_lines.specs.Forms.{Spells, Matches, Fits, Name, the_operand, IsOperand, the_target, the_slot, is_label, the_terms, AreTerms, the_range, the_term};
+ghost use Rattle.std.specs.Prelude.{◌≡◌, ◌≤◌, false, List, [], ◌∷◌, codes, ◌++◌, length};
+ghost use Rattle.std.specs.Prelude.{option_map, None, IfSome, IfOk, OnOk};
+ghost use Rattle.asm_lines.specs.Forms.{Spells, Matches, Fits, Name, the_operand, IsOperand};
+ghost use Rattle.asm_lines.specs.Forms.{the_target, the_slot, is_label, the_terms, AreTerms};
+ghost use Rattle.asm_lines.specs.Forms.{the_range, the_term};
 ghost use Rattle.asm_words.specs.Words.{Word, register_word};
-ghost use Rattle.asm_lines.specs.Views.{item_view, target_view, views, items, SpellsItem, SpellsPlain};
-ghost use Rattle.asm_lines.specs.Reading.{register_at, operand_at, name_at, target_at, slot_at, label_at, one, two, computed, moved, assignment, stack_range, three, widened, state_of, offset_of, four, loaded, stored, five, six, range_of, term_of, numbers_of, seven, map_value_of, eight, terms_of, ten, line_of};
+ghost use Rattle.asm_lines.specs.Views.{item_view, target_view, views, items, SpellsItem};
+ghost use Rattle.asm_lines.specs.Views.{SpellsPlain};
+ghost use Rattle.asm_lines.specs.Reading.{register_at, operand_at, name_at, target_at, slot_at};
+ghost use Rattle.asm_lines.specs.Reading.{label_at, one, two, computed, moved, assignment};
+ghost use Rattle.asm_lines.specs.Reading.{stack_range, three, widened, state_of, offset_of, four};
+ghost use Rattle.asm_lines.specs.Reading.{loaded, stored, five, six, range_of, term_of, numbers_of};
+ghost use Rattle.asm_lines.specs.Reading.{seven, map_value_of, eight, terms_of, ten, line_of};
 ghost use Rattle.asm_lines.specs.Text.{words_in, lines_in, AddsReading, Readings};
 ghost use Rattle.asm_lines.specs.declared.line.Line.{Line};
 
@@ -57,7 +65,8 @@ fn name_at(word: &str) -> Option<(Target, &str)>
 /// A distance, or the name of a label.
 fn target_at(word: &str) -> Option<(Target, &str)>
     ensures value { option_map target_view result ≡ target_at word.now }
-    ensures found { IfSome result (λ t. Matches (the_target t.0 t.1.now) word.now × (is_label t.0 ≡ false → t.1.now ≡ [])) }
+    ensures found { IfSome result (λ t. Matches (the_target t.0 t.1.now) word.now
+        × (is_label t.0 ≡ false → t.1.now ≡ [])) }
 {
     match read_distance(word) {
         Some(number) => Some((Target::Number(number), "")),
@@ -68,7 +77,8 @@ fn target_at(word: &str) -> Option<(Target, &str)>
 /// The number of a slot, or the name of a label.
 fn slot_at(word: &str) -> Option<(Target, &str)>
     ensures value { option_map target_view result ≡ slot_at word.now }
-    ensures found { IfSome result (λ t. Matches (the_slot t.0 t.1.now) word.now × (is_label t.0 ≡ false → t.1.now ≡ [])) }
+    ensures found { IfSome result (λ t. Matches (the_slot t.0 t.1.now) word.now
+        × (is_label t.0 ≡ false → t.1.now ≡ [])) }
 {
     match read_number(word) {
         Some(number) => Some((Target::Number(number), "")),
@@ -140,7 +150,8 @@ fn two<'a>(a: &str, b: &'a str) -> Option<Item<'a>>
 fn computed(width: Width, target: Register, c: &str) -> Option<Line>
     requires { target ≤ 10 }
     ensures value { result ≡ computed width target c.now }
-    ensures found { IfSome result (SpellsPlain (register_word (width, target) ∷ codes "=" ∷ c.now ∷ [])) }
+    ensures found { IfSome result (SpellsPlain (register_word (width, target) ∷ codes "=" ∷ c.now
+        ∷ [])) }
 {
     if c == "neg" {
         return Some(Line::Negate { width, target });
@@ -161,7 +172,8 @@ fn computed(width: Width, target: Register, c: &str) -> Option<Line>
 fn assignment(width: Width, target: Register, b: &str, c: &str) -> Option<Line>
     requires { target ≤ 10 }
     ensures value { result ≡ assignment (width, target) b.now c.now }
-    ensures found { IfSome result (SpellsPlain (register_word (width, target) ∷ b.now ∷ c.now ∷ [])) }
+    ensures found { IfSome result (SpellsPlain (register_word (width, target) ∷ b.now ∷ c.now
+        ∷ [])) }
 {
     let operation = operation_of(b)?;
     if let Some(source) = operand_at(width, c) {
@@ -203,11 +215,13 @@ fn three<'a>(a: &str, b: &str, c: &'a str) -> Option<Item<'a>>
     Some(Item::plain(line))
 }
 
-/// An assignment whose right side is two words: a wide number, or a register whose sign is extended.
+/// An assignment whose right side is two words: a wide number, or a register whose sign is
+/// extended.
 fn widened(width: Width, target: Register, c: &str, d: &str) -> Option<Line>
     requires { target ≤ 10 }
     ensures value { result ≡ widened (width, target) c.now d.now }
-    ensures found { IfSome result (SpellsPlain (register_word (width, target) ∷ codes "=" ∷ c.now ∷ d.now ∷ [])) }
+    ensures found { IfSome result (SpellsPlain (register_word (width, target) ∷ codes "=" ∷ c.now
+        ∷ d.now ∷ [])) }
 {
     if c == "wide" {
         return match width {
@@ -230,7 +244,8 @@ fn widened(width: Width, target: Register, c: &str, d: &str) -> Option<Line>
 /// A statement with these terms.
 fn state_of<'a>(a: &str, b: &'a str, c: &str, d: &str, terms: Terms) -> Option<Item<'a>>
     ensures value { option_map item_view result ≡ state_of a.now b.now c.now d.now terms }
-    ensures found { IfSome result (λ item. (rest : List Word) → Fits rest (the_terms terms) → AreTerms terms → SpellsItem (a.now ∷ b.now ∷ c.now ∷ d.now ∷ rest) item) }
+    ensures found { IfSome result (λ item. (rest : List Word) → Fits rest (the_terms terms)
+        → AreTerms terms → SpellsItem (a.now ∷ b.now ∷ c.now ∷ d.now ∷ rest) item) }
 {
     if a != "state" {
         return None;
@@ -292,7 +307,8 @@ fn four<'a>(a: &str, b: &'a str, c: &str, d: &str) -> Option<Item<'a>>
 fn loaded(target: Register, c: &str, d: &str, e: &str) -> Option<Line>
     requires { target ≤ 10 }
     ensures value { result ≡ loaded target c.now d.now e.now }
-    ensures found { IfSome result (SpellsPlain (register_word (Width.Bits64, target) ∷ codes "=" ∷ c.now ∷ d.now ∷ e.now ∷ [])) }
+    ensures found { IfSome result (SpellsPlain (register_word (Width.Bits64, target) ∷ codes "="
+        ∷ c.now ∷ d.now ∷ e.now ∷ [])) }
 {
     if c == "map" {
         let map = read_number(d)?;
@@ -348,8 +364,10 @@ fn five<'a>(a: &str, b: &str, c: &str, d: &str, e: &'a str) -> Option<Item<'a>>
 
 /// A conditional jump, by the words beside `if` and `goto`.
 fn branch_of<'a>(b: &str, c: &str, d: &str, f: &'a str) -> Option<Item<'a>>
-    ensures value { option_map item_view result ≡ six (codes "if") b.now c.now d.now (codes "goto") f.now }
-    ensures found { IfSome result (SpellsItem (codes "if" ∷ b.now ∷ c.now ∷ d.now ∷ codes "goto" ∷ f.now ∷ [])) }
+    ensures value { option_map item_view result ≡ six (codes "if") b.now c.now d.now (codes "goto")
+        f.now }
+    ensures found { IfSome result (SpellsItem (codes "if" ∷ b.now ∷ c.now ∷ d.now ∷ codes "goto"
+        ∷ f.now ∷ [])) }
 {
     let (width, left) = register_of(b)?;
     let test = test_of(c)?;
@@ -369,7 +387,8 @@ fn branch_of<'a>(b: &str, c: &str, d: &str, f: &'a str) -> Option<Item<'a>>
 
 fn six<'a>(a: &str, b: &str, c: &str, d: &str, e: &str, f: &'a str) -> Option<Item<'a>>
     ensures value { option_map item_view result ≡ six a.now b.now c.now d.now e.now f.now }
-    ensures found { IfSome result (SpellsItem (a.now ∷ b.now ∷ c.now ∷ d.now ∷ e.now ∷ f.now ∷ [])) }
+    ensures found { IfSome result (SpellsItem (a.now ∷ b.now ∷ c.now ∷ d.now ∷ e.now ∷ f.now
+        ∷ [])) }
 {
     if a != "if" {
         return None;
@@ -382,7 +401,8 @@ fn six<'a>(a: &str, b: &str, c: &str, d: &str, e: &str, f: &'a str) -> Option<It
 
 fn range_of(a: &str, b: &str, c: &str, d: &str) -> Option<Range>
     ensures value { result ≡ range_of a.now b.now c.now d.now }
-    ensures found { IfSome result (λ range. Fits (a.now ∷ b.now ∷ c.now ∷ d.now ∷ []) (the_range range)) }
+    ensures found { IfSome result (λ range. Fits (a.now ∷ b.now ∷ c.now ∷ d.now ∷ [])
+        (the_range range)) }
 {
     let low = read_number(a)?;
     let high = read_number(b)?;
@@ -398,7 +418,8 @@ fn range_of(a: &str, b: &str, c: &str, d: &str) -> Option<Range>
 
 fn term_of(a: &str, b: &str, c: &str) -> Option<Term>
     ensures value { result ≡ term_of a.now b.now c.now }
-    ensures found { IfSome result (λ term. Fits (a.now ∷ b.now ∷ c.now ∷ []) (the_term term []) × (term.register ≤ 10)) }
+    ensures found { IfSome result (λ term. Fits (a.now ∷ b.now ∷ c.now ∷ []) (the_term term [])
+        × (term.register ≤ 10)) }
 {
     if b != "*" {
         return None;
@@ -414,7 +435,8 @@ fn term_of(a: &str, b: &str, c: &str) -> Option<Term>
 /// A register that is one of some numbers.
 fn numbers_of(b: &str, c: &str, d: &str, e: &str, f: &str, g: &str) -> Option<Line>
     ensures value { result ≡ numbers_of b.now c.now d.now e.now f.now g.now }
-    ensures found { IfSome result (SpellsPlain (codes "with" ∷ b.now ∷ c.now ∷ d.now ∷ e.now ∷ f.now ∷ g.now ∷ [])) }
+    ensures found { IfSome result (SpellsPlain (codes "with" ∷ b.now ∷ c.now ∷ d.now ∷ e.now ∷ f.now
+        ∷ g.now ∷ [])) }
 {
     if c != "number" {
         return None;
@@ -429,7 +451,8 @@ fn numbers_of(b: &str, c: &str, d: &str, e: &str, f: &str, g: &str) -> Option<Li
 
 fn seven<'a>(a: &str, b: &'a str, c: &str, d: &str, e: &str, f: &str, g: &str) -> Option<Item<'a>>
     ensures value { option_map item_view result ≡ seven a.now b.now c.now d.now e.now f.now g.now }
-    ensures found { IfSome result (SpellsItem (a.now ∷ b.now ∷ c.now ∷ d.now ∷ e.now ∷ f.now ∷ g.now ∷ [])) }
+    ensures found { IfSome result (SpellsItem (a.now ∷ b.now ∷ c.now ∷ d.now ∷ e.now ∷ f.now ∷ g.now
+        ∷ [])) }
 {
     if a == "with" {
         let line = numbers_of(b, c, d, e, f, g)?;
@@ -442,7 +465,8 @@ fn seven<'a>(a: &str, b: &'a str, c: &str, d: &str, e: &str, f: &str, g: &str) -
 /// A register that is a pointer into a map.
 fn map_value_of(b: &str, c: &str, d: &str, e: &str, f: &str, g: &str, h: &str) -> Option<Line>
     ensures value { result ≡ map_value_of b.now c.now d.now e.now f.now g.now h.now }
-    ensures found { IfSome result (SpellsPlain (codes "with" ∷ b.now ∷ c.now ∷ d.now ∷ e.now ∷ f.now ∷ g.now ∷ h.now ∷ [])) }
+    ensures found { IfSome result (SpellsPlain (codes "with" ∷ b.now ∷ c.now ∷ d.now ∷ e.now ∷ f.now
+        ∷ g.now ∷ h.now ∷ [])) }
 {
     if c != "map" {
         return None;
@@ -458,7 +482,8 @@ fn map_value_of(b: &str, c: &str, d: &str, e: &str, f: &str, g: &str, h: &str) -
 
 fn terms_of(e: &str, f: &str, g: &str, h: &str, i: &str, j: &str) -> Option<Terms>
     ensures value { result ≡ terms_of e.now f.now g.now h.now i.now j.now }
-    ensures found { IfSome result (λ found. Fits (e.now ∷ f.now ∷ g.now ∷ h.now ∷ i.now ∷ j.now ∷ []) (the_terms found) × AreTerms found) }
+    ensures found { IfSome result (λ found. Fits (e.now ∷ f.now ∷ g.now ∷ h.now ∷ i.now ∷ j.now
+        ∷ []) (the_terms found) × AreTerms found) }
 {
     let first = term_of(e, f, g)?;
     let second = term_of(h, i, j)?;
@@ -476,8 +501,10 @@ fn eight<'a>(
     g: &str,
     h: &str,
 ) -> Option<Item<'a>>
-    ensures value { option_map item_view result ≡ eight a.now b.now c.now d.now e.now f.now g.now h.now }
-    ensures found { IfSome result (SpellsItem (a.now ∷ b.now ∷ c.now ∷ d.now ∷ e.now ∷ f.now ∷ g.now ∷ h.now ∷ [])) }
+    ensures value { option_map item_view result ≡ eight a.now b.now c.now d.now e.now f.now g.now
+        h.now }
+    ensures found { IfSome result (SpellsItem (a.now ∷ b.now ∷ c.now ∷ d.now ∷ e.now ∷ f.now ∷ g.now
+        ∷ h.now ∷ [])) }
 {
     if a != "with" {
         return None;
@@ -499,8 +526,10 @@ fn ten<'a>(
     i: &str,
     j: &str,
 ) -> Option<Item<'a>>
-    ensures value { option_map item_view result ≡ ten a.now b.now c.now d.now e.now f.now g.now h.now i.now j.now }
-    ensures found { IfSome result (SpellsItem (a.now ∷ b.now ∷ c.now ∷ d.now ∷ e.now ∷ f.now ∷ g.now ∷ h.now ∷ i.now ∷ j.now ∷ [])) }
+    ensures value { option_map item_view result ≡ ten a.now b.now c.now d.now e.now f.now g.now
+        h.now i.now j.now }
+    ensures found { IfSome result (SpellsItem (a.now ∷ b.now ∷ c.now ∷ d.now ∷ e.now ∷ f.now ∷ g.now
+        ∷ h.now ∷ i.now ∷ j.now ∷ [])) }
 {
     let terms = terms_of(e, f, g, h, i, j)?;
     state_of(a, b, c, d, terms)
@@ -547,7 +576,8 @@ fn words_of<'a>(alloc: Global, line: &'a str) -> Result<Vec<&'a str>, AllocError
     Ok(words)
 }
 
-/// Adds what a line spells: None where it spells nothing, and the name of the label that it gives or uses.
+/// Adds what a line spells: None where it spells nothing, and the name of the label that it gives
+/// or uses.
 fn read_line<'a>(
     alloc: Global,
     line: &'a str,
@@ -556,7 +586,8 @@ fn read_line<'a>(
 ) -> Result<(), AllocError>
     requires { length lines.old.items ≡ length names.old.items }
     ensures same { OnOk result (length lines.new.items ≡ length names.new.items) }
-    ensures added { OnOk result (AddsReading (words_in line.now) (items lines.old.items names.old.items) (items lines.new.items names.new.items)) }
+    ensures added { OnOk result (AddsReading (words_in line.now) (items lines.old.items
+        names.old.items) (items lines.new.items names.new.items)) }
 {
     let words = words_of(alloc, line)?;
     match line_of(&words) {
@@ -572,9 +603,11 @@ fn read_line<'a>(
     Ok(())
 }
 
-/// Adds what each line of a text spells, in their order: None where it spells nothing, and beside it the name of the label that it gives or uses, empty where it does neither.
+/// Adds what each line of a text spells, in their order: None where it spells nothing, and beside
+/// it the name of the label that it gives or uses, empty where it does neither.
 ///
-/// The lines stand between line feeds, so the last one is what follows the last of these, mostly an empty line. After an error the two vectors are to be given up.
+/// The lines stand between line feeds, so the last one is what follows the last of these, mostly an
+/// empty line. After an error the two vectors are to be given up.
 pub fn read_lines<'a>(
     alloc: Global,
     text: &'a str,
@@ -584,7 +617,8 @@ pub fn read_lines<'a>(
     requires lines { lines.old.items ≡ [] }
     requires names { names.old.items ≡ [] }
     ensures same { OnOk result (length lines.new.items ≡ length names.new.items) }
-    ensures read { OnOk result (Readings (lines_in text.now) (items lines.new.items names.new.items)) }
+    ensures read { OnOk result (Readings (lines_in text.now) (items lines.new.items
+        names.new.items)) }
 {
     for line in text.split('\n') {
         read_line(alloc, line, lines, names)?;
@@ -594,5 +628,6 @@ pub fn read_lines<'a>(
 
 /// The words of a line spell at most one line, with one name.
 pub fn one_reading()
-    ensures { (words : List Word) (line other : Line) (name another : Word) → Spells words line name → Spells words other another → (line ≡ other) × (name ≡ another) }
+    ensures { (words : List Word) (line other : Line) (name another : Word) → Spells words line name
+        → Spells words other another → (line ≡ other) × (name ≡ another) }
 {}

@@ -1,6 +1,9 @@
 //! The text of a line: its words between single spaces, and a line feed at its end.
-ghost use Rattle.std.specs.Prelude.{◌≡◌, ◌≤◌, true, false, List, [], ◌∷◌, ◌++◌, codes, OnOk, string_bytes};
-ghost use Rattle.asm_lines.specs.Forms.{Exactly, Number, Distance, Name, Definition, the_register, the_operand, the_target, the_slot, the_term, the_terms, the_range, the_content, form_of, is_label, is_data};
+ghost use Rattle.std.specs.Prelude.{◌≡◌, ◌≤◌, true, false, List, [], ◌∷◌, ◌++◌, codes, OnOk};
+ghost use Rattle.std.specs.Prelude.{string_bytes};
+ghost use Rattle.asm_lines.specs.Forms.{Exactly, Number, Distance, Name, Definition, the_register};
+ghost use Rattle.asm_lines.specs.Forms.{the_operand, the_target, the_slot, the_term, the_terms};
+ghost use Rattle.asm_lines.specs.Forms.{the_range, the_content, form_of, is_label, is_data};
 ghost use Rattle.asm_words.specs.Names.{is_name};
 ghost use Rattle.asm_words.specs.Words.{Word, extension_width, test_word, is_word};
 ghost use Rattle.asm_lines.specs.Written.{Adds, Starts, AreLines, IsNamed, line_text};
@@ -21,7 +24,8 @@ use std::fmt::Write;
 /// The first word of the line.
 fn first(text: &mut String, word: &str) -> Result<(), AllocError>
     requires { is_word word.now ≡ true }
-    ensures { OnOk result (Starts (string_bytes text.old) (string_bytes text.new) (Exactly word.now ∷ [])) }
+    ensures { OnOk result (Starts (string_bytes text.old) (string_bytes text.new) (Exactly word.now
+        ∷ [])) }
 {
     text.push_str(word)
 }
@@ -29,7 +33,8 @@ fn first(text: &mut String, word: &str) -> Result<(), AllocError>
 /// Another word of the line.
 fn next(text: &mut String, word: &str) -> Result<(), AllocError>
     requires { is_word word.now ≡ true }
-    ensures { OnOk result (Adds (string_bytes text.old) (string_bytes text.new) (Exactly word.now ∷ [])) }
+    ensures { OnOk result (Adds (string_bytes text.old) (string_bytes text.new) (Exactly word.now
+        ∷ [])) }
 {
     text.push_str(" ")?;
     text.push_str(word)
@@ -38,36 +43,42 @@ fn next(text: &mut String, word: &str) -> Result<(), AllocError>
 /// The name of a label.
 fn next_name(text: &mut String, name: &str) -> Result<(), AllocError>
     requires { is_name name.now ≡ true }
-    ensures { OnOk result (Adds (string_bytes text.old) (string_bytes text.new) (Name name.now ∷ [])) }
+    ensures { OnOk result (Adds (string_bytes text.old) (string_bytes text.new) (Name name.now
+        ∷ [])) }
 {
     text.push_str(" ")?;
     text.push_str(name)
 }
 
 fn next_register(text: &mut String, width: Width, register: Register) -> Result<(), AllocError>
-    ensures { OnOk result (Adds (string_bytes text.old) (string_bytes text.new) (the_register width register ∷ [])) }
+    ensures { OnOk result (Adds (string_bytes text.old) (string_bytes text.new)
+        (the_register width register ∷ [])) }
 {
     next(text, register_word(width, register))
 }
 
 /// A number that isn't below 0: its digits.
 fn next_natural(text: &mut String, n: u64) -> Result<(), AllocError>
-    ensures { OnOk result (Adds (string_bytes text.old) (string_bytes text.new) (Number (Numeral.Natural n) ∷ [])) }
+    ensures { OnOk result (Adds (string_bytes text.old) (string_bytes text.new)
+        (Number (Numeral.Natural n) ∷ [])) }
 {
     write!(text, " {n}")
 }
 
 /// A distance that isn't below 0: a `+` and its digits.
 fn next_forward(text: &mut String, n: u64) -> Result<(), AllocError>
-    ensures { OnOk result (Adds (string_bytes text.old) (string_bytes text.new) (Distance (Numeral.Natural n) ∷ [])) }
+    ensures { OnOk result (Adds (string_bytes text.old) (string_bytes text.new)
+        (Distance (Numeral.Natural n) ∷ [])) }
 {
     write!(text, " +{n}")
 }
 
 /// A number or a distance below 0, -1 less this: a `-` and digits.
 fn next_negative(text: &mut String, n: u32) -> Result<(), AllocError>
-    ensures number { OnOk result (Adds (string_bytes text.old) (string_bytes text.new) (Number (Numeral.Negative n) ∷ [])) }
-    ensures distance { OnOk result (Adds (string_bytes text.old) (string_bytes text.new) (Distance (Numeral.Negative n) ∷ [])) }
+    ensures number { OnOk result (Adds (string_bytes text.old) (string_bytes text.new)
+        (Number (Numeral.Negative n) ∷ [])) }
+    ensures distance { OnOk result (Adds (string_bytes text.old) (string_bytes text.new)
+        (Distance (Numeral.Negative n) ∷ [])) }
 {
     let n = u64::from(n) + 1;
     write!(text, " -{n}")
@@ -75,7 +86,8 @@ fn next_negative(text: &mut String, n: u32) -> Result<(), AllocError>
 
 /// A number: digits, with a `-` before them where it is below 0.
 fn next_number(text: &mut String, number: Numeral) -> Result<(), AllocError>
-    ensures { OnOk result (Adds (string_bytes text.old) (string_bytes text.new) (Number number ∷ [])) }
+    ensures { OnOk result (Adds (string_bytes text.old) (string_bytes text.new) (Number number
+        ∷ [])) }
 {
     match number {
         Numeral::Natural(n) => next_natural(text, n),
@@ -86,7 +98,8 @@ fn next_number(text: &mut String, number: Numeral) -> Result<(), AllocError>
 
 /// A distance: its sign and digits.
 fn next_distance(text: &mut String, number: Numeral) -> Result<(), AllocError>
-    ensures { OnOk result (Adds (string_bytes text.old) (string_bytes text.new) (Distance number ∷ [])) }
+    ensures { OnOk result (Adds (string_bytes text.old) (string_bytes text.new) (Distance number
+        ∷ [])) }
 {
     match number {
         Numeral::Natural(n) => next_forward(text, n),
@@ -96,7 +109,8 @@ fn next_distance(text: &mut String, number: Numeral) -> Result<(), AllocError>
 }
 
 fn next_operand(text: &mut String, width: Width, operand: Operand) -> Result<(), AllocError>
-    ensures { OnOk result (Adds (string_bytes text.old) (string_bytes text.new) (the_operand width operand ∷ [])) }
+    ensures { OnOk result (Adds (string_bytes text.old) (string_bytes text.new)
+        (the_operand width operand ∷ [])) }
 {
     match operand {
         Operand::Register(register) => next_register(text, width, register),
@@ -107,7 +121,8 @@ fn next_operand(text: &mut String, width: Width, operand: Operand) -> Result<(),
 /// A distance, or the name of a label.
 fn next_target(text: &mut String, target: Target, name: &str) -> Result<(), AllocError>
     requires { is_label target ≡ true → is_name name.now ≡ true }
-    ensures { OnOk result (Adds (string_bytes text.old) (string_bytes text.new) (the_target target name.now ∷ [])) }
+    ensures { OnOk result (Adds (string_bytes text.old) (string_bytes text.new)
+        (the_target target name.now ∷ [])) }
 {
     match target {
         Target::Number(number) => next_distance(text, number),
@@ -118,7 +133,8 @@ fn next_target(text: &mut String, target: Target, name: &str) -> Result<(), Allo
 /// The number of a slot, or the name of a label.
 fn next_slot(text: &mut String, slot: Target, name: &str) -> Result<(), AllocError>
     requires { is_label slot ≡ true → is_name name.now ≡ true }
-    ensures { OnOk result (Adds (string_bytes text.old) (string_bytes text.new) (the_slot slot name.now ∷ [])) }
+    ensures { OnOk result (Adds (string_bytes text.old) (string_bytes text.new)
+        (the_slot slot name.now ∷ [])) }
 {
     match slot {
         Target::Number(number) => next_number(text, number),
@@ -127,7 +143,8 @@ fn next_slot(text: &mut String, slot: Target, name: &str) -> Result<(), AllocErr
 }
 
 fn next_term(text: &mut String, term: Term) -> Result<(), AllocError>
-    ensures { OnOk result (Adds (string_bytes text.old) (string_bytes text.new) (the_term term [])) }
+    ensures { OnOk result (Adds (string_bytes text.old) (string_bytes text.new)
+        (the_term term [])) }
 {
     next_register(text, Width::Bits64, term.register)?;
     next(text, "*")?;
@@ -158,14 +175,16 @@ fn next_range(text: &mut String, range: Range) -> Result<(), AllocError>
 
 /// A register that is a pointer into a map, after the word for it.
 fn next_map_value(text: &mut String, map: Numeral, offset: Range) -> Result<(), AllocError>
-    ensures { OnOk result (Adds (string_bytes text.old) (string_bytes text.new) (Number map ∷ the_range offset)) }
+    ensures { OnOk result (Adds (string_bytes text.old) (string_bytes text.new) (Number map
+        ∷ the_range offset)) }
 {
     next_number(text, map)?;
     next_range(text, offset)
 }
 
 fn next_content(text: &mut String, content: Content) -> Result<(), AllocError>
-    ensures { OnOk result (Adds (string_bytes text.old) (string_bytes text.new) (the_content content)) }
+    ensures { OnOk result (Adds (string_bytes text.old) (string_bytes text.new)
+        (the_content content)) }
 {
     match content {
         Content::Number(range) => {
@@ -199,7 +218,8 @@ fn extension_width(extension: Extension) -> Width
 
 /// An assignment to a register, as far as the `=`.
 fn assigned(text: &mut String, width: Width, target: Register) -> Result<(), AllocError>
-    ensures { OnOk result (Starts (string_bytes text.old) (string_bytes text.new) (the_register width target ∷ Exactly (codes "=") ∷ [])) }
+    ensures { OnOk result (Starts (string_bytes text.old) (string_bytes text.new)
+        (the_register width target ∷ Exactly (codes "=") ∷ [])) }
 {
     first(text, register_word(width, target))?;
     next(text, "=")
@@ -208,14 +228,16 @@ fn assigned(text: &mut String, width: Width, target: Register) -> Result<(), All
 /// A line whose words are a keyword and a number.
 fn keyword_number(text: &mut String, keyword: &str, number: Numeral) -> Result<(), AllocError>
     requires { is_word keyword.now ≡ true }
-    ensures { OnOk result (Starts (string_bytes text.old) (string_bytes text.new) (Exactly keyword.now ∷ Number number ∷ [])) }
+    ensures { OnOk result (Starts (string_bytes text.old) (string_bytes text.new)
+        (Exactly keyword.now ∷ Number number ∷ [])) }
 {
     first(text, keyword)?;
     next_number(text, number)
 }
 
 fn write_hook(text: &mut String, hook: Hook) -> Result<(), AllocError>
-    ensures { OnOk result (Starts (string_bytes text.old) (string_bytes text.new) (form_of (Line.Hook hook) [])) }
+    ensures { OnOk result (Starts (string_bytes text.old) (string_bytes text.new)
+        (form_of (Line.Hook hook) [])) }
 {
     first(text, "hook")?;
     next(text, hook_word(hook))
@@ -224,7 +246,8 @@ fn write_hook(text: &mut String, hook: Hook) -> Result<(), AllocError>
 /// A label: its name and a colon.
 fn write_label(text: &mut String, name: &str) -> Result<(), AllocError>
     requires { is_name name.now ≡ true }
-    ensures { OnOk result (Starts (string_bytes text.old) (string_bytes text.new) (Definition name.now ∷ [])) }
+    ensures { OnOk result (Starts (string_bytes text.old) (string_bytes text.new)
+        (Definition name.now ∷ [])) }
 {
     text.push_str(name)?;
     text.push_str(":")
@@ -237,7 +260,8 @@ fn write_arithmetic(
     target: Register,
     source: Operand,
 ) -> Result<(), AllocError>
-    ensures { OnOk result (Starts (string_bytes text.old) (string_bytes text.new) (form_of (Line.Arithmetic width operation target source) [])) }
+    ensures { OnOk result (Starts (string_bytes text.old) (string_bytes text.new)
+        (form_of (Line.Arithmetic width operation target source) [])) }
 {
     first(text, register_word(width, target))?;
     next(text, operation_word(operation))?;
@@ -245,7 +269,8 @@ fn write_arithmetic(
 }
 
 fn write_negate(text: &mut String, width: Width, target: Register) -> Result<(), AllocError>
-    ensures { OnOk result (Starts (string_bytes text.old) (string_bytes text.new) (form_of (Line.Negate width target) [])) }
+    ensures { OnOk result (Starts (string_bytes text.old) (string_bytes text.new)
+        (form_of (Line.Negate width target) [])) }
 {
     assigned(text, width, target)?;
     next(text, "neg")
@@ -257,7 +282,8 @@ fn write_extend(
     target: Register,
     source: Register,
 ) -> Result<(), AllocError>
-    ensures { OnOk result (Starts (string_bytes text.old) (string_bytes text.new) (form_of (Line.SignExtend extension target source) [])) }
+    ensures { OnOk result (Starts (string_bytes text.old) (string_bytes text.new)
+        (form_of (Line.SignExtend extension target source) [])) }
 {
     let width = extension_width(extension);
     assigned(text, width, target)?;
@@ -271,7 +297,8 @@ fn write_reorder(
     width: SwapWidth,
     target: Register,
 ) -> Result<(), AllocError>
-    ensures { OnOk result (Starts (string_bytes text.old) (string_bytes text.new) (form_of (Line.Reorder order width target) [])) }
+    ensures { OnOk result (Starts (string_bytes text.old) (string_bytes text.new)
+        (form_of (Line.Reorder order width target) [])) }
 {
     assigned(text, Width::Bits64, target)?;
     next(text, reorder_word(order, width))
@@ -286,7 +313,8 @@ fn write_jump(
 ) -> Result<(), AllocError>
     requires keyword { is_word keyword.now ≡ true }
     requires named { is_label target ≡ true → is_name name.now ≡ true }
-    ensures { OnOk result (Starts (string_bytes text.old) (string_bytes text.new) (Exactly keyword.now ∷ the_target target name.now ∷ [])) }
+    ensures { OnOk result (Starts (string_bytes text.old) (string_bytes text.new)
+        (Exactly keyword.now ∷ the_target target name.now ∷ [])) }
 {
     first(text, keyword)?;
     next_target(text, target, name)
@@ -300,7 +328,9 @@ fn write_condition(
     left: Register,
     right: Operand,
 ) -> Result<(), AllocError>
-    ensures { OnOk result (Starts (string_bytes text.old) (string_bytes text.new) (Exactly (codes "if") ∷ the_register width left ∷ Exactly (test_word test) ∷ the_operand width right ∷ [])) }
+    ensures { OnOk result (Starts (string_bytes text.old) (string_bytes text.new)
+        (Exactly (codes "if") ∷ the_register width left ∷ Exactly (test_word test)
+        ∷ the_operand width right ∷ [])) }
 {
     first(text, "if")?;
     next_register(text, width, left)?;
@@ -311,7 +341,8 @@ fn write_condition(
 /// Where a conditional jump goes.
 fn write_goto(text: &mut String, target: Target, name: &str) -> Result<(), AllocError>
     requires { is_label target ≡ true → is_name name.now ≡ true }
-    ensures { OnOk result (Adds (string_bytes text.old) (string_bytes text.new) (Exactly (codes "goto") ∷ the_target target name.now ∷ [])) }
+    ensures { OnOk result (Adds (string_bytes text.old) (string_bytes text.new)
+        (Exactly (codes "goto") ∷ the_target target name.now ∷ [])) }
 {
     next(text, "goto")?;
     next_target(text, target, name)
@@ -324,7 +355,8 @@ fn write_load(
     base: Register,
     offset: Numeral,
 ) -> Result<(), AllocError>
-    ensures { OnOk result (Starts (string_bytes text.old) (string_bytes text.new) (form_of (Line.Load size target base offset) [])) }
+    ensures { OnOk result (Starts (string_bytes text.old) (string_bytes text.new)
+        (form_of (Line.Load size target base offset) [])) }
 {
     assigned(text, Width::Bits64, target)?;
     next(text, load_word(size))?;
@@ -339,7 +371,8 @@ fn write_store(
     offset: Numeral,
     source: Operand,
 ) -> Result<(), AllocError>
-    ensures { OnOk result (Starts (string_bytes text.old) (string_bytes text.new) (form_of (Line.Store size base offset source) [])) }
+    ensures { OnOk result (Starts (string_bytes text.old) (string_bytes text.new)
+        (form_of (Line.Store size base offset source) [])) }
 {
     first(text, store_word(size))?;
     next_register(text, Width::Bits64, base)?;
@@ -349,7 +382,8 @@ fn write_store(
 }
 
 fn write_load_number(text: &mut String, target: Register, number: Numeral) -> Result<(), AllocError>
-    ensures { OnOk result (Starts (string_bytes text.old) (string_bytes text.new) (form_of (Line.LoadNumber target number) [])) }
+    ensures { OnOk result (Starts (string_bytes text.old) (string_bytes text.new)
+        (form_of (Line.LoadNumber target number) [])) }
 {
     assigned(text, Width::Bits64, target)?;
     next(text, "wide")?;
@@ -362,7 +396,8 @@ fn write_load_map(
     map: Numeral,
     offset: Numeral,
 ) -> Result<(), AllocError>
-    ensures { OnOk result (Starts (string_bytes text.old) (string_bytes text.new) (form_of (Line.LoadMap target map offset) [])) }
+    ensures { OnOk result (Starts (string_bytes text.old) (string_bytes text.new)
+        (form_of (Line.LoadMap target map offset) [])) }
 {
     assigned(text, Width::Bits64, target)?;
     next(text, "map")?;
@@ -378,7 +413,8 @@ fn write_state(
     name: &str,
 ) -> Result<(), AllocError>
     requires { is_label slot ≡ true → is_name name.now ≡ true }
-    ensures { OnOk result (Starts (string_bytes text.old) (string_bytes text.new) (form_of (Line.State slot constant terms) name.now)) }
+    ensures { OnOk result (Starts (string_bytes text.old) (string_bytes text.new)
+        (form_of (Line.State slot constant terms) name.now)) }
 {
     first(text, "state")?;
     next_slot(text, slot, name)?;
@@ -388,7 +424,8 @@ fn write_state(
 }
 
 fn write_with(text: &mut String, register: Register, content: Content) -> Result<(), AllocError>
-    ensures { OnOk result (Starts (string_bytes text.old) (string_bytes text.new) (form_of (Line.With register content) [])) }
+    ensures { OnOk result (Starts (string_bytes text.old) (string_bytes text.new)
+        (form_of (Line.With register content) [])) }
 {
     first(text, "with")?;
     next_register(text, Width::Bits64, register)?;
@@ -396,7 +433,8 @@ fn write_with(text: &mut String, register: Register, content: Content) -> Result
 }
 
 fn write_bytes(text: &mut String, start: Numeral, end: Numeral) -> Result<(), AllocError>
-    ensures { OnOk result (Starts (string_bytes text.old) (string_bytes text.new) (form_of (Line.Bytes start end) [])) }
+    ensures { OnOk result (Starts (string_bytes text.old) (string_bytes text.new)
+        (form_of (Line.Bytes start end) [])) }
 {
     keyword_number(text, "bytes", start)?;
     next_number(text, end)
@@ -404,7 +442,8 @@ fn write_bytes(text: &mut String, start: Numeral, end: Numeral) -> Result<(), Al
 
 /// The words of an assignment to a register, of a load or of a store.
 fn write_data(text: &mut String, line: Line) -> Result<(), AllocError>
-    ensures { OnOk result (is_data line ≡ true → Starts (string_bytes text.old) (string_bytes text.new) (form_of line [])) }
+    ensures { OnOk result (is_data line ≡ true
+        → Starts (string_bytes text.old) (string_bytes text.new) (form_of line [])) }
 {
     match line {
         Line::Arithmetic {
@@ -449,7 +488,8 @@ fn write_data(text: &mut String, line: Line) -> Result<(), AllocError>
 /// The words of a line, with this name where it gives or uses a label.
 fn write_words(text: &mut String, line: Line, name: &str) -> Result<(), AllocError>
     requires { IsNamed line name.now }
-    ensures { OnOk result (Starts (string_bytes text.old) (string_bytes text.new) (form_of line name.now)) }
+    ensures { OnOk result (Starts (string_bytes text.old) (string_bytes text.new)
+        (form_of line name.now)) }
 {
     match line {
         Line::Empty => Ok(()),
@@ -481,13 +521,18 @@ fn write_words(text: &mut String, line: Line, name: &str) -> Result<(), AllocErr
     }
 }
 
-/// Writes a line at the text's end, with this name where it gives or uses a label (else the name is to be empty), and a line feed behind it.
+/// Writes a line at the text's end, with this name where it gives or uses a label (else the name is
+/// to be empty), and a line feed behind it.
 ///
-/// What `read_lines` finds in a text of whole lines it finds there afterwards too, and then this line. After an error the text is to be given up.
+/// What `read_lines` finds in a text of whole lines it finds there afterwards too, and then this
+/// line. After an error the text is to be given up.
 pub fn write_line(text: &mut String, line: Line, name: &str) -> Result<(), AllocError>
     requires { IsNamed line name.now }
-    ensures written { OnOk result (string_bytes text.new ≡ string_bytes text.old ++ line_text line name.now) }
-    ensures reads_back { OnOk result ((items : List (Line × Word)) → AreLines (string_bytes text.old) items → AreLines (string_bytes text.new) (items ++ (line, name.now) ∷ [])) }
+    ensures written { OnOk result (string_bytes text.new ≡ string_bytes text.old
+        ++ line_text line name.now) }
+    ensures reads_back { OnOk result ((items : List (Line × Word))
+        → AreLines (string_bytes text.old) items → AreLines (string_bytes text.new) (items
+        ++ (line, name.now) ∷ [])) }
 {
     line.check_ranges();
     write_words(text, line, name)?;

@@ -1,4 +1,5 @@
-//! The words of assembly text: numbers, the names of labels, and the words that name one thing of several, each both ways.
+//! The words of assembly text: numbers, the names of labels, and the words that name one thing of
+//! several, each both ways.
 #![tactic(auto)]
 
 mod name;

@@ -1,6 +1,7 @@
 //! The numbers of a text: decimal, with an optional sign.
 ghost use Rattle.std.specs.Prelude.{◌≡◌};
-ghost use Rattle.asm_words.specs.Numbers.{is_numeral, natural_of, negative_of, number_of, distance_of};
+ghost use Rattle.asm_words.specs.Numbers.{is_numeral, natural_of, negative_of, number_of};
+ghost use Rattle.asm_words.specs.Numbers.{distance_of};
 
 /// A number as a text writes it.
 #[derive(Clone, Copy, PartialEq, Eq, Debug)]

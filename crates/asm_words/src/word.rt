@@ -1,6 +1,9 @@
 //! The words that name one thing of several, both ways.
 ghost use Rattle.std.specs.Prelude.{◌≡◌, ◌≤◌, true, IfSome};
-ghost use Rattle.asm_words.specs.Words.{is_word, operation_word, operation_of, test_word, test_of, hook_word, hook_of, load_word, load_of, store_word, store_of, reorder_word, reorder_of, register_word, register_of, extension_word, extension_width, extension_of};
+ghost use Rattle.asm_words.specs.Words.{is_word, operation_word, operation_of, test_word, test_of};
+ghost use Rattle.asm_words.specs.Words.{hook_word, hook_of, load_word, load_of, store_word};
+ghost use Rattle.asm_words.specs.Words.{store_of, reorder_word, reorder_of, register_word};
+ghost use Rattle.asm_words.specs.Words.{register_of, extension_word, extension_width, extension_of};
 
 use isa::{
     ByteOrder, Extension, Hook, LoadSize, Operation, Register, StoreSize, SwapWidth, Test, Width,
@@ -297,7 +300,8 @@ pub fn extension_word(extension: Extension) -> &'static str
 /// The move that the word names, between registers of this width.
 pub fn extension_of(width: Width, word: &str) -> Option<Extension>
     ensures value { result ≡ extension_of width word.now }
-    ensures found { IfSome result (λ found. (word.now ≡ extension_word found) × (width ≡ extension_width found)) }
+    ensures found { IfSome result (λ found. (word.now ≡ extension_word found)
+        × (width ≡ extension_width found)) }
 {
     match word {
         "s8" => Some(Extension::Byte(width)),

@@ -1,4 +1,5 @@
-//! Figures of speed, printed on demand: `bench run`, and so with the other names. With no words it prints nothing.
+//! Figures of speed, printed on demand: `bench run`, and so with the other names. With no words it
+//! prints nothing.
 #![tactic(auto)]
 
 mod again;

@@ -42,7 +42,8 @@ fn print_workers<R: Threads + Wait + Clock + Print + AllocGlobal + Sync>(
     let each = 1_000_000_000 / without.max(1);
     let counted = 1_000_000_000 / with.max(1);
     println!(rt;
-        "{kind}, {workers} at once: {each} turns a second, {without} ns each; at count {counted}, {with} ns"
+        "{kind}, {workers} at once: {each} turns a second, {without} ns each; at count {counted}, \
+            {with} ns"
     )?;
     Ok(())
 }

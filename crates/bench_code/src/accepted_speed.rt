@@ -18,7 +18,8 @@ use std::alloc::Global;
 use std::rt::Clock;
 use verifier::Accepted;
 
-/// `r0 = 0; r1 = 100000; L: r1 -= 1; if r1 != 0 goto L; exit`, with what the verifier has to be told of the loop.
+/// `r0 = 0; r1 = 100000; L: r1 -= 1; if r1 != 0 goto L; exit`, with what the verifier has to be
+/// told of the loop.
 const LOOP: &str = "hook price\nrank 100000\nr0 = 0\nr1 = 100000\nL:\nr1 += -1\n\
     if r1 != 0 goto L\nexit\nstate L rank 0 r1 * 1\nwith r0 number 0 0 0 0\n\
     with r1 number 1 100000 0 0\n";

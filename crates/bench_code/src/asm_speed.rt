@@ -10,7 +10,8 @@ use std::rt::Clock;
 /// How often each is done for a measurement.
 const ROUNDS: u64 = 20;
 
-// The line of the instruction at a slot. Each fourth one jumps back to the slot three before it: by the label there, or by its distance.
+// The line of the instruction at a slot. Each fourth one jumps back to the slot three before it: by
+// the label there, or by its distance.
 fn put_instruction(text: &mut String, slot: usize, has_labels: bool) -> Result<(), AllocError> {
     match slot % 4 {
         0 if has_labels => writeln!(text, "L{slot}:\nr0 += 3"),
@@ -115,7 +116,8 @@ fn print_each<R: Clock + Print + AllocGlobal>(
     print_text(rt, slots, &text)
 }
 
-/// Prints how long texts take to assemble, with labels and with none, and how long their objects take to list.
+/// Prints how long texts take to assemble, with labels and with none, and how long their objects
+/// take to list.
 pub fn print<R: Clock + Print + AllocGlobal>(rt: &R) -> Result<()> {
     for slots in [1_024usize, 4_096] {
         print_each(rt, slots, false)?;

@@ -47,7 +47,8 @@ fn slowest<R: Threads>(rt: &R, threads: Vec<JoinHandle<Result<Times>>>) -> Resul
     Ok(slowest)
 }
 
-// Measures with so many askers, each on a thread of its own; this thread changes what stands at the hook.
+// Measures with so many askers, each on a thread of its own; this thread changes what stands at the
+// hook.
 fn measure<R: Clock + AllocGlobal + Threads + Wait + Copy + Send + 'static>(
     rt: R,
     count: usize,
@@ -69,12 +70,14 @@ fn measure<R: Clock + AllocGlobal + Threads + Wait + Copy + Send + 'static>(
     slowest(&rt, threads)
 }
 
-/// Prints how long a question takes that one, two and four askers ask side by side: without a program, with one of two
-/// instructions, and while another thread attaches and detaches this program in a loop. In nanoseconds a question, of
-/// the slowest asker: the least of 11 measurements of 10,000 questions each, and the median.
+/// Prints how long a question takes that one, two and four askers ask side by side: without a
+/// program, with one of two instructions, and while another thread attaches and detaches this
+/// program in a loop. In nanoseconds a question, of the slowest asker: the least of 11 measurements
+/// of 10,000 questions each, and the median.
 ///
 /// # Errors
-/// The clock or the output failed, memory ran out, no thread was started, or a word was answered that can't be.
+/// The clock or the output failed, memory ran out, no thread was started, or a word was answered
+/// that can't be.
 pub fn print<R: Clock + Print + AllocGlobal + Threads + Wait + Copy + Send + 'static>(
     rt: R,
 ) -> Result<()> {

@@ -1,4 +1,5 @@
-//! Figures of the speed of code: decoding, assembling, object files, the verifier, runs, questions to programs, and the shared counters.
+//! Figures of the speed of code: decoding, assembling, object files, the verifier, runs, questions
+//! to programs, and the shared counters.
 #![tactic(auto)]
 
 mod accepted_speed;

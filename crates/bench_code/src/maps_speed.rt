@@ -16,7 +16,8 @@ use std::time::Instant;
 /// How often each seat adds.
 const ADDS: u64 = 4_000_000;
 
-/// When a thread's adds began and ended, in nanoseconds since a common start, and how many were made.
+/// When a thread's adds began and ended, in nanoseconds since a common start, and how many were
+/// made.
 #[derive(Clone, Copy, PartialEq, Eq, Debug)]
 struct Adds {
     began: u64,
@@ -155,12 +156,14 @@ fn print_each<R: Clock + Print + AllocGlobal + Threads + Wait + Copy + Send + 's
         "one counter"
     };
     println!(rt;
-        "{count} seats on {counters}, {cores} cores: {most} million adds a second at most, median {median}"
+        "{count} seats on {counters}, {cores} cores: {most} million adds a second at most, median \
+            {median}"
     )?;
     Ok(())
 }
 
-/// Prints how many adds a second one, two and four seats make, side by side where there are as many cores.
+/// Prints how many adds a second one, two and four seats make, side by side where there are as many
+/// cores.
 pub fn print<R: Clock + Print + AllocGlobal + Threads + Wait + Copy + Send + 'static>(
     rt: R,
 ) -> Result<()> {

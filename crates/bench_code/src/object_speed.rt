@@ -15,7 +15,8 @@ use std::rt::Clock;
 /// How often each is done for a measurement.
 const ROUNDS: u64 = 50;
 
-// A statement at a slot: a number in r0 and r1, a pointer in r2, r3 and r4, 64 stack bytes, and a rank over r1.
+// A statement at a slot: a number in r0 and r1, a pointer in r2, r3 and r4, 64 stack bytes, and a
+// rank over r1.
 fn statement_at(slot: u32) -> Option<Statement> {
     let number = StatedNumber::new(1, 1_000, 0, 0)?;
     let offset = StatedNumber::new(0, 2_040, 7, 0)?;

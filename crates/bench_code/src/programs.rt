@@ -58,7 +58,8 @@ pub fn counting_loop(alloc: Global) -> Result<Vec<u8>, AllocError> {
     slots(alloc, &all)
 }
 
-/// A loop of 256 turns whose body is one helper call (`r1 = 5; r2 = 1; call 1`), or the same with `r0 = 0` for the call.
+/// A loop of 256 turns whose body is one helper call (`r1 = 5; r2 = 1; call 1`), or the same with
+/// `r0 = 0` for the call.
 pub fn adding_loop(alloc: Global, adds: bool) -> Result<Vec<u8>, AllocError> {
     let body = if adds {
         (0x85, 0, 0, 1)

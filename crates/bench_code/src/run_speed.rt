@@ -81,7 +81,8 @@ fn print_runs<R: Clock + Print>(
     report(rt, "  they take", rounds, used, "each", running)
 }
 
-// Runs the code so many times for each measurement, and prints how long an instruction takes. The answer is how long a run takes.
+// Runs the code so many times for each measurement, and prints how long an instruction takes. The
+// answer is how long a run takes.
 fn print_each<R: Clock + Print + AllocGlobal>(
     rt: &R,
     what: &str,
@@ -106,8 +107,8 @@ fn print_code<R: Clock + Print + AllocGlobal>(
     print_each(rt, what, rounds, &code)
 }
 
-/// Prints how long short straight-line code takes: what a run costs before its first instruction counts in there, and in the
-/// difference of two lengths it doesn't.
+/// Prints how long short straight-line code takes: what a run costs before its first instruction
+/// counts in there, and in the difference of two lengths it doesn't.
 fn print_short<R: Clock + Print + AllocGlobal>(rt: &R) -> Result<()> {
     let shortest = programs::straight_line(rt.alloc(), 2);
     let two = print_code(rt, "straight-line arithmetic, 2 slots", shortest, 100_000)?;
@@ -119,8 +120,8 @@ fn print_short<R: Clock + Print + AllocGlobal>(rt: &R) -> Result<()> {
     ten.less(two, 8).print(rt, what, "each")
 }
 
-/// Prints how long a loop of 255 turns takes without and with accesses of the maps, and by how much each access is dearer than
-/// `r0 = 0`.
+/// Prints how long a loop of 255 turns takes without and with accesses of the maps, and by how much
+/// each access is dearer than `r0 = 0`.
 fn print_loops<R: Clock + Print + AllocGlobal>(rt: &R) -> Result<()> {
     let plain = programs::adding_loop(rt.alloc(), false);
     let plain = print_code(rt, "loop of 255 turns without counter adds", plain, 2_000)?;
@@ -138,7 +139,8 @@ fn print_loops<R: Clock + Print + AllocGlobal>(rt: &R) -> Result<()> {
         .print(rt, "a load is dearer by", "each")
 }
 
-/// Prints how long straight-line code, a loop, and programs with accesses of the maps take, and accepted programs.
+/// Prints how long straight-line code, a loop, and programs with accesses of the maps take, and
+/// accepted programs.
 pub fn print<R: Clock + Print + AllocGlobal>(rt: &R) -> Result<()> {
     print_short(rt)?;
     let long = programs::straight_line(rt.alloc(), 4_000);

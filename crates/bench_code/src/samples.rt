@@ -35,8 +35,8 @@ impl fmt::Display for Stated {
     }
 }
 
-// The instruction at a slot before the last one: the first ten fill r0 to r9 with numbers, behind them
-// three in four add a register to another, and the fourth fills one again.
+// The instruction at a slot before the last one: the first ten fill r0 to r9 with numbers, behind
+// them three in four add a register to another, and the fourth fills one again.
 fn instruction(slot: u32) -> Option<Instruction> {
     let target = Register::new((slot % 10) as u8)?;
     let (operation, source) = if slot < 10 || slot % 4 == 3 {

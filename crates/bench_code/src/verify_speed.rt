@@ -52,12 +52,13 @@ fn measure<R: Clock + AllocGlobal>(rt: &R, object: &Object) -> Result<u64> {
     time(rt, object, code)
 }
 
-/// Prints how long the verifier takes, with intervals and known bits, to accept straight-line code of 1,024 and of
-/// 4,096 slots: without statements, with one at each sixteenth slot, and with one at each slot. In microseconds,
-/// the least of 21 measurements.
+/// Prints how long the verifier takes, with intervals and known bits, to accept straight-line code
+/// of 1,024 and of 4,096 slots: without statements, with one at each sixteenth slot, and with one
+/// at each slot. In microseconds, the least of 21 measurements.
 ///
 /// # Errors
-/// The clock or the output failed, memory ran out, or a program was refused or has another bound than its slots.
+/// The clock or the output failed, memory ran out, or a program was refused or has another bound
+/// than its slots.
 pub fn print<R: Clock + Print + AllocGlobal>(rt: &R) -> Result<()> {
     println!(rt; "microseconds, the least of {MEASUREMENTS}")?;
     for slots in [1_024, 4_096] {

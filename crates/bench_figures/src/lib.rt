@@ -52,7 +52,8 @@ fn successes<W: Round>(rounds: u64, work: &mut W) -> u64 {
     done
 }
 
-// One measurement: how long so many rounds take. A round that fails is an error, since it would count as a fast one.
+// One measurement: how long so many rounds take. A round that fails is an error, since it would
+// count as a fast one.
 fn measure_once<R: Clock, W: Round>(rt: &R, rounds: u64, work: &mut W) -> Result<u64> {
     let start = Instant::now(rt)?;
     let done = successes(rounds, work);
@@ -144,8 +145,8 @@ impl Figure {
     }
 }
 
-/// Measures so many rounds of the work, each of which handles so many of a `unit`, and prints the time of each of these. The answer is the
-/// time of a round.
+/// Measures so many rounds of the work, each of which handles so many of a `unit`, and prints the
+/// time of each of these. The answer is the time of a round.
 pub fn report<R: Clock + Print, W: Round>(
     rt: &R,
     what: &str,

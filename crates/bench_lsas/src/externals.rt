@@ -6,7 +6,9 @@ use crate::edits;
 use lsa::{Body, ExternalLsa, Header, Lsa};
 use lsdb::Lsdb;
 use std::alloc::{AllocError, Global};
-use words::{Address, ExternalType, Key, LinkStateId, RouterId, Second, Sequence, SequenceNumber};
+use words::{
+    Address, E_BIT, ExternalType, Key, LinkStateId, RouterId, Second, Sequence, SequenceNumber,
+};
 
 /// When everything happens.
 pub fn moment() -> Second {
@@ -36,7 +38,7 @@ fn header(number: u32) -> Header
 {
     Header {
         age: 0,
-        options: 2,
+        options: E_BIT,
         ls_type: 5,
         link_state_id: LinkStateId::new(spread(number)),
         advertising_router: RouterId::new(ORIGINATOR),

@@ -287,7 +287,8 @@ fn print_lsa<R: Clock + Print + AllocGlobal>(rt: &R, links: u16) -> Result<()>
     print_checksums(rt, &bytes)
 }
 
-/// Prints how long Updates of up to 8,192 bytes and router-LSAs of up to 60,004 bytes take, in nanoseconds a byte.
+/// Prints how long Updates of up to 8,192 bytes and router-LSAs of up to 60,004 bytes take, in
+/// nanoseconds a byte.
 pub fn print<R: Clock + Print + AllocGlobal>(rt: &R) -> Result<()> {
     for count in [1u8, 3, 6, 13] {
         print_update(rt, count)?;

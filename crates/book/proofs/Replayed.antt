@@ -8,7 +8,7 @@ use Rattle.events.specs.Routers.{Router}
 use Rattle.flood.specs.Occurrences.{occurrence_of}
 use Rattle.book.specs.declared.entry.Entry.{Entry}
 use Rattle.book.specs.Bytes.{bytes_of, with_event}
-use Rattle.book.specs.Replay.{Replays, entered, happened}
+use Rattle.book.specs.Replay.{Replays, entry_occurrence, step_occurrence}
 
 abbrev step : Entry → List Out → Step
 step e outs = record { moment = e.moment; event = occurrence_of e.event; outs = outs }
@@ -21,11 +21,11 @@ run_on (x ∷ steps) old middle new s earlier now =
     (earlier.0, earlier.1, run_on steps earlier.0 middle new s earlier.2 now)
 
 same_on : (steps : List Step) (journal : List Entry) (s : Step) (e : Entry)
-    → map happened steps ≡ map entered journal → happened s ≡ entered e
-    → map happened (steps ++ s ∷ []) ≡ map entered (journal ++ e ∷ [])
+    → map step_occurrence steps ≡ map entry_occurrence journal → step_occurrence s ≡ entry_occurrence e
+    → map step_occurrence (steps ++ s ∷ []) ≡ map entry_occurrence (journal ++ e ∷ [])
 same_on steps journal s e same one =
-    map-append happened steps (s ∷ []) ∙ ap (λ l. l ++ happened s ∷ []) same
-    ∙ ap (λ x. map entered journal ++ x ∷ []) one ∙ sym (map-append entered journal (e ∷ []))
+    map-append step_occurrence steps (s ∷ []) ∙ ap (λ l. l ++ step_occurrence s ∷ []) same
+    ∙ ap (λ x. map entry_occurrence journal ++ x ∷ []) one ∙ sym (map-append entry_occurrence journal (e ∷ []))
 
 pub replays_on : (start : Router) (journal : List Entry) (before after : Router) (e : Entry) (outs : List Out)
     → Replays start journal before → Happens before e.moment (occurrence_of e.event) outs after

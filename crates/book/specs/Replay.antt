@@ -12,16 +12,17 @@ abbrev pub entry : Moment → Event → Entry
 entry moment event = record { moment = moment; event = event }
 
 -- what came, and when: of an entry, and of a step of a run
-abbrev pub entered : Entry → Moment × Occurrence
-entered e = (e.moment, occurrence_of e.event)
+abbrev pub entry_occurrence : Entry → Moment × Occurrence
+entry_occurrence e = (e.moment, occurrence_of e.event)
 
-abbrev pub happened : Step → Moment × Occurrence
-happened s = (s.moment, s.event)
+abbrev pub step_occurrence : Step → Moment × Occurrence
+step_occurrence s = (s.moment, s.event)
 
 -- a run over just the journal's events, whatever they sent, leads from one router to the other
 abbrev pub Replays : (start : Router) → List Entry → (now : Router) → Type 0
 Replays start journal now =
-    (steps : List Step) × (map happened steps ≡ map entered journal) × Run start steps now
+    (steps : List Step) × (map step_occurrence steps ≡ map entry_occurrence journal)
+    × Run start steps now
 
 -- what contracts see of a book
 pub record BookView : Type 0 where
@@ -34,12 +35,12 @@ pub record BookView : Type 0 where
   pub taken : ℕ
 
 -- a book that has taken nothing
-abbrev pub started : Router → BookView
-started core = record { start = core; journal = []; current = core; taken = 0 }
+abbrev pub started_book : Router → BookView
+started_book core = record { start = core; journal = []; current = core; taken = 0 }
 
 -- the book starts from the router as it is now, with an empty journal
-abbrev pub marked : BookView → BookView
-marked b = record b { start = b.current; journal = [] }
+abbrev pub marked_book : BookView → BookView
+marked_book b = record b { start = b.current; journal = [] }
 
 -- the journal is full: it holds 65,536 events, or events of more than 64 MiB
 abbrev pub IsDue : BookView → Type 0
@@ -47,7 +48,7 @@ IsDue b = (length b.journal ≡ 65536) ⊎ (67108864 < bytes_of b.journal)
 
 -- it is the same book; or the one that was marked, which only a book is whose journal is full
 abbrev pub IsSameOrMarked : (old new : BookView) → Type 0
-IsSameOrMarked old new = (new ≡ old) ⊎ (IsDue old × (new ≡ marked old))
+IsSameOrMarked old new = (new ≡ old) ⊎ (IsDue old × (new ≡ marked_book old))
 
 -- the entry stands last in the journal, which goes on; or, where the journal was full, alone in one
 -- that was emptied by a mark before

@@ -6,7 +6,8 @@ ghost use Rattle.flood.specs.Occurrences.{occurrence_of};
 ghost use Rattle.flood.specs.Early.{early_refusal};
 ghost use Rattle.flood.specs.Offers.{IsStaleNow};
 ghost use Rattle.book.specs.Refusals.{Answers, AnswersAnew};
-ghost use Rattle.book.specs.Replay.{IsNoted, IsSameOrMarked, Replays, entry, marked, started};
+ghost use Rattle.book.specs.Replay.{IsNoted, IsSameOrMarked, Replays, entry, marked_book};
+ghost use Rattle.book.specs.Replay.{started_book};
 
 use crate::entry::Entry;
 use crate::error::BookError;
@@ -84,7 +85,7 @@ impl<L: Ledger> Book<L> {
     pub fn new(alloc: Global, blank: Blank, core: Core) -> Result<(Book<L>, Share<L>), AllocError>
         requires name { blank.name ≡ L.name }
         requires parts { blank.parts ≡ L.parts }
-        ensures book { IfOk result (λ r. r.0 ≡ started core) }
+        ensures book { IfOk result (λ r. r.0 ≡ started_book core) }
         ensures share { IfOk result (λ r. (r.1.parts ≡ L.parts) × (r.1.amount ≡ 0)) }
     {
         match core.copy() {
@@ -157,7 +158,7 @@ impl<L: Ledger> Book<L> {
     ///
     /// `AllocError` comes where an allocation was refused; the book is as it was then.
     pub fn mark(&mut self) -> Result<(), AllocError>
-        ensures ok { OnOk result (self.new ≡ marked self.old) }
+        ensures ok { OnOk result (self.new ≡ marked_book self.old) }
         ensures err { OnErr result (self.new ≡ self.old) }
     {
         let now = self.current.copy()?;

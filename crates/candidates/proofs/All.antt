@@ -1,5 +1,5 @@
 -- The routes of all that is gathered are the candidates of the database.
-use Rattle.std.proofs.Common.{◌≡◌, inl, inr, List, [], Some}
+use Rattle.std.proofs.Common.{◌≡◌, inl, inr, List, [], arith}
 use Rattle.std.specs.List.{Contains}
 use Rattle.std.specs.Prelude.{◌↔◌}
 use Rattle.words.specs.declared.key.Key.{Key}
@@ -13,6 +13,7 @@ use Rattle.routes.specs.Summaries.{OffersInside}
 use Rattle.routes.specs.declared.offer.Offer.{Offer}
 use Rattle.routes.specs.declared.root.Root.{Root}
 use Rattle.routes.proofs.Listed.{routes_among}
+use Rattle.offers.specs.Bodies.{HaveAll, OfSaid}
 use Rattle.offers.specs.Borders.{AreFlagged, Tells}
 use Rattle.offers.specs.Gathering.{Adds, OfEach}
 use Rattle.offers.specs.Sources.{IsInner, OfExternal}
@@ -21,37 +22,51 @@ use Rattle.offers.specs.declared.flagged.Flagged.{Flagged}
 use Rattle.offers.proofs.Gathered.{all_such, such}
 use Rattle.offers.proofs.Carried.{inner_back, inner_forth}
 use Rattle.offers.proofs.Outward.{external_back, external_forth}
+use Rattle.candidates.proofs.Each.{external_up_to, inner_up_to, of_each, of_said, told_up_to}
 
-module _ (said : Said) (root : Root) (ways : Ways) (are : AreWays said root ways) (routers : List Flagged) (flagged : AreFlagged said ways routers) (keys : List Key) (covers : (key : Key) (says : Body) → said key ≡ Some says → Contains keys key) where
-  inside_forth : (first : List Offer) → Adds [] first (OfEach (IsInner said root ways routers) keys) → (o : Offer) → Contains first o → OffersInside said root o
-  inside_forth first a o t = inner_forth said root ways are routers flagged keys o (such first (OfEach (IsInner said root ways routers) keys) a o t)
+module _ (said : Said) (root : Root) (ways : Ways) (are : AreWays said root ways) (routers : List Flagged) (flagged : AreFlagged said ways routers) where
+  -- ---- what the LSAs of types 1 to 4 give
 
-  inside_back : (first : List Offer) → Adds [] first (OfEach (IsInner said root ways routers) keys) → (o : Offer) → OffersInside said root o → Contains first o
-  inside_back first a o k = all_such first (OfEach (IsInner said root ways routers) keys) a o (inner_back said root ways are routers flagged keys covers o k)
+  module _ (bodies : List (Key × Body)) (have : HaveAll 4 said bodies) where
+    pub of_inside : (first : List Offer) → Adds [] first (OfEach (IsInner root ways routers) bodies) → (o : Offer) → Contains first o ↔ OffersInside said root o
+    of_inside first a o =
+        let Q = IsInner root ways routers in (
+          (λ t. inner_forth said root ways are routers flagged o (of_said 4 said bodies have Q o (such first (OfEach Q bodies) a o t))),
+          (λ k. all_such first (OfEach Q bodies) a o (of_each 4 said bodies have Q (inner_up_to root ways routers) o (inner_back said root ways are routers flagged o k))),
+        )
 
-  pub are_candidates : (told networks routes : List Route) (first second third : List Offer) → AreRoutesAmong (OfEach (Tells said root routers) keys) told → Adds [] first (OfEach (IsInner said root ways routers) keys)
-      → AreRoutesAmong (λ o. Contains first o) networks → ((o : Offer) → Contains second o ↔ Contains first o) → Adds second third (OfEach (OfExternal said root routers told networks) keys)
-      → AreRoutesAmong (λ o. Contains third o) routes → AreCandidates said root routes
-  are_candidates told networks routes first second third all_told inner all_networks same more all =
-      let inside : AreRoutesAmong (OffersInside said root) networks =
-      routes_among (λ o. Contains first o) (OffersInside said root) networks (inside_forth first inner) (inside_back first inner) all_networks in
-      let of_inside : (o : Offer) → OffersInside said root o → Offers said root o =
-      λ o k.
-      elim k [
-        | inl w ↦ Within w
-        | inr b ↦ Between b
-      ] in
-      let put : (o : Offer) → OffersInside said root o → Contains third o = λ o k. (more o).1 (inl ((same o).1 (inside_back first inner o k))) in
-      routes_among (λ o. Contains third o) (Offers said root) routes
-      (λ o t.
-      elim ((more o).0 t) [
-        | inl old ↦ of_inside o (inside_forth first inner o ((same o).0 old))
-        | inr e ↦ External (external_forth said root ways are routers flagged keys covers told all_told networks inside o e)
-      ])
-      (λ o k.
-      elim k [
-        | Within w ↦ put o (inl w)
-        | Between b ↦ put o (inr b)
-        | External e ↦ (more o).1 (inr (external_back said root ways are routers flagged keys covers told all_told networks inside o e))
-      ])
-      all
+    pub of_told : (told : List Route) → AreRoutesAmong (OfEach (Tells root routers) bodies) told → AreRoutesAmong (OfSaid (Tells root routers) said) told
+    of_told told all = let Q = Tells root routers in routes_among (OfEach Q bodies) (OfSaid Q said) told (of_said 4 said bodies have Q) (of_each 4 said bodies have Q (told_up_to root routers)) all
+
+    pub of_networks : (first : List Offer) (networks : List Route) → Adds [] first (OfEach (IsInner root ways routers) bodies) → AreRoutesAmong (λ o. Contains first o) networks → AreRoutesAmong (OffersInside said root) networks
+    of_networks first networks a all = routes_among (λ o. Contains first o) (OffersInside said root) networks (λ o t. (of_inside first a o).0 t) (λ o k. (of_inside first a o).1 k) all
+
+  -- ---- with external destinations
+
+  module _ (bodies : List (Key × Body)) (have : HaveAll 5 said bodies) (told networks : List Route) (all_told : AreRoutesAmong (OfSaid (Tells root routers) said) told) (inside : AreRoutesAmong (OffersInside said root) networks) where
+    of_external : (o : Offer) → OfEach (OfExternal root routers told networks) bodies o → Offers said root o
+    of_external o e = External (external_forth said root ways are routers flagged told all_told networks inside o (of_said 5 said bodies have (OfExternal root routers told networks) o e))
+
+    of_inner : (o : Offer) → OffersInside said root o → Offers said root o
+    of_inner o (inl w) = Within w
+    of_inner o (inr b) = Between b
+
+    pub are_candidates : (first all : List Offer) (routes : List Route) → ((o : Offer) → Contains first o ↔ OffersInside said root o) → Adds first all (OfEach (OfExternal root routers told networks) bodies)
+        → AreRoutesAmong (λ o. Contains all o) routes → AreCandidates said root routes
+    are_candidates first all routes same more best =
+        let put : (o : Offer) → OffersInside said root o → Contains all o = λ o k. (more o).1 (inl ((same o).1 k)) in
+        routes_among (λ o. Contains all o) (Offers said root) routes
+        (λ o t.
+        elim ((more o).0 t) [
+          | inl old ↦ of_inner o ((same o).0 old)
+          | inr e ↦ of_external o e
+        ])
+        (λ o k.
+        elim k [
+          | Within w ↦ put o (inl w)
+          | Between b ↦ put o (inr b)
+          | External e ↦
+              let Q = OfExternal root routers told networks in
+              (more o).1 (inr (of_each 5 said bodies have Q (external_up_to root routers told networks) o (external_back said root ways are routers flagged told all_told networks inside o e)))
+        ])
+        best

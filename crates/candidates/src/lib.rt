@@ -2,29 +2,28 @@
 //! (RFC 2328, section 16).
 #![tactic(auto)]
 
-ghost use Rattle.std.specs.Prelude.{◌≡◌, ◌≤◌, Some, IfOk, length};
+ghost use Rattle.std.specs.Prelude.{◌≡◌, ◌≤◌, IfOk, length};
 ghost use Rattle.std.specs.FinMap as finite;
-ghost use Rattle.std.specs.List.{AllPairs, Contains};
-ghost use Rattle.std.specs.declared.cmp.Ordering.TheVariants.{Less};
-ghost use Rattle.lsdb.specs.Keys.{key_cmp};
-ghost use Rattle.lsa.specs.declared.body.Body.{Body as BodyValue};
-ghost use Rattle.words.specs.declared.key.Key.{Key as KeyValue};
+ghost use Rattle.std.specs.List.{Contains};
+ghost use Rattle.candidates.specs.Inner.{AreInner, AreSearchable};
+ghost use Rattle.lsdb.specs.Bodies.{InOrder};
 ghost use Rattle.words.specs.declared.route.Route.{Route as RouteValue};
 ghost use Rattle.routes.specs.Candidates.{AreCandidates, Offers};
 ghost use Rattle.routes.specs.declared.offer.Offer.{Offer};
-ghost use Rattle.routes.specs.Said.{said_at};
-ghost use Rattle.offers.specs.Ways.{AreNear, AreWays};
+ghost use Rattle.routes.specs.Said.{Said, said_at};
+ghost use Rattle.offers.specs.Bodies.{HaveAll};
+ghost use Rattle.offers.specs.Ways.{AreNear, AreWays, Ways as WaysTo};
 
+mod inner;
+
+use crate::inner::{InnerRoutes, inner_of};
 use candidate_laws::every_offer_has_a_candidate;
-use lsdb::Lsdb;
-use offers::{
-    Inner, Ways, flagged_routers, inner_offers, lengths_of, push_externals, routes_of_offers,
-    told_routes,
-};
+use lsdb::{KeyedBody, Lsdb};
+use offers::{Inner, Ways, push_externals, routes_of_offers};
 use routes::Root;
 use shortest_paths::walk;
 use std::alloc::{AllocError, Global};
-use words::{Key, Route, Second};
+use words::{Route, Second};
 
 /// The candidates of a database at a moment: for each prefix that anything offers one route, and no
 /// others, in the order of the prefixes (RFC 2328, section 16). The database has at most 16,384
@@ -54,11 +53,11 @@ pub fn candidates(
 
 /// The candidates of a database at a moment, where these are the ways of its links: for each prefix
 /// that anything offers one route, in the order of the prefixes (RFC 2328, section 16). The time is
-/// that of a look-up for each LSA, of one by halving for each summary and external destination, and of two
-/// sorts of the offers.
+/// that of one walk over the LSAs, of a search by halving for each summary and external
+/// destination, and of two sorts of the offers.
 ///
 /// # Errors
-/// Where memory for the keys, the offers or the routes is refused.
+/// Where memory for what LSAs say, the offers or the routes is refused.
 pub fn routes_of<W: Ways>(
     alloc: Global,
     db: &Lsdb,
@@ -71,41 +70,47 @@ pub fn routes_of<W: Ways>(
     ensures { IfOk result (λ routes. AreCandidates (said_at moment db.now.present) root.now
         routes.items) }
 {
-    let keys = db.first(alloc, db.len())?;
-    let routes = routes_of_keys(alloc, db, root, moment, ways, &keys)?;
+    let bodies = db.bodies_at(alloc, None, moment)?;
+    let routes = routes_of_bodies(alloc, root, ways, &bodies)?;
     Ok(routes)
 }
 
-// The same from the keys of all LSAs.
-fn routes_of_keys<W: Ways>(
+// The same from what the LSAs say.
+fn routes_of_bodies<W: Ways>(
     alloc: Global,
-    db: &Lsdb,
     root: &Root,
-    moment: Second,
     ways: &W,
-    keys: &[Key],
+    bodies: &[KeyedBody<'_>],
 ) -> Result<Vec<Route>, AllocError>
     requires near { AreNear (W.ways ways.now) }
-    requires ways { AreWays (said_at moment db.now.present) root.now (W.ways ways.now) }
-    requires keys { (key : KeyValue) (says : BodyValue) → said_at moment db.now.present key
-        ≡ Some says → Contains keys.now key }
-    requires order { AllPairs (λ (a : KeyValue) (b : KeyValue). key_cmp a b ≡ Less) keys.now }
-    ensures { IfOk result (λ routes. AreCandidates (said_at moment db.now.present) root.now
-        routes.items) }
+    requires order { InOrder bodies.now }
+    ensures { IfOk result (λ routes. (said : Said) → AreWays said root.now (W.ways ways.now)
+        → HaveAll 5 said bodies.now → AreCandidates said root.now routes.items) }
 {
-    let borders = flagged_routers(alloc, db, moment, ways, keys)?;
-    let flagged = borders.as_slice();
-    let told = told_routes(alloc, db, moment, root, flagged, keys)?;
-    let mut offers = inner_offers(alloc, db, moment, root, ways, flagged, keys)?;
-    let networks = routes_of_offers(alloc, &mut offers)?;
-    let lengths = lengths_of(&networks);
-    let inner = Inner {
-        routers: &told,
-        flagged,
-        networks: &networks,
-        lengths: &lengths,
+    let mut inner = inner_of(alloc, root, ways, bodies)?;
+    let routes = with_externals(alloc, root, &mut inner, bodies)?;
+    Ok(routes)
+}
+
+// The routes of what these offer and of what AS-external-LSAs offer beside it.
+fn with_externals(
+    alloc: Global,
+    root: &Root,
+    inner: &mut InnerRoutes,
+    bodies: &[KeyedBody<'_>],
+) -> Result<Vec<Route>, AllocError>
+    requires { AreSearchable inner.old }
+    ensures { IfOk result (λ routes. (said : Said) (ways : WaysTo) → AreWays said root.now ways
+        → AreInner said root.now ways inner.old → HaveAll 5 said bodies.now
+        → AreCandidates said root.now routes.items) }
+{
+    let by = Inner {
+        routers: &inner.told,
+        flagged: &inner.flagged,
+        networks: &inner.networks,
+        lengths: &inner.lengths,
     };
-    push_externals(db, moment, root, &inner, keys, &mut offers)?;
-    let routes = routes_of_offers(alloc, &mut offers)?;
+    push_externals(root, &by, bodies, &mut inner.offers)?;
+    let routes = routes_of_offers(alloc, &mut inner.offers)?;
     Ok(routes)
 }

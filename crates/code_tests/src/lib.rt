@@ -1,5 +1,6 @@
-//! Tests of code as bytes and as text (`isa`, `object`, `asm_words`, `asm_lines` and `asm`), and of what runs it (`maps`, `helpers` and
-//! `interp`), by their public calls alone. They stand above those crates, since a crate is proved once more for its tests.
+//! Tests of code as bytes and as text (`isa`, `object`, `asm_words`, `asm_lines` and `asm`), and of
+//! what runs it (`maps`, `helpers` and `interp`), by their public calls alone. They stand above
+//! those crates, since a crate is proved once more for its tests.
 #![tactic(auto)]
 
 #[cfg(test)]

@@ -1,4 +1,5 @@
-//! Each form of a line, written and read again; what is no line; and the numbers at the ends of their ranges.
+//! Each form of a line, written and read again; what is no line; and the numbers at the ends of
+//! their ranges.
 ghost use Rattle.std.specs.Prelude.{◌≡◌, true};
 ghost use Rattle.asm_lines.specs.Written.{IsNamed};
 
@@ -19,7 +20,8 @@ fn number(n: u64) -> Numeral {
     Numeral::Natural(n)
 }
 
-/// Whether a line may stand beside this name: a label's name where it gives or uses one, else the empty one.
+/// Whether a line may stand beside this name: a label's name where it gives or uses one, else the
+/// empty one.
 fn takes_name(line: &Line, name: &str) -> bool
     ensures { result ≡ true → IsNamed line.now name.now }
 {

@@ -9,8 +9,8 @@ use std::fmt::Debug;
 use std::process::Abort;
 use std::test::Fail;
 
-/// The object of this text, at `price`, entry rank 10: `r1 = 10; r0 = 0; r0 += r1; r1 += -1; if r1 != 0 goto -3; exit`, with slot 2
-/// stated: rank `r1 * 1`, r0 any number, r1 from 1 to 10.
+/// The object of this text, at `price`, entry rank 10: `r1 = 10; r0 = 0; r0 += r1; r1 += -1; if r1
+/// != 0 goto -3; exit`, with slot 2 stated: rank `r1 * 1`, r0 any number, r1 from 1 to 10.
 fn counting() -> [u8; 548] {
     let mut bytes = [0; 548];
     bytes[..64].copy_from_slice(&[
@@ -39,7 +39,8 @@ fn refusal(alloc: Global, bytes: &[u8]) -> Result<u8, ReadError> {
     }
 }
 
-/// The bytes come to this number, of their refusal, or 0 where they are read. What is changed in them is told if they don't.
+/// The bytes come to this number, of their refusal, or 0 where they are read. What is changed in
+/// them is told if they don't.
 fn come_to<R: AllocGlobal + Abort, D: Debug>(
     rt: &R,
     bytes: &[u8],
@@ -145,7 +146,8 @@ fn refuses_files_of_other_lengths(rt: HostRuntime) -> Result<(), Fail> {
     come_to(&rt, &longer(), 7, &549)
 }
 
-/// Each byte's place and value, and the refusal of the counting program's object with just that byte changed, or 0.
+/// Each byte's place and value, and the refusal of the counting program's object with just that
+/// byte changed, or 0.
 const ONE_BYTE: [(usize, u8, u8); 43] = [
     (0, 0x43, 2),
     (3, 0, 2),
@@ -209,7 +211,8 @@ fn refuses_each_fault_of_one_byte(rt: HostRuntime) -> Result<(), Fail> {
     Ok(())
 }
 
-/// The number of slots and of statements, and the refusal of the counting program's object with these, or 0.
+/// The number of slots and of statements, and the refusal of the counting program's object with
+/// these, or 0.
 const COUNTS: [(u32, u16, u8); 6] = [
     (6, 1, 0),
     (0, 1, 6),
@@ -236,8 +239,8 @@ fn refuses_counts_that_lie(rt: HostRuntime) -> Result<(), Fail> {
     Ok(())
 }
 
-/// The register and the low byte of the coefficient of the second rank term, and the refusal of the counting program's object with these,
-/// or 0.
+/// The register and the low byte of the coefficient of the second rank term, and the refusal of the
+/// counting program's object with these, or 0.
 const SECOND_TERMS: [(u8, u8, u8); 5] = [(0, 0, 0), (1, 1, 0), (1, 0, 6), (2, 1, 6), (10, 1, 6)];
 
 fn with_second_term(register: u8, coefficient: u8) -> [u8; 548] {
@@ -257,7 +260,8 @@ fn refuses_a_second_term_of_no_number(rt: HostRuntime) -> Result<(), Fail> {
     Ok(())
 }
 
-/// The low two bytes of the number of slots, how many bytes of code follow, all zero, and the refusal, or 0. The code itself isn't looked at.
+/// The low two bytes of the number of slots, how many bytes of code follow, all zero, and the
+/// refusal, or 0. The code itself isn't looked at.
 const SLOTS: [(u8, u8, usize, u8); 6] = [
     (0, 0, 0, 6),
     (1, 0, 8, 0),
@@ -288,8 +292,8 @@ fn looks_at_the_number_of_slots_before_the_length(rt: HostRuntime) -> Result<(),
     Ok(())
 }
 
-/// The kind of r2, its map, its offset's two low bytes, the low byte of its highest number, its mask's and its value's, and the refusal of
-/// the counting program's object with these in it, or 0.
+/// The kind of r2, its map, its offset's two low bytes, the low byte of its highest number, its
+/// mask's and its value's, and the refusal of the counting program's object with these in it, or 0.
 const REGISTERS: [([u8; 7], u8); 16] = [
     ([0, 0, 0, 0, 0, 0, 0], 0),
     ([0, 0, 0, 0, 1, 0, 0], 6),
@@ -331,7 +335,8 @@ fn refuses_each_fault_of_a_register(rt: HostRuntime) -> Result<(), Fail> {
     Ok(())
 }
 
-/// The slots of two statements, a byte at the front of each one's unused ones, and the refusal, or 0.
+/// The slots of two statements, a byte at the front of each one's unused ones, and the refusal, or
+/// 0.
 const PAIRS: [(u8, u8, u8, u8, u8); 7] = [
     (2, 3, 0, 0, 0),
     (2, 2, 0, 0, 5),
@@ -342,7 +347,8 @@ const PAIRS: [(u8, u8, u8, u8, u8); 7] = [
     (2, 2, 0, 1, 5),
 ];
 
-/// The counting program's object with its statement twice, at these slots and with these values in a byte that isn't used.
+/// The counting program's object with its statement twice, at these slots and with these values in
+/// a byte that isn't used.
 fn pair(first: u8, second: u8, first_unused: u8, second_unused: u8) -> [u8; 1032] {
     let one = counting();
     let mut bytes = [0; 1032];

@@ -17,8 +17,8 @@ use std::process::Abort;
 use std::test::Fail;
 use words::{Address, Prefix};
 
-// A slot is written as a number whose lowest byte is its first: the immediate, the offset, the registers (source and
-// target) and the opcode.
+// A slot is written as a number whose lowest byte is its first: the immediate, the offset, the
+// registers (source and target) and the opcode.
 const EXIT: u64 = 0x95;
 
 // r0 = r1
@@ -42,7 +42,8 @@ fn bytes_of(slots: &[u64]) -> [u8; 128] {
     bytes
 }
 
-// The code of at most 16 slots. One allocation may be refused, as a run of the tests with a refusal makes it.
+// The code of at most 16 slots. One allocation may be refused, as a run of the tests with a refusal
+// makes it.
 fn code(alloc: Global, slots: &[u64]) -> Result<Code, DecodeError> {
     let bytes = bytes_of(slots);
     let count = slots.len().min(16) * 8;

@@ -1,4 +1,5 @@
-//! Texts and the objects that they spell: each form of a line, each refusal, and listings that are assembled again.
+//! Texts and the objects that they spell: each form of a line, each refusal, and listings that are
+//! assembled again.
 ghost use Rattle.std.specs.Prelude.{◌<◌};
 
 use asm::{AsmFault, ListError, assemble, listing};
@@ -34,7 +35,8 @@ fn are_the_same(object: &Object, other: &Object) -> bool {
         && object.statements() == other.statements()
 }
 
-/// The listing of what each row's first text spells is its second, which spells the same: with this word in the place of each @.
+/// The listing of what each row's first text spells is its second, which spells the same: with this
+/// word in the place of each @.
 fn lists_rows(
     rt: &impl Abort,
     alloc: Global,
@@ -152,10 +154,14 @@ fn spells_bytes(rt: HostRuntime) -> Result<(), Fail> {
 
 // The sum of the numbers from 10 down to 1, with a label and without.
 const SUM: &str =
-    "hook price\nrank 10\nr1 = 10\nr0 = 0\nL:\nr0 += r1\nr1 += -1\nif r1 != 0 goto L\nexit\nstate L rank 0 r1 * 1\nwith r0 number 0 18446744073709551615 0 0\nwith r1 number 1 10 0 0\n";
+    "hook price\nrank 10\nr1 = 10\nr0 = 0\nL:\nr0 += r1\nr1 += -1\nif r1 != 0 goto L\nexit\n\
+        state L rank 0 r1 * 1\nwith r0 number 0 18446744073709551615 0 0\n\
+        with r1 number 1 10 0 0\n";
 
 const SUM_LISTED: &str =
-    "hook price\nrank 10\nr1 = 10\nr0 = 0\nr0 += r1\nr1 += -1\nif r1 != 0 goto -3\nexit\nstate 2 rank 0 r1 * 1\nwith r0 number 0 18446744073709551615 0 0\nwith r1 number 1 10 0 0\n";
+    "hook price\nrank 10\nr1 = 10\nr0 = 0\nr0 += r1\nr1 += -1\nif r1 != 0 goto -3\nexit\n\
+        state 2 rank 0 r1 * 1\nwith r0 number 0 18446744073709551615 0 0\n\
+        with r1 number 1 10 0 0\n";
 
 /// The object of the sum has its hook, rank, slots and statement.
 fn is_the_sum(object: &Object) -> bool {
@@ -175,16 +181,30 @@ fn sums_a_loop(rt: HostRuntime) -> Result<(), Fail> {
 // Texts that are their own listings.
 const LISTINGS: [&str; 8] = [
     // each instruction
-    "hook count\nrank 0\nr0 = r1\nw0 = -5\nr0 += 1\nr0 -= r2\nr0 *= 2\nw0 /= w3\nr0 s/= 4\nr0 |= 1\nr0 &= 255\nr0 <<= 3\nr0 >>= 3\nr0 %= 7\nw0 s%= w1\nr0 ^= r9\nr0 s>>= 1\n",
-    "hook tag\nrank 4294967295\nr0 = neg\nw1 = neg\nr2 = s8 r3\nw2 = s16 w3\nr2 = s32 r10\nr0 = le16\nr0 = be32\nr0 = swap64\ncall 3\ncall -1\nexit\n",
-    "hook veto\nrank 0\ngoto +0\ngoto -32768\ngotol +2147483647\ngotol -2147483648\nif r1 == r2 goto +1\nif r1 > 0 goto +1\nif r1 >= 0 goto +1\nif r1 & 1 goto +1\nif w1 != w2 goto +1\nif r1 s> 0 goto +1\nif r1 s>= 0 goto +1\nif r1 < 0 goto +1\nif r1 <= 0 goto +1\nif r1 s< 0 goto +1\nif r1 s<= 0 goto +1\n",
-    "hook veto\nrank 0\nr1 = *u8 r2 0\nr1 = *u16 r2 -32768\nr1 = *u32 r2 32767\nr1 = *u64 r2 8\nr1 = *s8 r2 0\nr1 = *s16 r2 0\nr1 = *s32 r2 0\n*u8 r1 0 = r2\n*u16 r1 0 = r2\n*u32 r1 0 = -1\n*u64 r1 0 = 7\nr1 = wide 18446744073709551615\nr1 = map 1 -8\n",
+    "hook count\nrank 0\nr0 = r1\nw0 = -5\nr0 += 1\nr0 -= r2\nr0 *= 2\nw0 /= w3\nr0 s/= 4\n\
+        r0 |= 1\nr0 &= 255\nr0 <<= 3\nr0 >>= 3\nr0 %= 7\nw0 s%= w1\nr0 ^= r9\nr0 s>>= 1\n",
+    "hook tag\nrank 4294967295\nr0 = neg\nw1 = neg\nr2 = s8 r3\nw2 = s16 w3\nr2 = s32 r10\n\
+        r0 = le16\nr0 = be32\nr0 = swap64\ncall 3\ncall -1\nexit\n",
+    "hook veto\nrank 0\ngoto +0\ngoto -32768\ngotol +2147483647\ngotol -2147483648\n\
+        if r1 == r2 goto +1\nif r1 > 0 goto +1\nif r1 >= 0 goto +1\nif r1 & 1 goto +1\n\
+        if w1 != w2 goto +1\nif r1 s> 0 goto +1\nif r1 s>= 0 goto +1\nif r1 < 0 goto +1\n\
+        if r1 <= 0 goto +1\nif r1 s< 0 goto +1\nif r1 s<= 0 goto +1\n",
+    "hook veto\nrank 0\nr1 = *u8 r2 0\nr1 = *u16 r2 -32768\nr1 = *u32 r2 32767\nr1 = *u64 r2 8\n\
+        r1 = *s8 r2 0\nr1 = *s16 r2 0\nr1 = *s32 r2 0\n*u8 r1 0 = r2\n*u16 r1 0 = r2\n\
+        *u32 r1 0 = -1\n*u64 r1 0 = 7\nr1 = wide 18446744073709551615\nr1 = map 1 -8\n",
     // each form with registers
-    "hook price\nrank 1\nr0 = le16\nr0 = le32\nr0 = le64\nr1 = be16\nr1 = be32\nr1 = be64\nr10 = swap16\nr10 = swap32\nr10 = swap64\n",
-    "hook price\nrank 1\nr0 = neg\nw0 = neg\nr2 = s8 r3\nr2 = s16 r3\nr2 = s32 r3\nw2 = s8 w3\nw2 = s16 w3\nw0 = w1\n",
-    "hook price\nrank 1\n*u8 r1 0 = 1\n*u16 r1 -32768 = 2147483647\n*u32 r1 32767 = -2147483648\n*u64 r1 8 = -1\n*u8 r1 0 = r2\n*u16 r1 -1 = r2\n*u32 r1 1 = r2\n*u64 r10 -8 = r1\n",
+    "hook price\nrank 1\nr0 = le16\nr0 = le32\nr0 = le64\nr1 = be16\nr1 = be32\nr1 = be64\n\
+        r10 = swap16\nr10 = swap32\nr10 = swap64\n",
+    "hook price\nrank 1\nr0 = neg\nw0 = neg\nr2 = s8 r3\nr2 = s16 r3\nr2 = s32 r3\nw2 = s8 w3\n\
+        w2 = s16 w3\nw0 = w1\n",
+    "hook price\nrank 1\n*u8 r1 0 = 1\n*u16 r1 -32768 = 2147483647\n*u32 r1 32767 = -2147483648\n\
+        *u64 r1 8 = -1\n*u8 r1 0 = r2\n*u16 r1 -1 = r2\n*u32 r1 1 = r2\n*u64 r10 -8 = r1\n",
     // each statement
-    "hook count\nrank 0\nexit\nexit\nexit\nexit\nstate 0 rank 4294967295\nstate 1 rank 0 r9 * 4294967295\nwith r0 context 64\nwith r1 stack 512\nwith r2 map 1 0 8 7 0\nwith r9 number 5 5 255 5\nbytes 0 8\nbytes 16 512\nstate 2 rank 1 r0 * 0 r1 * 2\nwith r1 number 0 1 0 0\nstate 3 rank 1 r1 * 3 r1 * 2\nwith r1 number 0 1 0 0\n",
+    "hook count\nrank 0\nexit\nexit\nexit\nexit\nstate 0 rank 4294967295\n\
+        state 1 rank 0 r9 * 4294967295\nwith r0 context 64\nwith r1 stack 512\n\
+        with r2 map 1 0 8 7 0\nwith r9 number 5 5 255 5\nbytes 0 8\nbytes 16 512\n\
+        state 2 rank 1 r0 * 0 r1 * 2\nwith r1 number 0 1 0 0\nstate 3 rank 1 r1 * 3 r1 * 2\n\
+        with r1 number 0 1 0 0\n",
 ];
 
 /// Each of these texts is its own listing.
@@ -208,8 +228,10 @@ const LISTED: [(&str, &str); 4] = [
         "hook price\nrank 1\ngotol +4\nr0 = wide 0\ngotol -3\ngoto -4\nexit\n",
     ),
     (
-        "  hook   count\n\nrank 007\nE:\nexit\n\nF:\nstate E rank 0 r0 * 0 r0 * 0\nwith r3 map 0 0 0 0 0\nbytes 8 16\nbytes 0 8\nbytes 3 3\nwith r1 stack 0",
-        "hook count\nrank 7\nexit\nstate 0 rank 0\nwith r1 stack 0\nwith r3 map 0 0 0 0 0\nbytes 0 16\n",
+        "  hook   count\n\nrank 007\nE:\nexit\n\nF:\nstate E rank 0 r0 * 0 r0 * 0\n\
+            with r3 map 0 0 0 0 0\nbytes 8 16\nbytes 0 8\nbytes 3 3\nwith r1 stack 0",
+        "hook count\nrank 7\nexit\nstate 0 rank 0\nwith r1 stack 0\nwith r3 map 0 0 0 0 0\n\
+            bytes 0 16\n",
     ),
     (
         "hook count\nrank 0\ngoto end\nr0 = wide 1\nend:\nexit\n",
@@ -239,7 +261,8 @@ const TESTS: [&str; 11] = [
 
 // Jumps by a test.
 const JUMPS: &str =
-    "hook tag\nrank 0\nif r0 @ r10 goto +1\nif r9 @ -5 goto -32768\nif w0 @ w1 goto +32767\nif w1 @ -1 goto -2\n";
+    "hook tag\nrank 0\nif r0 @ r10 goto +1\nif r9 @ -5 goto -32768\nif w0 @ w1 goto +32767\n\
+        if w1 @ -1 goto -2\n";
 
 // Jumps by a test to two labels, and their listing.
 const LABELLED: &str = "hook tag\nrank 0\nL:\nif r0 @ r1 goto L\nif w0 @ 7 goto M\nexit\nM:\n";

@@ -19,7 +19,8 @@ use std::alloc::{AllocError, Global};
 const ABOUT: &str = "Runs a router, and assembles, lists, verifies and runs its programs.";
 
 const RAW: &str =
-    "Runs bare code (slots of 8 bytes) once on each of SEATS threads, all on the same counters, and prints each answer and each counter above 0";
+    "Runs bare code (slots of 8 bytes) once on each of SEATS threads, all on the same counters, \
+        and prints each answer and each counter above 0";
 
 const RAW_EXAMPLE: &str = "\
 Example: routerd raw count adds.bin 2
@@ -38,7 +39,8 @@ docs/FORMATS.md has the format of the code and each refusal,
 docs/MACHINE.md each trap.";
 
 const RUN: &str =
-    "Runs the program of an object file once, on no table rows, and prints its answer and how many instructions it took";
+    "Runs the program of an object file once, on no table rows, and prints its answer and how many \
+        instructions it took";
 
 const RUN_EXAMPLE: &str = "\
 Example: routerd run sum.o - -
@@ -90,7 +92,8 @@ Statuses:
 docs/FORMATS.md has the format of the object, of the text and each refusal.";
 
 const VERIFY: &str =
-    "Verifies the program of an object file: whether each run of it is safe, and within how many instructions it ends";
+    "Verifies the program of an object file: whether each run of it is safe, and within how many \
+        instructions it ends";
 
 // What is written behind the help of `verify`: what it prints, and the rules.
 const VERIFY_RULES: &str = "\
@@ -129,7 +132,8 @@ For each rule docs/VERIFIER.md has the smallest program that breaks it, and how 
 docs/FORMATS.md has the format of object files and of statements, and each other refusal.";
 
 const ROUTE: &str =
-    "Runs a router (OSPFv2, RFC 2328) by a configuration, with a console on the standard input and output, until quit or the end of input";
+    "Runs a router (OSPFv2, RFC 2328) by a configuration, with a console on the standard input and \
+        output, until quit or the end of input";
 
 const ROUTE_EXAMPLE: &str = "\
 Example: routerd route one.conf
@@ -152,7 +156,8 @@ Statuses:
 
 docs/OPERATING.md has the form of the configuration, each line of the console and each refusal.";
 
-// What is written behind the top help: a line for each command and what it prints, and the statuses.
+// What is written behind the top help: a line for each command and what it prints, and the
+// statuses.
 const WORKED: &str = "\
 Examples:
   routerd raw count adds.bin 2  prints seat 1 answer 0 used 4, seat 2 answer 0 used 4, counter 5 6
@@ -164,7 +169,8 @@ Examples:
 
 Statuses: 0 done, 1 refused or stuck, 2 usage, 3 file, socket or stream, 4 memory.";
 
-// The names of the hooks, `Hook::name`'s: a `static` can't call it, and the clause of `hook` holds of no others.
+// The names of the hooks, `Hook::name`'s: a `static` can't call it, and the clause of `hook` holds
+// of no others.
 static HOOKS: [&str; 4] = ["count", "tag", "price", "veto"];
 
 fn required<'a>(alloc: Global, name: &'a str, help: &'a str) -> Arg<'a>
@@ -187,14 +193,16 @@ fn checked<'a>(alloc: Global, name: &'a str, help: &'a str, parser: ValueParser<
 
 /// One of the names of the hooks.
 fn hook_parser<'a>() -> ValueParser<'a>
-    ensures { (hooks : Bor (List (Bor (List ℕ)))) × (a b c d : ℕ × ℕ) × (hooks.now ≡ hook_names a b c d)
+    ensures { (hooks : Bor (List (Bor (List ℕ)))) × (a b c d : ℕ × ℕ)
+        × (hooks.now ≡ hook_names a b c d)
         × (result ≡ Names hooks) }
 {
     ValueParser::from(HOOKS.as_slice())
 }
 
 fn hook<'a>(alloc: Global) -> Arg<'a>
-    ensures rule { (hooks : Bor (List (Bor (List ℕ)))) × (a b c d : ℕ × ℕ) × (hooks.now ≡ hook_names a b c d)
+    ensures rule { (hooks : Bor (List (Bor (List ℕ)))) × (a b c d : ℕ × ℕ)
+        × (hooks.now ≡ hook_names a b c d)
         × (rule_of result ≡ line.checked (codes "HOOK") (Names hooks)) }
     ensures local { result.global ≡ false }
 {
@@ -212,7 +220,8 @@ fn seats<'a>(alloc: Global) -> Arg<'a>
 }
 
 fn raw<'a>(alloc: Global) -> Result<Command<'a>, AllocError>
-    ensures app { IfOk result (λ command. (hooks : Bor (List (Bor (List ℕ)))) × (a b c d : ℕ × ℕ) × (hooks.now ≡ hook_names a b c d)
+    ensures app { IfOk result (λ command. (hooks : Bor (List (Bor (List ℕ)))) × (a b c d : ℕ × ℕ)
+        × (hooks.now ≡ hook_names a b c d)
         × (shape_of command ≡ line.raw hooks)) }
     ensures local { IfOk result (λ c. (fields_of c).has_globals ≡ false) }
 {

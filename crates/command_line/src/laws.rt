@@ -1,5 +1,6 @@
 //! Laws of command lines, each carried by a function with an empty body.
-ghost use Rattle.command_line.specs.Laws.{MistakenWordsAskForNothing, PlainWordsAreTaken, WhereTheNamesLieChangesNothing, WordsMakeOneRequest};
+ghost use Rattle.command_line.specs.Laws.{MistakenWordsAskForNothing, PlainWordsAreTaken};
+ghost use Rattle.command_line.specs.Laws.{WhereTheNamesLieChangesNothing, WordsMakeOneRequest};
 ghost use Rattle.command_line.specs.Worked.{WorkedWords};
 
 /// Words ask for one request at most.
@@ -12,7 +13,8 @@ pub fn mistaken_words_ask_for_nothing()
     ensures { MistakenWordsAskForNothing }
 {}
 
-/// Each command takes its words, where none of them is a flag and each is right, and asks for just what they say.
+/// Each command takes its words, where none of them is a flag and each is right, and asks for just
+/// what they say.
 pub fn plain_words_are_taken()
     ensures { PlainWordsAreTaken }
 {}

@@ -1,6 +1,7 @@
 //! What a command and its words ask for.
 
-ghost use Rattle.std.specs.Prelude.{◌≡◌, ◌≢◌, ◌⊎◌, [], ℕ, codes, replicate, option_map, IfOk, IfErr, IfSome, MatchResult, Err, Ok, Some, None};
+ghost use Rattle.std.specs.Prelude.{◌≡◌, ◌≢◌, ◌⊎◌, [], ℕ, codes, replicate, option_map, IfOk};
+ghost use Rattle.std.specs.Prelude.{IfErr, IfSome, MatchResult, Err, Ok, Some, None};
 ghost use Rattle.std.specs.Result.{result_ok};
 ghost use Rattle.clap.specs.Matches.{found_of};
 ghost use Rattle.clap.specs.Simple.{subcommand_rows_of};
@@ -52,7 +53,8 @@ pub enum Request<'a> {
     },
 }
 
-/// The context that a word stands for: zeros for `-`, else 64 bytes in hex. None where it is neither.
+/// The context that a word stands for: zeros for `-`, else 64 bytes in hex. None where it is
+/// neither.
 fn context_of(word: &str) -> Option<[u8; 64]>
     ensures dash { word.now ≡ codes "-" → result ≡ Some (replicate 64 0) }
     ensures hex { word.now ≢ codes "-" → result ≡ result_ok (decode_sized word.now 64) }
@@ -66,7 +68,8 @@ fn context_of(word: &str) -> Option<[u8; 64]>
 /// The packet that a word stands for: none for `-`, else bytes in hex.
 fn packet_of(alloc: Global, word: &str) -> Result<Vec<u8>, FromHexError>
     ensures dash { word.now ≡ codes "-" → MatchResult result (λ bytes. bytes.items ≡ []) (λ _. ⊥) }
-    ensures hex { word.now ≢ codes "-" → MatchResult result (λ bytes. decode_of word.now ≡ Ok bytes.items) (λ e. (e ≡ OutOfMemory) ⊎ (decode_of word.now ≡ Err e)) }
+    ensures hex { word.now ≢ codes "-" → MatchResult result (λ bytes. decode_of word.now
+        ≡ Ok bytes.items) (λ e. (e ≡ OutOfMemory) ⊎ (decode_of word.now ≡ Err e)) }
 {
     if word == "-" {
         return Ok(Vec::new(alloc));
@@ -76,7 +79,8 @@ fn packet_of(alloc: Global, word: &str) -> Result<Vec<u8>, FromHexError>
 
 /// The word under a name.
 fn word_of<'a>(matches: &ArgMatches<'a>, name: &str) -> Option<&'a str>
-    ensures { option_map (λ word. word.now) result ≡ first_of name.now (rows_of (found_of matches.now)) }
+    ensures { option_map (λ word. word.now) result
+        ≡ first_of name.now (rows_of (found_of matches.now)) }
 {
     matches.get_str(name)
 }
@@ -84,7 +88,8 @@ fn word_of<'a>(matches: &ArgMatches<'a>, name: &str) -> Option<&'a str>
 /// The number of seats.
 fn seats_of(matches: &ArgMatches<'_>) -> Option<usize>
     ensures some { IfSome result (HasSeats (rows_of (found_of matches.now))) }
-    ensures none { result ≡ None → (seats : ℕ) → HasSeats (rows_of (found_of matches.now)) seats → ⊥ }
+    ensures none { result ≡ None → (seats : ℕ) → HasSeats (rows_of (found_of matches.now)) seats
+        → ⊥ }
 {
     match matches.get_one::<u8>("SEATS") {
         Some(seats) if 1 <= seats && seats <= 64 => Some(usize::from(seats)),
@@ -154,7 +159,8 @@ fn route_request<'a>(matches: &ArgMatches<'a>) -> Option<Request<'a>>
     Some(Request::Route { config })
 }
 
-// What a command makes of its words. None where it makes nothing of them, or there is no such command.
+// What a command makes of its words. None where it makes nothing of them, or there is no such
+// command.
 fn made_by<'a>(
     alloc: Global,
     name: &str,
@@ -176,7 +182,8 @@ fn made_by<'a>(
 
 // The request that a command makes of its words. A wrong value where it makes none.
 fn request_by<'a>(alloc: Global, name: &str, matches: &ArgMatches<'a>) -> Result<Request<'a>, Error>
-    ensures ok { IfOk result (λ request. MadeBy name.now (rows_of (found_of matches.now)) (Some request)) }
+    ensures ok { IfOk result (λ request. MadeBy name.now (rows_of (found_of matches.now))
+        (Some request)) }
     ensures err { IfErr result (IsWrong name.now (rows_of (found_of matches.now))) }
 {
     match made_by(alloc, name, matches) {

@@ -1,4 +1,5 @@
-//! Command lines with what they print, where, and their statuses, as lists of steps. Files stand in a folder of the test's own.
+//! Command lines with what they print, where, and their statuses, as lists of steps. Files stand in
+//! a folder of the test's own.
 
 mod code;
 mod files;
@@ -66,7 +67,8 @@ fn path_for<R: Env + AllocGlobal>(rt: &R, id: u32, name: &str) -> Result<String,
     Ok(format!(in rt.alloc(); "{folder}/routerd-{id}-{name}")?)
 }
 
-// What a test does. In words and lines an @ stands for the front of the paths of the test's files, so that @sum.s is the path of sum.s.
+// What a test does. In words and lines an @ stands for the front of the paths of the test's files,
+// so that @sum.s is the path of sum.s.
 #[derive(Clone, Copy)]
 enum Step<'a> {
     // The file is written with these bytes.
@@ -226,8 +228,9 @@ const ADDS: [u8; 32] = [
 
 const EXIT_SLOT: [u8; 8] = [0x95, 0, 0, 0, 0, 0, 0, 0];
 
-/// The object of the counting program: `r1 = 10; r0 = 0; r0 += r1; r1 += -1; if r1 != 0 goto -3; exit` at `price`, entry rank 10, with
-/// slot 2 stated: rank `r1 * 1`, r0 any number, r1 from 1 to 10.
+/// The object of the counting program: `r1 = 10; r0 = 0; r0 += r1; r1 += -1; if r1 != 0 goto -3;
+/// exit` at `price`, entry rank 10, with slot 2 stated: rank `r1 * 1`, r0 any number, r1 from 1 to
+/// 10.
 fn counting() -> [u8; 548] {
     let mut bytes = [0; 548];
     bytes[..64].copy_from_slice(&[
@@ -298,7 +301,8 @@ const COMMANDS: [&str; 14] = [
     "\n  list    Prints a text that assembles to the object file",
     "\n  verify  Verifies the program of an object file",
     "\n  route   Runs a router (OSPFv2, RFC 2328) by a configuration",
-    "\n  routerd raw count adds.bin 2  prints seat 1 answer 0 used 4, seat 2 answer 0 used 4, counter 5 6\n",
+    "\n  routerd raw count adds.bin 2  prints seat 1 answer 0 used 4, seat 2 answer 0 used 4, \
+        counter 5 6\n",
     "\n  routerd asm sum.s sum.o       prints ok 6\n",
     "\n  routerd list sum.o            prints hook price, rank 10, r1 = 10",
     "\n  routerd verify sum.o          prints accepted bound 66\n",
@@ -316,7 +320,8 @@ const STATUSES: [&str; 5] = [
     "\n  4  ",
 ];
 
-// What the help of a command has besides: an example and a page. That of verify has lines for the rules.
+// What the help of a command has besides: an example and a page. That of verify has lines for the
+// rules.
 const HELPS: [(&str, &[&str]); 6] = [
     (
         "raw",

@@ -1,6 +1,7 @@
 //! Texts of assembly, and the object files that they spell.
 
-ghost use Rattle.std.specs.Prelude.{◌≡◌, ◌++◌, ◌⊎◌, [], ◌∷◌, List, ℕ, false, codes, decimal, IfOk, IfErr, string_bytes};
+ghost use Rattle.std.specs.Prelude.{◌≡◌, ◌++◌, ◌⊎◌, [], ◌∷◌, List, ℕ, false, codes, decimal, IfOk};
+ghost use Rattle.std.specs.Prelude.{IfErr, string_bytes};
 ghost use Rattle.asm.specs.Assembling.{TextSpells};
 ghost use Rattle.object.specs.Objects.{slots_of};
 ghost use Rattle.object.specs.Spelling.{Spells};
@@ -47,7 +48,8 @@ fn write_object<'a, R: Files + AllocGlobal>(
 
 /// What is told of an object file that was written: how many slots its code has.
 fn written(alloc: Global, file: &ObjectFile) -> Result<Report, AllocError>
-    ensures text { IfOk result (λ report. string_bytes report.text ≡ codes "ok " ++ decimal (slots_of file.now.object) ++ 10 ∷ []) }
+    ensures text { IfOk result (λ report. string_bytes report.text ≡ codes "ok "
+        ++ decimal (slots_of file.now.object) ++ 10 ∷ []) }
     ensures done { IfOk result (λ report. report.is_refused ≡ false) }
 {
     let slots = file.object.slots();
@@ -57,9 +59,11 @@ fn written(alloc: Global, file: &ObjectFile) -> Result<Report, AllocError>
     })
 }
 
-/// Assembles the text of the file at `source` into the object file `target`, and tells how many slots the code has.
+/// Assembles the text of the file at `source` into the object file `target`, and tells how many
+/// slots the code has.
 ///
-/// A fault where the source can't be read or is no text, spells no object, where the target can't be written, or memory is refused.
+/// A fault where the source can't be read or is no text, spells no object, where the target can't
+/// be written, or memory is refused.
 pub fn assemble_file<'a, R: Files + AllocGlobal>(
     rt: &R,
     source: &'a str,
@@ -67,7 +71,8 @@ pub fn assemble_file<'a, R: Files + AllocGlobal>(
 ) -> Result<Report, Fault<'a>>
     // Where it is done, the text of the source was one that spells an object.
     ensures done { IfOk result (λ report. (text : List ℕ) × IsAssembled text report) }
-    ensures fault { IfErr result (λ fault. (fault ≡ Fault.Read source.entry) ⊎ (fault ≡ Fault.Write target.entry) ⊎ ((text : List ℕ) × IsTextFault text fault)) }
+    ensures fault { IfErr result (λ fault. (fault ≡ Fault.Read source.entry)
+        ⊎ (fault ≡ Fault.Write target.entry) ⊎ ((text : List ℕ) × IsTextFault text fault)) }
 {
     let alloc = rt.alloc();
     let text = files::read_text(rt, source)?;
@@ -101,7 +106,8 @@ fn listed<'a>(alloc: Global, bytes: &[u8]) -> Result<Report, Fault<'a>>
 /// A fault where the file can't be read, is no object file, holds no code, or memory is refused.
 pub fn list<'a, R: Files + AllocGlobal>(rt: &R, path: &'a str) -> Result<Report, Fault<'a>>
     ensures listed { IfOk result (λ report. (bytes : List ℕ) × IsListing bytes report) }
-    ensures fault { IfErr result (λ fault. (fault ≡ Fault.Read path.entry) ⊎ ((bytes : List ℕ) × IsObjectFault bytes fault)) }
+    ensures fault { IfErr result (λ fault. (fault ≡ Fault.Read path.entry)
+        ⊎ ((bytes : List ℕ) × IsObjectFault bytes fault)) }
 {
     let bytes = files::read(rt, path)?;
     listed(rt.alloc(), bytes.as_slice())

@@ -1,5 +1,6 @@
 ghost use Rattle.std.specs.Prelude.{◌≡◌, ◌≤◌};
-ghost use Rattle.commands.specs.Statuses.{fault_of_object, fault_of_refusal, fault_of_run, fault_of_text, fault_of_words, status_of};
+ghost use Rattle.commands.specs.Statuses.{fault_of_object, fault_of_refusal, fault_of_run};
+ghost use Rattle.commands.specs.Statuses.{fault_of_text, fault_of_words, status_of};
 ghost use Rattle.commands.specs.declared.fault.Fault.TheVariants.{Memory};
 
 use asm::{AsmError, AsmFault};
@@ -34,7 +35,8 @@ pub enum Fault<'a> {
     /// A text that spells no object: the number of the refusal, and the first bad line.
     #[error("source refusal {number} line {line}")]
     Source { number: u8, line: u64 },
-    /// Bytes that are no code: the number of the refusal, and the slot of the first bad instruction.
+    /// Bytes that are no code: the number of the refusal, and the slot of the first bad
+    /// instruction.
     #[error("code refusal {number} slot {slot}")]
     Code { number: u8, slot: u64 },
     /// Bytes that are no object file: the number of the refusal.

@@ -53,8 +53,8 @@ fn end<O: Write, E: Write>(outcome: Result<Report, Fault<'_>>, output: &mut O, e
     }
 }
 
-/// Tells that the words can't be read, and answers the status: 4 where memory was refused, 2 where a word isn't UTF-8, and 3 where that
-/// can't be told.
+/// Tells that the words can't be read, and answers the status: 4 where memory was refused, 2 where
+/// a word isn't UTF-8, and 3 where that can't be told.
 pub fn end_without_words<O: Write, E: Write>(
     alloc: Global,
     error: &io::Error,
@@ -68,7 +68,8 @@ pub fn end_without_words<O: Write, E: Write>(
     tell(&fault, output, errors)
 }
 
-// Runs the router of the configuration file at `path`, or tells why the file can't be read, and answers the status.
+// Runs the router of the configuration file at `path`, or tells why the file can't be read, and
+// answers the status.
 fn route<R: Files + AllocGlobal, G: Routing, I: BufRead, O: Write, E: Write>(
     rt: &R,
     routing: &G,
@@ -119,7 +120,8 @@ fn carry_out<R: Files + AllocGlobal + Threads + Sync, G: Routing, I: BufRead, O:
 /// Carries out what the words ask for (the first is the program's name), and answers the status: 0
 /// done, 1 refused or stuck, 2 usage, 3 a file, a socket or a stream failed, 4 memory was refused.
 ///
-/// Lines are read from `input` and written to `output`; the texts about usage go to `errors`. Routers are run by `routing`.
+/// Lines are read from `input` and written to `output`; the texts about usage go to `errors`.
+/// Routers are run by `routing`.
 pub fn program<R: Files + AllocGlobal + Threads + Sync, G: Routing, I: BufRead, O: Write, E: Write>(
     rt: &R,
     routing: &G,
@@ -128,7 +130,8 @@ pub fn program<R: Files + AllocGlobal + Threads + Sync, G: Routing, I: BufRead, 
     output: &mut O,
     errors: &mut E,
 ) -> u8
-    ensures ended { (line : App) × IsCommandLine line × EndsWords line (map (λ word. word.now) words.now)
+    ensures ended { (line : App) × IsCommandLine line
+        × EndsWords line (map (λ word. word.now) words.now)
         (O.contents output.old) (O.contents output.new)
         (E.contents errors.old) (E.contents errors.new) result }
 {

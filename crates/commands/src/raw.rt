@@ -1,9 +1,11 @@
 //! Bare code on seats, each on a thread of its own.
 
-ghost use Rattle.std.specs.Prelude.{◌≡◌, ◌++◌, ◌⊎◌, ℕ, List, length, map, IfOk, IfErr, OnOk, string_bytes, is_err};
+ghost use Rattle.std.specs.Prelude.{◌≡◌, ◌++◌, ◌⊎◌, ℕ, List, length, map, IfOk, IfErr, OnOk};
+ghost use Rattle.std.specs.Prelude.{string_bytes, is_err};
 ghost use Rattle.std.specs.List.{All, list_any};
 ghost use Rattle.machine.specs.Given.{given_by};
-ghost use Rattle.commands.specs.RawRuns.{EachRan, IsBareRefused, IsRawReport, IsToldOfRuns, Ran, counter_line, counter_lines, seat_line, seat_lines};
+ghost use Rattle.commands.specs.RawRuns.{EachRan, IsBareRefused, IsRawReport, IsToldOfRuns, Ran};
+ghost use Rattle.commands.specs.RawRuns.{counter_line, counter_lines, seat_line, seat_lines};
 
 use crate::fault::Fault;
 use crate::files;
@@ -36,7 +38,12 @@ fn run_each<R: Threads + Sync>(
     requires { All (λ s. s.table ≡ shared.now.table) seats.items }
     ensures len { IfOk result (λ v. length v.items ≡ length seats.items) }
     ensures table { IfOk result (λ v. All (λ f. f.seat.table ≡ shared.now.table) v.items) }
-    ensures ran { IfOk result (λ v. EachRan (record { code = code.now; hook = hook; input = given_by input.now }) seats.items v.items) }
+    ensures ran { IfOk result (λ v. EachRan (record {
+      code = code.now;
+      hook = hook;
+      input = given_by
+          input.now;
+    }) seats.items v.items) }
 {
     map_vec(
         rt,
@@ -44,7 +51,12 @@ fn run_each<R: Threads + Sync>(
         &|seat: Seat| -> Finished
             requires { seat.table ≡ shared.now.table }
             ensures table { result.seat.table ≡ shared.entry.now.table }
-            ensures ran { Ran (record { code = code.entry.now; hook = hook; input = given_by input.entry.now }) seat result }
+            ensures ran { Ran (record {
+              code = code.entry.now;
+              hook = hook;
+              input = given_by
+                  input.entry.now;
+            }) seat result }
         {
             let mut seat = seat;
             let outcome = run_checked(code, hook, BUDGET, input, shared, &mut seat);
@@ -80,7 +92,8 @@ fn push_outcome(
     number: usize,
     outcome: Result<Run, Trap>,
 ) -> Result<(), AllocError>
-    ensures { OnOk result (string_bytes text.new ≡ string_bytes text.old ++ seat_line number outcome) }
+    ensures { OnOk result (string_bytes text.new ≡ string_bytes text.old
+        ++ seat_line number outcome) }
 {
     match outcome {
         Ok(run) => {
@@ -97,7 +110,8 @@ fn push_outcome(
 
 // Adds the line of each seat, from 1 on.
 fn push_outcomes(text: &mut String, finished: &[Finished]) -> Result<(), AllocError>
-    ensures { OnOk result (string_bytes text.new ≡ string_bytes text.old ++ seat_lines 1 finished.now) }
+    ensures { OnOk result (string_bytes text.new ≡ string_bytes text.old
+        ++ seat_lines 1 finished.now) }
 {
     for (index, one) in finished.iter().enumerate() {
         push_outcome(text, index + 1, one.outcome)?;
@@ -113,7 +127,8 @@ fn is_any_stuck(finished: &[Finished]) -> bool
 
 // Adds the line of a counter, if it is above 0.
 fn push_counter(text: &mut String, index: usize, sum: u64) -> Result<(), AllocError>
-    ensures { OnOk result (string_bytes text.new ≡ string_bytes text.old ++ counter_line index sum) }
+    ensures { OnOk result (string_bytes text.new ≡ string_bytes text.old
+        ++ counter_line index sum) }
 {
     if sum > 0 {
         writeln!(text, "counter {index} {sum}")?;
@@ -123,7 +138,8 @@ fn push_counter(text: &mut String, index: usize, sum: u64) -> Result<(), AllocEr
 
 // Adds the line of each counter above 0.
 fn push_counters(text: &mut String, sums: &[u64]) -> Result<(), AllocError>
-    ensures { OnOk result (string_bytes text.new ≡ string_bytes text.old ++ counter_lines 0 sums.now) }
+    ensures { OnOk result (string_bytes text.new ≡ string_bytes text.old
+        ++ counter_lines 0 sums.now) }
 {
     for (index, sum) in sums.iter().enumerate() {
         push_counter(text, index, *sum)?;
@@ -131,7 +147,8 @@ fn push_counters(text: &mut String, sums: &[u64]) -> Result<(), AllocError>
     Ok(())
 }
 
-// Runs the code once on each of so many seats of a new table, and tells how they ended and what they counted.
+// Runs the code once on each of so many seats of a new table, and tells how they ended and what
+// they counted.
 fn report_of<'a, R: AllocGlobal + Threads + Sync>(
     rt: &R,
     code: &Code,
@@ -158,7 +175,8 @@ fn report_of<'a, R: AllocGlobal + Threads + Sync>(
     Ok(Report { text, is_refused })
 }
 
-/// Runs the bare code of the file at `path` once on each of `seats` threads, all on the same counters.
+/// Runs the bare code of the file at `path` once on each of `seats` threads, all on the same
+/// counters.
 ///
 /// A fault where the file can't be read, holds no code, or memory is refused.
 pub fn raw<'a, R: Files + AllocGlobal + Threads + Sync>(
@@ -168,7 +186,8 @@ pub fn raw<'a, R: Files + AllocGlobal + Threads + Sync>(
     seats: usize,
 ) -> Result<Report, Fault<'a>>
     ensures runs { IfOk result (λ report. IsRawReport hook seats report) }
-    ensures fault { IfErr result (λ fault. (fault ≡ Fault.Read path.entry) ⊎ (fault ≡ Fault.Memory) ⊎ ((bytes : List ℕ) × IsBareRefused bytes fault)) }
+    ensures fault { IfErr result (λ fault. (fault ≡ Fault.Read path.entry) ⊎ (fault ≡ Fault.Memory)
+        ⊎ ((bytes : List ℕ) × IsBareRefused bytes fault)) }
 {
     let bytes = files::read(rt, path)?;
     let code = decode(rt.alloc(), bytes.as_slice())?;

@@ -31,7 +31,8 @@ fn text_of(alloc: Global, outcome: Result<Run, Trap>) -> Result<String, AllocErr
     }
 }
 
-/// Runs the program of the object file that these bytes are once, with counters and cells of its own.
+/// Runs the program of the object file that these bytes are once, with counters and cells of its
+/// own.
 fn outcome_of<'a>(
     alloc: Global,
     bytes: &[u8],
@@ -48,8 +49,8 @@ fn outcome_of<'a>(
     }
 }
 
-/// Runs the program of the object file that these bytes are once at its hook, on this context and packet and no table rows, and says what
-/// is to be told of it.
+/// Runs the program of the object file that these bytes are once at its hook, on this context and
+/// packet and no table rows, and says what is to be told of it.
 fn run_of<'a>(
     alloc: Global,
     bytes: &[u8],
@@ -71,8 +72,8 @@ fn run_of<'a>(
     })
 }
 
-/// Runs the program of the object file at `path` once at its hook, on this context and packet and no table rows, with counters and cells
-/// of its own.
+/// Runs the program of the object file at `path` once at its hook, on this context and packet and
+/// no table rows, with counters and cells of its own.
 ///
 /// A fault where the file can't be read, is no object file, holds no code, or memory is refused.
 pub fn run<'a, R: Files + AllocGlobal>(
@@ -81,8 +82,10 @@ pub fn run<'a, R: Files + AllocGlobal>(
     context: [u8; 64],
     packet: Vec<u8>,
 ) -> Result<Report, Fault<'a>>
-    ensures run { IfOk result (λ report. (bytes : List ℕ) × IsRun bytes context packet.items report) }
-    ensures fault { IfErr result (λ fault. (fault ≡ Fault.Read path.entry) ⊎ ((bytes : List ℕ) × IsObjectFault bytes fault)) }
+    ensures run { IfOk result (λ report. (bytes : List ℕ) × IsRun bytes context packet.items
+        report) }
+    ensures fault { IfErr result (λ fault. (fault ≡ Fault.Read path.entry)
+        ⊎ ((bytes : List ℕ) × IsObjectFault bytes fault)) }
 {
     let bytes = files::read(rt, path)?;
     run_of(rt.alloc(), bytes.as_slice(), context, packet)

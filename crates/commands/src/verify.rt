@@ -50,12 +50,14 @@ fn verdict_of<'a>(alloc: Global, bytes: &[u8]) -> Result<Report, Fault<'a>>
     }
 }
 
-/// Verifies the program of the object file at `path`, and tells its bound, or the slot and the rule by which it is refused.
+/// Verifies the program of the object file at `path`, and tells its bound, or the slot and the rule
+/// by which it is refused.
 ///
 /// A fault where the file can't be read, is no object file, holds no code, or memory is refused.
 pub fn verify<'a, R: Files + AllocGlobal>(rt: &R, path: &'a str) -> Result<Report, Fault<'a>>
     ensures verdict { IfOk result (λ report. (bytes : List ℕ) × IsVerdict bytes report) }
-    ensures fault { IfErr result (λ fault. (fault ≡ Fault.Read path.entry) ⊎ ((bytes : List ℕ) × IsObjectFault bytes fault)) }
+    ensures fault { IfErr result (λ fault. (fault ≡ Fault.Read path.entry)
+        ⊎ ((bytes : List ℕ) × IsObjectFault bytes fault)) }
 {
     let bytes = files::read(rt, path)?;
     verdict_of(rt.alloc(), bytes.as_slice())

@@ -3,7 +3,7 @@
 use Rattle.std.specs.Prelude.{◌≡◌, ℕ, ◌+◌, ◌<◌, ◌≤◌, ◌^◌, ◌==◌, true, false, List, [], ◌∷◌, codes}
 use Rattle.std.specs.Prelude.{decimal, length, map, slice_get, Some, take, ◌⊎◌, if◌then◌else◌}
 use Rattle.std.specs.List.{list_any, slice_split}
-use Rattle.words.specs.Constants.{most_interfaces}
+use Rattle.words.specs.Constants.{max_age, most_interfaces}
 use Rattle.words.specs.Numbers.{InterfaceNumber, RouterNumber}
 use Rattle.words.specs.Text.{dotted, prefix_text}
 use Rattle.adjacency.specs.declared.interface.Interface.{Interface}
@@ -48,7 +48,7 @@ pub record IsInterface (c : ConfiguredInterface) : Type 0 where
   pub dead_interval : (1 ≤ c.interface.dead_interval) × (c.interface.dead_interval < 2 ^ 32)
   pub retransmit_interval :
       (1 ≤ c.interface.retransmit_interval) × (c.interface.retransmit_interval < 2 ^ 16)
-  pub delay : (1 ≤ c.interface.delay) × (c.interface.delay ≤ 3600)
+  pub delay : (1 ≤ c.interface.delay) × (c.interface.delay ≤ max_age)
   pub port : IsPort c.port
   pub peer : IsPort c.peer
 

@@ -25,8 +25,8 @@ fn router_id_in(packet: &[u8]) -> u32
     }
 }
 
-/// What `count` is asked of a packet that came on the interface at the moment. Of the packet's length it has the low
-/// 32 bits.
+/// What `count` is asked of a packet that came on the interface at the moment. Of the packet's
+/// length it has the low 32 bits.
 pub fn count_context(interface: u16, moment: Second, packet: &[u8]) -> Context
     ensures { result ≡ count_context interface moment packet.now }
 {

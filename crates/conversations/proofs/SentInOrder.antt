@@ -16,7 +16,7 @@ use Rattle.packet.specs.declared.model.Body.TheVariants as body
 use Rattle.packet.specs.declared.model.Description.{Description}
 use Rattle.packet.specs.declared.model.Hello.{Hello}
 use Rattle.adjacency.specs.Contents.{Content}
-use Rattle.events.specs.Packing.{acknowledgments, bodies, descriptions, first_key, header_size, hellos, in_key_order, is_after, lsa_size, packed, requests, sent_lsa, update_of, updates}
+use Rattle.events.specs.Packing.{acknowledgments, bodies, descriptions, first_key, header_size, hellos, in_key_order, is_after, lsa_size, packed_groups, requests, sent_lsa, update_of, updates}
 use Rattle.event_rooms.specs.PackingLaws.{IsAscending}
 use Rattle.event_rooms.proofs.Packings.{headers_fit, ordered, packs}
 use Rattle.event_rooms.proofs.Rooms.{order_all}
@@ -114,10 +114,10 @@ module _ (delay : ℕ) (cs : List Content) where
   asking = map body.Request (in_key_order first_key (filter_map requests cs))
 
   abbrev updating : List Body
-  updating = map (update_of delay) (packed lsa_size 28 lsas)
+  updating = map (update_of delay) (packed_groups lsa_size 28 lsas)
 
   abbrev acknowledging : List Body
-  acknowledging = map body.Acknowledgment (packed header_size 24 headers)
+  acknowledging = map body.Acknowledgment (packed_groups header_size 24 headers)
 
   -- Hellos, Descriptions and Requests tell none of it
   none_of_three : {Y : Type 0} (f : Body → List Y) → ((h : Hello) → f (body.Hello h) ≡ []) → ((d : Description) → f (body.Description d) ≡ [])
@@ -132,10 +132,10 @@ module _ (delay : ℕ) (cs : List Content) where
       → flat_map lsas_told (bodies delay cs) ≡ map (λ (l : Lsa). text (sent_lsa delay l)) lsas
   updates_told fit =
       none_behind lsas_told (filter_map hellos cs ++ filter_map descriptions cs ++ asking ++ updating) acknowledging
-      (none_mapped lsas_told body.Acknowledgment (λ hs. refl) (packed header_size 24 headers))
+      (none_mapped lsas_told body.Acknowledgment (λ hs. refl) (packed_groups header_size 24 headers))
       ∙ none_before lsas_told (filter_map hellos cs ++ filter_map descriptions cs ++ asking) updating
       (none_of_three lsas_told (λ h. refl) (λ d. refl) (λ keys. refl))
-      ∙ each_told lsas_told (update_of delay) (λ (l : Lsa). text (sent_lsa delay l)) (λ ls. refl) (packed lsa_size 28 lsas)
+      ∙ each_told lsas_told (update_of delay) (λ (l : Lsa). text (sent_lsa delay l)) (λ ls. refl) (packed_groups lsa_size 28 lsas)
       ∙ ap (map (λ (l : Lsa). text (sent_lsa delay l)))
       (packs lsa_size 28 lsas (order_all lsa_key (λ (l : Lsa). 28 + l.header.length ≤ 8192) (filter_map updates cs) fit)).all
 
@@ -144,9 +144,9 @@ module _ (delay : ℕ) (cs : List Content) where
       none_before headers_told (filter_map hellos cs ++ filter_map descriptions cs ++ asking ++ updating) acknowledging
       (none_before headers_told (filter_map hellos cs ++ filter_map descriptions cs ++ asking) updating
       (none_of_three headers_told (λ h. refl) (λ d. refl) (λ keys. refl))
-      ∙ none_mapped headers_told (update_of delay) (λ ls. refl) (packed lsa_size 28 lsas))
-      ∙ each_told headers_told body.Acknowledgment (λ h. h) (λ hs. sym (map-id hs)) (packed header_size 24 headers)
-      ∙ map-id (flat_map (λ p. p) (packed header_size 24 headers))
+      ∙ none_mapped headers_told (update_of delay) (λ ls. refl) (packed_groups lsa_size 28 lsas))
+      ∙ each_told headers_told body.Acknowledgment (λ h. h) (λ hs. sym (map-id hs)) (packed_groups header_size 24 headers)
+      ∙ map-id (flat_map (λ p. p) (packed_groups header_size 24 headers))
       ∙ (packs header_size 24 headers (headers_fit headers)).all
 
 -- ---- worked

@@ -7,7 +7,7 @@ use Rattle.lsdb.specs.Instances.{ListEntry, same_as_listed}
 use Rattle.lsdb.specs.Keys.{ByKey, key_cmp, same_key}
 use Rattle.lsdb.proofs.Keys.{keys_exact, keys_total}
 use Rattle.adjacency.specs.Neighbors.{Neighbor}
-use Rattle.adjacency.specs.Retransmissions.{acknowledged, after_acknowledgment, is_entry, remove_retransmission}
+use Rattle.adjacency.specs.Retransmissions.{acknowledged_neighbor, after_acknowledgment, is_entry, remove_retransmission}
 use Rattle.received.proofs.Marks.{tied}
 use Rattle.conversations.specs.TakenOff.{AcknowledgmentsTakeOffWhatTheyName, is_named}
 
@@ -30,7 +30,7 @@ of_another h n key other true = removed n.retransmissions (key_of h) key false o
 of_another h n key other false = refl
 
 by_key : (moment : ℕ) (h : Header) (n : Neighbor) (key : Key) (entry : ListEntry) → finite.get n.retransmissions key ≡ Some entry → (b : Bool) → same_key key (key_of h) ≡ b
-    → finite.get (acknowledged moment n h).retransmissions key ≡ cond (b && same_as_listed moment h entry) None (Some entry)
+    → finite.get (acknowledged_neighbor moment n h).retransmissions key ≡ cond (b && same_as_listed moment h entry) None (Some entry)
 by_key moment h n key entry there true same =
     let here : finite.get n.retransmissions (key_of h) ≡ Some entry = ap (finite.get n.retransmissions) (sym (keys_exact key (key_of h) (tied (key_cmp key (key_of h)) same))) ∙ there in
     ap (λ o. left key h n (is_entry moment h o)) here ∙ by_instance h n key entry there same (same_as_listed moment h entry)
@@ -52,7 +52,7 @@ after moment headers n key = finite.get (after_acknowledgment moment headers n).
 none_left : (moment : ℕ) (headers : List Header) (n : Neighbor) (key : Key) → finite.get n.retransmissions key ≡ None → after moment headers n key ≡ None
 none_left moment [] n key none = none
 none_left moment (h ∷ hs) n key none =
-    none_left moment hs (acknowledged moment n h) key (none_by h n key none (is_entry moment h (finite.get n.retransmissions (key_of h))))
+    none_left moment hs (acknowledged_neighbor moment n h) key (none_by h n key none (is_entry moment h (finite.get n.retransmissions (key_of h))))
 
 by_first : (m : Neighbor) (key : Key) (entry : ListEntry) (result : Option ListEntry) (b more : Bool)
     → finite.get m.retransmissions key ≡ cond b None (Some entry)
@@ -66,7 +66,7 @@ named_or_left : (moment : ℕ) (headers : List Header) (n : Neighbor) (key : Key
     → after moment headers n key ≡ cond (is_named moment key entry headers) None (Some entry)
 named_or_left moment [] n key entry there = there
 named_or_left moment (h ∷ hs) n key entry there =
-    let m : Neighbor = acknowledged moment n h in
+    let m : Neighbor = acknowledged_neighbor moment n h in
     by_first m key entry (after moment hs m key) (same_key key (key_of h) && same_as_listed moment h entry) (is_named moment key entry hs)
     (by_key moment h n key entry there (same_key key (key_of h)) refl)
     (none_left moment hs m key)
@@ -81,8 +81,8 @@ kept_by key n list false = refl
 all_else : (moment : ℕ) (headers : List Header) (n : Neighbor) → after_acknowledgment moment headers n ≡ record n { retransmissions = (after_acknowledgment moment headers n).retransmissions }
 all_else moment [] n = refl
 all_else moment (h ∷ hs) n =
-    all_else moment hs (acknowledged moment n h)
-    ∙ kept_by (key_of h) n (after_acknowledgment moment hs (acknowledged moment n h)).retransmissions (is_entry moment h (finite.get n.retransmissions (key_of h)))
+    all_else moment hs (acknowledged_neighbor moment n h)
+    ∙ kept_by (key_of h) n (after_acknowledgment moment hs (acknowledged_neighbor moment n h)).retransmissions (is_entry moment h (finite.get n.retransmissions (key_of h)))
 
 pub taken_off_as_named : AcknowledgmentsTakeOffWhatTheyName
 taken_off_as_named = record { entries = named_or_left; no_entry = none_left; all_else = all_else }

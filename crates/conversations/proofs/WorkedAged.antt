@@ -12,7 +12,7 @@ use Rattle.adjacency.specs.Retransmissions.{add_retransmission, remove_retransmi
 use Rattle.received.specs.Cases.{Case, case_of_readable}
 use Rattle.received.specs.Flooding.{flood_to, gets, passes, request_of, without_met_request}
 use Rattle.received.specs.Links.{Area, Link, acknowledge_later, any_has_retransmission, any_exchange_or_loading, change_link, link_at, neighbor_at, neighbor_on, neighbor_is_exchange_or_loading}
-use Rattle.received.specs.Outcomes.{Send, numbered, sent_on, step_on, stepped, stepping_sends}
+use Rattle.received.specs.Outcomes.{Send, sends_at, sent_on, step_on, stepped_links, stepping_sends}
 use Rattle.received.specs.Updates.{case_at, install}
 use Rattle.received.proofs.Flooded.{replaces_older}
 use Rattle.events.specs.Endings.{end_event, stays_as}
@@ -102,9 +102,9 @@ module _ (moment number other : ℕ) (lsa : Lsa) (another : Link) (m : Neighbor)
   is_sent : Contains (stepping_sends (flood_to moment (Some number) lsa) r.area.links) (record { number = other; content = Content.Updates lsa })
   is_sent =
       let f = flood_to moment (Some number) lsa in
-      let g : (ℕ × Link) → List Send = λ e. numbered e.0 (sent_on (f e.0 e.1) e.1.neighbor) in
+      let g : (ℕ × Link) → List Send = λ e. sends_at e.0 (sent_on (f e.0 e.1) e.1.neighbor) in
       let one : record { number = other; content = Content.Updates lsa } ∷ [] ≡ g (other, another) =
-      sym (ap (λ o. numbered other (sent_on (f other another) o)) there.neighbor_there ∙ ap (numbered other) sends_it) in
+      sym (ap (λ o. sends_at other (sent_on (f other another) o)) there.neighbor_there ∙ ap (sends_at other) sends_it) in
       sent_on_link g other r.area.links another (record { number = other; content = Content.Updates lsa }) there.link_there
       (subst (λ (ss : List Send). Contains ss (record { number = other; content = Content.Updates lsa })) one (alone (record { number = other; content = Content.Updates lsa })))
 
@@ -116,10 +116,10 @@ module _ (moment number other : ℕ) (lsa : Lsa) (another : Link) (m : Neighbor)
   is_on_some_list =
       let f = flood_to moment (Some number) lsa in
       let stepped_link : Link = record another { neighbor = step_on (f other another) another.neighbor } in
-      let one : link_at other (stepped f r.area.links) ≡ Some stepped_link =
+      let one : link_at other (stepped_links f r.area.links) ≡ Some stepped_link =
       link_changed (λ (e : ℕ × Link). record e.1 { neighbor = step_on (f e.0 e.1) e.1.neighbor }) other r.area.links another there.link_there in
-      let two : link_at other (change_link number (acknowledge_later lsa.header) (stepped f r.area.links)) ≡ Some (cond (other == number) (acknowledge_later lsa.header stepped_link) stepped_link) =
-      link_changed (λ (e : ℕ × Link). cond (e.0 == number) (acknowledge_later lsa.header e.1) e.1) other (stepped f r.area.links) stepped_link one in (
+      let two : link_at other (change_link number (acknowledge_later lsa.header) (stepped_links f r.area.links)) ≡ Some (cond (other == number) (acknowledge_later lsa.header stepped_link) stepped_link) =
+      link_changed (λ (e : ℕ × Link). cond (e.0 == number) (acknowledge_later lsa.header e.1) e.1) other (stepped_links f r.area.links) stepped_link one in (
         (f other another m).neighbor,
         ap neighbor_on two ∙ neighbor_of (other == number) lsa.header stepped_link ∙ ap (step_on (f other another)) there.neighbor_there,
         replaces_older moment (Some number) lsa other another m (ap is_exchange_or_later there.is_loading) ∙ ap (λ b. cond b (Some (record { header = lsa.header; at = moment })) None) gets_it,

@@ -12,10 +12,10 @@ use Rattle.packet.specs.declared.model.Body.TheVariants as body
 use Rattle.packet.specs.declared.model.Description.{Description}
 use Rattle.packet.specs.declared.model.Packet.{Packet}
 use Rattle.packet.proofs.Whole.{one_packet}
-use Rattle.adjacency.specs.Adjacencies.{mismatched, initial_description, requests_nothing}
+use Rattle.adjacency.specs.Adjacencies.{mismatch_step, initial_description, requests_nothing}
 use Rattle.adjacency.specs.Contents.{Content, Step, no_sends}
 use Rattle.adjacency.specs.Contents as contents
-use Rattle.adjacency.specs.Descriptions.{Verdict, act, after_description, describe, exchange_done, is_wanted, judge, as_received, negotiated, young_copies}
+use Rattle.adjacency.specs.Descriptions.{Verdict, act, after_description, describe, exchange_done, is_wanted, judge, as_received, negotiated_neighbor, young_copies}
 use Rattle.adjacency.specs.Neighbors.{Neighbor}
 use Rattle.adjacency.specs.Requests.{next_request}
 use Rattle.adjacency.specs.declared.state.State.TheVariants.{Exchange, Full, Loading}
@@ -78,7 +78,7 @@ ending moment p s = at_moment moment (on_area (λ o. remove_aged moment (one_nei
 -- ---- negotiation
 
 abbrev as_slave : ℕ → ℕ → Router → Neighbor → Neighbor
-as_slave moment sequence r n = record (negotiated false sequence moment r.area.database (opened n)) { received = Some (as_received (initial_description sequence)); sequence = sequence }
+as_slave moment sequence r n = record (negotiated_neighbor false sequence moment r.area.database (opened n)) { received = Some (as_received (initial_description sequence)); sequence = sequence }
 
 pub negotiates_it : (r new : Router) (link : Link) (n : Neighbor) (moment sequence : ℕ) (bytes : List ℕ) (outs : List Out)
     → NothingAges r moment → IsJudged r (opened n) bytes (initial_description sequence) Verdict.NegotiatedAsSlave → requests_nothing n ≡ true
@@ -124,7 +124,7 @@ loads_it r new link n moment bytes d h outs nothing said known wanted all_said n
     judged r new link (slave n) moment bytes (last_with h d) Verdict.Accepted outs nothing said refl event
     ∙ (λ i. taken r link (slave n) moment (cond (known i && true)
     (cond (nat_lt 408 (finite.len n.summary) || false) (replied (wanted i)) (record (replied (wanted i)) { neighbor = exchange_done moment (replied (wanted i)).neighbor }))
-    (mismatched moment (slave n))))
+    (mismatch_step moment (slave n))))
     ∙ (λ i. taken r link (slave n) moment (cond (all_said i || false) (replied true) (record (replied true) { neighbor = exchange_done moment (replied true).neighbor })))
     ∙ (λ i. taken r link (slave n) moment (record (replied true) { neighbor = record (replied true).neighbor { state = cond (some i) Full Loading; exchanged = Some moment } })) in
     let full : loading_done p ≡ p = λ i. answered r link moment (reply moment d.sequence n.summary) (cond (some i) (record m { state = Full }) m) in

@@ -15,7 +15,7 @@ use Rattle.adjacency.specs.declared.interface.Interface.{Interface}
 use Rattle.adjacency.specs.declared.state.State.{State}
 use Rattle.received.specs.Flooding.{flood_to, gets, meets, request_of, without_met_request}
 use Rattle.received.specs.Links.{Link, acknowledge_later, any_exchange_or_loading, change_link, link_at, neighbor_is_exchange_or_loading}
-use Rattle.received.specs.Outcomes.{Outcome, Stepping, each_neighbor, marked, numbered, sent_on, step_on, stepped}
+use Rattle.received.specs.Outcomes.{Outcome, Stepping, each_neighbor, marked_database, sends_at, sent_on, step_on, stepped_links}
 use Rattle.events.specs.Originations.{links_of, point_to_point, router_body, stub}
 use Rattle.events.specs.Routers.{shown}
 
@@ -104,7 +104,7 @@ stepped_from : (f : Stepping) → Keeps f → (k : ℕ) (xs : List Link)
 stepped_from f keeps k [] = refl
 stepped_from f keeps k (x ∷ xs) = λ i. (x.interface, shown_kept (f k x) x.neighbor (keeps k x) i) ∷ stepped_from f keeps (k + 1) xs i
 
-pub stepped_seen : (f : Stepping) → Keeps f → (xs : List Link) → map seen (stepped f xs) ≡ map seen xs
+pub stepped_seen : (f : Stepping) → Keeps f → (xs : List Link) → map seen (stepped_links f xs) ≡ map seen xs
 stepped_seen f keeps xs = stepped_from f keeps 1 xs
 
 chosen_seen : (b : Bool) (h : Header) (x : Link) → seen (cond b (acknowledge_later h x) x) ≡ seen x
@@ -135,16 +135,16 @@ module _ (f : Neighbor → Step) (does_nothing : (n : Neighbor) → is_exchange_
   stepped_rest k (x ∷ xs) e =
       λ i. record x { neighbor = step_rest x.neighbor (left_false _ _ e) i } ∷ stepped_rest (k + 1) xs (right_false (neighbor_is_exchange_or_loading x.neighbor) _ e) i
 
-  sends_rest : (k : ℕ) (xs : List Link) → any_exchange_or_loading xs ≡ false → flat_map (λ (e : ℕ × Link). numbered e.0 (sent_on f e.1.neighbor)) (enumerate_from k xs) ≡ []
+  sends_rest : (k : ℕ) (xs : List Link) → any_exchange_or_loading xs ≡ false → flat_map (λ (e : ℕ × Link). sends_at e.0 (sent_on f e.1.neighbor)) (enumerate_from k xs) ≡ []
   sends_rest k [] e = refl
-  sends_rest k (x ∷ xs) e = λ i. numbered k (sent_rest x.neighbor (left_false _ _ e) i) ++ sends_rest (k + 1) xs (right_false (neighbor_is_exchange_or_loading x.neighbor) _ e) i
+  sends_rest k (x ∷ xs) e = λ i. sends_at k (sent_rest x.neighbor (left_false _ _ e) i) ++ sends_rest (k + 1) xs (right_false (neighbor_is_exchange_or_loading x.neighbor) _ e) i
 
   pub each_rest : (moment : ℕ) (o : Outcome) → any_exchange_or_loading o.area.links ≡ false → each_neighbor moment (λ number link n. f n) o ≡ o
   each_rest moment o e =
       (λ i. record {
         area = record {
           links = stepped_rest 1 o.area.links e i;
-          database = fold (λ (db : Database) s. marked moment db s.content) o.area.database (sends_rest 1 o.area.links e i);
+          database = fold (λ (db : Database) s. marked_database moment db s.content) o.area.database (sends_rest 1 o.area.links e i);
         };
         sends = o.sends ++ sends_rest 1 o.area.links e i;
       })

@@ -11,7 +11,7 @@ use Rattle.received.specs.Flooding.{flood_to}
 use Rattle.received.specs.Links.{any_has_retransmission}
 use Rattle.received.specs.Outcomes.{Outcome, stepping_sends}
 use Rattle.events.specs.declared.model.Out.{Out}
-use Rattle.events.specs.Commands.{after_redistribute, announce, answered, is_announced_as, unannounce}
+use Rattle.events.specs.Commands.{after_redistribute, announce, answered_external, is_announced_as, unannounce}
 use Rattle.events.specs.Endings.{end_event, stays_as}
 use Rattle.events.specs.Events.{Happens}
 use Rattle.events.specs.EventState.{EventState, on_area, on_router}
@@ -37,12 +37,12 @@ age_is r e tag metric = refl
 
 announces : (old new : Router) (moment tag : ℕ) (e : External) (outs : List Out) → IsAtRest old moment → MayAnnounce old moment e
     → Happens old moment (Occurrence.Redistribute e tag e 16777214) outs new
-    → (finite.get new.announced (external_key old.id e.prefix) ≡ Some (answered e tag 16777214))
+    → (finite.get new.announced (external_key old.id e.prefix) ≡ Some (answered_external e tag 16777214))
     × ((sent : Option ℕ) × (finite.get new.area.database (external_key old.id e.prefix)
     ≡ Some (record { lsa = first_external old e tag 16777214; stored = moment; installed = None; sent = sent })))
 announces old new moment tag e outs rest may event =
     let key : Key = external_key old.id e.prefix in
-    let x : External = answered e tag 16777214 in
+    let x : External = answered_external e tag 16777214 in
     let says : Body = external_body x in
     let lsa : Lsa = first_external old e tag 16777214 in
     let p : EventState = start old in

@@ -13,7 +13,7 @@ use Rattle.lsdb.specs.Instances.{ListEntry}
 use Rattle.lsdb.specs.Keys.{ByKey, KeySet, key_cmp}
 use Rattle.lsdb.proofs.Keys.{keys_total}
 use Rattle.adjacency.specs.Neighbors.{Neighbor}
-use Rattle.adjacency.specs.Requests.{requested, without_request}
+use Rattle.adjacency.specs.Requests.{requested_entry, without_request}
 use Rattle.adjacency.specs.Retransmissions.{remove_retransmission}
 use Rattle.adjacency.specs.declared.state.State.TheVariants.{Full}
 use Rattle.received.specs.Flooding.{meets}
@@ -56,11 +56,11 @@ put r link moment lsa n = record {
   sends = [];
 }
 
-becomes_full : (r : Router) (link : Link) (n : Neighbor) (moment : ℕ) (lsa : Lsa) → finite.len n.requests ≡ 1 → meets moment lsa (requested n (lsa_key lsa)) ≡ true
+becomes_full : (r : Router) (link : Link) (n : Neighbor) (moment : ℕ) (lsa : Lsa) → finite.len n.requests ≡ 1 → meets moment lsa (requested_entry n (lsa_key lsa)) ≡ true
     → loading_done (on_area (install moment 1 lsa) (start (beside r link (loading n)))) ≡ put r link moment lsa (full lsa n)
 becomes_full r link n moment lsa one is_met =
     ap (λ b. loading_done (put r link moment lsa (remove_retransmission (lsa_key lsa) (cond b (without_request (lsa_key lsa) (loading n)) (loading n))))) is_met
-    ∙ ap (λ b. put r link moment lsa (cond b (full lsa n) (met lsa n))) (none_left n.requests (lsa_key lsa) (asked moment lsa (requested n (lsa_key lsa)) is_met) one)
+    ∙ ap (λ b. put r link moment lsa (cond b (full lsa n) (met lsa n))) (none_left n.requests (lsa_key lsa) (asked moment lsa (requested_entry n (lsa_key lsa)) is_met) one)
 
 -- ---- the router-LSA
 

@@ -19,12 +19,12 @@ use Rattle.packet.specs.declared.model.Packet.{Packet}
 use Rattle.packet.proofs.Whole.{one_packet}
 use Rattle.adjacency.specs.Contents.{Content, Step, no_sends}
 use Rattle.adjacency.specs.Neighbors.{Neighbor, is_exchange_or_loading, is_exchange_or_later}
-use Rattle.adjacency.specs.Requests.{requested, without_request}
+use Rattle.adjacency.specs.Requests.{requested_entry, without_request}
 use Rattle.adjacency.specs.Retransmissions.{is_entry, add_retransmission, remove_retransmission}
 use Rattle.received.specs.Cases.{Case, case_of_readable, first_case, is_wrapping}
 use Rattle.received.specs.Flooding.{flood_to, meets, passes, request_of, without_met_request}
 use Rattle.received.specs.Links.{Area, Link, acknowledge_later, any_has_retransmission, any_exchange_or_loading, link_at, neighbor_at, neighbor_on}
-use Rattle.received.specs.Outcomes.{Outcome, step_on, stepped, stepping_sends}
+use Rattle.received.specs.Outcomes.{Outcome, step_on, stepped_links, stepping_sends}
 use Rattle.received.specs.Updates.{case_at, goes_on, install}
 pub use Rattle.received.proofs.Marks.{IsStill, changed_by, mark_all, marked_once, tied}
 use Rattle.events.specs.declared.model.Out.{Out}
@@ -115,7 +115,7 @@ pub sender_step : (moment number : ℕ) (lsa : Lsa) (link : Link) (n : Neighbor)
     → flood_to moment (Some number) lsa number link n ≡ no_sends (remove_retransmission (lsa_key lsa) n)
 sender_step moment number lsa link n part rest =
     let got_it : Step = record { neighbor = add_retransmission moment lsa.header (without_met_request moment lsa n); sends = Content.Updates lsa ∷ [] } in
-    let same : without_met_request moment lsa n ≡ n = ap (λ b. cond (meets moment lsa (cond b (requested n (lsa_key lsa)) None)) (without_request (lsa_key lsa) n) n) rest in
+    let same : without_met_request moment lsa n ≡ n = ap (λ b. cond (meets moment lsa (cond b (requested_entry n (lsa_key lsa)) None)) (without_request (lsa_key lsa) n) n) rest in
     λ i. cond (part i) (cond (not (itself number i) && passes moment lsa (request_of n lsa)) got_it (no_sends (remove_retransmission (lsa_key lsa) (same i)))) (no_sends n)
 
 abbrev first : Router → ℕ → ℕ → Lsa → Outcome
@@ -126,7 +126,7 @@ second r moment number lsa = (ended moment (on_area (install moment number lsa) 
 
 first_seen : (r : Router) (moment number : ℕ) (lsa : Lsa) → map seen (first r moment number lsa).area.links ≡ map seen r.area.links
 first_seen r moment number lsa =
-    acknowledged_seen number lsa.header (stepped (flood_to moment (Some number) lsa) r.area.links)
+    acknowledged_seen number lsa.header (stepped_links (flood_to moment (Some number) lsa) r.area.links)
     ∙ stepped_seen (flood_to moment (Some number) lsa) (flooding_keeps moment (Some number) lsa) r.area.links
 
 abbrev pub sender_after : Lsa → Link → Neighbor → Link
@@ -137,12 +137,12 @@ pub sender_there : (r : Router) (moment number : ℕ) (lsa : Lsa) (link : Link) 
 sender_there r moment number lsa link n from =
     let f = flood_to moment (Some number) lsa in
     let stepped_link : Link = record link { neighbor = step_on (f number link) link.neighbor } in
-    let one : link_at number (stepped f r.area.links) ≡ Some stepped_link =
+    let one : link_at number (stepped_links f r.area.links) ≡ Some stepped_link =
     link_changed (λ (e : ℕ × Link). record e.1 { neighbor = step_on (f e.0 e.1) e.1.neighbor }) number r.area.links link from.link_there in
     let two : step_on (f number link) link.neighbor ≡ Some (remove_retransmission (lsa_key lsa) n) =
     ap (step_on (f number link)) from.neighbor_there
     ∙ ap (λ (s : Step). Some s.neighbor) (sender_step moment number lsa link n (ap is_exchange_or_later from.is_full) (ap is_exchange_or_loading from.is_full)) in
-    link_changed (λ (e : ℕ × Link). cond (e.0 == number) (acknowledge_later lsa.header e.1) e.1) number (stepped f r.area.links) stepped_link one
+    link_changed (λ (e : ℕ × Link). cond (e.0 == number) (acknowledge_later lsa.header e.1) e.1) number (stepped_links f r.area.links) stepped_link one
     ∙ (λ i. Some (cond (itself number i) (acknowledge_later lsa.header (record link { neighbor = two i })) (record link { neighbor = two i })))
 
 abbrev pub brought : Lsa → ℕ → Option ℕ → DatabaseCopy
@@ -168,7 +168,7 @@ has_brought r moment number lsa young =
 -- ---- the second
 
 same_case : (moment number : ℕ) (lsa : Lsa) (a : Area) (sent : Option ℕ) (n : Neighbor) → finite.get a.database (lsa_key lsa) ≡ Some (brought lsa moment sent) → neighbor_at number a.links ≡ Some n
-    → requested n (lsa_key lsa) ≡ None → finite.get n.retransmissions (lsa_key lsa) ≡ None → lsa.header.age < 3600 → case_at moment number lsa a ≡ Case.Duplicate
+    → requested_entry n (lsa_key lsa) ≡ None → finite.get n.retransmissions (lsa_key lsa) ≡ None → lsa.header.age < 3600 → case_at moment number lsa a ≡ Case.Duplicate
 same_case moment number lsa a sent n there from none entry young =
     let c : DatabaseCopy = brought lsa moment sent in
     let busy : Bool = any_exchange_or_loading a.links in
@@ -190,7 +190,7 @@ Twice middle new moment number lsa more =
     HasBrought middle moment lsa × WaitsAt middle number lsa × (more ≡ outs_of middle.id middle.area.links (acknowledges_at_once number lsa)) × (new ≡ middle)
 
 again : (r new : Router) (moment number : ℕ) (bytes : List ℕ) (lsa : Lsa) (link : Link) (n : Neighbor) (more : List Out)
-    → IsAtRest r moment → HasFullNeighbor r number link n → requested n (lsa_key lsa) ≡ None → IsUpdateWith bytes n.router lsa → lsa.header.age < 3600
+    → IsAtRest r moment → HasFullNeighbor r number link n → requested_entry n (lsa_key lsa) ≡ None → IsUpdateWith bytes n.router lsa → lsa.header.age < 3600
     → Happens (second r moment number lsa) moment (Occurrence.Packet number bytes) more new → Twice (second r moment number lsa) new moment number lsa more
 again r new moment number bytes lsa link n more rest from none text young event =
     let m : Router = second r moment number lsa in

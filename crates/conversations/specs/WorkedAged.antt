@@ -7,7 +7,7 @@ use Rattle.lsdb.specs.Copies.{has_just_aged_out}
 use Rattle.lsdb.specs.Headers.{Lsa, lsa_key}
 use Rattle.adjacency.specs.Contents.{Content}
 use Rattle.adjacency.specs.Neighbors.{Neighbor}
-use Rattle.adjacency.specs.Requests.{requested}
+use Rattle.adjacency.specs.Requests.{requested_entry}
 use Rattle.adjacency.specs.declared.state.State.TheVariants.{Loading}
 use Rattle.received.specs.Links.{Link, link_at, neighbor_at}
 use Rattle.events.specs.declared.model.Out.{Out}
@@ -24,7 +24,7 @@ pub record IsLoadingWithout (r : Router) (number : ℕ) (link : Link) (n : Neigh
   pub link_there : link_at number r.area.links ≡ Some link
   pub neighbor_there : link.neighbor ≡ Some n
   pub is_loading : n.state ≡ Loading
-  pub not_asked : requested n (lsa_key lsa) ≡ None
+  pub not_asked : requested_entry n (lsa_key lsa) ≡ None
 
 -- the neighbor at the interface of this number is to acknowledge the LSA
 abbrev pub IsOwedTo : Router → ℕ → ℕ → Lsa → Type 0

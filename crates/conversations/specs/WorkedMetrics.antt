@@ -6,7 +6,7 @@ use Rattle.words.specs.Numbers.{Moment}
 use Rattle.words.specs.declared.route.External.{External}
 use Rattle.lsdb.specs.Headers.{Lsa}
 use Rattle.events.specs.declared.model.Out.{Out}
-use Rattle.events.specs.Commands.{answered}
+use Rattle.events.specs.Commands.{answered_external}
 use Rattle.events.specs.Events.{Happens}
 use Rattle.events.specs.Originations.{external_body, external_key, interval_is_over, new_instance}
 use Rattle.events.specs.Routers.{Occurrence, Router}
@@ -22,7 +22,7 @@ pub record MayAnnounce (r : Router) (moment : Moment) (e : External) : Type 0 wh
 -- the first AS-external-LSA of the destination, with the metric and the tag that were answered
 abbrev pub first_external : Router → External → (tag : ℕ) → (metric : ℕ) → Lsa
 first_external r e tag metric =
-    new_instance (external_key r.id e.prefix) None (external_body (answered e tag metric))
+    new_instance (external_key r.id e.prefix) None (external_body (answered_external e tag metric))
 
 pub record MetricsAnnounceOrWithhold : Type 0 where
   -- 16,777,214: the destination is announced with it, and its LSA is in the database
@@ -30,7 +30,7 @@ pub record MetricsAnnounceOrWithhold : Type 0 where
       → IsAtRest old moment → MayAnnounce old moment e
       → Happens old moment (Occurrence.Redistribute e tag e 16777214) outs new
       → (finite.get new.announced (external_key old.id e.prefix)
-      ≡ Some (answered e tag 16777214))
+      ≡ Some (answered_external e tag 16777214))
       × ((sent : Option ℕ) × (finite.get new.area.database (external_key old.id e.prefix)
       ≡ Some (record {
         lsa = first_external old e tag 16777214;

@@ -9,7 +9,7 @@ use Rattle.adjacency.specs.Adjacencies.{has_passed}
 use Rattle.adjacency.specs.Contents.{Content}
 use Rattle.adjacency.specs.Neighbors.{Neighbor}
 use Rattle.received.specs.Links.{Link}
-use Rattle.received.specs.Outcomes.{Send, numbered}
+use Rattle.received.specs.Outcomes.{Send, sends_at}
 use Rattle.events.specs.declared.model.Out.{Out}
 use Rattle.events.specs.Events.{Happens}
 use Rattle.events.specs.Originations.{has_max_sequence, has_room, initial_sequence_number}
@@ -41,7 +41,7 @@ originated_lsa r link n copy =
 
 abbrev pub waiting_acknowledgments : Link → List Send
 waiting_acknowledgments link =
-    numbered 1 (map Content.Acknowledges (finite.values link.acknowledgments))
+    sends_at 1 (map Content.Acknowledges (finite.values link.acknowledgments))
 
 -- no own LSA is due, nothing is announced, no copy comes to MaxAge, and the neighbor was heard in
 -- time

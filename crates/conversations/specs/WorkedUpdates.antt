@@ -11,7 +11,7 @@ use Rattle.packet.specs.Text.{PacketText}
 use Rattle.adjacency.specs.Contents.{Content}
 use Rattle.adjacency.specs.declared.state.State.TheVariants.{Full}
 use Rattle.adjacency.specs.Neighbors.{Neighbor}
-use Rattle.adjacency.specs.Requests.{requested}
+use Rattle.adjacency.specs.Requests.{requested_entry}
 use Rattle.received.specs.Links.{Link, any_exchange_or_loading, link_at}
 use Rattle.received.specs.Outcomes.{Send}
 use Rattle.events.specs.declared.model.Out.{Out}
@@ -71,7 +71,8 @@ abbrev pub ANewLsaComesTwice : Type 0
 ANewLsaComesTwice =
     (old middle new : Router) (moment number : ℕ) (bytes : List ℕ) (lsa : Lsa) (link : Link)
     (n : Neighbor) (outs more : List Out)
-    → IsAtRest old moment → HasFullNeighbor old number link n → requested n (lsa_key lsa) ≡ None
+    → IsAtRest old moment → HasFullNeighbor old number link n → requested_entry n (lsa_key lsa)
+    ≡ None
     → IsUpdateWith bytes n.router lsa
     → finite.get old.area.database (lsa_key lsa) ≡ None → lsa.header.age < 3600
     → (lsa.header.advertising_router == old.id) ≡ false

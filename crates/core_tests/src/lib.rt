@@ -1,5 +1,6 @@
-//! Tests of the router as a whole by its public calls: bytes and moments in, bytes out. Each of one router is a list of steps that one loop
-//! plays; those of two and three routers in memory are in `networks` and `histories`.
+//! Tests of the router as a whole by its public calls: bytes and moments in, bytes out. Each of one
+//! router is a list of steps that one loop plays; those of two and three routers in memory are in
+//! `networks` and `histories`.
 #![tactic(auto)]
 
 #[cfg(test)]

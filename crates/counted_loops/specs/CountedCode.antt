@@ -1,7 +1,9 @@
--- Code whose turns are counted: a register that the code doesn't name falls with each jump back to one
--- of some heads, and where it comes to 0 the program answers 0.
-use Rattle.std.specs.Prelude.{◌≡◌, ℕ, ◌+◌, ◌*◌, ◌≤◌, pos, negsuc, ℤ, ◌-ℤ◌, ◌==◌, nat_le, ◌||◌, Bool, false}
-use Rattle.std.specs.Prelude.{List, [], ◌∷◌, ◌++◌, length, position, Option, Some, None, if◌then◌else◌}
+-- Code whose turns are counted: a register that the code doesn't name falls with each jump back to
+-- one of some heads, and where it comes to 0 the program answers 0.
+use Rattle.std.specs.Prelude.{◌≡◌, ℕ, ◌+◌, ◌*◌, ◌≤◌, pos, negsuc, ℤ, ◌-ℤ◌, ◌==◌, nat_le, ◌||◌, Bool}
+use Rattle.std.specs.Prelude.{false}
+use Rattle.std.specs.Prelude.{List, [], ◌∷◌, ◌++◌, length, position, Option, Some, None}
+use Rattle.std.specs.Prelude.{if◌then◌else◌}
 use Rattle.isa.specs.declared.instruction.Instruction.{Instruction}
 use Rattle.isa.specs.declared.instruction.Instruction.TheVariants as instructions
 use Rattle.isa.specs.declared.instruction.Operation.{Operation}
@@ -77,8 +79,8 @@ abbrev pub redirected : Instruction → Option ℤ → Instruction
 redirected i None = i
 redirected i (Some distance) = with_distance i distance
 
--- An instruction with its second half, if it has one; where that stands, there is nothing more. A jump
--- back to a head goes to the head's detour instead.
+-- An instruction with its second half, if it has one; where that stands, there is nothing more. A
+-- jump back to a head goes to the head's detour instead.
 abbrev pub slots_at : ℕ → List ℕ → ℕ → Slot → List Slot
 slots_at slots heads slot (Start i) =
     slots_of (redirected i (distance_of slots slot (place_of heads slot (jump_target slot i))))

@@ -1,7 +1,11 @@
 //! Counted code.
-ghost use Rattle.std.specs.Prelude.{◌≡◌, ◌==◌, ◌+◌, ◌*◌, ◌<◌, ◌≤◌, ◌++◌, IfOk, OnOk, length, position};
+ghost use Rattle.std.specs.Prelude.{◌≡◌, ◌==◌, ◌+◌, ◌*◌, ◌<◌, ◌≤◌, ◌++◌, IfOk, OnOk, length};
+ghost use Rattle.std.specs.Prelude.{position};
 ghost use Rattle.isa.specs.Flow.{jump_target};
-ghost use Rattle.counted_loops.specs.CountedCode.{IsCounted, detour, detour_at, detours, distance_between, distance_of, place_of, redirected, redirected_from, slots_at, with_distance, with_number};
+ghost use Rattle.counted_loops.specs.CountedCode.{IsCounted, detour, detour_at, detours};
+ghost use Rattle.counted_loops.specs.CountedCode.{distance_between, distance_of, place_of};
+ghost use Rattle.counted_loops.specs.CountedCode.{redirected, redirected_from, slots_at};
+ghost use Rattle.counted_loops.specs.CountedCode.{with_distance, with_number};
 
 use crate::error::CountError;
 use crate::registers::unnamed;
@@ -91,7 +95,8 @@ fn detour_at(slots: usize, place: usize) -> usize
     slots + 1 + 4 * place
 }
 
-/// How far the jump of an instruction at the slot goes to the detour of its head, if it jumps back to one.
+/// How far the jump of an instruction at the slot goes to the detour of its head, if it jumps back
+/// to one.
 fn distance_of(
     slots: usize,
     heads: &[usize],
@@ -101,7 +106,8 @@ fn distance_of(
     requires slots { slots ≤ 4096 }
     requires slot { slot < 4096 }
     requires few { length heads.now ≤ 4096 }
-    ensures { IfOk result (λ d. d ≡ distance_of slots slot (place_of heads.now slot (jump_target slot instruction.now))) }
+    ensures { IfOk result (λ d. d ≡ distance_of slots slot (place_of heads.now slot
+        (jump_target slot instruction.now))) }
 {
     match place_of(heads, slot, jump_of(slot, instruction)) {
         Some(place) => Ok(Some(distance_between(slot + 1, detour_at(slots, place))?)),
@@ -130,7 +136,8 @@ fn push_redirected(
     requires slots { slots ≤ 4096 }
     requires slot { slot < 4096 }
     requires few { length heads.now ≤ 4096 }
-    ensures { OnOk result (builder.new ≡ builder.old ++ slots_at slots heads.now slot (Slot.Start instruction.now)) }
+    ensures { OnOk result (builder.new ≡ builder.old
+        ++ slots_at slots heads.now slot (Slot.Start instruction.now)) }
 {
     let distance = distance_of(slots, heads, slot, instruction)?;
     builder.push(redirected(instruction, distance))?;
@@ -159,7 +166,8 @@ fn push_slot(
 /// Adds the code, in which the jumps back to the heads go to their detours.
 fn push_code(builder: &mut CodeBuilder, code: &Code, heads: &[usize]) -> Result<(), CountError>
     requires { length heads.now ≤ 4096 }
-    ensures { OnOk result (builder.new ≡ builder.old ++ redirected_from (length code.now) heads.now 0 code.now) }
+    ensures { OnOk result (builder.new ≡ builder.old ++ redirected_from (length code.now) heads.now
+        0 code.now) }
 {
     let slots = code.len();
     for (slot, place) in code.slots().iter().enumerate() {
@@ -168,7 +176,8 @@ fn push_code(builder: &mut CodeBuilder, code: &Code, heads: &[usize]) -> Result<
     Ok(())
 }
 
-/// Adds what counts a turn: it goes on at the loop's head, or answers 0 where that was the last one.
+/// Adds what counts a turn: it goes on at the loop's head, or answers 0 where that was the last
+/// one.
 fn push_detour(
     builder: &mut CodeBuilder,
     counter: Register,
@@ -217,14 +226,14 @@ fn push_detours(
     Ok(())
 }
 
-/// The code that counts each jump back to one of these heads, and answers 0 instead of going back more
-/// often than `turns` times in all. Each slot of the code stands one slot later in it.
+/// The code that counts each jump back to one of these heads, and answers 0 instead of going back
+/// more often than `turns` times in all. Each slot of the code stands one slot later in it.
 ///
 /// # Errors
 ///
-/// Where the code names each of r6 to r9; where `turns` isn't below 1,000,000, which no program may take;
-/// where the code would be longer than 4096 slots, or a jump go farther than its distance can say; and
-/// where memory is refused.
+/// Where the code names each of r6 to r9; where `turns` isn't below 1,000,000, which no program may
+/// take; where the code would be longer than 4096 slots, or a jump go farther than its distance can
+/// say; and where memory is refused.
 pub fn counted(alloc: Global, code: &Code, heads: &[usize], turns: u32) -> Result<Code, CountError>
     ensures { IfOk result (λ counted. IsCounted turns heads.now code.now counted) }
 {

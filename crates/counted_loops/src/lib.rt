@@ -1,5 +1,5 @@
-//! Code that counts its turns, for loops that have no rank: a register that the program doesn't use falls
-//! with each jump back that is counted, and where it comes to 0 the program answers 0.
+//! Code that counts its turns, for loops that have no rank: a register that the program doesn't use
+//! falls with each jump back that is counted, and where it comes to 0 the program answers 0.
 #![tactic(auto)]
 
 mod counting;

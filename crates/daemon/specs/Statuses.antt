@@ -1,7 +1,8 @@
 -- The status that the program ends with where no router runs.
 use Rattle.std.specs.Prelude.{ℕ}
 use Rattle.daemon.specs.declared.error.RouteError.{RouteError}
-use Rattle.daemon.specs.declared.error.RouteError.TheVariants.{Configuration, Bind, Socket, Hooks, Output, Memory}
+use Rattle.daemon.specs.declared.error.RouteError.TheVariants.{Configuration, Bind, Socket, Hooks}
+use Rattle.daemon.specs.declared.error.RouteError.TheVariants.{Output, Memory}
 
 -- 1 refused, 3 a socket or a stream, 4 memory
 abbrev pub status_of : RouteError → ℕ

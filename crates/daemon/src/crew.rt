@@ -22,9 +22,9 @@ use worker::{Book, Closed, Core, Hub, Port, Setup, Site, close_hub, open_hub};
 
 /// Lets each worker run on a thread with a port of its own, and the operator on this thread at port
 /// 0, until the operator is done. Every thread is joined before it answers, whatever it answers.
-/// There is a link for each port but the operator's: port n's receives at interface n. The book took just as many events as all
-/// shares count; the shared words come back with all their seats, as
-/// [`Shared::close`](maps::Shared::close) asks for them.
+/// There is a link for each port but the operator's: port n's receives at interface n. The book
+/// took just as many events as all shares count; the shared words come back with all their seats,
+/// as [`Shared::close`](maps::Shared::close) asks for them.
 ///
 /// `AllocError` comes where an allocation was refused, or where a thread couldn't be started.
 pub fn side_by_side<
@@ -127,8 +127,8 @@ fn crew<
     joined(rt, running, first, back)
 }
 
-// A thread for each port, each with the link that receives at the interface of its number. Where one
-// can't be started the others are told to end.
+// A thread for each port, each with the link that receives at the interface of its number. Where
+// one can't be started the others are told to end.
 fn started<'s, E, L: Site + Send + Sync, R: Threads + Wait + Clock + Log + Sync>(
     scope: &Scope<'s, E>,
     hub: &'s Hub<L, Book<L>>,

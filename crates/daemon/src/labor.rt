@@ -21,7 +21,8 @@ pub struct Workers<'a, R> {
 }
 
 /// What a worker does with its port and the link that receives at the port's interface, on a thread
-/// of its own, before it brings the port back. `failed` is set where its socket failed, which a warning tells.
+/// of its own, before it brings the port back. `failed` is set where its socket failed, which a
+/// warning tells.
 pub fn work<L: Site, R: Wait + Clock + Log>(
     rt: &R,
     alloc: Global,

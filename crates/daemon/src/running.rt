@@ -184,8 +184,8 @@ fn run_all<
     run_crew(rt, setup, config, &workers, links, &mut desk, &mut console)
 }
 
-/// Runs this router over these links, one for each interface and that of the first one last, and over
-/// one of the console's own, as [`run_router`] does.
+/// Runs this router over these links, one for each interface and that of the first one last, and
+/// over one of the console's own, as [`run_router`] does.
 ///
 /// # Errors
 ///

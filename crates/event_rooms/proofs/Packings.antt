@@ -15,7 +15,7 @@ use Rattle.packet.specs.declared.model.Body.{Body}
 use Rattle.received.specs.Links.{Link}
 use Rattle.received.specs.Outcomes.{Send}
 use Rattle.events.specs.declared.model.Out.{Out}
-use Rattle.events.specs.Packing.{at_interface, bodies, fill_on, header_size, in_key_order, is_after, out_of, outs_at, outs_of, packed, put}
+use Rattle.events.specs.Packing.{at_interface, bodies, fill_on, header_size, in_key_order, is_after, out_of, outs_at, outs_of, packed_groups, put}
 use Rattle.event_rooms.specs.PackingLaws.{AreByInterface, AreFull, IsAscending, IsFull, IsInKeyOrder, IsPacking, sizes, total}
 
 -- ---- the order of keys
@@ -202,7 +202,7 @@ module _ {X : Type 0} (size : X → ℕ) (start : ℕ) where
       zero_behind : (n : ℕ) → n ≡ n + 0
       zero_behind n = omega arith
 
-  pub packs : (xs : List X) → AllByRecursion (λ x. start + size x ≤ 8192) xs → IsPacking size start xs (packed size start xs)
+  pub packs : (xs : List X) → AllByRecursion (λ x. start + size x ≤ 8192) xs → IsPacking size start xs (packed_groups size start xs)
   packs [] fit = record { all = refl; within = tt; full = tt }
   packs (x ∷ xs) fit = record {
     all = all_there xs (x ∷ []) (start + size x);

@@ -20,7 +20,7 @@ use Rattle.adjacency.specs.Contents.{Content}
 use Rattle.received.specs.Links.{Link}
 use Rattle.received.specs.Outcomes.{Send}
 use Rattle.events.specs.declared.model.Out.{Out}
-use Rattle.events.specs.Packing.{acknowledgments, at_interface, bodies, descriptions, fill_on, first_key, header_size, hellos, in_key_order, lsa_size, out_of, outs_at, packed, packet_of, requests, sent_lsa, update_of, updates}
+use Rattle.events.specs.Packing.{acknowledgments, at_interface, bodies, descriptions, fill_on, first_key, header_size, hellos, in_key_order, lsa_size, out_of, outs_at, packed_groups, packet_of, requests, sent_lsa, update_of, updates}
 use Rattle.event_rooms.specs.PackingLaws.{HasPacketRoom, HasRoom, OutsAreOrderedAndPacked, sizes, total}
 use Rattle.event_rooms.proofs.Packings.{by_interface, headers_fit, ordered, packs, put_all}
 
@@ -57,7 +57,7 @@ filled_all size start P (x ∷ xs) taken used t p =
     by_test true one other = one
     by_test false one other = (t, other)
 
-pub packed_all : {X : Type 0} (size : X → ℕ) (start : ℕ) (P : X → Type 0) (xs : List X) → AllByRecursion P xs → AllByRecursion (λ p. AllByRecursion P p) (packed size start xs)
+pub packed_all : {X : Type 0} (size : X → ℕ) (start : ℕ) (P : X → Type 0) (xs : List X) → AllByRecursion P xs → AllByRecursion (λ p. AllByRecursion P p) (packed_groups size start xs)
 packed_all size start P [] p = tt
 packed_all size start P (x ∷ xs) p = filled_all size start P xs (x ∷ []) (start + size x) (p.0, tt) p.1
 
@@ -181,16 +181,16 @@ bodies_few delay cs rooms =
     let headers : List Header = in_key_order key_of (filter_map acknowledgments cs) in
     let sized : AllByRecursion IsSized lsas = order_all lsa_key IsSized (filter_map updates cs) (chosen_all updates IsSized update_room cs rooms) in
     let short : AllByRecursion IsShort keys = order_all first_key IsShort (filter_map requests cs) (chosen_all requests IsShort request_room cs rooms) in
-    let parcels : AllByRecursion (λ p. AllByRecursion IsSized p × (total lsa_size 28 p ≤ 8192)) (packed lsa_size 28 lsas) =
-    paired_all (λ p. AllByRecursion IsSized p) (λ p. total lsa_size 28 p ≤ 8192) (packed lsa_size 28 lsas)
+    let parcels : AllByRecursion (λ p. AllByRecursion IsSized p × (total lsa_size 28 p ≤ 8192)) (packed_groups lsa_size 28 lsas) =
+    paired_all (λ p. AllByRecursion IsSized p) (λ p. total lsa_size 28 p ≤ 8192) (packed_groups lsa_size 28 lsas)
     (packed_all lsa_size 28 IsSized lsas sized) (packs lsa_size 28 lsas (sized_fit lsas sized)).within in
-    both HasPacketRoom _ (map body.Acknowledgment (packed header_size 24 headers))
-    (both HasPacketRoom _ (map (update_of delay) (packed lsa_size 28 lsas))
+    both HasPacketRoom _ (map body.Acknowledgment (packed_groups header_size 24 headers))
+    (both HasPacketRoom _ (map (update_of delay) (packed_groups lsa_size 28 lsas))
     (both HasPacketRoom _ (map body.Request keys)
     (both HasPacketRoom hs ds (chosen_all hellos HasPacketRoom hello_room cs rooms) (chosen_all descriptions HasPacketRoom description_room cs rooms))
     (mapped_all body.Request IsShort HasPacketRoom request_bytes keys short))
-    (mapped_all (update_of delay) (λ p. AllByRecursion IsSized p × (total lsa_size 28 p ≤ 8192)) HasPacketRoom (update_bytes delay) (packed lsa_size 28 lsas) parcels))
-    (mapped_all body.Acknowledgment (λ p. total header_size 24 p ≤ 8192) HasPacketRoom acknowledgment_bytes (packed header_size 24 headers) (packs header_size 24 headers (headers_fit headers)).within)
+    (mapped_all (update_of delay) (λ p. AllByRecursion IsSized p × (total lsa_size 28 p ≤ 8192)) HasPacketRoom (update_bytes delay) (packed_groups lsa_size 28 lsas) parcels))
+    (mapped_all body.Acknowledgment (λ p. total header_size 24 p ≤ 8192) HasPacketRoom acknowledgment_bytes (packed_groups header_size 24 headers) (packs header_size 24 headers (headers_fit headers)).within)
 
 pub there : (n : ℕ) (sends : List Send) → AllByRecursion (λ (s : Send). HasRoom s.content) sends → AllByRecursion HasRoom (filter_map (at_interface n) sends)
 there n [] p = tt

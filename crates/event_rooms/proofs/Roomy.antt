@@ -34,7 +34,7 @@ use Rattle.adjacency.proofs.Kept.{chosen}
 use Rattle.adjacency.proofs.Roomy.{acknowledgment_roomy, again_roomy, aged_fits, copies_fit, description_roomy, filled_roomy, hello_roomy, mismatched_roomy, now_fits, old_description_roomy, quiet_roomy, request_roomy, still_heard_roomy, updates_room}
 use Rattle.received.specs.Holds.{Holds, HoldsOfEach}
 use Rattle.received.specs.Links.{Link, link_at, neighbor_on}
-use Rattle.received.specs.Outcomes.{Outcome, numbered, on_database, on_links}
+use Rattle.received.specs.Outcomes.{Outcome, sends_at, on_database, on_links}
 use Rattle.received.proofs.Holding.{each_link_keeps, one_holds}
 use Rattle.received.proofs.Roomy.{FitsIfThere, HasRoomFor, IsRoomyOutcome, SendHasRoom, all_fit, case_roomy, changed_fit, changed_roomy, each_roomy, fits_at, flood_roomy, inserted_fit, joined, numbered_roomy, on_database_roomy, on_links_roomy, one_roomy, sending_roomy}
 use Rattle.events.specs.declared.model.Config.{Config}
@@ -47,7 +47,7 @@ use Rattle.events.specs.Originations.{due_keys, install_and_flood, new_instance,
 use Rattle.events.specs.Packets.{hear, heard_on, requested_lsas, with_neighbor}
 use Rattle.events.specs.EventState.{EventState, flood_from_nobody}
 use Rattle.event_rooms.specs.RoomLaws.{EveryPacketHasRoom, HaveRoom, IsRoomy}
-use Rattle.events.specs.Routers.{Occurrence, Router, in_profile, fresh_link, unannounced}
+use Rattle.events.specs.Routers.{Occurrence, Router, in_profile, fresh_link, unannounced_router}
 use Rattle.events.specs.Ticks.{acknowledgments_on, again, with_hello_sent, hello_sent_on, run_out, sends_of, settled_exchange, without_acknowledgments}
 use Rattle.event_rooms.proofs.Fitting.{BringsShort, FitsIfRead, IsFewIfAny, IsShort, originated_fits, packet_short, read_fits, wanted_few}
 use Rattle.event_rooms.proofs.Rooms.{ordered_and_packed}
@@ -160,10 +160,10 @@ filled_on_roomy (Some n) h = filled_roomy n h
 -- ---- what each link sends by itself
 
 sends_roomy : (f : Link → List Content) → ((link : Link) → AllByRecursion HasRoom (f link)) → (k : ℕ) (xs : List Link)
-    → AllByRecursion SendHasRoom (flat_map (λ (e : ℕ × Link). numbered e.0 (f e.1)) (enumerate_from k xs))
+    → AllByRecursion SendHasRoom (flat_map (λ (e : ℕ × Link). sends_at e.0 (f e.1)) (enumerate_from k xs))
 sends_roomy f each k [] = tt
 sends_roomy f each k (x ∷ xs) =
-    joined SendHasRoom (numbered k (f x)) (flat_map (λ (e : ℕ × Link). numbered e.0 (f e.1)) (enumerate_from (k + 1) xs))
+    joined SendHasRoom (sends_at k (f x)) (flat_map (λ (e : ℕ × Link). sends_at e.0 (f e.1)) (enumerate_from (k + 1) xs))
     (numbered_roomy k (f x) (each x)) (sends_roomy f each (k + 1) xs)
 
 acknowledgments_room : (es : List (Key × Header)) → AllByRecursion HasRoom (map Content.Acknowledges (map (λ e. e.1) es))
@@ -213,7 +213,7 @@ hello_heard own moment number from hello (Some link) o here h =
     let so : IsRoomyStep s = hello_roomy moment from (names own hello) link.neighbor here in
     chosen IsRoomyOutcome (accepts own from hello link) (hear moment number s o) o
     (λ is.
-    sending_roomy moment (numbered number s.sends) _ (numbered_roomy number s.sends so.sends) (changed_roomy number (with_neighbor s.neighbor) (λ l at. so.neighbor) o h))
+    sending_roomy moment (sends_at number s.sends) _ (numbered_roomy number s.sends so.sends) (changed_roomy number (with_neighbor s.neighbor) (λ l at. so.neighbor) o h))
     (λ is. h)
 
 parts_roomy : IsKeptByParts roomy
@@ -231,7 +231,7 @@ parts_roomy = record {
       (description_roomy own moment o.area.database d) o h;
   requested = λ moment number keys o h.
       let lsas : List Lsa = requested_lsas moment o.area.database keys in
-      sending_roomy moment (numbered number (map Content.Updates lsas)) o
+      sending_roomy moment (sends_at number (map Content.Updates lsas)) o
       (numbered_roomy number (map Content.Updates lsas) (updates_room lsas (copies_fit moment o.area.database h.fit keys))) h;
   mismatch = λ moment number o h. one_roomy moment number (adjacencies.mismatched moment) (mismatched_roomy moment) o h;
   acknowledgment = λ moment number headers o h.
@@ -300,7 +300,7 @@ first_roomy c e =
     let d = and_parts _ _ b.0 in
     let few : length c.interfaces ≤ 63 = leb-true (length c.interfaces) 63 d.1 in
     let still : length (map fresh_link c.interfaces) ≤ 63 = subst (λ n. n ≤ 63) (sym (length-map c.interfaces fresh_link)) few in
-    let start : EventState = record { router = unannounced c; sends = [] } in
+    let start : EventState = record { router = unannounced_router c; sends = [] } in
     let at : OfEvent roomy start = record {
       area = record { fit = all_fit (finite.empty {X = DatabaseCopy} {R = key_cmp}) none_there; lists = fresh_so c.interfaces; few = still; sent = tt };
       announced = tt;

@@ -25,9 +25,9 @@ use Rattle.adjacency.specs.Neighbors.{Neighbor}
 use Rattle.adjacency.proofs.Kept.{chosen}
 use Rattle.received.specs.Cases.{Case}
 use Rattle.received.specs.Links.{Area, Link, any_exchange_or_loading, change_link, link_at, neighbor_on}
-use Rattle.received.specs.Outcomes.{Outcome, Send, numbered, on_database, on_links, one_neighbor, sending}
+use Rattle.received.specs.Outcomes.{Outcome, Send, sends_at, on_database, on_links, one_neighbor, sending}
 use Rattle.received.specs.Updates.{after_case, case_at, goes_on}
-use Rattle.events.specs.Commands.{after_redistribute, after_withdraw, announce, announce_as, answered, end_want, ls_infinity, is_announced_as, is_for, taken_down, unannounce}
+use Rattle.events.specs.Commands.{after_redistribute, after_withdraw, announce, announce_as, answered_external, end_want, ls_infinity, is_announced_as, is_for, taken_down, unannounce}
 use Rattle.events.specs.Endings.{start_event, describe_router, describe_router_later, link_loading_done, loading_done, end_event, is_current, links_differ, remove_aged, request_all, stays, with_ages}
 use Rattle.events.specs.Events.{OwnPart}
 use Rattle.events.specs.Originations.{due_keys, external_key, flush, flush_copy, forget_originations, has_max_sequence, has_room, install_and_flood, is_wanted, may_originate, new_instance, originate, originate_anyway, originate_body, originate_due, originate_or_wait, router_key, receive_self_originated, originate_or_flush, wait, wanted_body}
@@ -101,7 +101,7 @@ pub record IsKeptByParts (i : Invariant) : Type 0 where
   pub hello : (own moment number from : ℕ) (h : Hello) → Keeps i (after_hello own moment number from h)
   pub description : (own moment number : ℕ) (d : Description) → Keeps i (describe_to own moment number d)
   pub requested : (moment number : ℕ) (keys : List Key) (o : Outcome) → OfOutcome i o
-      → OfOutcome i (sending moment (numbered number (map Content.Updates (requested_lsas moment o.area.database keys))) o)
+      → OfOutcome i (sending moment (sends_at number (map Content.Updates (requested_lsas moment o.area.database keys))) o)
   pub mismatch : (moment number : ℕ) → Keeps i (one_neighbor moment number (adjacencies.mismatched moment))
   pub acknowledgment : (moment number : ℕ) (headers : List Header) → Keeps i (acknowledged_by moment number headers)
   -- a Tick
@@ -216,7 +216,7 @@ module _ (i : Invariant) (kept : IsKeptByParts i) where
 
   requests_answered : (moment number : ℕ) (keys : List Key) (o : Outcome) → OfOutcome i o → OfOutcome i (requested_from moment number keys o)
   requests_answered moment number keys o h =
-      chosen (OfOutcome i) (list_all (is_there o.area.database) keys) (sending moment (numbered number (map Content.Updates (requested_lsas moment o.area.database keys))) o)
+      chosen (OfOutcome i) (list_all (is_there o.area.database) keys) (sending moment (sends_at number (map Content.Updates (requested_lsas moment o.area.database keys))) o)
       (one_neighbor moment number (adjacencies.mismatched moment) o)
       (λ is. kept.requested moment number keys o h) (λ is. kept.mismatch moment number o h)
 
@@ -273,8 +273,8 @@ module _ (i : Invariant) (kept : IsKeptByParts i) where
       → InProgress (after_redistribute moment e tag price p)
   redistributed moment e tag price p own anyway h =
       let key : Key = external_key p.router.id e.prefix in
-      chosen InProgress (nat_le ls_infinity price) (end_want moment key p) (announce_as moment key (answered e tag price) p)
-      (λ is. want_ended moment key p h) (λ is. announced_kept moment (answered e tag price) p own anyway h)
+      chosen InProgress (nat_le ls_infinity price) (end_want moment key p) (announce_as moment key (answered_external e tag price) p)
+      (λ is. want_ended moment key p h) (λ is. announced_kept moment (answered_external e tag price) p own anyway h)
 
   withdrawn : (moment : ℕ) (prefix : Network) (p : EventState) → InProgress p → InProgress (after_withdraw moment prefix p)
   withdrawn moment prefix p h =

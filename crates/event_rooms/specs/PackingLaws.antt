@@ -12,7 +12,7 @@ use Rattle.received.specs.Links.{Link}
 use Rattle.received.specs.Outcomes.{Send}
 use Rattle.events.specs.declared.model.Out.{Out}
 use Rattle.events.specs.Packing.{bodies, header_size, in_key_order, is_after, lsa_size, outs_of}
-use Rattle.events.specs.Packing.{packed}
+use Rattle.events.specs.Packing.{packed_groups}
 
 -- ---- in the order of the keys
 
@@ -81,9 +81,9 @@ pub record OutsAreOrderedAndPacked : Type 0 where
   -- an Update has 28 bytes before its first LSA, and each LSA came in an Update or is a short one
   -- of this router's own
   pub packed_updates : (lsas : List Lsa) → AllByRecursion (λ l. 28 + lsa_size l ≤ 8192) lsas
-      → IsPacking lsa_size 28 lsas (packed lsa_size 28 lsas)
+      → IsPacking lsa_size 28 lsas (packed_groups lsa_size 28 lsas)
   pub packed_acknowledgments : (headers : List Header)
-      → IsPacking header_size 24 headers (packed header_size 24 headers)
+      → IsPacking header_size 24 headers (packed_groups header_size 24 headers)
   -- what each packet says has room in it
   pub bodies : (delay : ℕ) (contents : List Content) → AllByRecursion HasRoom contents
       → AllByRecursion HasPacketRoom (bodies delay contents)

@@ -34,8 +34,8 @@ same_external a b =
     && a.tag == b.tag
 
 -- the destination with the metric that was answered, and the low 32 bits of the tag
-abbrev pub answered : External → ℕ → ℕ → External
-answered e tag price = record e { metric = price; tag = tag % 2 ^ 32 }
+abbrev pub answered_external : External → ℕ → ℕ → External
+answered_external e tag price = record e { metric = price; tag = tag % 2 ^ 32 }
 
 abbrev pub is_announced_as : External → Option External → Bool
 is_announced_as e None = false
@@ -70,7 +70,7 @@ announce_as moment key e p =
 abbrev pub after_redistribute : Moment → External → ℕ → ℕ → EventState → EventState
 after_redistribute moment e tag price p =
     if nat_le ls_infinity price then end_want moment (external_key p.router.id e.prefix) p
-    else announce_as moment (external_key p.router.id e.prefix) (answered e tag price) p
+    else announce_as moment (external_key p.router.id e.prefix) (answered_external e tag price) p
 
 abbrev pub after_withdraw : Moment → Network → EventState → EventState
 after_withdraw moment prefix p =

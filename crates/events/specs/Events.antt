@@ -14,7 +14,7 @@ use Rattle.events.specs.Originations.{originate_or_wait, router_key}
 use Rattle.events.specs.Packets.{after_packet}
 use Rattle.events.specs.Packing.{outs_of}
 use Rattle.events.specs.EventState.{EventState}
-use Rattle.events.specs.Routers.{Occurrence, Router, unannounced}
+use Rattle.events.specs.Routers.{Occurrence, Router, unannounced_router}
 use Rattle.events.specs.Ticks.{after_tick}
 
 -- ---- an event
@@ -59,6 +59,6 @@ Run old (s ∷ steps) new =
 abbrev pub initial : Config → Router
 initial c =
     (originate_or_wait c.start (router_key c.router) (record {
-      router = unannounced c;
+      router = unannounced_router c;
       sends = [];
     })).router

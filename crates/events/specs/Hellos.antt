@@ -5,11 +5,13 @@ use Rattle.std.specs.Prelude.{Option, None, Some}
 use Rattle.std.specs.List.{list_any}
 use Rattle.words.specs.Numbers.{Moment, RouterNumber, Seconds}
 use Rattle.words.specs.Prefixes.{mask_of}
+use Rattle.words.specs.Constants.{e_bit}
 use Rattle.packet.specs.declared.model.Body.TheVariants as body
 use Rattle.packet.specs.declared.model.Hello.{Hello}
 use Rattle.packet.specs.declared.model.Packet.{Packet}
 use Rattle.adjacency.specs.Adjacencies.{has_passed}
 use Rattle.adjacency.specs.Neighbors.{Neighbor}
+use Rattle.adjacency.specs.declared.interface.Interface.{Interface}
 use Rattle.received.specs.Links.{Link}
 
 -- ---- received Hellos
@@ -19,11 +21,14 @@ abbrev pub is_foreign : (own : RouterNumber) → (from : RouterNumber) → Bool
 is_foreign own from = not (from == 0) && not (from == own)
 
 -- HelloInterval, RouterDeadInterval and the E bit are those of the interface
+abbrev pub agrees_on : Interface → Hello → Bool
+agrees_on interface h =
+    h.hello_interval == interface.hello_interval
+    && h.dead_interval == interface.dead_interval
+    && not (bit_and h.options e_bit == 0)
+
 abbrev pub agrees : Link → Hello → Bool
-agrees link h =
-    h.hello_interval == link.interface.hello_interval
-    && h.dead_interval == link.interface.dead_interval
-    && not (bit_and h.options 2 == 0)
+agrees link h = agrees_on link.interface h
 
 -- another router is heard only where the neighbor is Down
 abbrev pub may_be : Option Neighbor → RouterNumber → Bool
@@ -61,7 +66,7 @@ abbrev pub hello_on : Link → Hello
 hello_on link = record {
   mask = mask_of link.interface.length;
   hello_interval = link.interface.hello_interval;
-  options = 2;
+  options = e_bit;
   priority = 1;
   dead_interval = link.interface.dead_interval;
   neighbors = heard_of link.neighbor;

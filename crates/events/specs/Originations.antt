@@ -8,7 +8,7 @@ use Rattle.std.specs.FinSet as set
 use Rattle.std.specs.Ordering.{int_cmp, is_eq}
 pub use Rattle.words.specs.Constants.{max_sequence_number}
 pub use Rattle.words.specs.Constants.{initial_sequence_number}
-use Rattle.words.specs.Constants.{ls_refresh_time, max_age, min_ls_interval}
+use Rattle.words.specs.Constants.{e_bit, ls_refresh_time, max_age, min_ls_interval}
 use Rattle.words.specs.Numbers.{Moment, RouterNumber}
 use Rattle.words.specs.Prefixes.{Network, mask_of, network_address}
 use Rattle.words.specs.declared.key.Key.{Key}
@@ -114,7 +114,7 @@ abbrev pub new_instance : Key → Option DatabaseCopy → Body → Lsa
 new_instance key copy says = sealed_lsa (record {
   header = record {
     age = 0;
-    options = 2;
+    options = e_bit;
     ls_type = key.ls_type;
     link_state_id = key.link_state_id;
     advertising_router = key.advertising_router;

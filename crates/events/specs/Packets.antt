@@ -20,7 +20,7 @@ use Rattle.adjacency.specs.Neighbors.{Neighbor, is_exchange_or_later}
 use Rattle.adjacency.specs.Retransmissions.{after_acknowledgment, lsa_of}
 use Rattle.received.specs.Cases.{Case}
 use Rattle.received.specs.Links.{Link, change_link, link_at, neighbor_at}
-use Rattle.received.specs.Outcomes.{Outcome, numbered, on_links, one_neighbor, sending}
+use Rattle.received.specs.Outcomes.{Outcome, sends_at, on_links, one_neighbor, sending}
 use Rattle.received.specs.Updates.{after_case, case_at, goes_on}
 pub use Rattle.events.specs.Hellos.{accepts, agrees, is_foreign, may_be, names}
 use Rattle.events.specs.Originations.{receive_self_originated}
@@ -33,7 +33,7 @@ with_neighbor n link = record link { neighbor = Some n }
 
 abbrev pub hear : Moment → InterfaceNumber → Step → Outcome → Outcome
 hear moment number s o =
-    sending moment (numbered number s.sends)
+    sending moment (sends_at number s.sends)
     (on_links (change_link number (with_neighbor s.neighbor)) o)
 
 abbrev pub heard_on : (own : RouterNumber) → Moment → InterfaceNumber
@@ -62,7 +62,7 @@ abbrev pub requested_from : Moment → InterfaceNumber → List Key → Outcome 
 requested_from moment number keys o =
     if list_all (is_there o.area.database) keys
     then sending moment
-    (numbered number (map Content.Updates (requested_lsas moment o.area.database keys))) o
+    (sends_at number (map Content.Updates (requested_lsas moment o.area.database keys))) o
     else one_neighbor moment number (adjacencies.mismatched moment) o
 
 -- ---- Updates (section 13)

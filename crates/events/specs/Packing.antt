@@ -43,9 +43,9 @@ fill_on size start used taken (x ∷ xs) =
     then fill_on size start (used + size x) (taken ++ (x ∷ [])) xs
     else taken ∷ fill_on size start (start + size x) (x ∷ []) xs
 
-abbrev pub packed : {X : Type 0} → (X → ℕ) → ℕ → List X → List (List X)
-packed size start [] = []
-packed size start (x ∷ xs) = fill_on size start (start + size x) (x ∷ []) xs
+abbrev pub packed_groups : {X : Type 0} → (X → ℕ) → ℕ → List X → List (List X)
+packed_groups size start [] = []
+packed_groups size start (x ∷ xs) = fill_on size start (start + size x) (x ∷ []) xs
 
 -- ---- the packets of one interface, by their types
 
@@ -109,9 +109,9 @@ bodies delay contents =
     ++ filter_map descriptions contents
     ++ map body.Request (in_key_order first_key (filter_map requests contents))
     ++ map (update_of delay)
-    (packed lsa_size 28 (in_key_order lsa_key (filter_map updates contents)))
+    (packed_groups lsa_size 28 (in_key_order lsa_key (filter_map updates contents)))
     ++ map body.Acknowledgment
-    (packed header_size 24 (in_key_order key_of (filter_map acknowledgments contents)))
+    (packed_groups header_size 24 (in_key_order key_of (filter_map acknowledgments contents)))
 
 -- ---- all interfaces in order
 

@@ -91,8 +91,8 @@ with_links id links moment = record {
 }
 
 -- before it has originated anything; the start counts as the moment of a last event
-abbrev pub unannounced : Config → Router
-unannounced c = with_links c.router (map fresh_link c.interfaces) c.start
+abbrev pub unannounced_router : Config → Router
+unannounced_router c = with_links c.router (map fresh_link c.interfaces) c.start
 
 -- ---- what is shown
 

@@ -9,7 +9,7 @@ use Rattle.adjacency.specs.Descriptions.{without_old_description}
 use Rattle.adjacency.specs.Neighbors.{Neighbor}
 use Rattle.adjacency.specs.Retransmissions.{send_again}
 use Rattle.received.specs.Links.{Link}
-use Rattle.received.specs.Outcomes.{Outcome, Send, Stepping, each_neighbor, numbered, on_links}
+use Rattle.received.specs.Outcomes.{Outcome, Send, Stepping, each_neighbor, sends_at, on_links}
 use Rattle.received.specs.Outcomes.{sending}
 pub use Rattle.events.specs.Hellos.{with_hello_sent, hello_is_due, hello_on, is_due}
 use Rattle.events.specs.Originations.{due_keys, forget_originations, originate_due}
@@ -48,7 +48,7 @@ without_acknowledgments link = record link { acknowledgments = finite.empty }
 
 -- what each link sends by itself
 abbrev pub sends_of : (Link → List Content) → List Link → List Send
-sends_of f links = flat_map (λ (e : ℕ × Link). numbered e.0 (f e.1)) (enumerate_from 1 links)
+sends_of f links = flat_map (λ (e : ℕ × Link). sends_at e.0 (f e.1)) (enumerate_from 1 links)
 
 abbrev pub acknowledge_all : Moment → Outcome → Outcome
 acknowledge_all moment o =

@@ -15,7 +15,8 @@ abbrev pub refused_words : Refusal → List ℕ
 refused_words refusal = codes "refused slot "
     ++ (decimal refusal.slot ++ (codes " rule " ++ decimal (rule_number refusal.rule)))
 
--- The text tells the bound of an accepted program alone, and the slot and the rule of a refused one first.
+-- The text tells the bound of an accepted program alone, and the slot and the rule of a refused one
+-- first.
 abbrev pub TellsVerdict : Result Program VerifyError → List ℕ → Type 0
 TellsVerdict (Ok program) text = text ≡ accepted_line program.bound
 TellsVerdict (Err (errors.Refused refusal)) text =

@@ -16,7 +16,8 @@ fn known_at(kinds: &[Kind<Value>], register: usize) -> Kind<Value> {
     kinds.get(register).copied().unwrap_or(Kind::Empty)
 }
 
-/// A line for each register that isn't within the statement, and for the first such byte of the stack.
+/// A line for each register that isn't within the statement, and for the first such byte of the
+/// stack.
 fn push_outside(
     out: &mut String,
     target: &Target<'_, Value>,
@@ -38,7 +39,8 @@ fn push_outside(
         if target.statement.stack().contains(place) && !is_byte {
             return writeln!(
                 out,
-                "  stack {place}: may be empty, or a part of a pointer\n  allowed: a byte, as is stated there"
+                "  stack {place}: may be empty, or a part of a pointer\n  allowed: a byte, \
+                    as is stated there"
             );
         }
     }

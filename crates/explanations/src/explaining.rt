@@ -155,7 +155,8 @@ fn refusal_in(verdict: &Result<Accepted, VerifyError>) -> Option<Refusal> {
     }
 }
 
-/// What the verifier knows where a run begins, and then at each slot, up to the one that it refuses.
+/// What the verifier knows where a run begins, and then at each slot, up to the one that it
+/// refuses.
 fn push_known_by<'a>(
     alloc: Global,
     page: &mut Page,
@@ -216,12 +217,13 @@ fn page_of(
     Ok(page)
 }
 
-/// What the verifier knows at each slot of the object's program, up to the one that it refuses, and its
-/// verdict.
+/// What the verifier knows at each slot of the object's program, up to the one that it refuses, and
+/// its verdict.
 pub fn explain(alloc: Global, bytes: &[u8]) -> Result<Explanation, ExplainError>
     ensures accepts { IfOk result (λ explanation. IfOk explanation.verdict (Accepts bytes.now)) }
     ensures refuses { IfOk result (λ explanation. IfErr explanation.verdict (Refuses bytes.now)) }
-    ensures told { IfOk result (λ explanation. TellsVerdict explanation.verdict (string_bytes explanation.told)) }
+    ensures told { IfOk result (λ explanation. TellsVerdict explanation.verdict
+        (string_bytes explanation.told)) }
 {
     let object = object::read(alloc, bytes)?;
     let code = decode(alloc, object.code())?;

@@ -112,7 +112,8 @@ fn push_empty(
         }
     }
     out.push_str(
-        "  allowed: what is filled on each way that leads here, and is stated where a statement is on the way\n",
+        "  allowed: what is filled on each way that leads here, and is stated where a statement is \
+            on the way\n",
     )
 }
 
@@ -122,13 +123,15 @@ fn allowed_kinds(instruction: &Instruction) -> &'static str {
         Instruction::Load { .. } =>
             "a pointer as the base; of a stored pointer its eight bytes, as a u64",
         Instruction::Store { .. } =>
-            "a pointer into the stack or the cells (map 1) as the base; a pointer is stored on the stack alone, as a u64",
+            "a pointer into the stack or the cells (map 1) as the base; a pointer is stored on the \
+                stack alone, as a u64",
         Instruction::Arithmetic {
             width: Width::Bits64,
             operation: Operation::Add | Operation::Subtract,
             ..
         } =>
-            "two numbers, or a pointer on the left and a number on the right, a single one for the context and the stack",
+            "two numbers, or a pointer on the left and a number on the right, a single one for the \
+                context and the stack",
         Instruction::Arithmetic { .. } =>
             "two numbers; a pointer is copied with all of its 64 bits",
         Instruction::Branch { .. } => "two numbers",
@@ -283,7 +286,8 @@ pub(crate) fn push_misplaced(
     match (rule, jump_of(slot, instruction)) {
         (Rule::Target, Some(to)) => writeln!(
             out,
-            "  it jumps to slot {to}, where no instruction begins\n  allowed: a slot of the code where one begins"
+            "  it jumps to slot {to}, \
+                where no instruction begins\n  allowed: a slot of the code where one begins"
         ),
         (Rule::Unstated, Some(to)) => writeln!(
             out,
@@ -294,7 +298,8 @@ pub(crate) fn push_misplaced(
         ),
         _ => writeln!(
             out,
-            "  slot {slot} has no statement, and nothing comes from the slot before\n  allowed: a slot that is stated"
+            "  slot {slot} has no statement, \
+                and nothing comes from the slot before\n  allowed: a slot that is stated"
         ),
     }
 }
@@ -303,6 +308,8 @@ pub(crate) fn push_misplaced(
 pub(crate) fn push_stray(out: &mut String, slot: usize) -> Result<(), AllocError> {
     writeln!(
         out,
-        "  slot {slot} is stated, and is the second half of a wide instruction\n  allowed: a slot where an instruction begins"
+        "  slot {slot} is stated, \
+            and is the second half of a wide instruction\n  allowed: a slot where an instruction \
+            begins"
     )
 }

@@ -209,7 +209,8 @@ fn push_fault<'a>(
     }
 }
 
-/// Passes over the code as the verifier does, up to the slot that it refuses, and says what is wrong there.
+/// Passes over the code as the verifier does, up to the slot that it refuses, and says what is
+/// wrong there.
 pub(crate) fn push_pass<'a>(
     page: &mut Page,
     program: &Program<'_>,

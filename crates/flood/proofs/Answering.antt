@@ -20,7 +20,7 @@ use Rattle.received.specs.Updates.{case_at, goes_on}
 use Rattle.events.specs.declared.model.CoreError.{CoreError}
 use Rattle.events.specs.declared.model.CoreError.TheVariants as error
 use Rattle.events.specs.declared.model.Out.{Out}
-use Rattle.events.specs.Commands.{after_redistribute, after_withdraw, announce, announce_as, answered, end_want, is_announced_as, is_for, ls_infinity}
+use Rattle.events.specs.Commands.{after_redistribute, after_withdraw, announce, announce_as, answered_external, end_want, is_announced_as, is_for, ls_infinity}
 use Rattle.events.specs.Endings.{describe_router, describe_router_later, end_event, is_current, links_differ, loading_done, start_event}
 use Rattle.events.specs.EventState.{EventState, on_area, on_router}
 use Rattle.events.specs.Events.{Happens, OwnPart}
@@ -120,8 +120,8 @@ announced_stays moment key e p =
 redistributed_stays : (moment : ℕ) (e : External) (tag price : ℕ) (p : EventState) → of (after_redistribute moment e tag price p) ≡ of p
 redistributed_stays moment e tag price p =
     let key : Key = external_key p.router.id e.prefix in
-    either (nat_le ls_infinity price) (end_want moment key p) (announce_as moment key (answered e tag price) p) p refl
-    (announced_stays moment key (answered e tag price) p)
+    either (nat_le ls_infinity price) (end_want moment key p) (announce_as moment key (answered_external e tag price) p) p refl
+    (announced_stays moment key (answered_external e tag price) p)
 
 withdrawn_stays : (moment : ℕ) (prefix : Network) (p : EventState) → of (after_withdraw moment prefix p) ≡ of p
 withdrawn_stays moment prefix p =

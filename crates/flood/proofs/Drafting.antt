@@ -9,7 +9,7 @@ use Rattle.received.specs.Outcomes.{Send}
 use Rattle.events.specs.declared.model.Out.{Out}
 use Rattle.events.specs.Packing.{outs_at}
 use Rattle.flood_laws.specs.Keeping.{AreTextsAt}
-use Rattle.flooding.specs.Drafted.{drafted, drafted_from}
+use Rattle.flooding.specs.Drafted.{drafts_with, drafted_from}
 use Rattle.flooding.specs.Links.{present}
 use Rattle.packing.specs.Drafts.{IsDraftAt, nothing_drafted}
 use Rattle.self_originated.specs.Making.{interfaces_of}
@@ -22,7 +22,7 @@ module _ (sends : List Send) (room : AllByRecursion (λ (s : Send). HasRoom s.co
   drafts_from n (link ∷ links) = (record { drafted = refl; room = room }, drafts_from (n + 1) links)
 
   -- the interfaces alone are read of the links
-  pub are_drafts : (links new : List Link) → interfaces_of new ≡ interfaces_of links → AreDrafts links sends (drafted sends new (nothing_at links))
+  pub are_drafts : (links new : List Link) → interfaces_of new ≡ interfaces_of links → AreDrafts links sends (drafts_with sends new (nothing_at links))
   are_drafts links new same = record {
     from = subst (AreDraftsFrom 1 links sends) (sym (drafted_same sends new links (nothing_at links) same)) (drafts_from 1 links);
   }

@@ -17,51 +17,51 @@ use Rattle.events.specs.Refusals.{WouldExceed, exceeds, first_refusal}
 use Rattle.events.specs.Routers.{Occurrence, Router}
 use Rattle.events.proofs.Outcomes.{determined}
 use Rattle.flood.specs.declared.part.Part.{Part}
-use Rattle.flood.specs.Parts.{IsMade, IsPartOf, after_part, made}
+use Rattle.flood.specs.Parts.{IsMade, IsPartOf, after_part, made_state}
 
 module _ (old : Router) (moment : ℕ) (event : Occurrence) (p : Part) (is : IsPartOf event p) where
   -- what is made happens
   pub made_happens : (outs : List Out) (new : Router) → IsMade old moment p outs new → Happens old moment event outs new
-  made_happens outs new made = record {
+  made_happens outs new made_state = record {
     after = after_part p moment (start_event moment old);
     own = is.own moment (start_event moment old);
-    router = made.router;
-    sent = made.outs;
+    router = made_state.router;
+    sent = made_state.outs;
   }
 
   -- and keeps what is known, where it is written as texts
   pub made_keeps : (outs : List Out) (new : Router) → IsMade old moment p outs new → AnnouncesAddress event → IsInOrder old → HoldsInstances old
-      → AreTexts old.id old.area.links (made old moment p).sends → KeepsWhatIsKnown old moment event outs new
+      → AreTexts old.id old.area.links (made_state old moment p).sends → KeepsWhatIsKnown old moment event outs new
   unfolding made_happens
-  made_keeps outs new made address order holds texts = events_keep_what_is_known old moment event outs new (made_happens outs new made) address order holds texts
+  made_keeps outs new made_state address order holds texts = events_keep_what_is_known old moment event outs new (made_happens outs new made_state) address order holds texts
 
   pub made_order : (outs : List Out) (new : Router) → IsMade old moment p outs new → IsInOrder old → IsInOrder new
-  made_order outs new made order = routers_stay_in_order.event old moment event outs new (made_happens outs new made) order
+  made_order outs new made_state order = routers_stay_in_order.event old moment event outs new (made_happens outs new made_state) order
 
   pub made_holds : (outs : List Out) (new : Router) → IsMade old moment p outs new → AnnouncesAddress event → IsInOrder old → HoldsInstances old → HoldsInstances new
-  made_holds outs new made address order holds = instances_stay_in_range.event old moment event outs new (made_happens outs new made) address order.own holds
+  made_holds outs new made_state address order holds = instances_stay_in_range.event old moment event outs new (made_happens outs new made_state) address order.own holds
 
-  makes : Happens old moment event (outs_of old.id old.area.links (made old moment p).sends) (made old moment p).router
+  makes : Happens old moment event (outs_of old.id old.area.links (made_state old moment p).sends) (made_state old moment p).router
   makes = made_happens _ _ (record { router = refl; outs = refl })
 
   -- all that is sent has room
-  pub made_has_room : IsRoomy old → AllByRecursion (λ (s : Send). HasRoom s.content) (made old moment p).sends
+  pub made_has_room : IsRoomy old → AllByRecursion (λ (s : Send). HasRoom s.content) (made_state old moment p).sends
   unfolding makes made_happens
   made_has_room roomy = every_packet_has_room.sends old moment event _ _ makes roomy
 
-  pub made_exceeds : first_refusal old moment event ≡ None → exceeds (made old moment p).router ≡ true → WouldExceed old moment event
+  pub made_exceeds : first_refusal old moment event ≡ None → exceeds (made_state old moment p).router ≡ true → WouldExceed old moment event
   made_exceeds lawful too_much = record {
     lawful = lawful;
-    outs = outs_of old.id old.area.links (made old moment p).sends;
-    new = (made old moment p).router;
+    outs = outs_of old.id old.area.links (made_state old moment p).sends;
+    new = (made_state old moment p).router;
     happens = makes;
     too_much = too_much;
   }
 
   -- an event has one outcome
-  pub made_stays_within : exceeds (made old moment p).router ≡ false → WouldExceed old moment event → ⊥
+  pub made_stays_within : exceeds (made_state old moment p).router ≡ false → WouldExceed old moment event → ⊥
   made_stays_within fine would =
-      let same : would.new ≡ (made old moment p).router = (determined old moment event _ _ _ _ would.happens makes).1 in
+      let same : would.new ≡ (made_state old moment p).router = (determined old moment event _ _ _ _ would.happens makes).1 in
       let no : true ≡ false = sym would.too_much ∙ ap exceeds same ∙ fine in
       absurd cc
 

@@ -11,7 +11,7 @@ use Rattle.self_originated.specs.Making.{IsMaking, Makes, interfaces_of}
 use Rattle.self_originated.proofs.Making.{makes_then, making_starts}
 use Rattle.flood.specs.declared.part.Part.{Part}
 use Rattle.flood.specs.Drafts.{AreDrafts, nothing_at}
-use Rattle.flood.specs.Parts.{after_event, after_part, made}
+use Rattle.flood.specs.Parts.{after_event, after_part, made_state}
 use Rattle.flood.proofs.Drafting.{are_drafts}
 
 pub on_ok : {A E P Q : Type 0} (r : Result A E) → (P → Q) → OnOk r P → OnOk r Q
@@ -45,16 +45,16 @@ module _ (old new : Router) (moment : ℕ) (p : Part) (before after : List Draft
   abbrev begun : EventState
   begun = record { router = old; sends = [] }
 
-  ended : IsMaking (made old moment p) (nothing_at old.area.links) new after
+  ended : IsMaking (made_state old moment p) (nothing_at old.area.links) new after
   ended =
       m.part begun (nothing_at old.area.links)
       (subst (λ ds. IsMaking begun (nothing_at old.area.links) old ds) (sym none) (making_starts old (nothing_at old.area.links)))
 
-  pub made_router : new ≡ (made old moment p).router
+  pub made_router : new ≡ (made_state old moment p).router
   made_router = ended.router
 
-  pub made_drafts : AllByRecursion (λ (s : Send). HasRoom s.content) (made old moment p).sends → AreDrafts old.area.links (made old moment p).sends after
+  pub made_drafts : AllByRecursion (λ (s : Send). HasRoom s.content) (made_state old moment p).sends → AreDrafts old.area.links (made_state old moment p).sends after
   made_drafts room =
-      subst (AreDrafts old.area.links (made old moment p).sends) (sym ended.drafts)
-      (are_drafts (made old moment p).sends room old.area.links (made old moment p).router.area.links
+      subst (AreDrafts old.area.links (made_state old moment p).sends) (sym ended.drafts)
+      (are_drafts (made_state old moment p).sends room old.area.links (made_state old moment p).router.area.links
       (ap (λ (r : Router). interfaces_of r.area.links) (sym ended.router) ∙ m.interfaces))

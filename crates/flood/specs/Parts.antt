@@ -53,14 +53,14 @@ after_event old moment p before =
     end_event old moment (after_part p moment (on_area (with_ages old.moment moment) before))
 
 -- nothing was sent yet
-abbrev pub made : Router → Moment → Part → EventState
-made old moment p = after_event old moment p (record { router = old; sends = [] })
+abbrev pub made_state : Router → Moment → Part → EventState
+made_state old moment p = after_event old moment p (record { router = old; sends = [] })
 
 -- the event sends these and leaves new
 pub record IsMade (old : Router) (moment : Moment) (p : Part) (sent : List Out) (new : Router)
     : Type 0 where
-  pub router : new ≡ (made old moment p).router
-  pub outs : sent ≡ outs_of old.id old.area.links (made old moment p).sends
+  pub router : new ≡ (made_state old moment p).router
+  pub outs : sent ≡ outs_of old.id old.area.links (made_state old moment p).sends
 
 -- ---- refusals that need the bytes, or the answers
 

@@ -5,7 +5,7 @@ ghost use Rattle.events.specs.Routers.{are_distinct, in_profile, is_lawful};
 
 use adjacency::Interface;
 use events::Config;
-use words::Address;
+use words::{Address, MAX_AGE};
 
 fn is_lawful(i: Interface) -> bool
     ensures { result ≡ is_lawful i }
@@ -16,7 +16,7 @@ fn is_lawful(i: Interface) -> bool
         && 1 <= i.dead_interval
         && 1 <= i.retransmit_interval
         && 1 <= i.delay
-        && i.delay <= 3600
+        && i.delay <= MAX_AGE
 }
 
 fn all_lawful(interfaces: &[Interface]) -> bool

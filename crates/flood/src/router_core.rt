@@ -218,8 +218,8 @@ impl Core {
     }
 
     /// The candidates for the routing table at the moment of the last event (RFC 2328, section 16).
-    /// No event walks: where the walk that is kept doesn't serve any more, and [`stale`](Core::stale)
-    /// hasn't made another one since, one is made for this call alone.
+    /// No event walks: where the walk that is kept doesn't serve any more, and
+    /// [`stale`](Core::stale) hasn't made another one since, one is made for this call alone.
     ///
     /// # Errors
     /// Where memory for the walk, the offers or the routes is refused.
@@ -292,9 +292,9 @@ impl Core {
     }
 
     /// How many walks were made and kept since it began or was copied; it stays at its greatest
-    /// value. An event makes none. [`stale`](Core::stale) makes one at most, and only where since the
-    /// last one an LSA of type 1 or 2 came, left, has come to MaxAge or says something else, or the
-    /// addresses are others.
+    /// value. An event makes none. [`stale`](Core::stale) makes one at most, and only where since
+    /// the last one an LSA of type 1 or 2 came, left, has come to MaxAge or says something else, or
+    /// the addresses are others.
     pub fn walks(&self) -> u64 {
         self.routes.walks()
     }

@@ -2,7 +2,7 @@
 ghost use Rattle.std.specs.Prelude.{◌≡◌, IfOk, OnOk, length, map, true};
 ghost use Rattle.events.specs.Events.{initial};
 ghost use Rattle.events.specs.Originations.{router_key};
-ghost use Rattle.events.specs.Routers.{in_profile, unannounced};
+ghost use Rattle.events.specs.Routers.{in_profile, unannounced_router};
 ghost use Rattle.flood.specs.Starts.{fresh_kept};
 
 use crate::sending::drafts_for;
@@ -36,7 +36,7 @@ fn router_key(own: RouterId) -> Key
 
 // The router-LSA of a router that has heard of nobody goes into its database.
 fn describe_links(router: &mut Router, alloc: Global, config: &Config) -> Result<(), AllocError>
-    requires { router.old.present ≡ unannounced config.now }
+    requires { router.old.present ≡ unannounced_router config.now }
     ensures { OnOk result (router.new.present ≡ initial config.now) }
 {
     let mut drafts = drafts_for(router, alloc)?;

@@ -8,7 +8,7 @@ ghost use Rattle.flood_laws.specs.InOrder.{IsInOrder};
 ghost use Rattle.flood_laws.specs.Keeping.{AreTexts, HoldsInstances, KeepsWhatIsKnown};
 ghost use Rattle.flood.specs.Early.{early_refusal};
 ghost use Rattle.flood.specs.Occurrences.{occurrence_of};
-ghost use Rattle.flood.specs.Parts.{HasInterface, IsMade, IsPartOf, TellsLimit, made};
+ghost use Rattle.flood.specs.Parts.{HasInterface, IsMade, IsPartOf, TellsLimit, made_state};
 
 use crate::event::Event;
 use crate::making::make_event;
@@ -67,8 +67,8 @@ fn make(
     ensures made { IfOk result (λ outs. IsMade router.old.present moment part
         outs.items router.new.present) }
     ensures texts { OnOk result (AreTexts router.old.present.id router.old.present.area.links
-        (made router.old.present moment part).sends) }
-    ensures limit { TellsLimit (made router.old.present moment part).router result }
+        (made_state router.old.present moment part).sends) }
+    ensures limit { TellsLimit (made_state router.old.present moment part).router result }
     ensures settled { router.new.settled ≡ router.old.settled }
 {
     let own = router.id();

@@ -25,9 +25,9 @@ use Rattle.adjacency.specs.Neighbors.{Neighbor}
 use Rattle.adjacency.proofs.Kept.{chosen}
 use Rattle.received.specs.Cases.{Case}
 use Rattle.received.specs.Links.{Link, any_exchange_or_loading, change_link, neighbor_at}
-use Rattle.received.specs.Outcomes.{Outcome, numbered, on_database, on_links, one_neighbor, sending}
+use Rattle.received.specs.Outcomes.{Outcome, sends_at, on_database, on_links, one_neighbor, sending}
 use Rattle.received.specs.Updates.{after_case, case_at, goes_on}
-use Rattle.events.specs.Commands.{after_redistribute, after_withdraw, announce, announce_as, answered, end_want, is_announced_as, is_for, ls_infinity, taken_down, unannounce}
+use Rattle.events.specs.Commands.{after_redistribute, after_withdraw, announce, announce_as, answered_external, end_want, is_announced_as, is_for, ls_infinity, taken_down, unannounce}
 use Rattle.events.specs.Endings.{start_event, describe_router, describe_router_later, link_loading_done, loading_done, end_event, is_current, links_differ, request_all, stays}
 use Rattle.events.specs.Events.{OwnPart}
 use Rattle.events.specs.Originations.{due_keys, external_key, flush, flush_copy, forget_originations, has_max_sequence, has_room, install_and_flood, is_wanted, may_originate, new_instance, originate, originate_anyway, originate_body, originate_due, originate_or_flush, originate_or_wait, receive_self_originated, router_key, wait, wanted_body}
@@ -75,7 +75,7 @@ pub record IsKeptToo (i : Invariant) (X Y : Lately) (start : EventState) (moment
   pub acknowledgment : (number : ℕ) (packet : Packet) (headers : List Header) → IsHeard start event number packet → packet.body ≡ body.Acknowledgment headers → OfEvent i start
       → X (outcome start) start.router.originated → X (acknowledged_by moment number headers (outcome start)) start.router.originated
   pub requested : (number : ℕ) (keys : List Key) (o : Outcome) (t : ByKey ℕ) → OfOutcome i o → X o t
-      → X (sending moment (numbered number (map Content.Updates (requested_lsas moment o.area.database keys))) o) t
+      → X (sending moment (sends_at number (map Content.Updates (requested_lsas moment o.area.database keys))) o) t
   pub mismatch : (number : ℕ) → KeepsToo i X (one_neighbor moment number (adjacencies.mismatched moment))
   -- a Tick
   pub forgets : (r : Router) (o : Outcome) → OfOutcome i o → X o r.originated → X o (forget_originations moment r).originated
@@ -198,13 +198,13 @@ module _ (i : Invariant) (kept : IsKeptByParts i) (X Y : Lately) (old : Router) 
 
     requests_answered : (keys : List Key) (o : Outcome) → OfOutcome i o → OfOutcome i (requested_from moment number keys o)
     requests_answered keys o h =
-        chosen (OfOutcome i) (list_all (is_there o.area.database) keys) (sending moment (numbered number (map Content.Updates (requested_lsas moment o.area.database keys))) o)
+        chosen (OfOutcome i) (list_all (is_there o.area.database) keys) (sending moment (sends_at number (map Content.Updates (requested_lsas moment o.area.database keys))) o)
         (one_neighbor moment number (adjacencies.mismatched moment) o)
         (λ is. kept.requested moment number keys o h) (λ is. kept.mismatch moment number o h)
 
     requests_answered_too : (keys : List Key) (o : Outcome) (t : ByKey ℕ) → OfOutcome i o → X o t → X (requested_from moment number keys o) t
     requests_answered_too keys o t h x =
-        chosen (λ (q : Outcome). X q t) (list_all (is_there o.area.database) keys) (sending moment (numbered number (map Content.Updates (requested_lsas moment o.area.database keys))) o)
+        chosen (λ (q : Outcome). X q t) (list_all (is_there o.area.database) keys) (sending moment (sends_at number (map Content.Updates (requested_lsas moment o.area.database keys))) o)
         (one_neighbor moment number (adjacencies.mismatched moment) o)
         (λ is. too.requested number keys o t h x) (λ is. too.mismatch number o t h x)
 
@@ -307,8 +307,8 @@ module _ (i : Invariant) (kept : IsKeptByParts i) (X Y : Lately) (old : Router) 
       → InProgress (after_redistribute moment e tag price p)
   redistributed e tag price p own anyway h =
       let key : Key = external_key p.router.id e.prefix in
-      chosen InProgress (nat_le ls_infinity price) (end_want moment key p) (announce_as moment key (answered e tag price) p)
-      (λ is. want_ended key p h) (λ is. announced_kept (answered e tag price) p own anyway h)
+      chosen InProgress (nat_le ls_infinity price) (end_want moment key p) (announce_as moment key (answered_external e tag price) p)
+      (λ is. want_ended key p h) (λ is. announced_kept (answered_external e tag price) p own anyway h)
 
   withdrawn : (prefix : Network) (p : EventState) → InProgress p → InProgress (after_withdraw moment prefix p)
   withdrawn prefix p h =

@@ -32,7 +32,7 @@ use Rattle.events.specs.EventState.{flood_from_nobody}
 use Rattle.events.specs.Hellos.{accepts, names}
 use Rattle.events.specs.Originations.{due_keys, new_instance, router_key}
 use Rattle.events.specs.Packets.{hear, heard_on, with_neighbor}
-use Rattle.events.specs.Routers.{Occurrence, Router, fresh_link, unannounced}
+use Rattle.events.specs.Routers.{Occurrence, Router, fresh_link, unannounced_router}
 use Rattle.events.specs.Ticks.{again, with_hello_sent, run_out, settled_exchange, without_acknowledgments}
 use Rattle.event_rooms.proofs.Walk.{Brings, Invariant, IsKeptByParts, OfBrought, OfBytes, originate_or_wait_kept}
 use Rattle.event_rooms.proofs.Walk as walk
@@ -158,5 +158,5 @@ module _ (Q : Fact) (kept : IsKept Q) where
 
   pub initial_kept : (c : Config) → HoldsOfEach (Of Q) (initial c).area.links
   initial_kept c =
-      (originate_or_wait_kept on_neighbors parts_keep c.start (router_key c.router) (record { router = unannounced c; sends = [] }) tt
+      (originate_or_wait_kept on_neighbors parts_keep c.start (router_key c.router) (record { router = unannounced_router c; sends = [] }) tt
       (record { area = fresh_so c.interfaces; announced = tt })).area

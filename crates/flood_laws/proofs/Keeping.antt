@@ -38,7 +38,7 @@ use Rattle.events.specs.EventState.{EventState}
 use Rattle.events.specs.LsaInstances.{LsaInstance, instance_of_header, instance_of_lsa, instances_advertised, instances_in_update, instances_received}
 use Rattle.events.specs.Originations.{external_key, has_max_sequence, new_instance, next_sequence, router_key}
 use Rattle.events.specs.Packing.{at_interface, bodies, out_of, outs_at}
-use Rattle.events.specs.Routers.{Occurrence, Router, fresh_link, unannounced}
+use Rattle.events.specs.Routers.{Occurrence, Router, fresh_link, unannounced_router}
 use Rattle.flood_laws.specs.Worlds.{IsKnown, IsLawfulOut, instances_stored}
 use Rattle.flood_laws.specs.Keeping.{AnnouncesAddress, AreTexts, AreTextsAt, EventsKeepWhatIsKnown, HoldsInstances, InstancesStayInRange, IsInstance, IsLsaKey, IsText, KeepsWhatIsKnown}
 use Rattle.flood_laws.specs.InOrder.{AnnouncesItsOwn, IsInOrder}
@@ -312,7 +312,7 @@ of_instances c = named_by IsInstance IsLsaKey (λ name is. is.key) (length (map 
 
 first_in_ranges : (c : Config) → c.router < 2 ^ 32 → HoldsInstances (initial c)
 first_in_ranges c router =
-    let start : EventState = record { router = unannounced c; sends = [] } in
+    let start : EventState = record { router = unannounced_router c; sends = [] } in
     let at : OfEvent (told (of_instances c) c.router) start = record {
       area = record { copies = none_in (OfCopy (of_instances c)); links = none_on (of_instances c) c.interfaces; few = refl; sent = tt };
       announced = (refl, none_in (IsOwn (of_instances c) c.router));

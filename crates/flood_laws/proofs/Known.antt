@@ -31,7 +31,7 @@ use Rattle.flood_laws.specs.Known.{instances_in_content, instances_in_send, inst
 use Rattle.events.specs.LsaInstances.{LsaInstance, instance_of_lsa, instance_of_header, instances_received, instances_in_update}
 use Rattle.events.specs.Originations.{external_key, has_max_sequence, new_instance, router_key}
 use Rattle.events.specs.EventState.{EventState}
-use Rattle.events.specs.Routers.{Occurrence, Router, fresh_link, unannounced}
+use Rattle.events.specs.Routers.{Occurrence, Router, fresh_link, unannounced_router}
 use Rattle.flood_laws.specs.Worlds.{IsKnown, instances_stored, instances_on_link, instances_on_list}
 use Rattle.flood_laws.proofs.Told.{IsOwn, event_told, first_told, told}
 use Rattle.event_rooms.proofs.Walk.{IfRead, OfBrought, OfBytes, OfEvent}
@@ -319,7 +319,7 @@ anything c = named_by Any (λ key. Unit {0}) (λ name q. tt) (length (map fresh_
 
 pub first_own : (c : Config) → AnnouncesItsOwn (initial c)
 first_own c =
-    let start : EventState = record { router = unannounced c; sends = [] } in
+    let start : EventState = record { router = unannounced_router c; sends = [] } in
     let at : OfEvent (told (anything c) c.router) start = record {
       area = record { copies = none_in (OfCopy (anything c)); links = none_on (anything c) c.interfaces; few = refl; sent = tt };
       announced = (refl, none_in (IsOwn (anything c) c.router));

@@ -35,7 +35,7 @@ use Rattle.received.specs.Cases.{Case, case_of_readable, first_case, is_on_sende
 use Rattle.received.specs.Flooding.{flood, flood_to, is_sender}
 use Rattle.received.specs.Holds.{Holds}
 use Rattle.received.specs.Links.{Area, Link, acknowledge_later, any_exchange_or_loading, change_link, link_at, neighbor_at, neighbor_on}
-use Rattle.received.specs.Outcomes.{Outcome, Send, Stepping, each_neighbor, numbered, on_database, on_links, one_neighbor, only_at, sending, step_on, stepped, stepping_sends}
+use Rattle.received.specs.Outcomes.{Outcome, Send, Stepping, each_neighbor, sends_at, on_database, on_links, one_neighbor, only_at, sending, step_on, stepped_links, stepping_sends}
 use Rattle.received.specs.Updates.{after_case, case_at, copy_of, install, send_copy}
 use Rattle.received.proofs.Marks.{IsStill, changed_by, mark_all}
 use Rattle.events.specs.Commands.{taken_down}
@@ -88,7 +88,7 @@ module _ (P R : Option Neighbor → Type 0) (none : P None → R None) where
 
   -- after a step of each neighbor
   pub stepped_kept : (f : Stepping) (number : ℕ) → ((link : Link) → P link.neighbor → R (step_on (f number link) link.neighbor)) → (xs : List Link) → P (neighbor_at number xs)
-      → R (neighbor_at number (stepped f xs))
+      → R (neighbor_at number (stepped_links f xs))
   stepped_kept f number so xs h = numbered_kept (λ (e : ℕ × Link). record e.1 { neighbor = step_on (f e.0 e.1) e.1.neighbor }) number so xs h
 
 -- ---- a newer instance than one that is like the copy
@@ -258,8 +258,8 @@ module _ (old : Router) (moment : ℕ) (event : Occurrence) (number : ℕ) (befo
   each_became : (f : Stepping) → ((link : Link) (m : Neighbor) → Owes m → Owes (f number link m).neighbor) → (o : Outcome) (t : ByKey ℕ) → Became o.area t
       → Became (each_neighbor moment f o).area t
   each_became f keeps o t h =
-      sent_became (stepping_sends f o.area.links) (on_links (stepped f) o) t
-      (links_became (stepped f) o t
+      sent_became (stepping_sends f o.area.links) (on_links (stepped_links f) o) t
+      (links_became (stepped_links f) o t
       (λ k. inl (stepped_kept (Holds Owes) (Holds Owes) (λ n. n) f number (λ link at. step_owed (f number link) (keeps link) link.neighbor at) o.area.links k)) h)
 
   one_became : (place : ℕ) (f : Neighbor → Step) → ((m : Neighbor) → Owes m → Owes (f m).neighbor) → (o : Outcome) (t : ByKey ℕ) → Became o.area t
@@ -300,7 +300,7 @@ module _ (old : Router) (moment : ℕ) (event : Occurrence) (number : ℕ) (befo
       marks : (c : DatabaseCopy) → finite.get o.area.database key ≡ Some c → IsStill (flood_from_nobody moment lsa o).area.database key c
       marks c at = mark_all moment (stepping_sends (flood_to moment None lsa) o.area.links) key c o.area.database at
 
-      by_owed : (c : DatabaseCopy) → finite.get o.area.database key ≡ Some c → IsLike c → OwesOrAsked (neighbor_at number (stepped (flood_to moment None lsa) o.area.links))
+      by_owed : (c : DatabaseCopy) → finite.get o.area.database key ≡ Some c → IsLike c → OwesOrAsked (neighbor_at number (stepped_links (flood_to moment None lsa) o.area.links))
           → Became (flood_from_nobody moment lsa o).area t
       by_owed c at like (inl k) = IsOwed (record c { sent = (marks c at).0 }) (marks c at).1 (still_like c (marks c at).0 like) k
       by_owed c at like (inr asked) = HasAged (record c { sent = (marks c at).0 }) (marks c at).1 (still_like c (marks c at).0 like) (aged c at like) young asked
@@ -521,7 +521,7 @@ module _ (old : Router) (moment : ℕ) (event : Occurrence) (number : ℕ) (befo
 
     copy_became : (c : Option DatabaseCopy) (o : Outcome) (t : ByKey ℕ) → Became o.area t → Became (send_copy moment place c o).area t
     copy_became None o t h = h
-    copy_became (Some c) o t h = sent_became (numbered place (Updates (lsa_now moment c) ∷ [])) o t h
+    copy_became (Some c) o t h = sent_became (sends_at place (Updates (lsa_now moment c) ∷ [])) o t h
 
     abbrev release : Lsa → Neighbor → Step
     release lsa n = no_sends (remove_retransmission (lsa_key lsa) n)
@@ -545,8 +545,8 @@ module _ (old : Router) (moment : ℕ) (event : Occurrence) (number : ℕ) (befo
     implied_became : (lsa : Lsa) (o : Outcome) (t : ByKey ℕ) → Contains (lsas_brought packet.body) lsa → is_hello packet.body ≡ false → case_at moment place lsa o.area ≡ Case.ImpliedAcknowledgment
         → Became o.area t → Became (one_neighbor moment place (release lsa) o).area t
     implied_became lsa o t among other is h =
-        sent_became (stepping_sends (only_at place (release lsa)) o.area.links) (on_links (stepped (only_at place (release lsa))) o) t
-        (links_became (stepped (only_at place (release lsa))) o t
+        sent_became (stepping_sends (only_at place (release lsa)) o.area.links) (on_links (stepped_links (only_at place (release lsa))) o) t
+        (links_became (stepped_links (only_at place (release lsa))) o t
         (λ k. by_result (stepped_kept (IsSenders lsa) (IsReleased lsa) (λ n. inl tt) (only_at place (release lsa)) number (λ link at. released_at lsa link link.neighbor at) o.area.links (k, sender_is))) h)
       where
         sender_is : (number == place) ≡ true → is_on_senders_list moment (neighbor_at number o.area.links) lsa ≡ true
@@ -554,20 +554,20 @@ module _ (old : Router) (moment : ℕ) (event : Occurrence) (number : ℕ) (befo
             subst (λ n. is_on_senders_list moment (neighbor_at n o.area.links) lsa ≡ true) (sym (eqb-true number place e))
             (owed_where_implied moment (copy_of lsa o.area) (neighbor_at place o.area.links) (any_exchange_or_loading o.area.links) lsa is)
 
-        by_result : IsReleased lsa (neighbor_at number (stepped (only_at place (release lsa)) o.area.links))
-            → Holds Owes (neighbor_at number (stepped (only_at place (release lsa)) o.area.links)) ⊎ Told
+        by_result : IsReleased lsa (neighbor_at number (stepped_links (only_at place (release lsa)) o.area.links))
+            → Holds Owes (neighbor_at number (stepped_links (only_at place (release lsa)) o.area.links)) ⊎ Told
         by_result (inl k) = inl k
         by_result (inr so) = inr (tells other so.0 (subst (Contains (instances_advertised packet.body)) so.1 (brings packet.body lsa among)))
 
     case_became : (case : Case) (lsa : Lsa) (o : Outcome) (t : ByKey ℕ) → Contains (lsas_brought packet.body) lsa → is_hello packet.body ≡ false → case_at moment place lsa o.area ≡ case
         → Became o.area t → Became (after_case case moment place lsa o).area t
     case_became Case.Unreadable lsa o t among other is h = h
-    case_became Case.NothingToFlush lsa o t among other is h = sent_became (numbered place (Content.Acknowledges lsa.header ∷ [])) o t h
+    case_became Case.NothingToFlush lsa o t among other is h = sent_became (sends_at place (Content.Acknowledges lsa.header ∷ [])) o t h
     case_became Case.TooSoon lsa o t among other is h = h
     case_became Case.Newer lsa o t among other is h = install_became lsa o t among is h
     case_became Case.BadRequest lsa o t among other is h = one_became place (adjacencies.mismatched moment) (mismatched_owing key name Asked moment) o t h
     case_became Case.ImpliedAcknowledgment lsa o t among other is h = implied_became lsa o t among other is h
-    case_became Case.Duplicate lsa o t among other is h = sent_became (numbered place (Content.Acknowledges lsa.header ∷ [])) o t h
+    case_became Case.Duplicate lsa o t among other is h = sent_became (sends_at place (Content.Acknowledges lsa.header ∷ [])) o t h
     case_became Case.SequenceWraps lsa o t among other is h = h
     case_became Case.SentJustNow lsa o t among other is h = h
     case_became Case.Older lsa o t among other is h = copy_became (copy_of lsa o.area) o t h
@@ -589,7 +589,7 @@ module _ (old : Router) (moment : ℕ) (event : Occurrence) (number : ℕ) (befo
         by_link (Some link) is =
             let s : Step = adjacencies.after_hello moment packet.router (names own h) link.neighbor in
             chosen (λ (o : Outcome). Became o.area t) (accepts own packet.router h link) (hear moment place s begun) begun
-            (λ e. sent_became (numbered place s.sends) (on_links (change_link place (with_neighbor s.neighbor)) begun) t
+            (λ e. sent_became (sends_at place s.sends) (on_links (change_link place (with_neighbor s.neighbor)) begun) t
             (links_became (change_link place (with_neighbor s.neighbor)) begun t
             (λ k. inl (numbered_kept (λ (n : Option Neighbor). Holds Owes n × ((number == place) ≡ true → Holds Owes link.neighbor)) (Holds Owes) (λ n. tt)
             (λ (f : ℕ × Link). cond (f.0 == place) (with_neighbor s.neighbor f.1) f.1) number
@@ -600,8 +600,8 @@ module _ (old : Router) (moment : ℕ) (event : Occurrence) (number : ℕ) (befo
     description_became : (own : ℕ) (d : Description) (t : ByKey ℕ) → packet.body ≡ body.Description d → Became start.router.area t → Became (describe_to own moment place d begun).area t
     description_became own d t is b =
         let f : Neighbor → Step = after_description own moment start.router.area.database d in
-        sent_became (stepping_sends (only_at place f) start.router.area.links) (on_links (stepped (only_at place f)) begun) t
-        (links_became (stepped (only_at place f)) begun t
+        sent_became (stepping_sends (only_at place f) start.router.area.links) (on_links (stepped_links (only_at place f)) begun) t
+        (links_became (stepped_links (only_at place f)) begun t
         (λ k. inl (stepped_kept (λ (n : Option Neighbor). Holds Owes n × IsLater n) (Holds Owes) (λ n. tt) (only_at place f) number
         (λ link at. described link link.neighbor at.0 at.1) start.router.area.links (k, subst IsLater (sym stands.1) stands.3))) b)
       where
@@ -623,8 +623,8 @@ module _ (old : Router) (moment : ℕ) (event : Occurrence) (number : ℕ) (befo
         → Became (acknowledged_by moment place headers begun).area t
     acknowledgment_became headers t is b =
         let f : Neighbor → Step = λ n. no_sends (after_acknowledgment moment headers n) in
-        sent_became (stepping_sends (only_at place f) start.router.area.links) (on_links (stepped (only_at place f)) begun) t
-        (links_became (stepped (only_at place f)) begun t
+        sent_became (stepping_sends (only_at place f) start.router.area.links) (on_links (stepped_links (only_at place f)) begun) t
+        (links_became (stepped_links (only_at place f)) begun t
         (λ k. by_result (stepped_kept (Holds Owes) Acked (λ n. inl tt) (only_at place f) number (λ link at. acked link link.neighbor at) start.router.area.links k)) b)
       where
         Acked : Option Neighbor → Type 0
@@ -643,8 +643,8 @@ module _ (old : Router) (moment : ℕ) (event : Occurrence) (number : ℕ) (befo
         other : is_hello packet.body ≡ false
         other = ap is_hello is
 
-        by_result : Acked (neighbor_at number (stepped (only_at place (λ n. no_sends (after_acknowledgment moment headers n))) start.router.area.links))
-            → Holds Owes (neighbor_at number (stepped (only_at place (λ n. no_sends (after_acknowledgment moment headers n))) start.router.area.links)) ⊎ Told
+        by_result : Acked (neighbor_at number (stepped_links (only_at place (λ n. no_sends (after_acknowledgment moment headers n))) start.router.area.links))
+            → Holds Owes (neighbor_at number (stepped_links (only_at place (λ n. no_sends (after_acknowledgment moment headers n))) start.router.area.links)) ⊎ Told
         by_result (inl k) = inl k
         by_result (inr so) = inr (tells other so.0 (subst (λ (x : Body). Contains (instances_advertised x) name) (sym is) so.1))
 
@@ -820,7 +820,7 @@ module _ (old : Router) (moment : ℕ) (event : Occurrence) (number : ℕ) (befo
       acknowledgment = λ place packet headers heard is so h.
           record { became = acknowledgment_became start place packet heard standing headers start.router.originated is h.became; remembers = h.remembers };
       requested = λ place keys o t area h.
-          record { became = sent_became (numbered place (map Content.Updates (requested_lsas moment o.area.database keys))) o t h.became; remembers = h.remembers };
+          record { became = sent_became (sends_at place (map Content.Updates (requested_lsas moment o.area.database keys))) o t h.became; remembers = h.remembers };
       mismatch = λ place o t area h. record { became = one_became place (adjacencies.mismatched moment) (mismatched_owing key name Asked moment) o t h.became; remembers = h.remembers };
       forgets = λ r o area h. forget_lately o r h;
       inactive = λ o t area h. record { became = inactive_became o t h.became; remembers = h.remembers };

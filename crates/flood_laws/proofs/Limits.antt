@@ -31,7 +31,7 @@ use Rattle.adjacency.specs.Retransmissions.{after_acknowledgment}
 use Rattle.adjacency.proofs.Kept.{chosen}
 use Rattle.received.specs.Flooding.{flood_to}
 use Rattle.received.specs.Links.{Link, change_link, link_at}
-use Rattle.received.specs.Outcomes.{Outcome, Send, Stepping, each_neighbor, marked, numbered, on_database, on_links, one_neighbor, only_at, sending, stepping_sends}
+use Rattle.received.specs.Outcomes.{Outcome, Send, Stepping, each_neighbor, marked_database, sends_at, on_database, on_links, one_neighbor, only_at, sending, stepping_sends}
 use Rattle.events.specs.declared.model.Out.{Out}
 use Rattle.events.specs.Endings.{end_event, stays, with_age}
 use Rattle.events.specs.declared.model.Config.{Config}
@@ -41,7 +41,7 @@ use Rattle.events.specs.Hellos.{accepts, names}
 use Rattle.events.specs.Originations.{announced_body, due_keys, external_key, has_room, is_own_external, new_instance, originate_or_wait, own_externals, router_body, router_key, wanted_body}
 use Rattle.events.specs.Packets.{hear, heard_on, requested_lsas, with_neighbor}
 use Rattle.events.specs.Refusals.{exceeds}
-use Rattle.events.specs.Routers.{Occurrence, Router, unannounced}
+use Rattle.events.specs.Routers.{Occurrence, Router, unannounced_router}
 use Rattle.events.specs.Ticks.{acknowledgments_on, again, hello_sent_on, sends_of, with_hello_sent, without_acknowledgments}
 use Rattle.event_rooms.proofs.Walk.{Brings, IfRead, Invariant, IsKeptByParts, MayGrow, OfBrought, OfBytes, OfEvent, event_kept, originate_or_wait_kept, outcome}
 use Rattle.flood_laws.specs.LimitLaws.{AnnouncesExternals, OthersStayWithinLimits, may_exceed}
@@ -145,16 +145,16 @@ module _ (id : RouterNumber) where
       by_copy None is = h
       by_copy (Some c) is = replaced db key c (change c) is h
 
-  marked_within : (moment : ℕ) (says : Content) (db : Database) → IsWithin db → IsWithin (marked moment db says)
+  marked_within : (moment : ℕ) (says : Content) (db : Database) → IsWithin db → IsWithin (marked_database moment db says)
   marked_within moment (Content.SendsHello hello) db h = h
   marked_within moment (Content.Describes d) db h = h
   marked_within moment (Content.Requests keys) db h = h
   marked_within moment (Content.Updates lsa) db h = changed_within (lsa_key lsa) (λ c. record c { sent = Some moment }) db h
   marked_within moment (Content.Acknowledges header) db h = h
 
-  all_marked : (moment : ℕ) (more : List Send) (db : Database) → IsWithin db → IsWithin (fold (λ (d : Database) (s : Send). marked moment d s.content) db more)
+  all_marked : (moment : ℕ) (more : List Send) (db : Database) → IsWithin db → IsWithin (fold (λ (d : Database) (s : Send). marked_database moment d s.content) db more)
   all_marked moment [] db h = h
-  all_marked moment (s ∷ more) db h = all_marked moment more (marked moment db s.content) (marked_within moment s.content db h)
+  all_marked moment (s ∷ more) db h = all_marked moment more (marked_database moment db s.content) (marked_within moment s.content db h)
 
   both_of : (a b : Bool) → (a && b) ≡ true → (a ≡ true) × (b ≡ true)
   both_of true b e = (refl, e)
@@ -238,7 +238,7 @@ module _ (id : RouterNumber) where
   hello_heard own_id moment number from hello (Some link) o h =
       let s : Step = adjacencies.after_hello moment from (names own_id hello) link.neighbor in
       chosen OnOutcome (accepts own_id from hello link) (hear moment number s o) o
-      (λ is. sent_within moment (numbered number s.sends) (on_links (change_link number (with_neighbor s.neighbor)) o) h) (λ is. h)
+      (λ is. sent_within moment (sends_at number s.sends) (on_links (change_link number (with_neighbor s.neighbor)) o) h) (λ is. h)
 
   keys_any : (keys : List Key) → AllByRecursion (λ key. Unit {0}) keys
   keys_any [] = tt
@@ -268,7 +268,7 @@ module _ (id : RouterNumber) where
     own_received = λ r lsa so is same. absurd so;
     hello = λ own_id moment number from hello o h. hello_heard own_id moment number from hello (link_at number o.area.links) o h;
     description = λ own_id moment number d o h. one_within moment number (after_description own_id moment o.area.database d) o h;
-    requested = λ moment number keys o h. sent_within moment (numbered number (map Content.Updates (requested_lsas moment o.area.database keys))) o h;
+    requested = λ moment number keys o h. sent_within moment (sends_at number (map Content.Updates (requested_lsas moment o.area.database keys))) o h;
     mismatch = λ moment number o h. one_within moment number (adjacencies.mismatched moment) o h;
     acknowledgment = λ moment number headers o h. one_within moment number (λ n. no_sends (after_acknowledgment moment headers n)) o h;
     due = λ moment r same. keys_any (due_keys moment r);
@@ -335,7 +335,7 @@ empty_within id = record {
 
 start : (c : Config) → exceeds (initial c) ≡ false
 start c =
-    let begun : EventState = record { router = unannounced c; sends = [] } in
+    let begun : EventState = record { router = unannounced_router c; sends = [] } in
     let end : OfEvent (within c.router) (originate_or_wait c.start (router_key c.router) begun) =
     originate_or_wait_kept (within c.router) (parts_within c.router) c.start (router_key c.router) begun tt
     (record { area = empty_within c.router; announced = (refl, none_announced) }) in
@@ -407,7 +407,7 @@ after_event old moment event outs new happens h =
 
 first : (c : Config) → AnnouncesExternals (initial c)
 first c =
-    (originate_or_wait_kept external parts_external c.start (router_key c.router) (record { router = unannounced c; sends = [] }) tt
+    (originate_or_wait_kept external parts_external c.start (router_key c.router) (record { router = unannounced_router c; sends = [] }) tt
     (record { area = tt; announced = none_announced })).announced
 
 after_run : (steps : List RunStep) (old new : Router) → Run old steps new → AnnouncesExternals old → AnnouncesExternals new

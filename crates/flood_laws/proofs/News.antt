@@ -27,7 +27,7 @@ use Rattle.adjacency.proofs.Told.{OfContent, OfCopy, OfListed, OfOwedIfAny, Tell
 use Rattle.received.specs.Cases.{Case}
 use Rattle.received.specs.Flooding.{flood_to}
 use Rattle.received.specs.Links.{Area, Link, link_at}
-use Rattle.received.specs.Outcomes.{Outcome, Send, marked, numbered, on_database, on_links, only_at, stepping_sends}
+use Rattle.received.specs.Outcomes.{Outcome, Send, marked_database, sends_at, on_database, on_links, only_at, stepping_sends}
 use Rattle.received.specs.Updates.{after_case, copy_of, install, send_copy}
 use Rattle.received.proofs.Told.{OfArea, OfLink, OfSend, OfWaiting, case_told, change_told, each_told, flood_told, numbered_told, on_database_told, one_neighbor_told, one_told, sending_told}
 use Rattle.events.specs.declared.model.Out.{Out}
@@ -76,7 +76,7 @@ number_changed key change same db k = by_copy (finite.get db key) refl
             ap (λ s. s +ℤ pos 1) (same c) ∙ ap next_sequence (sym (subst (λ (q : Key). finite.get db q ≡ Some c) (sym (tied_key k key is)) at))
         by_key false is = refl
 
-number_marked : (moment : ℕ) (says : Content) (db : Database) (k : Key) → next_sequence (finite.get (marked moment db says) k) ≡ next_sequence (finite.get db k)
+number_marked : (moment : ℕ) (says : Content) (db : Database) (k : Key) → next_sequence (finite.get (marked_database moment db says) k) ≡ next_sequence (finite.get db k)
 number_marked moment (Content.SendsHello h) db k = refl
 number_marked moment (Content.Describes d) db k = refl
 number_marked moment (Content.Requests keys) db k = refl
@@ -84,9 +84,9 @@ number_marked moment (Content.Updates lsa) db k = number_changed (lsa_key lsa) (
 number_marked moment (Content.Acknowledges h) db k = refl
 
 numbers_marked : (moment : ℕ) (more : List Send) (db : Database) (k : Key)
-    → next_sequence (finite.get (fold (λ (d : Database) (s : Send). marked moment d s.content) db more) k) ≡ next_sequence (finite.get db k)
+    → next_sequence (finite.get (fold (λ (d : Database) (s : Send). marked_database moment d s.content) db more) k) ≡ next_sequence (finite.get db k)
 numbers_marked moment [] db k = refl
-numbers_marked moment (s ∷ more) db k = numbers_marked moment more (marked moment db s.content) k ∙ number_marked moment s.content db k
+numbers_marked moment (s ∷ more) db k = numbers_marked moment more (marked_database moment db s.content) k ∙ number_marked moment s.content db k
 
 module _ (old : Router) (moment : ℕ) (event : Occurrence) where
   -- ---- why a name is known, where these are the moments at which the router originated
@@ -155,7 +155,7 @@ module _ (old : Router) (moment : ℕ) (event : Occurrence) where
   last_follows t u so k next (Had is) = Had is
   last_follows t u so k next (Came lsa brings its_key is) = Came lsa brings its_key is
 
-  all_marked : (t : ByKey ℕ) (more : List Send) (db : Database) → AllLast t db → AllLast t (fold (λ (d : Database) (s : Send). marked moment d s.content) db more)
+  all_marked : (t : ByKey ℕ) (more : List Send) (db : Database) → AllLast t db → AllLast t (fold (λ (d : Database) (s : Send). marked_database moment d s.content) db more)
   all_marked t more db h k = subst (Last t k) (sym (numbers_marked moment more db k)) (h k)
 
   pub record Numbers (o : Outcome) (t : ByKey ℕ) : Type 0 where
@@ -289,17 +289,17 @@ module _ (old : Router) (moment : ℕ) (event : Occurrence) where
 
     copy_last : (c : Option DatabaseCopy) (o : Outcome) (t : ByKey ℕ) → AllLast t o.area.database → AllLast t (send_copy moment place c o).area.database
     copy_last None o t h = h
-    copy_last (Some c) o t h = all_marked t (numbered place (Updates (lsa_now moment c) ∷ [])) o.area.database h
+    copy_last (Some c) o t h = all_marked t (sends_at place (Updates (lsa_now moment c) ∷ [])) o.area.database h
 
     case_last : (case : Case) (lsa : Lsa) (o : Outcome) (t : ByKey ℕ) → Contains (lsas_brought packet.body) lsa → AllLast t o.area.database → AllLast t (after_case case moment place lsa o).area.database
     case_last Case.Unreadable lsa o t among h = h
-    case_last Case.NothingToFlush lsa o t among h = all_marked t (numbered place (Content.Acknowledges lsa.header ∷ [])) o.area.database h
+    case_last Case.NothingToFlush lsa o t among h = all_marked t (sends_at place (Content.Acknowledges lsa.header ∷ [])) o.area.database h
     case_last Case.TooSoon lsa o t among h = h
     case_last Case.Newer lsa o t among h = install_last lsa o t among h
     case_last Case.BadRequest lsa o t among h = all_marked t (stepping_sends (only_at place (adjacencies.mismatched moment)) o.area.links) o.area.database h
     case_last Case.ImpliedAcknowledgment lsa o t among h =
         all_marked t (stepping_sends (only_at place (λ n. no_sends (remove_retransmission (lsa_key lsa) n))) o.area.links) o.area.database h
-    case_last Case.Duplicate lsa o t among h = all_marked t (numbered place (Content.Acknowledges lsa.header ∷ [])) o.area.database h
+    case_last Case.Duplicate lsa o t among h = all_marked t (sends_at place (Content.Acknowledges lsa.header ∷ [])) o.area.database h
     case_last Case.SequenceWraps lsa o t among h = h
     case_last Case.SentJustNow lsa o t among h = h
     case_last Case.Older lsa o t among h = copy_last (copy_of lsa o.area) o t h
@@ -315,7 +315,7 @@ module _ (old : Router) (moment : ℕ) (event : Occurrence) where
   hello_last own place from h None o t last = last
   hello_last own place from h (Some link) o t last =
       let s = adjacencies.after_hello moment from (names own h) link.neighbor in
-      chosen (λ (q : Outcome). AllLast t q.area.database) (accepts own from h link) (hear moment place s o) o (λ e. all_marked t (numbered place s.sends) o.area.database last) (λ e. last)
+      chosen (λ (q : Outcome). AllLast t q.area.database) (accepts own from h link) (hear moment place s o) o (λ e. all_marked t (sends_at place s.sends) o.area.database last) (λ e. last)
 
   -- ---- the walk
 
@@ -357,9 +357,9 @@ module _ (old : Router) (moment : ℕ) (event : Occurrence) where
       requested = λ place keys o t its h.
           let lsas : List Lsa = requested_lsas moment o.area.database keys in
           record {
-            area = sending_told (T t) moment (numbered place (map Content.Updates lsas)) o
+            area = sending_told (T t) moment (sends_at place (map Content.Updates lsas)) o
                 (numbered_told (T t) place (map Content.Updates lsas) (updates_told (T t) lsas (copies_told (T t) moment o.area.database h.area.copies keys))) h.area;
-            last = all_marked t (numbered place (map Content.Updates lsas)) o.area.database h.last;
+            last = all_marked t (sends_at place (map Content.Updates lsas)) o.area.database h.last;
             remembers = h.remembers;
           };
       mismatch = λ place o t its h. record {

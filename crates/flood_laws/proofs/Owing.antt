@@ -14,13 +14,13 @@ use Rattle.lsdb.proofs.Keys.{keys_total}
 use Rattle.packet.specs.declared.model.Description.{Description}
 use Rattle.adjacency.specs.declared.state.State.{State}
 use Rattle.adjacency.specs.declared.state.State.TheVariants.{Init, ExStart, Exchange, Loading, Full}
-use Rattle.adjacency.specs.Adjacencies.{after_hello, enter_exstart, has_passed, loading_done, loading_done_in, mismatched, requests_nothing, two_way_received_in, with_hello_heard}
+use Rattle.adjacency.specs.Adjacencies.{after_hello, enter_exstart, has_passed, loading_done, loading_done_in, mismatch_step, requests_nothing, two_way_received_in, with_hello_heard}
 use Rattle.adjacency.specs.Contents.{Requests, Step, Updates, no_sends}
-use Rattle.adjacency.specs.Descriptions.{Verdict, accept, act, after_description, announced_more, as_received, changes_options, describe, exchange_done, exchange_over, expected, in_state, is_duplicate, is_kept, is_over_for, is_wanted, knows_types, master_goes_on, repeat, same_flag, slave_replies, with_request, with_requests, without_old_description}
+use Rattle.adjacency.specs.Descriptions.{Verdict, accept, act, after_description, announced_more, as_received, changes_options, describe, exchange_done, exchange_over, expected_sequence, in_state, is_duplicate, is_kept, is_over_for, is_wanted, knows_types, master_goes_on, repeat, same_flag, slave_replies, with_request, with_requests, without_old_description}
 use Rattle.adjacency.specs.Floods.{flooded_in_exchange, flooding, meets, passes, request_of, without_met_request}
 use Rattle.adjacency.specs.Neighbors.{Neighbor, is_exchange_or_loading, is_exchange_or_later}
-use Rattle.adjacency.specs.Requests.{may_request, next_request, request_next, requested, still_outstanding, without_request}
-use Rattle.adjacency.specs.Retransmissions.{acknowledged, add_retransmission, after_acknowledgment, describe_again, is_entry, next_retransmissions, remove_retransmission, repeats_description, request_again, send_again, update_again}
+use Rattle.adjacency.specs.Requests.{may_request, next_request, request_next, requested_entry, still_outstanding, without_request}
+use Rattle.adjacency.specs.Retransmissions.{acknowledged_neighbor, add_retransmission, after_acknowledgment, describe_again, is_entry, next_retransmissions, remove_retransmission, repeats_description, request_again, send_again, update_again}
 use Rattle.adjacency.proofs.Kept.{chosen}
 use Rattle.received.specs.Holds.{Holds}
 use Rattle.events.specs.LsaInstances.{LsaInstance, instance_of_header}
@@ -89,7 +89,7 @@ module _ (key : Key) (name : LsaInstance) (Asked : Type 0) where
       (λ before. h)
 
   is_requested : (moment : ℕ) (lsa : Lsa) (m : Neighbor) → passes moment lsa (request_of m lsa) ≡ false → finite.contains_key m.requests (lsa_key lsa) ≡ true
-  is_requested moment lsa m e = of_choice (is_exchange_or_loading m.state) (requested m (lsa_key lsa)) (of_passes (request_of m lsa) e)
+  is_requested moment lsa m e = of_choice (is_exchange_or_loading m.state) (requested_entry m (lsa_key lsa)) (of_passes (request_of m lsa) e)
     where
       of_passes : (o : Option ListEntry) → passes moment lsa o ≡ false → is_some o ≡ true
       of_passes None p = absurd cc
@@ -127,7 +127,7 @@ module _ (key : Key) (name : LsaInstance) (Asked : Type 0) where
 
   -- ---- attempts and Hellos
 
-  pub mismatched_owing : (moment : ℕ) (m : Neighbor) → Owing m → Owing (mismatched moment m).neighbor
+  pub mismatched_owing : (moment : ℕ) (m : Neighbor) → Owing m → Owing (mismatch_step moment m).neighbor
   mismatched_owing moment m h = chosen OfStep (is_exchange_or_later m.state) (enter_exstart moment m) (no_sends m) (λ e. inl refl) (λ e. h)
 
   two_way_owing : (s : State) (moment : ℕ) (m : Neighbor) → Owing m → Owing (two_way_received_in s moment m).neighbor
@@ -196,7 +196,7 @@ module _ (key : Key) (name : LsaInstance) (Asked : Type 0) where
     accept_owing moment db m h =
         let w : Neighbor = with_requests moment db d.headers (record m { received = Some (as_received d) }) in
         let more : Has w = (h.0, λ c. by_request (requests_grow moment db d.headers m.requests c)) in
-        chosen OfStep (knows_types d) (cond w.is_master (master_goes_on moment d w) (slave_replies moment d w)) (mismatched moment m)
+        chosen OfStep (knows_types d) (cond w.is_master (master_goes_on moment d w) (slave_replies moment d w)) (mismatch_step moment m)
         (λ c. chosen OfStep w.is_master (master_goes_on moment d w) (slave_replies moment d w) (λ c. master_owing moment d w more) (λ c. slave_owing moment d w more))
         (λ c. mismatched_owing moment m (inr h))
       where
@@ -233,7 +233,7 @@ module _ (key : Key) (name : LsaInstance) (Asked : Type 0) where
           let n : Neighbor = record m { state = Exchange } in
           first_two (Does n) (is_duplicate m.received d && m.is_master) (is_duplicate m.received d) _ (inr h) (repeat_owing moment n h)
           (mismatch_or_accepted (Does n) (mismatched_owing moment n (inr h)) (accept_owing moment db n h)
-          (same_flag d.master m.is_master) d.init (changes_options m.received d) (not (d.sequence == expected n)))
+          (same_flag d.master m.is_master) d.init (changes_options m.received d) (not (d.sequence == expected_sequence n)))
       stated_owing Loading m part h = over_owing (record m { state = Loading }) h
       stated_owing Full m part h = over_owing (record m { state = Full }) h
 
@@ -316,20 +316,20 @@ module _ (key : Key) (name : LsaInstance) (Asked : Type 0) where
   pub acknowledgment_owing : (moment : ℕ) (xs : List Header) (m : Neighbor) → Owing m
       → Owing (after_acknowledgment moment xs m) ⊎ Contains (map instance_of_header xs) name
   acknowledgment_owing moment [] m h = inl h
-  acknowledgment_owing moment (x ∷ xs) m h = then_rest first (λ k. acknowledgment_owing moment xs (acknowledged moment m x) k)
+  acknowledgment_owing moment (x ∷ xs) m h = then_rest first (λ k. acknowledgment_owing moment xs (acknowledged_neighbor moment m x) k)
     where
-      first : Owing (acknowledged moment m x) ⊎ (instance_of_header x ≡ name)
+      first : Owing (acknowledged_neighbor moment m x) ⊎ (instance_of_header x ≡ name)
       first =
           chosen (λ (n : Neighbor). Owing n ⊎ (instance_of_header x ≡ name)) (is_entry moment x (finite.get m.retransmissions (key_of x))) (remove_retransmission (key_of x) m) m
           (λ e. released_owing moment x m e h) (λ e. inl h)
 
-      later : Owing (after_acknowledgment moment xs (acknowledged moment m x)) ⊎ Contains (map instance_of_header xs) name
+      later : Owing (after_acknowledgment moment xs (acknowledged_neighbor moment m x)) ⊎ Contains (map instance_of_header xs) name
           → Owing (after_acknowledgment moment (x ∷ xs) m) ⊎ Contains (map instance_of_header (x ∷ xs)) name
       later (inl k) = inl k
       later (inr c) = inr (later_is (instance_of_header x) (map instance_of_header xs) name c)
 
-      then_rest : Owing (acknowledged moment m x) ⊎ (instance_of_header x ≡ name)
-          → (Owing (acknowledged moment m x) → Owing (after_acknowledgment moment xs (acknowledged moment m x)) ⊎ Contains (map instance_of_header xs) name)
+      then_rest : Owing (acknowledged_neighbor moment m x) ⊎ (instance_of_header x ≡ name)
+          → (Owing (acknowledged_neighbor moment m x) → Owing (after_acknowledgment moment xs (acknowledged_neighbor moment m x)) ⊎ Contains (map instance_of_header xs) name)
           → Owing (after_acknowledgment moment (x ∷ xs) m) ⊎ Contains (map instance_of_header (x ∷ xs)) name
       then_rest (inl k) rest = later (rest k)
       then_rest (inr is) rest = inr (named_first (instance_of_header x) (map instance_of_header xs) name is)

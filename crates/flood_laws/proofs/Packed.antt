@@ -10,7 +10,7 @@ use Rattle.received.specs.Links.{Link}
 use Rattle.received.specs.Outcomes.{Send}
 use Rattle.flood_laws.specs.Known.{Bears, IsOutOf, IsTextOf, instances_in_content}
 use Rattle.events.specs.LsaInstances.{LsaInstance, instance_of_lsa, instance_of_header}
-use Rattle.events.specs.Packing.{acknowledgments, at_interface, bodies, descriptions, first_key, header_size, hellos, in_key_order, lsa_size, out_of, outs_at, packed, requests, sent_lsa, update_of, updates}
+use Rattle.events.specs.Packing.{acknowledgments, at_interface, bodies, descriptions, first_key, header_size, hellos, in_key_order, lsa_size, out_of, outs_at, packed_groups, requests, sent_lsa, update_of, updates}
 use Rattle.event_rooms.proofs.Rooms.{both, mapped_all, order_all, packed_all}
 
 -- what an option gives of each content
@@ -80,15 +80,15 @@ module _ (K : LsaInstance → Type 0) where
   bodies_bear delay cs so =
       let lsas : List Lsa = in_key_order lsa_key (filter_map updates cs) in
       let headers : List Header = in_key_order key_of (filter_map acknowledgments cs) in
-      both (Bears K) _ (map body.Acknowledgment (packed header_size 24 headers))
-      (both (Bears K) _ (map (update_of delay) (packed lsa_size 28 lsas))
+      both (Bears K) _ (map body.Acknowledgment (packed_groups header_size 24 headers))
+      (both (Bears K) _ (map (update_of delay) (packed_groups lsa_size 28 lsas))
       (both (Bears K) _ (map body.Request (in_key_order first_key (filter_map requests cs)))
       (both (Bears K) (filter_map hellos cs) (filter_map descriptions cs) (chosen_of hellos LsaInstances (Bears K) hello_bears cs so)
       (chosen_of descriptions LsaInstances (Bears K) description_bears cs so))
       (requests_bear (in_key_order first_key (filter_map requests cs))))
-      (mapped_all (update_of delay) (λ p. AllByRecursion OfLsa p) (Bears K) (texts_bear delay) (packed lsa_size 28 lsas)
+      (mapped_all (update_of delay) (λ p. AllByRecursion OfLsa p) (Bears K) (texts_bear delay) (packed_groups lsa_size 28 lsas)
       (packed_all lsa_size 28 OfLsa lsas (order_all lsa_key OfLsa (filter_map updates cs) (chosen_of updates LsaInstances OfLsa of_update cs so)))))
-      (mapped_all body.Acknowledgment (λ p. AllByRecursion OfHeader p) (Bears K) (λ p each. each) (packed header_size 24 headers)
+      (mapped_all body.Acknowledgment (λ p. AllByRecursion OfHeader p) (Bears K) (λ p each. each) (packed_groups header_size 24 headers)
       (packed_all header_size 24 OfHeader headers (order_all key_of OfHeader (filter_map acknowledgments cs) (chosen_of acknowledgments LsaInstances OfHeader of_acknowledgment cs so))))
 
   pub outs_bear : (own : ℕ) (sends : List Send) → AllByRecursion (λ (s : Send). AllByRecursion K (instances_in_content s.content)) sends → (n : ℕ) (links : List Link)

@@ -32,7 +32,7 @@ use Rattle.received.specs.Cases.{Case}
 use Rattle.received.specs.Flooding.{flood, flood_to, gets, meets, request_of, without_met_request}
 use Rattle.received.specs.Holds.{Holds, HoldsOfEach}
 use Rattle.received.specs.Links.{Area, Link, acknowledge_later, any_has_retransmission, change_link, has_retransmission, link_at, neighbor_on}
-use Rattle.received.specs.Outcomes.{Outcome, Send, Stepping, each_neighbor, marked, numbered, on_database, on_links, one_neighbor, only_at, sending, step_on, stepped, stepping_sends}
+use Rattle.received.specs.Outcomes.{Outcome, Send, Stepping, each_neighbor, marked_database, sends_at, on_database, on_links, one_neighbor, only_at, sending, step_on, stepped_links, stepping_sends}
 use Rattle.received.specs.Updates.{after_case, copy_of, install, send_copy}
 use Rattle.received.proofs.Holding.{changed_keeps, each_link_keeps, flood_to_kept, one_holds}
 use Rattle.received.proofs.Marks.{IsStill, changed_by, mark_all}
@@ -45,7 +45,7 @@ use Rattle.events.specs.EventState.{flood_from_nobody}
 use Rattle.events.specs.Hellos.{accepts, names}
 use Rattle.events.specs.Originations.{due_keys, new_instance, router_key}
 use Rattle.events.specs.Packets.{hear, heard_on, requested_lsas, with_neighbor}
-use Rattle.events.specs.Routers.{Occurrence, Router, fresh_link, unannounced}
+use Rattle.events.specs.Routers.{Occurrence, Router, fresh_link, unannounced_router}
 use Rattle.events.specs.Ticks.{acknowledgments_on, again, hello_sent_on, run_out, sends_of, with_hello_sent, without_acknowledgments}
 use Rattle.event_rooms.proofs.Walk.{Brings, Invariant, IsKeptByParts, OfBrought, OfBytes, originate_or_wait_kept}
 use Rattle.event_rooms.proofs.Walk as walk
@@ -142,7 +142,7 @@ own_changed key change same db own = by_copy (finite.get db key) refl
     by_copy None is = own
     by_copy (Some c) is = inserted_in IsOwnKey db key (change c) own (same c ∙ own_at db key c own is)
 
-own_marked : (moment : ℕ) (says : Content) (db : Database) → OwnKeys db → OwnKeys (marked moment db says)
+own_marked : (moment : ℕ) (says : Content) (db : Database) → OwnKeys db → OwnKeys (marked_database moment db says)
 own_marked moment (Content.SendsHello hello) db own = own
 own_marked moment (Content.Describes d) db own = own
 own_marked moment (Content.Requests keys) db own = own
@@ -150,11 +150,11 @@ own_marked moment (Content.Updates lsa) db own = own_changed (lsa_key lsa) (λ c
 own_marked moment (Content.Acknowledges header) db own = own
 
 abbrev marks : ℕ → List Send → Database → Database
-marks moment more db = fold (λ (d : Database) (s : Send). marked moment d s.content) db more
+marks moment more db = fold (λ (d : Database) (s : Send). marked_database moment d s.content) db more
 
 own_all_marked : (moment : ℕ) (more : List Send) (db : Database) → OwnKeys db → OwnKeys (marks moment more db)
 own_all_marked moment [] db own = own
-own_all_marked moment (s ∷ more) db own = own_all_marked moment more (marked moment db s.content) (own_marked moment s.content db own)
+own_all_marked moment (s ∷ more) db own = own_all_marked moment more (marked_database moment db s.content) (own_marked moment s.content db own)
 
 -- ---- the entries stay those of the database where it changes
 
@@ -249,7 +249,7 @@ each_kept : (moment : ℕ) (f : Stepping) (o : Outcome)
     → ((number : ℕ) (link : Link) (n : Neighbor) → Of (OfIt o.area.database) n → Of (OfIt o.area.database) (f number link n).neighbor)
     → OfOutcome o → OfOutcome (each_neighbor moment f o)
 each_kept moment f o keeps h =
-    sending_kept moment (stepping_sends f o.area.links) (on_links (stepped f) o)
+    sending_kept moment (stepping_sends f o.area.links) (on_links (stepped_links f) o)
     (record { keys = h.keys; each = stepped_so (Of (OfIt o.area.database)) (Of (OfIt o.area.database)) f keeps 1 o.area.links h.each })
 
 one_kept : (moment number : ℕ) (f : Neighbor → Step) (o : Outcome) → ((n : Neighbor) → Of (OfIt o.area.database) n → Of (OfIt o.area.database) (f n).neighbor)
@@ -264,7 +264,7 @@ flood_kept : (moment : ℕ) (sender : Option ℕ) (lsa : Lsa) (old : Database) (
     → ((q : Key) → eq_by_cmp key_cmp q (lsa_key lsa) ≡ false → (x : ListEntry) → IsOfCopy old q x → IsOfCopy o.area.database q x)
     → HoldsOfEach (Of (OfIt old)) o.area.links → OfOutcome (flood moment sender lsa o)
 flood_kept moment sender lsa old o keys adds others each =
-    sending_kept moment (stepping_sends (flood_to moment sender lsa) o.area.links) (on_links (stepped (flood_to moment sender lsa)) o)
+    sending_kept moment (stepping_sends (flood_to moment sender lsa) o.area.links) (on_links (stepped_links (flood_to moment sender lsa)) o)
     (record {
       keys = keys;
       each = stepped_so (Of (OfIt old)) (Of (OfIt o.area.database)) (flood_to moment sender lsa)
@@ -360,11 +360,11 @@ install_kept moment number lsa o h =
 
 copy_kept : (moment number : ℕ) (c : Option DatabaseCopy) (o : Outcome) → OfOutcome o → OfOutcome (send_copy moment number c o)
 copy_kept moment number None o h = h
-copy_kept moment number (Some c) o h = sending_kept moment (numbered number (Updates (lsa_now moment c) ∷ [])) o h
+copy_kept moment number (Some c) o h = sending_kept moment (sends_at number (Updates (lsa_now moment c) ∷ [])) o h
 
 case_kept : (case : Case) (moment number : ℕ) (lsa : Lsa) (o : Outcome) → OfOutcome o → OfOutcome (after_case case moment number lsa o)
 case_kept Case.Unreadable moment number lsa o h = h
-case_kept Case.NothingToFlush moment number lsa o h = sending_kept moment (numbered number (Content.Acknowledges lsa.header ∷ [])) o h
+case_kept Case.NothingToFlush moment number lsa o h = sending_kept moment (sends_at number (Content.Acknowledges lsa.header ∷ [])) o h
 case_kept Case.TooSoon moment number lsa o h = h
 case_kept Case.Newer moment number lsa o h = install_kept moment number lsa o h
 case_kept Case.BadRequest moment number lsa o h =
@@ -372,7 +372,7 @@ case_kept Case.BadRequest moment number lsa o h =
 case_kept Case.ImpliedAcknowledgment moment number lsa o h =
     one_kept moment number (λ n. no_sends (remove_retransmission (lsa_key lsa) n)) o
     (λ n at. released_kept (OfIt o.area.database) (its_kept o.area.database) (lsa_key lsa) n at) h
-case_kept Case.Duplicate moment number lsa o h = sending_kept moment (numbered number (Content.Acknowledges lsa.header ∷ [])) o h
+case_kept Case.Duplicate moment number lsa o h = sending_kept moment (sends_at number (Content.Acknowledges lsa.header ∷ [])) o h
 case_kept Case.SequenceWraps moment number lsa o h = h
 case_kept Case.SentJustNow moment number lsa o h = h
 case_kept Case.Older moment number lsa o h = copy_kept moment number (copy_of lsa o.area) o h
@@ -392,7 +392,7 @@ hello_heard own moment number from hello (Some link) o here h =
     let so : Of (OfIt db) s.neighbor =
     hello_kept (OfIt db) (its_kept db) moment from (names own hello) link.neighbor (heard_before db from moment link.neighbor here) in
     chosen OfOutcome (accepts own from hello link) (hear moment number s o) o
-    (λ is. sending_kept moment (numbered number s.sends) (on_links (change_link number (with_neighbor s.neighbor)) o)
+    (λ is. sending_kept moment (sends_at number s.sends) (on_links (change_link number (with_neighbor s.neighbor)) o)
     (record { keys = h.keys; each = changed_keeps (Of (OfIt db)) number (with_neighbor s.neighbor) (λ l at. so) o.area.links h.each }))
     (λ is. h)
 
@@ -468,7 +468,7 @@ parts_keep = record {
       one_kept moment number (after_description own moment o.area.database d) o
       (description_kept (OfIt o.area.database) (its_kept o.area.database) own moment o.area.database d
       (begun moment o.area.database)) h;
-  requested = λ moment number keys o h. sending_kept moment (numbered number (map Content.Updates (requested_lsas moment o.area.database keys))) o h;
+  requested = λ moment number keys o h. sending_kept moment (sends_at number (map Content.Updates (requested_lsas moment o.area.database keys))) o h;
   mismatch = λ moment number o h.
       one_kept moment number (adjacencies.mismatched moment) o (mismatched_kept (OfIt o.area.database) (its_kept o.area.database) moment) h;
   acknowledgment = λ moment number headers o h.
@@ -537,7 +537,7 @@ fresh_so (i ∷ is) = (tt, fresh_so is)
 
 initial_kept : (c : Config) → IsItsOwn (initial c).area
 initial_kept c =
-    (originate_or_wait_kept its_own parts_keep c.start (router_key c.router) (record { router = unannounced c; sends = [] }) tt
+    (originate_or_wait_kept its_own parts_keep c.start (router_key c.router) (record { router = unannounced_router c; sends = [] }) tt
     (record { area = record { keys = none_in IsOwnKey; each = fresh_so c.interfaces }; announced = tt })).area
 
 run_kept : (steps : List EventStep) (old new : Router) → Run old steps new → IsItsOwn old.area → IsItsOwn new.area

@@ -20,7 +20,7 @@ use Rattle.adjacency.proofs.Kept.{chosen}
 use Rattle.adjacency.proofs.Maps.{AllIn, IfThere, OfEntry, entries_in, inserted_in, none_in, removed_in, retained_in}
 use Rattle.adjacency.proofs.Told.{OfContent, OfCopy, OfOwedIfAny, OfStep, Telling, acknowledgment_told, again_told, copies_told, description_told, filled_told, hello_told, lsa_now_told, mismatched_told, old_description_told, quiet_told, request_told, still_heard_told, updates_told}
 use Rattle.received.specs.Links.{Link, link_at, neighbor_on}
-use Rattle.received.specs.Outcomes.{Outcome, numbered, on_database, on_links}
+use Rattle.received.specs.Outcomes.{Outcome, sends_at, on_database, on_links}
 use Rattle.received.proofs.Told.{OfArea, OfLink, OfLinks, OfOutcome, OfSend, OfWaiting, case_told, change_told, changed_told, each_link_told, each_told, flood_told, joined, numbered_told, on_database_told, on_links_told, one_neighbor_told, one_told, sending_told}
 use Rattle.events.specs.Commands.{taken_down}
 use Rattle.events.specs.Endings.{start_event, link_loading_done, loading_done_on, end_event, stays, with_age}
@@ -90,10 +90,10 @@ module _ (t : Telling) where
   -- ---- what each link sends by itself
 
   pub sends_told : (f : Link → List Content) → ((link : Link) → OfLink t link → AllByRecursion (OfContent t) (f link)) → (k : ℕ) (xs : List Link) → OfLinks t xs
-      → AllByRecursion (OfSend t) (flat_map (λ (e : ℕ × Link). numbered e.0 (f e.1)) (enumerate_from k xs))
+      → AllByRecursion (OfSend t) (flat_map (λ (e : ℕ × Link). sends_at e.0 (f e.1)) (enumerate_from k xs))
   sends_told f each k [] h = tt
   sends_told f each k (x ∷ xs) h =
-      joined (OfSend t) (numbered k (f x)) (flat_map (λ (e : ℕ × Link). numbered e.0 (f e.1)) (enumerate_from (k + 1) xs))
+      joined (OfSend t) (sends_at k (f x)) (flat_map (λ (e : ℕ × Link). sends_at e.0 (f e.1)) (enumerate_from (k + 1) xs))
       (numbered_told t k (f x) (each x h.0)) (sends_told f each (k + 1) xs h.1)
 
   pub acknowledgments_told : (es : List (Key × Header)) → AllByRecursion (OfEntry (OfWaiting t)) es → AllByRecursion (OfContent t) (map Content.Acknowledges (map (λ e. e.1) es))
@@ -114,7 +114,7 @@ module _ (t : Telling) where
       let so : OfStep t s = hello_told t moment from (names own hello) link.neighbor here in
       chosen (OfOutcome t) (accepts own from hello link) (hear moment number s o) o
       (λ is.
-      sending_told t moment (numbered number s.sends) _ (numbered_told t number s.sends so.sends)
+      sending_told t moment (sends_at number s.sends) _ (numbered_told t number s.sends so.sends)
       (change_told t number (with_neighbor s.neighbor) (λ l at. record { neighbor = so.neighbor; acknowledgments = at.acknowledgments }) o h))
       (λ is. h)
 
@@ -163,7 +163,7 @@ module _ (t : Telling) (id : ℕ) (news : (key : Key) (copy : Option DatabaseCop
         (description_told t own moment o.area.database d h.copies) o h;
     requested = λ moment number keys o h.
         let lsas : List Lsa = requested_lsas moment o.area.database keys in
-        sending_told t moment (numbered number (map Content.Updates lsas)) o
+        sending_told t moment (sends_at number (map Content.Updates lsas)) o
         (numbered_told t number (map Content.Updates lsas) (updates_told t lsas (copies_told t moment o.area.database h.copies keys))) h;
     mismatch = λ moment number o h. one_neighbor_told t moment number (adjacencies.mismatched moment) (mismatched_told t moment) o h;
     acknowledgment = λ moment number headers o h.

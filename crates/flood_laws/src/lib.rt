@@ -58,17 +58,17 @@ pub fn only_router_and_external_lsas_are_wanted()
     ensures { OnlyRouterAndExternalLsasAreWanted }
 {}
 
-/// What lets entries be followed through events: a router announces external destinations, under its
-/// own Router ID alone, and what stands on its retransmission lists is of its database. So it is at
-/// the start, each event keeps it so, and so it is after every run.
+/// What lets entries be followed through events: a router announces external destinations, under
+/// its own Router ID alone, and what stands on its retransmission lists is of its database. So it
+/// is at the start, each event keeps it so, and so it is after every run.
 pub fn routers_stay_in_order()
     ensures { RoutersStayInOrder }
 {}
 
 /// Where an entry leaves the retransmission list of a neighbor in an event, the event's packet came
 /// from that neighbor and tells the instance, by key, sequence number and checksum: unless the
-/// adjacency is given up, which clears the lists, or the LSA is flooded in the event, which replaces
-/// its entries (RFC 2328, sections 13, step 7a, and 13.7).
+/// adjacency is given up, which clears the lists, or the LSA is flooded in the event, which
+/// replaces its entries (RFC 2328, sections 13, step 7a, and 13.7).
 pub fn what_is_taken_off_was_told()
     ensures { WhatIsTakenOffWasTold }
 {}

@@ -4,7 +4,7 @@ use Rattle.adjacency.specs.Contents.{Content}
 use Rattle.adjacency.specs.Drafts.{Drafted, drafting}
 use Rattle.adjacency.specs.Kept.{Kept}
 use Rattle.received.specs.Links.{Link}
-use Rattle.flooding.specs.Drafted.{drafted}
+use Rattle.flooding.specs.Drafted.{drafts_with}
 use Rattle.flooding.specs.Links.{present}
 use Rattle.flooding.specs.Steps.{sends_of}
 use Rattle.flooding.proofs.Finish.{Finishes, finish_counts, finish_drafts, finish_items}
@@ -45,7 +45,7 @@ module _ (A : Link → Link) (S : Link → List Content) where
 
   abbrev pub Steps : ℕ → List (Kept Link) → List Drafted → List Link → List Drafted → Type 0
   Steps i xs ds olds drafts =
-      Finishes present after after_draft counts i xs ds false (map A olds) (drafted (sends_of S olds) olds drafts) false
+      Finishes present after after_draft counts i xs ds false (map A olds) (drafts_with (sends_of S olds) olds drafts) false
 
   pub begins : (xs : List (Kept Link)) (ds : List Drafted) → Steps 0 xs ds (map present xs) ds
   begins xs ds = record {

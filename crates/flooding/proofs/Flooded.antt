@@ -13,7 +13,7 @@ use Rattle.adjacency.specs.Neighbors.{Neighbor, is_exchange_or_later}
 use Rattle.adjacency.specs.Retransmissions.{add_retransmission, remove_retransmission}
 use Rattle.received.specs.Flooding.{flood_to, is_sender, passes, request_of, without_met_request}
 use Rattle.received.specs.Links.{Link}
-use Rattle.received.specs.Outcomes.{Send, Stepping, marked, sent_on, step_on, stepped, stepping_sends}
+use Rattle.received.specs.Outcomes.{Send, Stepping, marked_database, sent_on, step_on, stepped_links, stepping_sends}
 use Rattle.flooding.specs.Drafted.{drafted_from}
 use Rattle.flooding.specs.Links.{present, with_neighbor}
 use Rattle.flooding.proofs.Finish.{Finishes, finish_counts, finish_drafts, items_all}
@@ -84,7 +84,7 @@ module _ (moment : ℕ) (sender : Option ℕ) (lsa : Lsa) where
   -- where nothing is done yet
   abbrev pub Floods : ℕ → List (Kept Link) → List Drafted → Bool → List Link → List Drafted → Type 0
   Floods i xs ds sent olds drafts =
-      Finishes present after_step after_draft counts i xs ds sent (stepped step olds) (drafted_from 1 (stepping_sends step olds) olds drafts) (is_any (stepping_sends step olds))
+      Finishes present after_step after_draft counts i xs ds sent (stepped_links step olds) (drafted_from 1 (stepping_sends step olds) olds drafts) (is_any (stepping_sends step olds))
 
   pub begins : (xs : List (Kept Link)) (ds : List Drafted) → Floods 0 xs ds false (map present xs) ds
   begins xs ds = record {
@@ -95,5 +95,5 @@ module _ (moment : ℕ) (sender : Option ℕ) (lsa : Lsa) where
 
   -- the marks of all Updates are one
   pub marks_once : (links : List Link) (d : Database)
-      → fold (λ (db : Database) (s : Send). marked moment db s.content) d (stepping_sends step links) ≡ cond (is_any (stepping_sends step links)) (mark_sent moment (lsa_key lsa) d) d
+      → fold (λ (db : Database) (s : Send). marked_database moment db s.content) d (stepping_sends step links) ≡ cond (is_any (stepping_sends step links)) (mark_sent moment (lsa_key lsa) d) d
   marks_once links d = marks_all sent_at moment lsa one 1 links d

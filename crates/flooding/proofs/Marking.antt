@@ -4,38 +4,38 @@ use Rattle.std.specs.List.{fold}
 use Rattle.std.specs.Prelude.{Option, None, Some}
 use Rattle.words.specs.declared.key.Key.{Key}
 use Rattle.lsdb.specs.Copies.{Database}
-use Rattle.adjacency.specs.Adjacencies.{enter_exstart, mismatched}
+use Rattle.adjacency.specs.Adjacencies.{enter_exstart, mismatch_step}
 use Rattle.adjacency.specs.Contents as neighbor
 use Rattle.adjacency.specs.Contents.{no_sends}
 use Rattle.adjacency.specs.Kept.{Kept}
 use Rattle.adjacency.specs.Neighbors.{Neighbor, is_exchange_or_later}
 use Rattle.adjacency.specs.Retransmissions.{remove_retransmission}
 use Rattle.received.specs.Links.{Area, Link}
-use Rattle.received.specs.Outcomes.{Send, marked, numbered, only_at, stepping_sends}
+use Rattle.received.specs.Outcomes.{Send, marked_database, sends_at, only_at, stepping_sends}
 use Rattle.flooding.specs.Links.{present}
 use Rattle.flooding.proofs.Only.{sends_stepped}
 
 abbrev pub marks : ℕ → Database → List Send → Database
-marks moment db sends = fold (λ (d : Database) (s : Send). marked moment d s.content) db sends
+marks moment db sends = fold (λ (d : Database) (s : Send). marked_database moment d s.content) db sends
 
-by_state : (moment k : ℕ) (db : Database) (n : Neighbor) (b : Bool) → marks moment db (numbered k (cond b (enter_exstart moment n) (no_sends n)).sends) ≡ db
+by_state : (moment k : ℕ) (db : Database) (n : Neighbor) (b : Bool) → marks moment db (sends_at k (cond b (enter_exstart moment n) (no_sends n)).sends) ≡ db
 by_state moment k db n true = refl
 by_state moment k db n false = refl
 
-by_neighbor : (moment k : ℕ) (db : Database) (o : Option Neighbor) → marks moment db (numbered k (neighbor.sent_on (mismatched moment) o)) ≡ db
+by_neighbor : (moment k : ℕ) (db : Database) (o : Option Neighbor) → marks moment db (sends_at k (neighbor.sent_on (mismatch_step moment) o)) ≡ db
 by_neighbor moment k db None = refl
 by_neighbor moment k db (Some n) = by_state moment k db n (is_exchange_or_later n.state)
 
 -- a mismatch marks nothing
 pub mismatch_marks : (ls : List (Kept Link)) (i k : ℕ) → i < length ls → k ≡ 1 + i → (moment : ℕ) (db : Database)
-    → db ≡ marks moment db (stepping_sends (only_at k (mismatched moment)) (map present ls))
+    → db ≡ marks moment db (stepping_sends (only_at k (mismatch_step moment)) (map present ls))
 mismatch_marks [] i k lt at moment db = absurd (omega (arith, lt))
 mismatch_marks (l ∷ ls) i k lt at moment db =
-    let f = mismatched moment in
+    let f = mismatch_step moment in
     sym (by_neighbor moment k db (get_or (l ∷ ls) i l).present.neighbor)
     ∙ ap (marks moment db) (sends_stepped (l ∷ ls) i k l l lt at f)
 
-silent : (key : Key) (k : ℕ) (o : Option Neighbor) → [] ≡ numbered k (neighbor.sent_on (λ (n : Neighbor). no_sends (remove_retransmission key n)) o)
+silent : (key : Key) (k : ℕ) (o : Option Neighbor) → [] ≡ sends_at k (neighbor.sent_on (λ (n : Neighbor). no_sends (remove_retransmission key n)) o)
 silent key k None = refl
 silent key k (Some n) = refl
 

@@ -14,7 +14,7 @@ use Rattle.lsdb.proofs.Keys.{keys_exact, keys_total}
 use Rattle.lsdb.proofs.Joins.{change_is}
 use Rattle.adjacency.specs.Contents.{Content, Updates}
 use Rattle.received.specs.Links.{Link}
-use Rattle.received.specs.Outcomes.{Send, marked, numbered}
+use Rattle.received.specs.Outcomes.{Send, marked_database, sends_at}
 use Rattle.adjacency.specs.Floods.{is_any}
 use Rattle.flooding.proofs.Sends.{sends_from}
 
@@ -43,7 +43,7 @@ twice moment k d = twice_by moment k d (finite.get d k) refl
 
 module _ (S : ℕ → Link → List Content) (moment : ℕ) (lsa : Lsa) (one : (n : ℕ) (l : Link) → S n l ≡ cond (is_any (S n l)) (Updates lsa ∷ []) []) where
   abbrev marks_on : Database → List Send → Database
-  marks_on d sends = fold (λ (db : Database) (s : Send). marked moment db s.content) d sends
+  marks_on d sends = fold (λ (db : Database) (s : Send). marked_database moment db s.content) d sends
 
   same_either : (b : Bool) (d : Database) → cond b (mark_sent moment (lsa_key lsa) (mark_sent moment (lsa_key lsa) d)) (mark_sent moment (lsa_key lsa) d) ≡ mark_sent moment (lsa_key lsa) d
   same_either true d = twice moment (lsa_key lsa) d
@@ -51,7 +51,7 @@ module _ (S : ℕ → Link → List Content) (moment : ℕ) (lsa : Lsa) (one : (
 
   by_sent : (n : ℕ) (b : Bool) (rest : List Send) (d : Database)
       → ((e : Database) → marks_on e rest ≡ cond (is_any rest) (mark_sent moment (lsa_key lsa) e) e)
-      → marks_on d (numbered n (cond b (Updates lsa ∷ []) []) ++ rest) ≡ cond (is_any (numbered n (cond b (Updates lsa ∷ []) []) ++ rest)) (mark_sent moment (lsa_key lsa) d) d
+      → marks_on d (sends_at n (cond b (Updates lsa ∷ []) []) ++ rest) ≡ cond (is_any (sends_at n (cond b (Updates lsa ∷ []) []) ++ rest)) (mark_sent moment (lsa_key lsa) d) d
   by_sent n true rest d so = so (mark_sent moment (lsa_key lsa) d) ∙ same_either (is_any rest) d
   by_sent n false rest d so = so d
 
@@ -60,6 +60,6 @@ module _ (S : ℕ → Link → List Content) (moment : ℕ) (lsa : Lsa) (one : (
   marks_all n [] d = refl
   marks_all n (l ∷ ls) d =
       let rest = sends_from S (n + 1) ls in
-      ap (λ cs. marks_on d (numbered n cs ++ rest)) (one n l)
+      ap (λ cs. marks_on d (sends_at n cs ++ rest)) (one n l)
       ∙ by_sent n (is_any (S n l)) rest d (marks_all (n + 1) ls)
-      ∙ ap (λ cs. cond (is_any (numbered n cs ++ rest)) (mark_sent moment (lsa_key lsa) d) d) (sym (one n l))
+      ∙ ap (λ cs. cond (is_any (sends_at n cs ++ rest)) (mark_sent moment (lsa_key lsa) d) d) (sym (one n l))

@@ -10,8 +10,8 @@ use Rattle.adjacency.specs.Kept.{Kept}
 use Rattle.adjacency.specs.Neighbors.{Neighbor}
 use Rattle.adjacency.proofs.Floods.{drafting-none}
 use Rattle.received.specs.Links.{Link, change_link}
-use Rattle.received.specs.Outcomes.{numbered, only_at, sent_on, step_on, stepped, stepping_sends}
-use Rattle.flooding.specs.Drafted.{at_interface, drafted, drafted_from}
+use Rattle.received.specs.Outcomes.{sends_at, only_at, sent_on, step_on, stepped_links, stepping_sends}
+use Rattle.flooding.specs.Drafted.{at_interface, drafts_with, drafted_from}
 use Rattle.flooding.specs.Links.{present, with_neighbor}
 use Rattle.flooding.proofs.Sends.{append_none, other_number, picked_elsewhere, picked_here, same_number, sends_from}
 
@@ -35,18 +35,18 @@ module _ (S : ℕ → Link → List Content) (k : ℕ) (rest : (p : ℕ) (l : Li
   none_later : (n : ℕ) (ls : List Link) → k < n → sends_from S n ls ≡ []
   none_later n [] lt = refl
   none_later n (l ∷ ls) lt =
-      ap (λ cs. numbered n cs ++ sends_from S (n + 1) ls) (rest n l (λ is. absurd (omega (arith, lt, is)))) ∙ none_later (n + 1) ls (omega (arith, lt))
+      ap (λ cs. sends_at n cs ++ sends_from S (n + 1) ls) (rest n l (λ is. absurd (omega (arith, lt, is)))) ∙ none_later (n + 1) ls (omega (arith, lt))
 
-  pub sends_only : (i n : ℕ) (ls : List Link) (d : Link) → i < length ls → k ≡ n + i → sends_from S n ls ≡ numbered k (S k (get_or ls i d))
+  pub sends_only : (i n : ℕ) (ls : List Link) (d : Link) → i < length ls → k ≡ n + i → sends_from S n ls ≡ sends_at k (S k (get_or ls i d))
   sends_only i n [] d lt at = absurd (omega (arith, lt))
   sends_only zero n (l ∷ ls) d lt at =
       let same : n ≡ k = omega (arith, at) in
-      ap (λ ss. numbered n (S n l) ++ ss) (none_later (n + 1) ls (omega (arith, same))) ∙ append_none (numbered n (S n l)) ∙ ap (λ m. numbered m (S m l)) same
+      ap (λ ss. sends_at n (S n l) ++ ss) (none_later (n + 1) ls (omega (arith, same))) ∙ append_none (sends_at n (S n l)) ∙ ap (λ m. sends_at m (S m l)) same
   sends_only (suc i) n (l ∷ ls) d lt at =
-      ap (λ cs. numbered n cs ++ sends_from S (n + 1) ls) (rest n l (λ e. absurd (omega (arith, at, e)))) ∙ sends_only i (n + 1) ls d (omega (arith, lt)) (omega (arith, at))
+      ap (λ cs. sends_at n cs ++ sends_from S (n + 1) ls) (rest n l (λ e. absurd (omega (arith, at, e)))) ∙ sends_only i (n + 1) ls d (omega (arith, lt)) (omega (arith, at))
 
 -- what is sent at number k lands in its draft alone
-drafts_rest : (k n : ℕ) (cs : List Content) (ls : List Link) (ds : List Drafted) → k < n → ds ≡ drafted_from n (numbered k cs) ls ds
+drafts_rest : (k n : ℕ) (cs : List Content) (ls : List Link) (ds : List Drafted) → k < n → ds ≡ drafted_from n (sends_at k cs) ls ds
 drafts_rest k n cs [] ds lt = refl
 drafts_rest k n cs (l ∷ ls) [] lt = refl
 drafts_rest k n cs (l ∷ ls) (d ∷ ds) lt =
@@ -54,12 +54,12 @@ drafts_rest k n cs (l ∷ ls) (d ∷ ds) lt =
     λ j. (drafting-none l.interface.delay d ∙ ap (λ zs. drafting l.interface.delay zs d) (sym none)) j ∷ drafts_rest k (n + 1) cs ls ds (omega (arith, lt)) j
 
 pub drafted_only : (i n k : ℕ) (cs : List Content) (ls : List Link) (ds : List Drafted) (dl : Link) (e dd : Drafted) → i < length ls → i < length ds → k ≡ n + i
-    → e ≡ drafting (get_or ls i dl).interface.delay cs (get_or ds i dd) → set ds i e ≡ drafted_from n (numbered k cs) ls ds
+    → e ≡ drafting (get_or ls i dl).interface.delay cs (get_or ds i dd) → set ds i e ≡ drafted_from n (sends_at k cs) ls ds
 drafted_only i n k cs [] ds dl e dd lt lt_d at is = absurd (omega (arith, lt))
 drafted_only i n k cs (l ∷ ls) [] dl e dd lt lt_d at is = absurd (omega (arith, lt_d))
 drafted_only zero n k cs (l ∷ ls) (d ∷ ds) dl e dd lt lt_d at is =
     let same : k ≡ n = omega (arith, at) in
-    let all = ap (λ m. filter_map (at_interface m) (numbered k cs)) (sym same) ∙ picked_here k cs in
+    let all = ap (λ m. filter_map (at_interface m) (sends_at k cs)) (sym same) ∙ picked_here k cs in
     λ j. (is ∙ ap (λ zs. drafting l.interface.delay zs d) (sym all)) j ∷ drafts_rest k (n + 1) cs ls ds (omega (arith, same)) j
 drafted_only (suc i) n k cs (l ∷ ls) (d ∷ ds) dl e dd lt lt_d at is =
     let none = picked_elsewhere n k cs (λ same. absurd (omega (arith, at, same))) in
@@ -95,7 +95,7 @@ module _ (ls : List (Kept Link)) (i k : ℕ) (y d : Kept Link) (lt : i < length 
   shown = get_or-map present ls i d d.present lt
 
   pub links_stepped : (f : Neighbor → Step) → y.present ≡ with_neighbor (neighbor.step_on f (get_or ls i d).present.neighbor) (get_or ls i d).present
-      → map present (set ls i y) ≡ stepped (only_at k f) (map present ls)
+      → map present (set ls i y) ≡ stepped_links (only_at k f) (map present ls)
   links_stepped f is =
       let stepping : ℕ → Link → Link = λ p l. with_neighbor (step_on (only_at k f p l) l.neighbor) l in
       let old = (get_or ls i d).present in
@@ -110,21 +110,21 @@ module _ (ls : List (Kept Link)) (i k : ℕ) (y d : Kept Link) (lt : i < length 
       ∙ set_only changing k (λ p x ne. ap (λ b. cond b (change x) x) (other_number p k ne)) i 1 (map present ls) y.present d.present (shown_within ls i lt) at
       (is ∙ ap change (sym shown) ∙ sym (ap (λ b. cond b (change (get_or (map present ls) i d.present)) (get_or (map present ls) i d.present)) (same_number k)))
 
-  pub sends_stepped : (f : Neighbor → Step) → numbered k (neighbor.sent_on f (get_or ls i d).present.neighbor) ≡ stepping_sends (only_at k f) (map present ls)
+  pub sends_stepped : (f : Neighbor → Step) → sends_at k (neighbor.sent_on f (get_or ls i d).present.neighbor) ≡ stepping_sends (only_at k f) (map present ls)
   sends_stepped f =
       let old = (get_or ls i d).present in
       let S : ℕ → Link → List Content = λ p l. sent_on (only_at k f p l) l.neighbor in
-      ap (numbered k) (sent_acts f k old old.neighbor ∙ ap (S k) (sym shown))
+      ap (sends_at k) (sent_acts f k old old.neighbor ∙ ap (S k) (sym shown))
       ∙ sym (sends_only S k (λ p l ne. sent_rests f k p l l.neighbor ne) i 1 (map present ls) d.present (shown_within ls i lt) at)
 
   pub drafts_sent : (cs : List Content) (ds : List Drafted) (e dd : Drafted) → i < length ds → e ≡ drafting (get_or ls i d).present.interface.delay cs (get_or ds i dd)
-      → set ds i e ≡ drafted (numbered k cs) (map present ls) ds
+      → set ds i e ≡ drafts_with (sends_at k cs) (map present ls) ds
   drafts_sent cs ds e dd lt_d is =
       drafted_only i 1 k cs (map present ls) ds d.present e dd (shown_within ls i lt) lt_d at
       (is ∙ ap (λ (l : Link). drafting l.interface.delay cs (get_or ds i dd)) (sym shown))
 
 -- where the draft's text needs no delay, any link's will do
 pub drafts_at : (ls : List (Kept Link)) (i k : ℕ) → i < length ls → k ≡ 1 + i → (cs : List Content) (ds : List Drafted) (e dd : Drafted) → i < length ds
-    → ((d : Kept Link) → e ≡ drafting d.present.interface.delay cs (get_or ds i dd)) → set ds i e ≡ drafted (numbered k cs) (map present ls) ds
+    → ((d : Kept Link) → e ≡ drafting d.present.interface.delay cs (get_or ds i dd)) → set ds i e ≡ drafts_with (sends_at k cs) (map present ls) ds
 drafts_at [] i k lt at cs ds e dd lt_d is = absurd (omega (arith, lt))
 drafts_at (l ∷ ls) i k lt at cs ds e dd lt_d is = drafts_sent (l ∷ ls) i k l l lt at cs ds e dd lt_d (is (get_or (l ∷ ls) i l))

@@ -5,7 +5,7 @@ use Rattle.std.specs.Prelude.{None, Some}
 use Rattle.std.proofs.lemmas.Bool.Decides.{nat_tests}
 use Rattle.adjacency.specs.Contents.{Content}
 use Rattle.received.specs.Links.{Link}
-use Rattle.received.specs.Outcomes.{Send, numbered}
+use Rattle.received.specs.Outcomes.{Send, sends_at}
 use Rattle.adjacency.specs.Drafts.{Drafted, drafting}
 use Rattle.adjacency.specs.Floods.{is_any}
 use Rattle.adjacency.proofs.Floods.{drafting-none}
@@ -25,13 +25,13 @@ picked-append : (k : ℕ) (xs ys : List Send) → filter_map (at_interface k) (x
 picked-append k [] ys = refl
 picked-append k (x ∷ xs) ys = by_number k x (x.number == k) (filter_map (at_interface k) (xs ++ ys)) (filter_map (at_interface k) xs) (filter_map (at_interface k) ys) (picked-append k xs ys)
 
-pub picked_here : (k : ℕ) (cs : List Content) → filter_map (at_interface k) (numbered k cs) ≡ cs
+pub picked_here : (k : ℕ) (cs : List Content) → filter_map (at_interface k) (sends_at k cs) ≡ cs
 picked_here k [] = refl
-picked_here k (c ∷ cs) = ap (λ b. cons_option (cond b (Some c) None) (filter_map (at_interface k) (numbered k cs))) (same_number k) ∙ ap (λ zs. c ∷ zs) (picked_here k cs)
+picked_here k (c ∷ cs) = ap (λ b. cons_option (cond b (Some c) None) (filter_map (at_interface k) (sends_at k cs))) (same_number k) ∙ ap (λ zs. c ∷ zs) (picked_here k cs)
 
-pub picked_elsewhere : (k n : ℕ) (cs : List Content) → n ≢ k → filter_map (at_interface k) (numbered n cs) ≡ []
+pub picked_elsewhere : (k n : ℕ) (cs : List Content) → n ≢ k → filter_map (at_interface k) (sends_at n cs) ≡ []
 picked_elsewhere k n [] ne = refl
-picked_elsewhere k n (c ∷ cs) ne = ap (λ b. cons_option (cond b (Some c) None) (filter_map (at_interface k) (numbered n cs))) (other_number n k ne) ∙ picked_elsewhere k n cs ne
+picked_elsewhere k n (c ∷ cs) ne = ap (λ b. cons_option (cond b (Some c) None) (filter_map (at_interface k) (sends_at n cs))) (other_number n k ne) ∙ picked_elsewhere k n cs ne
 
 pub append_none : {A : Type 0} (xs : List A) → xs ++ [] ≡ xs
 append_none [] = refl
@@ -46,12 +46,12 @@ drafted_none n (l ∷ ls) (d ∷ ds) = λ i. drafting-none l.interface.delay d i
 -- S is what is sent on a link of this number
 module _ (S : ℕ → Link → List Content) where
   abbrev pub sends_from : ℕ → List Link → List Send
-  sends_from n links = flat_map (λ (e : ℕ × Link). numbered e.0 (S e.0 e.1)) (enumerate_from n links)
+  sends_from n links = flat_map (λ (e : ℕ × Link). sends_at e.0 (S e.0 e.1)) (enumerate_from n links)
 
   picked_later : (k n : ℕ) (links : List Link) → k < n → filter_map (at_interface k) (sends_from n links) ≡ []
   picked_later k n [] lt = refl
   picked_later k n (l ∷ ls) lt =
-      picked-append k (numbered n (S n l)) (sends_from (n + 1) ls)
+      picked-append k (sends_at n (S n l)) (sends_from (n + 1) ls)
       ∙ ap (λ zs. zs ++ filter_map (at_interface k) (sends_from (n + 1) ls)) (picked_elsewhere k n (S n l) (λ is. absurd (omega (arith, lt, is))))
       ∙ picked_later k (n + 1) ls (omega (arith, lt))
 
@@ -62,11 +62,11 @@ module _ (S : ℕ → Link → List Content) where
   draft_from n (l ∷ ls) (d ∷ ds) = drafting l.interface.delay (S n l) d ∷ draft_from (n + 1) ls ds
 
   picked_all : (n : ℕ) (before : List Send) (l : Link) (ls : List Link) → ((k : ℕ) → n ≤ k → filter_map (at_interface k) before ≡ [])
-      → filter_map (at_interface n) (before ++ (numbered n (S n l) ++ sends_from (n + 1) ls)) ≡ S n l
+      → filter_map (at_interface n) (before ++ (sends_at n (S n l) ++ sends_from (n + 1) ls)) ≡ S n l
   picked_all n before l ls none =
-      picked-append n before (numbered n (S n l) ++ sends_from (n + 1) ls)
-      ∙ ap (λ zs. zs ++ filter_map (at_interface n) (numbered n (S n l) ++ sends_from (n + 1) ls)) (none n (omega arith))
-      ∙ picked-append n (numbered n (S n l)) (sends_from (n + 1) ls)
+      picked-append n before (sends_at n (S n l) ++ sends_from (n + 1) ls)
+      ∙ ap (λ zs. zs ++ filter_map (at_interface n) (sends_at n (S n l) ++ sends_from (n + 1) ls)) (none n (omega arith))
+      ∙ picked-append n (sends_at n (S n l)) (sends_from (n + 1) ls)
       ∙ ap (λ zs. zs ++ filter_map (at_interface n) (sends_from (n + 1) ls)) (picked_here n (S n l))
       ∙ ap (λ zs. S n l ++ zs) (picked_later n (n + 1) ls (omega arith))
       ∙ append_none (S n l)
@@ -77,11 +77,11 @@ module _ (S : ℕ → Link → List Content) where
   drafts_behind n before (l ∷ ls) [] none = refl
   drafts_behind n before (l ∷ ls) (d ∷ ds) none =
       let here = picked_all n before l ls none in
-      let whole : before ++ (numbered n (S n l) ++ sends_from (n + 1) ls) ≡ (before ++ numbered n (S n l)) ++ sends_from (n + 1) ls = sym (append_assoc before (numbered n (S n l)) (sends_from (n + 1) ls)) in
-      let rest = drafts_behind (n + 1) (before ++ numbered n (S n l)) ls ds (λ k le.
-      picked-append k before (numbered n (S n l)) ∙ ap (λ zs. zs ++ filter_map (at_interface k) (numbered n (S n l))) (none k (omega (arith, le)))
+      let whole : before ++ (sends_at n (S n l) ++ sends_from (n + 1) ls) ≡ (before ++ sends_at n (S n l)) ++ sends_from (n + 1) ls = sym (append_assoc before (sends_at n (S n l)) (sends_from (n + 1) ls)) in
+      let rest = drafts_behind (n + 1) (before ++ sends_at n (S n l)) ls ds (λ k le.
+      picked-append k before (sends_at n (S n l)) ∙ ap (λ zs. zs ++ filter_map (at_interface k) (sends_at n (S n l))) (none k (omega (arith, le)))
       ∙ picked_elsewhere k n (S n l) (λ is. absurd (omega (arith, le, is)))) in
-      ap (λ cs. drafting l.interface.delay cs d ∷ drafted_from (n + 1) (before ++ (numbered n (S n l) ++ sends_from (n + 1) ls)) ls ds) here
+      ap (λ cs. drafting l.interface.delay cs d ∷ drafted_from (n + 1) (before ++ (sends_at n (S n l) ++ sends_from (n + 1) ls)) ls ds) here
       ∙ ap (λ zs. drafting l.interface.delay (S n l) d ∷ drafted_from (n + 1) zs ls ds) whole
       ∙ ap (λ zs. drafting l.interface.delay (S n l) d ∷ zs) rest
 
@@ -89,7 +89,7 @@ module _ (S : ℕ → Link → List Content) where
   pub drafts_are : (links : List Link) (ds : List Drafted) → drafted_from 1 (sends_from 1 links) links ds ≡ draft_from 1 links ds
   drafts_are links ds = drafts_behind 1 [] links ds (λ k le. refl)
 
-  is_any-numbered : (n : ℕ) (cs : List Content) (rest : List Send) → is_any (numbered n cs ++ rest) ≡ (is_any cs || is_any rest)
+  is_any-numbered : (n : ℕ) (cs : List Content) (rest : List Send) → is_any (sends_at n cs ++ rest) ≡ (is_any cs || is_any rest)
   is_any-numbered n [] rest = refl
   is_any-numbered n (c ∷ cs) rest = refl
 

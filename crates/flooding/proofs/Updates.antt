@@ -9,7 +9,7 @@ use Rattle.adjacency.specs.Drafts.{Drafted, adds, drafting, update_of}
 use Rattle.adjacency.specs.Kept.{Kept}
 use Rattle.adjacency.specs.declared.draft.Update.{Update}
 use Rattle.received.specs.Links.{Link, link_at}
-use Rattle.received.specs.Outcomes.{numbered}
+use Rattle.received.specs.Outcomes.{sends_at}
 use Rattle.flooding.specs.Links.{present}
 use Rattle.flooding.specs.Steps.{key_of_update, mark_each}
 use Rattle.flooding.proofs.Marking.{marks}
@@ -61,7 +61,7 @@ updates_drafted delay (Acknowledges h ∷ cs) d = updates_drafted delay cs (adds
 new_updates : (delay : ℕ) (cs : List Content) (d : Drafted) → drop (length d.updates) (drafting delay cs d).updates ≡ updates_of delay cs
 new_updates delay cs d = ap (drop (length d.updates)) (updates_drafted delay cs d) ∙ behind_all d.updates (updates_of delay cs)
 
-marks_of : (moment delay n : ℕ) (cs : List Content) (db : Database) → marks moment db (numbered n cs) ≡ mark_each moment db (map key_of_update (updates_of delay cs))
+marks_of : (moment delay n : ℕ) (cs : List Content) (db : Database) → marks moment db (sends_at n cs) ≡ mark_each moment db (map key_of_update (updates_of delay cs))
 marks_of moment delay n [] db = refl
 marks_of moment delay n (SendsHello h ∷ cs) db = marks_of moment delay n cs db
 marks_of moment delay n (Describes e ∷ cs) db = marks_of moment delay n cs db
@@ -71,7 +71,7 @@ marks_of moment delay n (Acknowledges h ∷ cs) db = marks_of moment delay n cs 
 
 -- what stands in the draft behind what it had
 pub marks_behind : (moment delay n : ℕ) (cs : List Content) (db : Database) (d : Drafted)
-    → mark_each moment db (map key_of_update (drop (length d.updates) (drafting delay cs d).updates)) ≡ marks moment db (numbered n cs)
+    → mark_each moment db (map key_of_update (drop (length d.updates) (drafting delay cs d).updates)) ≡ marks moment db (sends_at n cs)
 marks_behind moment delay n cs db d = ap (λ us. mark_each moment db (map key_of_update us)) (new_updates delay cs d) ∙ sym (marks_of moment delay n cs db)
 
 -- ---- the link of a number

@@ -23,5 +23,5 @@ drafted_from n sends (l ∷ ls) (d ∷ ds) =
     drafted_at n sends l d ∷ drafted_from (n + 1) sends ls ds
 
 -- interface n is at place n - 1
-abbrev pub drafted : List Send → List Link → List Drafted → List Drafted
-drafted sends links ds = drafted_from 1 sends links ds
+abbrev pub drafts_with : List Send → List Link → List Drafted → List Drafted
+drafts_with sends links ds = drafted_from 1 sends links ds

@@ -17,12 +17,12 @@ use Rattle.received.specs.Outcomes.{Outcome, on_database}
 abbrev pub present : Kept Link → Link
 present l = l.present
 
-abbrev pub settled : Kept Link → Link
-settled l = l.settled
+abbrev pub settled_link : Kept Link → Link
+settled_link l = l.settled
 
 -- the neighbor is Down, and nothing was sent yet
-abbrev pub unused : Interface → Link
-unused interface = record {
+abbrev pub unused_link : Interface → Link
+unused_link interface = record {
   interface = interface;
   neighbor = None;
   acknowledgments = finite.empty;
@@ -53,13 +53,13 @@ abbrev pub flooded_key : Moment → Option InterfaceNumber → Key → Area → 
 flooded_key moment sender key a = flooded_copy moment sender (finite.get a.database key) (start a)
 
 -- flooding brought the LSA: it is installed, and flooded
-abbrev pub installed : Moment → Option InterfaceNumber → Lsa → Area → Outcome
-installed moment sender lsa a =
+abbrev pub install_outcome : Moment → Option InterfaceNumber → Lsa → Area → Outcome
+install_outcome moment sender lsa a =
     flood moment sender lsa (on_database (install_flooded moment lsa) (start a))
 
 -- this router originated the LSA: it is installed, and flooded as if from nobody
-abbrev pub originated : Moment → Lsa → Area → Outcome
-originated moment lsa a =
+abbrev pub originate_outcome : Moment → Lsa → Area → Outcome
+originate_outcome moment lsa a =
     flood moment None lsa (on_database (install_originated moment lsa) (start a))
 
 -- premature aging (section 14.1): a copy that is younger than MaxAge gets that age, and is flooded
@@ -70,8 +70,8 @@ flushed_copy moment key (Some c) o =
     if is_aged_out moment c then o
     else flood moment None (lsa_aged max_age c.lsa) (on_database (age_out moment key) o)
 
-abbrev pub flushed : Moment → Key → Area → Outcome
-flushed moment key a = flushed_copy moment key (finite.get a.database key) (start a)
+abbrev pub flush_outcome : Moment → Key → Area → Outcome
+flush_outcome moment key a = flushed_copy moment key (finite.get a.database key) (start a)
 
 -- a copy that has come to MaxAge since the moment before is flooded as if from nobody (section 14)
 abbrev pub come_of_age_copy : (before : Moment) → (moment : Moment) → Option DatabaseCopy → Outcome

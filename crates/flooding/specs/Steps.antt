@@ -7,10 +7,10 @@ use Rattle.lsdb.specs.Copies.{Database, mark_sent}
 use Rattle.adjacency.specs.Contents.{Content}
 use Rattle.adjacency.specs.declared.draft.Update.{Update}
 use Rattle.received.specs.Links.{Link, change_link, link_at}
-use Rattle.received.specs.Outcomes.{Outcome, Send, numbered, on_links, sending}
+use Rattle.received.specs.Outcomes.{Outcome, Send, sends_at, on_links, sending}
 
 abbrev pub sends_of : (Link → List Content) → List Link → List Send
-sends_of f links = flat_map (λ (e : ℕ × Link). numbered e.0 (f e.1)) (enumerate_from 1 links)
+sends_of f links = flat_map (λ (e : ℕ × Link). sends_at e.0 (f e.1)) (enumerate_from 1 links)
 
 -- what the link that is there sends, if one is
 abbrev pub sent_by : (Link → List Content) → Option Link → List Content
@@ -23,7 +23,7 @@ abbrev pub one_link : Moment → InterfaceNumber → (after : Database → Link 
     → (sends : Database → Link → List Content) → Outcome → Outcome
 one_link moment number after sends o =
     let db : Database = o.area.database in
-    sending moment (numbered number (sent_by (sends db) (link_at number o.area.links)))
+    sending moment (sends_at number (sent_by (sends db) (link_at number o.area.links)))
     (on_links (change_link number (after db)) o)
 
 -- ---- marks

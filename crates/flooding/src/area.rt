@@ -3,9 +3,10 @@ ghost use Rattle.std.specs.Prelude.{◌≡◌, ◌≤◌, IfOk, OnOk, length, ma
 ghost use Rattle.std.specs.FinMap as finite;
 ghost use Rattle.received.specs.Updates.{after_case, case_at};
 ghost use Rattle.flooding.specs.Cases.{case_of};
-ghost use Rattle.flooding.specs.Drafted.{drafted};
-ghost use Rattle.flooding.specs.Links.{area_of, come_of_age, flooded_key, flushed, originated};
-ghost use Rattle.flooding.specs.Links.{present, settled, start};
+ghost use Rattle.flooding.specs.Drafted.{drafts_with};
+ghost use Rattle.flooding.specs.Links.{area_of, come_of_age, flooded_key, flush_outcome};
+ghost use Rattle.flooding.specs.Links.{originate_outcome};
+ghost use Rattle.flooding.specs.Links.{present, settled_link, start};
 
 mod copying;
 mod steps;
@@ -47,12 +48,12 @@ impl Model for Area {
       finite.code {X = DatabaseCopy} {R = key_cmp} coded_key (Prim.hlevel codes),
     )) };
 
-    ghost use Rattle.flooding.specs.Links.{present, settled};
+    ghost use Rattle.flooding.specs.Links.{present, settled_link};
 
     ghost view = { λ a. record {
       router = a.database.router;
       present = record { links = map present a.links.items; database = a.database.present };
-      settled = record { links = map settled a.links.items; database = a.database.settled };
+      settled = record { links = map settled_link a.links.items; database = a.database.settled };
     } };
 }
 
@@ -63,7 +64,7 @@ impl Area {
         ensures { result ≡ record {
           router = router;
           present = area_of links.items finite.empty;
-          settled = record { links = map settled links.items; database = finite.empty };
+          settled = record { links = map settled_link links.items; database = finite.empty };
         } }
     {
         Area {
@@ -75,7 +76,7 @@ impl Area {
     /// The links, interface n at place n - 1.
     pub fn links(&self) -> &[Link]
         ensures present { map present result.now ≡ self.now.present.links }
-        ensures settled { map settled result.now ≡ self.now.settled.links }
+        ensures settled { map settled_link result.now ≡ self.now.settled.links }
     {
         &self.links
     }
@@ -109,7 +110,7 @@ impl Area {
         ensures ok { OnOk result (self.new.present
             ≡ (flooded_key moment sender key.now self.old.present).area) }
         ensures drafts { OnOk result (drafts.new
-            ≡ drafted (flooded_key moment sender key.now self.old.present).sends
+            ≡ drafts_with (flooded_key moment sender key.now self.old.present).sends
             self.old.present.links drafts.old) }
         ensures settled { self.new.settled ≡ self.old.settled }
         ensures router { self.new.router ≡ self.old.router }
@@ -149,7 +150,7 @@ impl Area {
         ensures ok { IfOk result (λ c. self.new.present
             ≡ (after_case (case_of c) moment number lsa (start self.old.present)).area) }
         ensures drafts { IfOk result (λ c. drafts.new
-            ≡ drafted (after_case (case_of c) moment number lsa (start self.old.present)).sends
+            ≡ drafts_with (after_case (case_of c) moment number lsa (start self.old.present)).sends
             self.old.present.links drafts.old) }
         ensures settled { self.new.settled ≡ self.old.settled }
         ensures router { self.new.router ≡ self.old.router }
@@ -179,9 +180,9 @@ impl Area {
     ) -> Result<(), AllocError>
         requires { length drafts.old ≡ length self.old.present.links }
         ensures ok { OnOk result (self.new.present
-            ≡ (originated moment lsa self.old.present).area) }
+            ≡ (originate_outcome moment lsa self.old.present).area) }
         ensures drafts { OnOk result (drafts.new
-            ≡ drafted (originated moment lsa self.old.present).sends
+            ≡ drafts_with (originate_outcome moment lsa self.old.present).sends
             self.old.present.links drafts.old) }
         ensures settled { self.new.settled ≡ self.old.settled }
         ensures router { self.new.router ≡ self.old.router }
@@ -210,9 +211,9 @@ impl Area {
     ) -> Result<(), AllocError>
         requires { length drafts.old ≡ length self.old.present.links }
         ensures ok { OnOk result (self.new.present
-            ≡ (flushed moment key.now self.old.present).area) }
+            ≡ (flush_outcome moment key.now self.old.present).area) }
         ensures drafts { OnOk result (drafts.new
-            ≡ drafted (flushed moment key.now self.old.present).sends
+            ≡ drafts_with (flush_outcome moment key.now self.old.present).sends
             self.old.present.links drafts.old) }
         ensures settled { self.new.settled ≡ self.old.settled }
         ensures router { self.new.router ≡ self.old.router }
@@ -244,7 +245,7 @@ impl Area {
         ensures ok { OnOk result (self.new.present
             ≡ (come_of_age before moment key.now self.old.present).area) }
         ensures drafts { OnOk result (drafts.new
-            ≡ drafted (come_of_age before moment key.now self.old.present).sends
+            ≡ drafts_with (come_of_age before moment key.now self.old.present).sends
             self.old.present.links drafts.old) }
         ensures settled { self.new.settled ≡ self.old.settled }
         ensures router { self.new.router ≡ self.old.router }

@@ -11,7 +11,7 @@ use adjacency::instance_of;
 use lsa::{Header, Lsa};
 use lsdb::{DatabaseCopy, compare, newer};
 use std::cmp::Ordering;
-use words::{Second, SequenceNumber};
+use words::{MAX_AGE, Second, SequenceNumber};
 
 /// Which case an LSA of a received Update is: the first of the table that fits (RFC 2328, section
 /// 13).
@@ -38,9 +38,6 @@ pub enum Case {
     /// The copy is newer.
     Older,
 }
-
-/// MaxAge, in seconds (RFC 2328, appendix B).
-const MAX_AGE: u16 = 3600;
 
 /// The tests that tell the cases apart, in their order.
 #[derive(Clone, Copy, Debug)]

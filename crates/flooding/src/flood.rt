@@ -3,10 +3,11 @@ ghost use Rattle.std.specs.Prelude.{◌≡◌, ◌||◌, IfOk, OnOk, length, map
 ghost use Rattle.lsdb.specs.Copies.{has_just_aged_out, lsa_now};
 ghost use Rattle.adjacency.specs.Floods.{is_any};
 ghost use Rattle.received.specs.Flooding.{flood_to, is_sender};
-ghost use Rattle.received.specs.Outcomes.{stepped, stepping_sends};
-ghost use Rattle.flooding.specs.Drafted.{drafted};
-ghost use Rattle.flooding.specs.Links.{area_of, come_of_age, flooded_key, flushed, installed};
-ghost use Rattle.flooding.specs.Links.{originated, present, settled};
+ghost use Rattle.received.specs.Outcomes.{stepped_links, stepping_sends};
+ghost use Rattle.flooding.specs.Drafted.{drafts_with};
+ghost use Rattle.flooding.specs.Links.{area_of, come_of_age, flooded_key, flush_outcome};
+ghost use Rattle.flooding.specs.Links.{install_outcome};
+ghost use Rattle.flooding.specs.Links.{originate_outcome, present, settled_link};
 
 use crate::link::Link;
 use adjacency::Draft;
@@ -43,15 +44,16 @@ fn flood_links(
 ) -> Result<bool, AllocError>
     requires { length drafts.old ≡ length links.old }
     ensures links { IfOk result (λ _. map present links.new
-        ≡ stepped (flood_to moment sender (lsa_now moment copy.now)) (map present links.old)) }
+        ≡ stepped_links (flood_to moment sender (lsa_now moment copy.now))
+        (map present links.old)) }
     ensures drafts { IfOk result (λ _. drafts.new
-        ≡ drafted (stepping_sends (flood_to moment sender (lsa_now moment copy.now))
+        ≡ drafts_with (stepping_sends (flood_to moment sender (lsa_now moment copy.now))
         (map present links.old))
         (map present links.old) drafts.old) }
     ensures sent { IfOk result (λ sent. sent
         ≡ is_any (stepping_sends (flood_to moment sender (lsa_now moment copy.now))
         (map present links.old))) }
-    ensures settled { map settled links.new ≡ map settled links.old }
+    ensures settled { map settled_link links.new ≡ map settled_link links.old }
 {
     let mut sent = false;
     for i in 0..links.len() {
@@ -77,9 +79,10 @@ pub fn flood(
     ensures ok { OnOk result (area_of links.new database.new.present
         ≡ (flooded_key moment sender key.now (area_of links.old database.old.present)).area) }
     ensures drafts { OnOk result (drafts.new
-        ≡ drafted (flooded_key moment sender key.now (area_of links.old database.old.present)).sends
+        ≡ drafts_with (flooded_key moment sender key.now
+        (area_of links.old database.old.present)).sends
         (map present links.old) drafts.old) }
-    ensures links { map settled links.new ≡ map settled links.old }
+    ensures links { map settled_link links.new ≡ map settled_link links.old }
     ensures settled { database.new.settled ≡ database.old.settled }
     ensures router { database.new.router ≡ database.old.router }
 {
@@ -107,11 +110,12 @@ pub fn install(
 ) -> Result<(), AllocError>
     requires { length drafts.old ≡ length links.old }
     ensures ok { OnOk result (area_of links.new database.new.present
-        ≡ (installed moment sender lsa (area_of links.old database.old.present)).area) }
+        ≡ (install_outcome moment sender lsa (area_of links.old database.old.present)).area) }
     ensures drafts { OnOk result (drafts.new
-        ≡ drafted (installed moment sender lsa (area_of links.old database.old.present)).sends
+        ≡ drafts_with (install_outcome moment sender lsa
+        (area_of links.old database.old.present)).sends
         (map present links.old) drafts.old) }
-    ensures links { map settled links.new ≡ map settled links.old }
+    ensures links { map settled_link links.new ≡ map settled_link links.old }
     ensures settled { database.new.settled ≡ database.old.settled }
     ensures router { database.new.router ≡ database.old.router }
 {
@@ -133,11 +137,11 @@ pub fn originate(
 ) -> Result<(), AllocError>
     requires { length drafts.old ≡ length links.old }
     ensures ok { OnOk result (area_of links.new database.new.present
-        ≡ (originated moment lsa (area_of links.old database.old.present)).area) }
+        ≡ (originate_outcome moment lsa (area_of links.old database.old.present)).area) }
     ensures drafts { OnOk result (drafts.new
-        ≡ drafted (originated moment lsa (area_of links.old database.old.present)).sends
+        ≡ drafts_with (originate_outcome moment lsa (area_of links.old database.old.present)).sends
         (map present links.old) drafts.old) }
-    ensures links { map settled links.new ≡ map settled links.old }
+    ensures links { map settled_link links.new ≡ map settled_link links.old }
     ensures settled { database.new.settled ≡ database.old.settled }
     ensures router { database.new.router ≡ database.old.router }
 {
@@ -159,11 +163,11 @@ pub fn flush(
 ) -> Result<(), AllocError>
     requires { length drafts.old ≡ length links.old }
     ensures ok { OnOk result (area_of links.new database.new.present
-        ≡ (flushed moment key.now (area_of links.old database.old.present)).area) }
+        ≡ (flush_outcome moment key.now (area_of links.old database.old.present)).area) }
     ensures drafts { OnOk result (drafts.new
-        ≡ drafted (flushed moment key.now (area_of links.old database.old.present)).sends
+        ≡ drafts_with (flush_outcome moment key.now (area_of links.old database.old.present)).sends
         (map present links.old) drafts.old) }
-    ensures links { map settled links.new ≡ map settled links.old }
+    ensures links { map settled_link links.new ≡ map settled_link links.old }
     ensures settled { database.new.settled ≡ database.old.settled }
     ensures router { database.new.router ≡ database.old.router }
 {
@@ -198,9 +202,10 @@ pub fn come_of_age(
     ensures ok { OnOk result (area_of links.new database.new.present
         ≡ (come_of_age before moment key.now (area_of links.old database.old.present)).area) }
     ensures drafts { OnOk result (drafts.new
-        ≡ drafted (come_of_age before moment key.now (area_of links.old database.old.present)).sends
+        ≡ drafts_with (come_of_age before moment key.now
+        (area_of links.old database.old.present)).sends
         (map present links.old) drafts.old) }
-    ensures links { map settled links.new ≡ map settled links.old }
+    ensures links { map settled_link links.new ≡ map settled_link links.old }
     ensures settled { database.new.settled ≡ database.old.settled }
     ensures router { database.new.router ≡ database.old.router }
 {
@@ -216,7 +221,7 @@ pub fn come_of_age(
 
 pub fn settle_links(links: &mut [Link])
     ensures present { map present links.new ≡ map present links.old }
-    ensures settled { map settled links.new ≡ map present links.old }
+    ensures settled { map settled_link links.new ≡ map present links.old }
 {
     for i in 0..links.len() {
         links[i].settle();
@@ -224,8 +229,8 @@ pub fn settle_links(links: &mut [Link])
 }
 
 pub fn roll_back_links(links: &mut [Link])
-    ensures present { map present links.new ≡ map settled links.old }
-    ensures settled { map settled links.new ≡ map settled links.old }
+    ensures present { map present links.new ≡ map settled_link links.old }
+    ensures settled { map settled_link links.new ≡ map settled_link links.old }
 {
     for i in 0..links.len() {
         links[i].roll_back();

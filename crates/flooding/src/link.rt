@@ -2,16 +2,16 @@
 ghost use Rattle.std.specs.Prelude.{◌≡◌, ℕ, IfOk, OnOk};
 ghost use Rattle.lsa.specs.Headers.{key_of};
 ghost use Rattle.lsdb.specs.Copies.{lsa_now};
-ghost use Rattle.adjacency.specs.Adjacencies.{mismatched};
+ghost use Rattle.adjacency.specs.Adjacencies.{mismatch_step};
 ghost use Rattle.adjacency.specs.Contents.{no_sends, sent_on, step_on};
 ghost use Rattle.adjacency.specs.Drafts.{drafting};
 ghost use Rattle.adjacency.specs.Floods.{flooded, is_any};
 ghost use Rattle.adjacency.specs.Asked.{any_exchange_or_loading, has_instance, was_requested};
 ghost use Rattle.adjacency.specs.Requests.{request_next};
 ghost use Rattle.adjacency.specs.Retransmissions.{remove_retransmission};
-ghost use Rattle.adjacency.specs.Steps.{named};
+ghost use Rattle.adjacency.specs.Steps.{named_neighbor};
 ghost use Rattle.received.specs.Links.{acknowledge_later};
-ghost use Rattle.flooding.specs.Links.{unused, with_neighbor};
+ghost use Rattle.flooding.specs.Links.{unused_link, with_neighbor};
 
 mod acknowledgments;
 mod copying;
@@ -68,7 +68,11 @@ impl Model for Link {
 impl Link {
     /// An interface whose neighbor is Down, on which nothing was sent yet. It wants no memory.
     pub fn new(alloc: Global, interface: Interface) -> Self
-        ensures { result ≡ record { present = unused interface; settled = unused interface } }
+        ensures { result ≡ record {
+          present = unused_link interface;
+          settled = unused_link
+              interface;
+        } }
     {
         Link {
             interface,
@@ -87,7 +91,7 @@ impl Link {
 
     /// The neighbor's Router ID and its state, unless it is Down.
     pub fn neighbor(&self) -> Option<(RouterId, State)>
-        ensures { result ≡ named self.now.present.neighbor }
+        ensures { result ≡ named_neighbor self.now.present.neighbor }
     {
         self.place.neighbor()
     }
@@ -110,7 +114,8 @@ impl Link {
             self.old.present) }
         ensures draft { IfOk result (λ _. draft.new
             ≡ drafting self.old.present.interface.delay
-            (sent_on (flooded moment from (lsa_now moment copy.now)) self.old.present.neighbor) draft.old) }
+            (sent_on (flooded moment from (lsa_now moment copy.now)) self.old.present.neighbor)
+            draft.old) }
         ensures sent { IfOk result (λ sent. sent
             ≡ is_any (sent_on (flooded moment from (lsa_now moment copy.now))
             self.old.present.neighbor)) }
@@ -152,10 +157,10 @@ impl Link {
         draft: &mut Draft,
     ) -> Result<(), AllocError>
         ensures ok { OnOk result (self.new.present
-            ≡ with_neighbor (step_on (mismatched moment) self.old.present.neighbor)
+            ≡ with_neighbor (step_on (mismatch_step moment) self.old.present.neighbor)
             self.old.present) }
         ensures draft { OnOk result ((delay : ℕ) → draft.new
-            ≡ drafting delay (sent_on (mismatched moment) self.old.present.neighbor) draft.old) }
+            ≡ drafting delay (sent_on (mismatch_step moment) self.old.present.neighbor) draft.old) }
         ensures settled { self.new.settled ≡ self.old.settled }
     {
         self.place.bad_request(alloc, moment, draft)

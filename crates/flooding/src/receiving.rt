@@ -4,8 +4,8 @@ ghost use Rattle.std.specs.Prelude.{◌≡◌, ◌≤◌, Some, IfOk, OnOk, leng
 ghost use Rattle.std.specs.FinMap as finite;
 ghost use Rattle.received.specs.Updates.{after_case, case_at, install, send_copy};
 ghost use Rattle.flooding.specs.Cases.{case_of};
-ghost use Rattle.flooding.specs.Drafted.{drafted};
-ghost use Rattle.flooding.specs.Links.{area_of, present, settled, start};
+ghost use Rattle.flooding.specs.Drafted.{drafts_with};
+ghost use Rattle.flooding.specs.Links.{area_of, present, settled_link, start};
 
 use crate::cases::{Case, Tests};
 use crate::flood::install;
@@ -51,9 +51,10 @@ fn install_received(
     ensures ok { OnOk result (area_of links.new database.new.present
         ≡ (install moment number lsa (start (area_of links.old database.old.present))).area) }
     ensures drafts { OnOk result (drafts.new
-        ≡ drafted (install moment number lsa (start (area_of links.old database.old.present))).sends
+        ≡ drafts_with (install moment number lsa
+        (start (area_of links.old database.old.present))).sends
         (map present links.old) drafts.old) }
-    ensures links { map settled links.new ≡ map settled links.old }
+    ensures links { map settled_link links.new ≡ map settled_link links.old }
     ensures settled { database.new.settled ≡ database.old.settled }
     ensures router { database.new.router ≡ database.old.router }
 {
@@ -79,8 +80,9 @@ fn send_copy(
         ≡ (send_copy moment number (finite.get database.old.present key.now)
         (start (area_of links.now database.old.present))).area) }
     ensures drafts { OnOk result (drafts.new
-        ≡ drafted (send_copy moment number (finite.get database.old.present key.now)
-        (start (area_of links.now database.old.present))).sends (map present links.now) drafts.old) }
+        ≡ drafts_with (send_copy moment number (finite.get database.old.present key.now)
+        (start (area_of links.now database.old.present))).sends (map present links.now)
+        drafts.old) }
     ensures settled { database.new.settled ≡ database.old.settled }
     ensures router { database.new.router ≡ database.old.router }
 {
@@ -111,9 +113,10 @@ fn after_case(
         ≡ (after_case (case_of case) moment number lsa
         (start (area_of links.old database.old.present))).area) }
     ensures drafts { OnOk result (drafts.new
-        ≡ drafted (after_case (case_of case) moment number lsa
-        (start (area_of links.old database.old.present))).sends (map present links.old) drafts.old) }
-    ensures links { map settled links.new ≡ map settled links.old }
+        ≡ drafts_with (after_case (case_of case) moment number lsa
+        (start (area_of links.old database.old.present))).sends (map present links.old)
+        drafts.old) }
+    ensures links { map settled_link links.new ≡ map settled_link links.old }
     ensures settled { database.new.settled ≡ database.old.settled }
     ensures router { database.new.router ≡ database.old.router }
 {
@@ -154,9 +157,10 @@ pub fn receive(
         ≡ (after_case (case_of c) moment number lsa
         (start (area_of links.old database.old.present))).area) }
     ensures drafts { IfOk result (λ c. drafts.new
-        ≡ drafted (after_case (case_of c) moment number lsa
-        (start (area_of links.old database.old.present))).sends (map present links.old) drafts.old) }
-    ensures links { map settled links.new ≡ map settled links.old }
+        ≡ drafts_with (after_case (case_of c) moment number lsa
+        (start (area_of links.old database.old.present))).sends (map present links.old)
+        drafts.old) }
+    ensures links { map settled_link links.new ≡ map settled_link links.old }
     ensures settled { database.new.settled ≡ database.old.settled }
     ensures router { database.new.router ≡ database.old.router }
 {

@@ -3,16 +3,16 @@ ghost use Rattle.std.specs.Prelude.{◌≡◌, ◌≤◌, OnOk, [], ◌∷◌, l
 ghost use Rattle.std.specs.List.{list_any};
 ghost use Rattle.lsa.specs.Headers.{key_of};
 ghost use Rattle.lsdb.specs.Copies.{lsa_now};
-ghost use Rattle.adjacency.specs.Adjacencies.{mismatched};
+ghost use Rattle.adjacency.specs.Adjacencies.{mismatch_step};
 ghost use Rattle.adjacency.specs.Contents.{Acknowledges, Updates, no_sends};
 ghost use Rattle.adjacency.specs.Asked.{any_exchange_or_loading as is_in_exchange};
 ghost use Rattle.adjacency.specs.Retransmissions.{remove_retransmission};
 ghost use Rattle.received.specs.Links.{acknowledge_later, any_exchange_or_loading, change_link};
 ghost use Rattle.adjacency.specs.Kept.{Kept};
 ghost use Rattle.received.specs.Links.{Link as OnLink};
-ghost use Rattle.received.specs.Outcomes.{numbered, only_at, stepped, stepping_sends};
-ghost use Rattle.flooding.specs.Drafted.{drafted};
-ghost use Rattle.flooding.specs.Links.{present, settled};
+ghost use Rattle.received.specs.Outcomes.{sends_at, only_at, stepped_links, stepping_sends};
+ghost use Rattle.flooding.specs.Drafted.{drafts_with};
+ghost use Rattle.flooding.specs.Links.{present, settled_link};
 
 use crate::link::Link;
 use adjacency::Draft;
@@ -52,11 +52,12 @@ pub fn mismatch(
     requires last { number ≤ length links.old }
     requires drafts { length drafts.old ≡ length links.old }
     ensures links { OnOk result (map present links.new
-        ≡ stepped (only_at number (mismatched moment)) (map present links.old)) }
+        ≡ stepped_links (only_at number (mismatch_step moment)) (map present links.old)) }
     ensures drafts { OnOk result (drafts.new
-        ≡ drafted (stepping_sends (only_at number (mismatched moment)) (map present links.old))
+        ≡ drafts_with (stepping_sends (only_at number (mismatch_step moment))
+        (map present links.old))
         (map present links.old) drafts.old) }
-    ensures settled { map settled links.new ≡ map settled links.old }
+    ensures settled { map settled_link links.new ≡ map settled_link links.old }
 {
     let i = number - 1;
     links[i].bad_request(alloc, moment, &mut drafts[i])
@@ -67,9 +68,10 @@ pub fn release(number: usize, header: &Header, links: &mut [Link]) -> Result<(),
     requires first { 1 ≤ number }
     requires last { number ≤ length links.old }
     ensures links { OnOk result (map present links.new
-        ≡ stepped (only_at number (λ n. no_sends (remove_retransmission (key_of header.now) n)))
+        ≡ stepped_links (only_at number (λ n. no_sends (remove_retransmission (key_of header.now)
+        n)))
         (map present links.old)) }
-    ensures settled { map settled links.new ≡ map settled links.old }
+    ensures settled { map settled_link links.new ≡ map settled_link links.old }
 {
     let i = number - 1;
     links[i].take_off(header)
@@ -85,7 +87,7 @@ pub fn acknowledge_later(
     requires last { number ≤ length links.old }
     ensures links { OnOk result (map present links.new
         ≡ change_link number (acknowledge_later header) (map present links.old)) }
-    ensures settled { map settled links.new ≡ map settled links.old }
+    ensures settled { map settled_link links.new ≡ map settled_link links.old }
 {
     let i = number - 1;
     links[i].acknowledge_later(header)
@@ -102,7 +104,8 @@ pub fn acknowledge(
     requires last { number ≤ length links.now }
     requires drafts { length drafts.old ≡ length links.now }
     ensures { OnOk result (drafts.new
-        ≡ drafted (numbered number (Acknowledges header ∷ [])) (map present links.now) drafts.old) }
+        ≡ drafts_with (sends_at number (Acknowledges header ∷ [])) (map present links.now)
+        drafts.old) }
 {
     let i = number - 1;
     drafts[i].acknowledge(header)
@@ -121,7 +124,8 @@ pub fn update(
     requires last { number ≤ length links.now }
     requires drafts { length drafts.old ≡ length links.now }
     ensures { OnOk result (drafts.new
-        ≡ drafted (numbered number (Updates (lsa_now moment copy.now) ∷ [])) (map present links.now)
+        ≡ drafts_with (sends_at number (Updates (lsa_now moment copy.now) ∷ []))
+        (map present links.now)
         drafts.old) }
 {
     let i = number - 1;

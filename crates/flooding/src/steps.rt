@@ -1,8 +1,8 @@
 //! What is done on each link, and what each link sends.
 ghost use Rattle.std.specs.Prelude.{◌≡◌, ◌≤◌, OnOk, drop, length, map};
 ghost use Rattle.received.specs.Links.{change_link};
-ghost use Rattle.flooding.specs.Drafted.{drafted};
-ghost use Rattle.flooding.specs.Links.{area_of, present, settled, start, without_neighbor};
+ghost use Rattle.flooding.specs.Drafted.{drafts_with};
+ghost use Rattle.flooding.specs.Links.{area_of, present, settled_link, start, without_neighbor};
 ghost use Rattle.flooding.specs.Steps.{key_of_update, mark_each, one_link, sends_of};
 
 use crate::link::Link;
@@ -51,7 +51,7 @@ pub trait LinkStep {
 // Changes each link.
 pub fn change_links<C: LinkChange>(change: &C, links: &mut [Link])
     ensures present { map present links.new ≡ map (C.after change.now) (map present links.old) }
-    ensures settled { map settled links.new ≡ map settled links.old }
+    ensures settled { map settled_link links.new ≡ map settled_link links.old }
 {
     for i in 0..links.len() {
         change.change(&mut links[i]);
@@ -70,9 +70,9 @@ pub fn step_links<S: LinkStep>(
     ensures links { OnOk result (map present links.new
         ≡ map (S.after step.now database.now.present) (map present links.old)) }
     ensures drafts { OnOk result (drafts.new
-        ≡ drafted (sends_of (S.sends step.now database.now.present) (map present links.old))
+        ≡ drafts_with (sends_of (S.sends step.now database.now.present) (map present links.old))
         (map present links.old) drafts.old) }
-    ensures settled { map settled links.new ≡ map settled links.old }
+    ensures settled { map settled_link links.new ≡ map settled_link links.old }
 {
     for i in 0..links.len() {
         step.take(alloc, database, &mut links[i], &mut drafts[i])?;
@@ -116,9 +116,10 @@ pub fn step_link<S: LinkStep>(
         ≡ (one_link moment number (S.after step.now) (S.sends step.now)
         (start (area_of links.old database.old.present))).area) }
     ensures drafts { OnOk result (drafts.new
-        ≡ drafted (one_link moment number (S.after step.now) (S.sends step.now)
-        (start (area_of links.old database.old.present))).sends (map present links.old) drafts.old) }
-    ensures links { map settled links.new ≡ map settled links.old }
+        ≡ drafts_with (one_link moment number (S.after step.now) (S.sends step.now)
+        (start (area_of links.old database.old.present))).sends (map present links.old)
+        drafts.old) }
+    ensures links { map settled_link links.new ≡ map settled_link links.old }
     ensures settled { database.new.settled ≡ database.old.settled }
     ensures router { database.new.router ≡ database.old.router }
 {
@@ -133,7 +134,7 @@ pub fn step_link<S: LinkStep>(
 pub fn take_link_down(number: usize, links: &mut [Link])
     ensures present { map present links.new
         ≡ change_link number without_neighbor (map present links.old) }
-    ensures settled { map settled links.new ≡ map settled links.old }
+    ensures settled { map settled_link links.new ≡ map settled_link links.old }
 {
     if number == 0 {
         return;

@@ -1,6 +1,7 @@
 //! Calls of helpers by number, with every test that the machine asks for.
 ghost use Rattle.std.specs.Prelude.{◌≡◌, ◌<◌, ℕ, [], ◌∷◌, IfOk, IfErr, OnErr, Some};
-ghost use Rattle.machine.specs.declared.helper.Helper.TheVariants.{CounterAdd, CounterRead, PacketByte, TableCost};
+ghost use Rattle.machine.specs.declared.helper.Helper.TheVariants.{CounterAdd, CounterRead};
+ghost use Rattle.machine.specs.declared.helper.Helper.TheVariants.{PacketByte, TableCost};
 ghost use Rattle.machine.specs.Given.{Given, given_by};
 ghost use Rattle.machine.specs.declared.state.Content.TheVariants.{Number};
 ghost use Rattle.machine.specs.Helpers.{helper_of, Answers, Answered};
@@ -51,7 +52,8 @@ fn call_counter_add(
     requires table { IsOf shared.now seat.old }
     ensures ok { IfOk result (λ answer. (label : Label) × Makes seat.old (label ∷ []) seat.new
         × ((input : Given) → Answers CounterAdd input (first ∷ second ∷ []) label answer)) }
-    ensures err { IfErr result (λ fault. fault_of_call (Some CounterAdd) first second ≡ Some fault) }
+    ensures err { IfErr result (λ fault. fault_of_call (Some CounterAdd) first second
+        ≡ Some fault) }
     ensures unchanged { OnErr result (seat.new ≡ seat.old) }
 {
     let (counter, amount) = numbers_in(first, second)?;
@@ -70,7 +72,8 @@ fn call_counter_read(
     requires table { IsOf shared.now seat.old }
     ensures ok { IfOk result (λ answer. (label : Label) × Makes seat.old (label ∷ []) seat.new
         × ((input : Given) → Answers CounterRead input (first ∷ []) label answer)) }
-    ensures err { IfErr result (λ fault. fault_of_call (Some CounterRead) first second ≡ Some fault) }
+    ensures err { IfErr result (λ fault. fault_of_call (Some CounterRead) first second
+        ≡ Some fault) }
     ensures unchanged { OnErr result (seat.new ≡ seat.old) }
 {
     let counter = number_in(first)?;
@@ -81,15 +84,18 @@ fn call_counter_read(
 }
 
 fn call_packet_byte(first: Content, second: Content, input: &Input) -> Result<u64, Fault>
-    ensures ok { IfOk result (λ answer. Answers PacketByte (given_by input.now) (first ∷ []) Silent answer) }
-    ensures err { IfErr result (λ fault. fault_of_call (Some PacketByte) first second ≡ Some fault) }
+    ensures ok { IfOk result (λ answer. Answers PacketByte (given_by input.now) (first ∷ []) Silent
+        answer) }
+    ensures err { IfErr result (λ fault. fault_of_call (Some PacketByte) first second
+        ≡ Some fault) }
 {
     let offset = number_in(first)?;
     Ok(packet_byte(input, offset))
 }
 
 fn call_table_cost(first: Content, second: Content, input: &Input) -> Result<u64, Fault>
-    ensures ok { IfOk result (λ answer. Answers TableCost (given_by input.now) (first ∷ second ∷ []) Silent answer) }
+    ensures ok { IfOk result (λ answer. Answers TableCost (given_by input.now) (first ∷ second ∷ [])
+        Silent answer) }
     ensures err { IfErr result (λ fault. fault_of_call (Some TableCost) first second ≡ Some fault) }
 {
     let (prefix, length) = numbers_in(first, second)?;
@@ -100,9 +106,9 @@ fn call_table_cost(first: Content, second: Content, input: &Input) -> Result<u64
 ///
 /// # Errors
 ///
-/// In this order: `Helper` where the hook has no helper with the number; `Empty` where an argument is empty; `Kind`
-/// where an argument is a pointer; `Argument` where a counter is above 255 or an amount isn't below 2^24. The seat is
-/// then as it was.
+/// In this order: `Helper` where the hook has no helper with the number; `Empty` where an argument
+/// is empty; `Kind` where an argument is a pointer; `Argument` where a counter is above 255 or an
+/// amount isn't below 2^24. The seat is then as it was.
 pub fn call(
     hook: Hook,
     number: i32,
@@ -115,7 +121,8 @@ pub fn call(
     requires table { IsOf shared.now seat.old }
     ensures ok { IfOk result (λ answer. (label : Label) × Makes seat.old (label ∷ []) seat.new
         × Answered hook number first second (given_by input.now) label answer) }
-    ensures err { IfErr result (λ fault. fault_of_call (helper_of hook number) first second ≡ Some fault) }
+    ensures err { IfErr result (λ fault. fault_of_call (helper_of hook number) first second
+        ≡ Some fault) }
     ensures unchanged { OnErr result (seat.new ≡ seat.old) }
 {
     let Some(helper) = Helper::at(hook, number) else {

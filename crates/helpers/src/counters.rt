@@ -10,14 +10,15 @@ ghost use Rattle.helpers.specs.Seats.{Makes};
 
 use maps::{Seat, Shared};
 
-/// Adds an amount below 2^24 to one of the 256 counters and answers 0, or adds nothing and answers 1 where the seat
-/// has made its 2^31 additions.
+/// Adds an amount below 2^24 to one of the 256 counters and answers 0, or adds nothing and answers
+/// 1 where the seat has made its 2^31 additions.
 pub fn counter_add(shared: &Shared, seat: &mut Seat, counter: u64, amount: u64) -> u64
     requires table { IsOf shared.now seat.old }
     requires counter { counter < 256 }
     requires amount { amount < 2 ^ 24 }
     ensures { (label : Label) × Makes seat.old (label ∷ []) seat.new
-        × ((input : Given) → Answers CounterAdd input (Number counter ∷ Number amount ∷ []) label result) }
+        × ((input : Given) → Answers CounterAdd input (Number counter ∷ Number amount ∷ []) label
+        result) }
 {
     shared.add(seat, counter as usize, amount)
 }
@@ -27,7 +28,8 @@ pub fn counter_read(shared: &Shared, seat: &mut Seat, counter: u64) -> u64
     requires table { IsOf shared.now seat.old }
     requires counter { counter < 256 }
     ensures made { Makes seat.old (Read counter result ∷ []) seat.new }
-    ensures answers { (input : Given) → Answers CounterRead input (Number counter ∷ []) (Read counter result) result }
+    ensures answers { (input : Given) → Answers CounterRead input (Number counter ∷ [])
+        (Read counter result) result }
 {
     shared.read(seat, counter as usize)
 }

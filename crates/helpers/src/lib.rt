@@ -1,4 +1,5 @@
-//! The functions that programs call, by hook, over the shared words and the input (RFC 9669, section 4.3.1).
+//! The functions that programs call, by hook, over the shared words and the input (RFC 9669,
+//! section 4.3.1).
 #![tactic(auto)]
 
 mod calls;

@@ -28,8 +28,8 @@ fn is_row_of(prefix: u64, length: u64, row: &TableRow) -> bool
     u64::from(row.prefix.address().bits()) == prefix && u64::from(row.prefix.length()) == length
 }
 
-/// The cost of the first row with exactly this prefix and length, or 2^32 where there is none: so also where the
-/// length is above 32 or a host bit is set.
+/// The cost of the first row with exactly this prefix and length, or 2^32 where there is none: so
+/// also where the length is above 32 or a host bit is set.
 pub fn table_cost(input: &Input, prefix: u64, length: u64) -> u64
     ensures cost { result ≡ table_cost (given_by input.now).rows prefix length }
     ensures within { result ≤ 2 ^ 32 }

@@ -26,13 +26,13 @@ use Rattle.received.specs.Cases.{Case}
 use Rattle.received.specs.Links.{neighbor_at}
 use Rattle.received.specs.Outcomes.{on_links}
 use Rattle.received.specs.Updates.{after_case, case_at, goes_on}
-use Rattle.events.specs.Commands.{after_redistribute, after_withdraw, announce, announce_as, answered, end_want, is_announced_as, is_for}
+use Rattle.events.specs.Commands.{after_redistribute, after_withdraw, announce, announce_as, answered_external, end_want, is_announced_as, is_for}
 use Rattle.events.specs.Endings.{describe_router, end_event, is_current, links_differ, loading_done, start_event}
 use Rattle.events.specs.Events.{Happens, OwnPart, Run, Step, initial}
 use Rattle.events.specs.EventState.{EventState, on_area, on_router}
 use Rattle.events.specs.Originations.{announced_body, due_keys, external_body, external_key, flush, forget_originations, has_max_sequence, has_room, is_wanted, may_originate, originate, originate_anyway, originate_body, originate_due, originate_or_flush, originate_or_wait, receive_self_originated, router_body, router_key, wait, wanted_body}
 use Rattle.events.specs.Packets.{acknowledged_by, after_lsas, after_packet, after_self_originated, after_unread, case_in, from_neighbor, is_heard, is_in_exchange, requested_from}
-use Rattle.events.specs.Routers.{Occurrence, Router, unannounced}
+use Rattle.events.specs.Routers.{Occurrence, Router, unannounced_router}
 use Rattle.events.specs.Ticks.{after_tick, run_out}
 use Rattle.events.specs.declared.model.Config.{Config}
 use Rattle.events.specs.declared.model.Out.{Out}
@@ -146,7 +146,7 @@ pub record Adds (own : RouterNumber) (event : Occurrence) (key : Key) (e : Exter
   pub asked : External
   pub price : ℕ
   pub is : event ≡ Occurrence.Redistribute tagged tag asked price
-  pub answers : e ≡ answered asked tag price
+  pub answers : e ≡ answered_external asked tag price
   pub below : price < ls_infinity
   pub at : key ≡ external_key own e.prefix
 
@@ -184,7 +184,7 @@ module _ (moment : Moment) (tagged : External) (tag : ℕ) (asked : External) (p
   key = external_key own asked.prefix
 
   abbrev x : External
-  x = answered asked tag price
+  x = answered_external asked tag price
 
   abbrev q : EventState
   q = on_router (announce key x) p
@@ -215,16 +215,16 @@ withdrawn moment prefix p = by_choice (is_for prefix (finite.get p.router.announ
 redistributed_id : (moment : Moment) (asked : External) (tag price : ℕ) (p : EventState) → (after_redistribute moment asked tag price p).router.id ≡ p.router.id
 redistributed_id moment asked tag price p = by_price_too (nat_le ls_infinity price)
   where
-    by_same_too : (c : Bool) → (cond c p (originate_anyway moment (external_key p.router.id asked.prefix) (on_router (announce (external_key p.router.id asked.prefix) (answered asked tag price)) p))).router.id ≡ p.router.id
+    by_same_too : (c : Bool) → (cond c p (originate_anyway moment (external_key p.router.id asked.prefix) (on_router (announce (external_key p.router.id asked.prefix) (answered_external asked tag price)) p))).router.id ≡ p.router.id
     by_same_too true = refl
     by_same_too false =
         let k : Key = external_key p.router.id asked.prefix in
-        let grown : EventState = on_router (announce k (answered asked tag price)) p in
+        let grown : EventState = on_router (announce k (answered_external asked tag price)) p in
         ap (λ (t : Told). t.0) (by_body true moment k (wanted_body grown.router k) grown)
 
-    by_price_too : (b : Bool) → (cond b (end_want moment (external_key p.router.id asked.prefix) p) (announce_as moment (external_key p.router.id asked.prefix) (answered asked tag price) p)).router.id ≡ p.router.id
+    by_price_too : (b : Bool) → (cond b (end_want moment (external_key p.router.id asked.prefix) p) (announce_as moment (external_key p.router.id asked.prefix) (answered_external asked tag price) p)).router.id ≡ p.router.id
     by_price_too true = refl
-    by_price_too false = by_same_too (is_announced_as (answered asked tag price) (finite.get p.router.announced (external_key p.router.id asked.prefix)))
+    by_price_too false = by_same_too (is_announced_as (answered_external asked tag price) (finite.get p.router.announced (external_key p.router.id asked.prefix)))
 
 withdrawn_id : (moment : Moment) (prefix : Network) (p : EventState) → (after_withdraw moment prefix p).router.id ≡ p.router.id
 withdrawn_id moment prefix p = by_choice_too (is_for prefix (finite.get p.router.announced (external_key p.router.id prefix)))
@@ -319,7 +319,7 @@ ran old (s ∷ steps) new (middle, first, others) =
     )
 
 at_first : (c : Config) → (initial c).announced ≡ finite.empty
-at_first c = ap (λ (t : Told). t.1) (originates c.start (router_key c.router) (record { router = unannounced c; sends = [] }))
+at_first c = ap (λ (t : Told). t.1) (originates c.start (router_key c.router) (record { router = unannounced_router c; sends = [] }))
 
 announced : (c : Config) (steps : List Step) (r : Router) → Run (initial c) steps r → (key : Key) (e : External) → finite.get r.announced key ≡ Some e → Asked r.id steps key e
 announced c steps r run key e there =

@@ -19,7 +19,7 @@ use Rattle.adjacency.specs.Neighbors.{Neighbor, is_exchange_or_later, is_exchang
 use Rattle.adjacency.specs.Requests.{without_request}
 use Rattle.adjacency.specs.Retransmissions.{add_retransmission, remove_retransmission}
 use Rattle.received.specs.Links.{Link}
-use Rattle.received.specs.Outcomes.{Send, Stepping, marked, numbered, sent_on, step_on, stepped, stepping_sends}
+use Rattle.received.specs.Outcomes.{Send, Stepping, marked_database, sends_at, sent_on, step_on, stepped_links, stepping_sends}
 use Rattle.hook_laws.specs.Destinations.{link_without, neighbor_on_without, neighbor_without}
 
 pub tied_key : (q k : Key) → same_key q k ≡ true → q ≡ k
@@ -169,15 +169,15 @@ module _ (key : Key) where
       λ i. one i ∷ others i
 
   sends_from : (f : Stepping) → Overlooks f → (number : ℕ) (links : List Link)
-      → flat_map (λ (e : ℕ × Link). numbered e.0 (sent_on (f e.0 e.1) e.1.neighbor)) (enumerate_from number links)
-      ≡ flat_map (λ (e : ℕ × Link). numbered e.0 (sent_on (f e.0 e.1) e.1.neighbor)) (enumerate_from number (map cut links))
+      → flat_map (λ (e : ℕ × Link). sends_at e.0 (sent_on (f e.0 e.1) e.1.neighbor)) (enumerate_from number links)
+      ≡ flat_map (λ (e : ℕ × Link). sends_at e.0 (sent_on (f e.0 e.1) e.1.neighbor)) (enumerate_from number (map cut links))
   sends_from f overlooks number [] = refl
   sends_from f overlooks number (link ∷ links) =
-      let one = ap (numbered number) (sent_same f overlooks number link link.neighbor) in
+      let one = ap (sends_at number) (sent_same f overlooks number link link.neighbor) in
       let others = sends_from f overlooks (number + 1) links in
       λ i. one i ++ others i
 
-  pub stepped_alike : (f : Stepping) → Overlooks f → (links : List Link) → map cut (stepped f links) ≡ map cut (stepped f (map cut links))
+  pub stepped_alike : (f : Stepping) → Overlooks f → (links : List Link) → map cut (stepped_links f links) ≡ map cut (stepped_links f (map cut links))
   stepped_alike f overlooks links = stepped_from f overlooks 1 links
 
   pub sends_alike : (f : Stepping) → Overlooks f → (links : List Link) → stepping_sends f links ≡ stepping_sends f (map cut links)
@@ -213,7 +213,7 @@ module _ (key : Key) where
       by_copy None q other = refl
       by_copy (Some c) q other = finite.get-insert keys_total d k (change c) q ∙ ap (λ b. cond b (Some (change c)) (finite.get d q)) (ap (same_key q) is ∙ other)
 
-  marked_agree : (moment : Moment) (c : Content) (d e : Database) → Agree d e → Agree (marked moment d c) (marked moment e c)
+  marked_agree : (moment : Moment) (c : Content) (d e : Database) → Agree d e → Agree (marked_database moment d c) (marked_database moment e c)
   marked_agree moment (Content.SendsHello hello) d e agree = agree
   marked_agree moment (Content.Describes description) d e agree = agree
   marked_agree moment (Content.Requests keys) d e agree = agree
@@ -221,8 +221,8 @@ module _ (key : Key) where
   marked_agree moment (Content.Acknowledges header) d e agree = agree
 
   abbrev pub marked_all : Moment → Database → List Send → Database
-  marked_all moment d sends = fold (λ (db : Database) (s : Send). marked moment db s.content) d sends
+  marked_all moment d sends = fold (λ (db : Database) (s : Send). marked_database moment db s.content) d sends
 
   pub all_marked_agree : (moment : Moment) (sends : List Send) (d e : Database) → Agree d e → Agree (marked_all moment d sends) (marked_all moment e sends)
   all_marked_agree moment [] d e agree = agree
-  all_marked_agree moment (s ∷ sends) d e agree = all_marked_agree moment sends (marked moment d s.content) (marked moment e s.content) (marked_agree moment s.content d e agree)
+  all_marked_agree moment (s ∷ sends) d e agree = all_marked_agree moment sends (marked_database moment d s.content) (marked_database moment e s.content) (marked_agree moment s.content d e agree)

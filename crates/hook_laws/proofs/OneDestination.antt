@@ -22,8 +22,8 @@ use Rattle.adjacency.specs.Floods.{meets, passes, request_of}
 use Rattle.adjacency.specs.Neighbors.{Neighbor, is_exchange_or_later}
 use Rattle.received.specs.Flooding.{flood_to}
 use Rattle.received.specs.Links.{Link}
-use Rattle.received.specs.Outcomes.{Outcome, Send, marked, numbered, on_database, sent_on, step_on, stepping_sends}
-use Rattle.events.specs.Commands.{after_redistribute, announce, announce_as, answered, end_want, is_announced_as, unannounce}
+use Rattle.received.specs.Outcomes.{Outcome, Send, marked_database, sends_at, on_database, sent_on, step_on, stepping_sends}
+use Rattle.events.specs.Commands.{after_redistribute, announce, announce_as, answered_external, end_want, is_announced_as, unannounce}
 use Rattle.events.specs.Endings.{end_event, start_event, with_age}
 use Rattle.events.specs.Events.{Happens}
 use Rattle.events.specs.EventState.{EventState, flood_from_nobody, on_area, on_router}
@@ -73,27 +73,27 @@ module _ (key : Key) (is_external : key.ls_type ≡ 5) where
   both_own lsa [] ys one other = other
   both_own lsa (x ∷ xs) ys (is, one) other = (is, both_own lsa xs ys one other)
 
-  step_own : (later gets meets : Bool) (moment : Moment) (lsa : Lsa) (number : ℕ) (n : Neighbor) → AllOwn lsa (numbered number (apart.step_by key later gets meets moment lsa n).sends)
+  step_own : (later gets meets : Bool) (moment : Moment) (lsa : Lsa) (number : ℕ) (n : Neighbor) → AllOwn lsa (sends_at number (apart.step_by key later gets meets moment lsa n).sends)
   step_own false gets meets moment lsa number n = tt
   step_own true true meets moment lsa number n = (refl, tt)
   step_own true false meets moment lsa number n = tt
 
   sends_own : (moment : Moment) (lsa : Lsa) (number : ℕ) (links : List Link)
-      → AllOwn lsa (flat_map (λ (e : ℕ × Link). numbered e.0 (sent_on (flood_to moment None lsa e.0 e.1) e.1.neighbor)) (enumerate_from number links))
+      → AllOwn lsa (flat_map (λ (e : ℕ × Link). sends_at e.0 (sent_on (flood_to moment None lsa e.0 e.1) e.1.neighbor)) (enumerate_from number links))
   sends_own moment lsa number [] = tt
   sends_own moment lsa number (link ∷ links) =
-      both_own lsa (numbered number (sent_on (flood_to moment None lsa number link) link.neighbor)) _ (on link.neighbor) (sends_own moment lsa (number + 1) links)
+      both_own lsa (sends_at number (sent_on (flood_to moment None lsa number link) link.neighbor)) _ (on link.neighbor) (sends_own moment lsa (number + 1) links)
     where
-      on : (o : Option Neighbor) → AllOwn lsa (numbered number (sent_on (flood_to moment None lsa number link) o))
+      on : (o : Option Neighbor) → AllOwn lsa (sends_at number (sent_on (flood_to moment None lsa number link) o))
       on None = tt
       on (Some n) = step_own (is_exchange_or_later n.state) (passes moment lsa (request_of n lsa)) (meets moment lsa (request_of n lsa)) moment lsa number n
 
   own_marked : (moment : Moment) (lsa : Lsa) → lsa_key lsa ≡ key → (d : Database) (sends : List Send) → AllOwn lsa sends → apart.Agree key (apart.marked_all key moment d sends) d
   own_marked moment lsa is d [] own = λ q other. refl
   own_marked moment lsa is d (s ∷ sends) (content, own) =
-      apart.joined key (apart.marked_all key moment (marked moment d s.content) sends) (marked moment d s.content) d
-      (own_marked moment lsa is (marked moment d s.content) sends own)
-      (subst (λ (c : Content). apart.Agree key (marked moment d c) d) (sym content) (apart.own_copy_agrees key (lsa_key lsa) is (λ c. record c { sent = Some moment }) d))
+      apart.joined key (apart.marked_all key moment (marked_database moment d s.content) sends) (marked_database moment d s.content) d
+      (own_marked moment lsa is (marked_database moment d s.content) sends own)
+      (subst (λ (c : Content). apart.Agree key (marked_database moment d c) d) (sym content) (apart.own_copy_agrees key (lsa_key lsa) is (λ c. record c { sent = Some moment }) d))
 
   -- the rest stays
   abbrev IsKept : Outcome → Outcome → Type 0
@@ -258,7 +258,7 @@ module _ (key : Key) (is_external : key.ls_type ≡ 5) where
   abbrev Good : Key → Database → Type 0
   Good other d = IsUnderItsKey key d × (finite.contains_key d other ≡ true)
 
-  good_marked : (moment : Moment) (other : Key) (c : Content) (d : Database) → Good other d → Good other (marked moment d c)
+  good_marked : (moment : Moment) (other : Key) (c : Content) (d : Database) → Good other d → Good other (marked_database moment d c)
   good_marked moment other (Content.SendsHello hello) d good = good
   good_marked moment other (Content.Describes description) d good = good
   good_marked moment other (Content.Requests keys) d good = good
@@ -268,7 +268,7 @@ module _ (key : Key) (is_external : key.ls_type ≡ 5) where
 
   good_all : (moment : Moment) (other : Key) (sends : List Send) (d : Database) → Good other d → Good other (apart.marked_all key moment d sends)
   good_all moment other [] d good = good
-  good_all moment other (s ∷ sends) d good = good_all moment other sends (marked moment d s.content) (good_marked moment other s.content d good)
+  good_all moment other (s ∷ sends) d good = good_all moment other sends (marked_database moment d s.content) (good_marked moment other s.content d good)
 
   ready_flooded : (moment : Moment) (other : Key) (lsa : Lsa) (o : Outcome) → Ready other o → Ready other (flood_from_nobody moment lsa o)
   ready_flooded moment other lsa o ready =
@@ -290,7 +290,7 @@ own_part : (moment : Moment) (e : External) (tag price : ℕ) (p : EventState) �
     → rest.cut (external_key p.router.id e.prefix) (after_redistribute moment e tag price p) ≡ rest.cut (external_key p.router.id e.prefix) p
 own_part moment e tag price p none under =
     let k : Key = external_key p.router.id e.prefix in
-    let x : External = answered e tag price in
+    let x : External = answered_external e tag price in
     let q : EventState = on_router (announce k x) p in
     one_of k refl (nat_le ls_infinity price) (end_want moment k p) (announce_as moment k x p) p
     (flush_kept k refl moment (on_router (unannounce k) p) none under ∙ unannounced_ k refl p)

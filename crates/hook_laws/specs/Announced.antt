@@ -8,7 +8,7 @@ use Rattle.words.specs.declared.key.Key.{Key}
 use Rattle.words.specs.declared.route.External.{External}
 use Rattle.lsa.specs.declared.body.Body.TheVariants as body
 use Rattle.lsa.specs.declared.body.ExternalLsa.{ExternalLsa}
-use Rattle.events.specs.Commands.{answered}
+use Rattle.events.specs.Commands.{answered_external}
 use Rattle.events.specs.Events.{Run, Step, initial}
 use Rattle.events.specs.Originations.{external_body, external_key, wanted_body}
 use Rattle.events.specs.Routers.{Occurrence, Router}
@@ -24,7 +24,7 @@ pub record IsAskedFor (steps : List Step) (e : External) : Type 0 where
   pub asked : External
   pub price : ℕ
   pub is : step.event ≡ Occurrence.Redistribute tagged tag asked price
-  pub answers : e ≡ answered asked tag price
+  pub answers : e ≡ answered_external asked tag price
   pub below : price < ls_infinity
 
 -- in a run from the start

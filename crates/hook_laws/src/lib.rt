@@ -1,5 +1,5 @@
-//! Laws on what a loaded program can do to a router and to its neighbors, each carried by a function
-//! that does nothing: whatever a program answers, this is all that follows.
+//! Laws on what a loaded program can do to a router and to its neighbors, each carried by a
+//! function that does nothing: whatever a program answers, this is all that follows.
 #![tactic(auto)]
 
 ghost use Rattle.hook_laws.specs.Announced.{WhatIsAnnouncedWasAskedFor};

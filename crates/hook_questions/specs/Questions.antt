@@ -9,11 +9,24 @@ use Rattle.hook_questions.specs.declared.asked.Asked.{Asked}
 
 -- the external destination that is asked of
 abbrev pub destination_of : Asked → External
-destination_of asked = record { prefix = asked.prefix; metric = asked.metric; kind = asked.external; tag = asked.tag }
+destination_of asked = record {
+  prefix = asked.prefix;
+  metric = asked.metric;
+  kind = asked.external;
+  tag = asked.tag;
+}
 
 -- the route that is asked of
 abbrev pub route_of : Asked → Route
-route_of asked = record { prefix = asked.prefix; kind = asked.kind; cost = asked.cost; distance = asked.distance; hops = asked.hops; tag = asked.tag }
+route_of asked = record {
+  prefix = asked.prefix;
+  kind = asked.kind;
+  cost = asked.cost;
+  distance =
+      asked.distance;
+  hops = asked.hops;
+  tag = asked.tag;
+}
 
 abbrev pub asked_context : Hook → Asked → (packet : List ℕ) → List ℕ
 asked_context hooks.Count asked packet = count_context asked.interface asked.moment packet

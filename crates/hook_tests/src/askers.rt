@@ -51,7 +51,8 @@ fn there_is_no_reading_without_a_loader(rt: HostRuntime) -> Result<(), Fail> {
     Ok(())
 }
 
-// The words of `price` before a program is attached, then, after the earlier notice, and after the later one and one more.
+// The words of `price` before a program is attached, then, after the earlier notice, and after the
+// later one and one more.
 fn words<R: Wait + Drop>(alloc: Global, trial: &mut Trial<R>) -> Result<[Option<u64>; 4], Fail> {
     let early = trial.loader.notice();
     let before = trial.price_word()?;
@@ -74,7 +75,8 @@ fn words_from_nothing<R: Wait + Drop + Copy>(
     words(alloc, &mut trial)
 }
 
-// A notice that is older than what was seen takes nothing back, and one that is learnt twice adds nothing.
+// A notice that is older than what was seen takes nothing back, and one that is learnt twice adds
+// nothing.
 #[test]
 fn notices_are_learnt_late_and_twice(rt: HostRuntime) -> Result<(), Fail> {
     let words = words_from_nothing(rt.alloc(), &rt)?;

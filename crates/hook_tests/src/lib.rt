@@ -1,5 +1,5 @@
-//! Tests of published programs, their askers and the contexts of questions, by their public calls. They stand above, since
-//! a crate is proved once more for its tests.
+//! Tests of published programs, their askers and the contexts of questions, by their public calls.
+//! They stand above, since a crate is proved once more for its tests.
 #![tactic(auto)]
 
 #[cfg(test)]

@@ -25,7 +25,8 @@ fn verified(alloc: Global, text: &str) -> Option<Accepted> {
     verify_object(alloc, &bytes).ok()
 }
 
-/// The program of the text. One allocation may be refused, as a run of the tests with a refusal makes it.
+/// The program of the text. One allocation may be refused, as a run of the tests with a refusal
+/// makes it.
 pub fn accepted(alloc: Global, text: &str) -> Option<Accepted> {
     match verified(alloc, text) {
         None => verified(alloc, text),

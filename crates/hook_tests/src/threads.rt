@@ -80,8 +80,8 @@ fn load<R: Wait + Drop>(alloc: Global, loader: Loader<R>) -> (Loader<R>, bool)
     (loader, done)
 }
 
-// Asks while the loader attaches and detaches. Whether all was done, how many words were others than 7 and 20, and the
-// word after learning of the last detach.
+// Asks while the loader attaches and detaches. Whether all was done, how many words were others
+// than 7 and 20, and the word after learning of the last detach.
 fn race<R: Threads + Wait + Sync>(
     rt: &R,
     alloc: Global,

@@ -5,8 +5,8 @@ ghost use Rattle.hooks.specs.Questions.{IsTag, IsPrice, IsVeto};
 use std::marker::Model;
 use words::{External, Route, Second};
 
-/// The answer of `tag` on an external destination at a moment: the word of a run of an accepted program, or the
-/// configured tag.
+/// The answer of `tag` on an external destination at a moment: the word of a run of an accepted
+/// program, or the configured tag.
 #[derive(Clone, Copy, Debug, PartialEq, Eq)]
 pub struct TagAnswer {
     external: External,
@@ -21,7 +21,12 @@ impl Model for TagAnswer {
 
     ghost view = { λ a. record { external = a.external; moment = a.moment; word = a.word } };
 
-    ghost invariant = { λ a. ∥ IsTag (record { external = a.external; moment = a.moment; word = a.word }) ∥₁ };
+    ghost invariant = { λ a. ∥ IsTag (record {
+      external = a.external;
+      moment = a.moment;
+      word =
+          a.word;
+    }) ∥₁ };
 
     ghost inverse = { λ a. record { external = a.external; moment = a.moment; word = a.word } };
 }
@@ -68,8 +73,8 @@ impl TagAnswer {
     }
 }
 
-/// The answer of `price` on an external destination at a moment: the word of a run of an accepted program, or the
-/// configured metric.
+/// The answer of `price` on an external destination at a moment: the word of a run of an accepted
+/// program, or the configured metric.
 #[derive(Clone, Copy, Debug, PartialEq, Eq)]
 pub struct PriceAnswer {
     external: External,
@@ -84,7 +89,12 @@ impl Model for PriceAnswer {
 
     ghost view = { λ a. record { external = a.external; moment = a.moment; word = a.word } };
 
-    ghost invariant = { λ a. ∥ IsPrice (record { external = a.external; moment = a.moment; word = a.word }) ∥₁ };
+    ghost invariant = { λ a. ∥ IsPrice (record {
+      external = a.external;
+      moment = a.moment;
+      word =
+          a.word;
+    }) ∥₁ };
 
     ghost inverse = { λ a. record { external = a.external; moment = a.moment; word = a.word } };
 }
@@ -139,7 +149,8 @@ impl Model for VetoAnswer {
 
     ghost view = { λ a. record { route = a.route; moment = a.moment; word = a.word } };
 
-    ghost invariant = { λ a. ∥ IsVeto (record { route = a.route; moment = a.moment; word = a.word }) ∥₁ };
+    ghost invariant = { λ a. ∥ IsVeto (record { route = a.route; moment = a.moment; word = a.word })
+        ∥₁ };
 
     ghost inverse = { λ a. record { route = a.route; moment = a.moment; word = a.word } };
 }

@@ -48,9 +48,11 @@ fn take(
     requires asked { IsAsked (given_by input.now) }
     requires table { IsOf shared.now seat.old }
     requires same { HasSeen front.old.seen.book (view reader.place) }
-    ensures same { (front.new.seen.book ≡ front.old.seen.book) × HasSeen front.new.seen.book (view result.0.place) }
+    ensures same { (front.new.seen.book ≡ front.old.seen.book)
+        × HasSeen front.new.seen.book (view result.0.place) }
     ensures unread { IfNone result.1 ((front.new ≡ front.old) × (seat.new ≡ seat.old)) }
-    ensures answered { IfSome result.1 (λ a. IsAnswered front.old.seen.log front.new.seen.log seat.old seat.new (given_by input.now) a.word) }
+    ensures answered { IfSome result.1 (λ a. IsAnswered front.old.seen.log front.new.seen.log
+        seat.old seat.new (given_by input.now) a.word) }
     ensures table { IsOf shared.now seat.new }
 {
     let reading = match reader.enter_as::<Sees>() {
@@ -85,8 +87,10 @@ impl Asker {
         requires asked { IsAsked (given_by input.now) }
         requires table { IsOf shared.now seat.old }
         ensures history { asks_of self.new ≡ asks_of self.old }
-        ensures unread { IfNone result ((known_to self.new ≡ known_to self.old) × (seat.new ≡ seat.old)) }
-        ensures answered { IfSome result (λ a. IsAnswered (known_to self.old) (known_to self.new) seat.old seat.new (given_by input.now) a.word) }
+        ensures unread { IfNone result ((known_to self.new ≡ known_to self.old)
+            × (seat.new ≡ seat.old)) }
+        ensures answered { IfSome result (λ a. IsAnswered (known_to self.old) (known_to self.new)
+            seat.old seat.new (given_by input.now) a.word) }
         ensures table { IsOf shared.now seat.new }
     {
         let Some(reader) = self.reader.take() else {
@@ -101,8 +105,10 @@ impl Asker {
     pub fn learn(&mut self, notice: Notice)
         requires { asks_of self.old ≡ tells_of notice }
         ensures history { asks_of self.new ≡ asks_of self.old }
-        ensures known { IsPrefix (known_to self.old) (known_to self.new) × IsPrefix (told_by notice) (known_to self.new) }
-        ensures one { (known_to self.new ≡ known_to self.old) ⊎ (known_to self.new ≡ told_by notice) }
+        ensures known { IsPrefix (known_to self.old) (known_to self.new)
+            × IsPrefix (told_by notice) (known_to self.new) }
+        ensures one { (known_to self.new ≡ known_to self.old)
+            ⊎ (known_to self.new ≡ told_by notice) }
     {
         if notice.front.reaches(&self.front) {
             self.front = notice.front;

@@ -79,7 +79,8 @@ impl Asker {
         ensures tagged { IfSome result (λ r. (rows : List TableRow) → IsAnsweredByNone
             (known_to self.old) (known_to self.new) (tag_input external.now moment rows) r.0.word) }
         ensures priced { IfSome result (λ r. (rows : List TableRow) → IsAnsweredByNone
-            (known_to self.old) (known_to self.new) (price_input external.now moment rows) r.1.word) }
+            (known_to self.old) (known_to self.new) (price_input external.now moment rows)
+            r.1.word) }
     {
         let vacancies = self.vacancies()?;
         if !vacancies.tag || !vacancies.price {

@@ -1,7 +1,8 @@
 //! Programs that a loader publishes at the hooks, and askers that run them.
 //!
-//! An asker runs what stands at a hook on its own thread: it takes no lock and no memory, and waits for nobody. What it
-//! sees begins with all operations that it saw before, and with all that it learnt of by a notice.
+//! An asker runs what stands at a hook on its own thread: it takes no lock and no memory, and waits
+//! for nobody. What it sees begins with all operations that it saw before, and with all that it
+//! learnt of by a notice.
 #![tactic(auto)]
 
 mod answer;

@@ -1,5 +1,6 @@
 //! Who attaches and detaches programs.
-ghost use Rattle.std.specs.Prelude.{◌≡◌, ◌≢◌, ◌<◌, ◌≤◌, [], ◌∷◌, ◌++◌, drop, fold, Some, All, vec_len, IfOk, IfErr, MatchResult};
+ghost use Rattle.std.specs.Prelude.{◌≡◌, ◌≢◌, ◌<◌, ◌≤◌, [], ◌∷◌, ◌++◌, drop, fold, Some, All};
+ghost use Rattle.std.specs.Prelude.{vec_len, IfOk, IfErr, MatchResult};
 ghost use Rattle.left_right.specs.Sides.{view};
 ghost use Rattle.hooks.specs.History.{head_of};
 ghost use Rattle.hooks.specs.Shown.{Fits, changed, history, vacant};
@@ -38,7 +39,8 @@ pub struct Notice {
 /// Shows askers each pending entry.
 fn show<R: Wait>(writer: ProgramWriter, rt: &R) -> (ProgramWriter, ())
     requires { Fits writer.desk.shown.value (drop writer.behind writer.log.items) }
-    ensures shown { result.0.desk.shown.value ≡ fold changed writer.desk.shown.value (drop writer.behind writer.log.items) }
+    ensures shown { result.0.desk.shown.value ≡ fold changed writer.desk.shown.value
+        (drop writer.behind writer.log.items) }
     ensures idle { drop result.0.behind result.0.log.items ≡ [] }
     ensures knows { view result.0.desk.place ≡ Some result.0.desk.shown.value.front }
 {
@@ -56,7 +58,8 @@ fn pad(front: &Front) -> Entry
     }
 }
 
-/// Makes room for two entries, so that no later one takes memory: readers see one, and the next one comes.
+/// Makes room for two entries, so that no later one takes memory: readers see one, and the next one
+/// comes.
 fn make_room<R: Wait>(
     mut writer: ProgramWriter,
     rt: &R,
@@ -96,8 +99,10 @@ impl<R: Wait + Drop> Loader<R> {
 
     pub(crate) fn askers(&mut self, alloc: Global, askers: usize) -> Result<Vec<Asker>, HookError>
         requires { operations_of self.old ≡ [] }
-        ensures same { (operations_of self.new ≡ operations_of self.old) × (history_of self.new ≡ history_of self.old) }
-        ensures made { IfOk result (λ v. (vec_len v ≡ askers) × All (IsNew (history_of self.old)) v.items) }
+        ensures same { (operations_of self.new ≡ operations_of self.old)
+            × (history_of self.new ≡ history_of self.old) }
+        ensures made { IfOk result (λ v. (vec_len v ≡ askers) × All (IsNew (history_of self.old))
+            v.items) }
         ensures count { IfErr result (λ e. e ≢ Count) }
     {
         let Ok(mut list) = Vec::with_capacity(alloc, askers) else {
@@ -115,7 +120,9 @@ impl<R: Wait + Drop> Loader<R> {
 
     /// Publishes the program at its hook, or answers want of memory and changes nothing.
     pub fn attach(&mut self, accepted: Accepted) -> Result<(), AllocError>
-        ensures operations { MatchResult result (λ _. operations_of self.new ≡ operations_of self.old ++ Attach accepted ∷ []) (λ _. operations_of self.new ≡ operations_of self.old) }
+        ensures operations { MatchResult result (λ _. operations_of self.new
+            ≡ operations_of self.old ++ Attach accepted ∷ []) (λ _. operations_of self.new
+            ≡ operations_of self.old) }
         ensures history { history_of self.new ≡ history_of self.old }
     {
         self.publish(Operation::Attach(accepted))
@@ -123,7 +130,9 @@ impl<R: Wait + Drop> Loader<R> {
 
     /// Publishes that no program stands at the hook, or answers want of memory and changes nothing.
     pub fn detach(&mut self, hook: Hook) -> Result<(), AllocError>
-        ensures operations { MatchResult result (λ _. operations_of self.new ≡ operations_of self.old ++ Detach hook ∷ []) (λ _. operations_of self.new ≡ operations_of self.old) }
+        ensures operations { MatchResult result (λ _. operations_of self.new
+            ≡ operations_of self.old ++ Detach hook ∷ []) (λ _. operations_of self.new
+            ≡ operations_of self.old) }
         ensures history { history_of self.new ≡ history_of self.old }
     {
         self.publish(Operation::Detach(hook))
@@ -131,7 +140,9 @@ impl<R: Wait + Drop> Loader<R> {
 
     // Once the operation has its number, nothing is refused any more.
     fn publish(&mut self, operation: Operation) -> Result<(), AllocError>
-        ensures operations { MatchResult result (λ _. operations_of self.new ≡ operations_of self.old ++ operation ∷ []) (λ _. operations_of self.new ≡ operations_of self.old) }
+        ensures operations { MatchResult result (λ _. operations_of self.new
+            ≡ operations_of self.old ++ operation ∷ []) (λ _. operations_of self.new
+            ≡ operations_of self.old) }
         ensures history { history_of self.new ≡ history_of self.old }
     {
         let front = &self.writer.published().front;
@@ -145,7 +156,8 @@ impl<R: Wait + Drop> Loader<R> {
 
     /// Tells all operations so far.
     pub fn notice(&self) -> Notice
-        ensures { (told_by result ≡ operations_of self.now) × (tells_of result ≡ history_of self.now) }
+        ensures { (told_by result ≡ operations_of self.now)
+            × (tells_of result ≡ history_of self.now) }
     {
         Notice {
             front: self.writer.published().front.again(),

@@ -12,8 +12,8 @@ use machine::{Input, TableRow};
 use maps::{Seat, Shared};
 use words::{External, Route, Second};
 
-/// A question takes no memory and waits for nobody. `None` where the published programs give no reading: no cause is
-/// claimed, and asker and seat are as before. The seat is one of the table.
+/// A question takes no memory and waits for nobody. `None` where the published programs give no
+/// reading: no cause is claimed, and asker and seat are as before. The seat is one of the table.
 impl Asker {
     /// Asks `count` of a packet that came on the interface at the moment, before it is read.
     pub fn count(
@@ -26,8 +26,10 @@ impl Asker {
     ) -> Option<Answer>
         requires table { IsOf shared.now seat.old }
         ensures history { asks_of self.new ≡ asks_of self.old }
-        ensures unread { IfNone result ((known_to self.new ≡ known_to self.old) × (seat.new ≡ seat.old)) }
-        ensures answered { IfSome result (λ a. IsAnswered (known_to self.old) (known_to self.new) seat.old seat.new (count_input interface moment packet.now) a.word) }
+        ensures unread { IfNone result ((known_to self.new ≡ known_to self.old)
+            × (seat.new ≡ seat.old)) }
+        ensures answered { IfSome result (λ a. IsAnswered (known_to self.old) (known_to self.new)
+            seat.old seat.new (count_input interface moment packet.now) a.word) }
         ensures table { IsOf shared.now seat.new }
     {
         let input = Input {
@@ -50,9 +52,11 @@ impl Asker {
     ) -> Option<TagAnswer>
         requires table { IsOf shared.now seat.old }
         ensures history { asks_of self.new ≡ asks_of self.old }
-        ensures unread { IfNone result ((known_to self.new ≡ known_to self.old) × (seat.new ≡ seat.old)) }
+        ensures unread { IfNone result ((known_to self.new ≡ known_to self.old)
+            × (seat.new ≡ seat.old)) }
         ensures question { IfSome result (λ a. (a.external ≡ external.now) × (a.moment ≡ moment)) }
-        ensures answered { IfSome result (λ a. IsAnswered (known_to self.old) (known_to self.new) seat.old seat.new (tag_input external.now moment rows.now) a.word) }
+        ensures answered { IfSome result (λ a. IsAnswered (known_to self.old) (known_to self.new)
+            seat.old seat.new (tag_input external.now moment rows.now) a.word) }
         ensures table { IsOf shared.now seat.new }
     {
         let input = Input {
@@ -64,7 +68,8 @@ impl Asker {
         Some(TagAnswer::new(*external, moment, answer.word))
     }
 
-    /// Asks `price` which metric an external destination is announced with, beside the rows of a table.
+    /// Asks `price` which metric an external destination is announced with, beside the rows of a
+    /// table.
     pub fn price(
         &mut self,
         external: &External,
@@ -75,9 +80,11 @@ impl Asker {
     ) -> Option<PriceAnswer>
         requires table { IsOf shared.now seat.old }
         ensures history { asks_of self.new ≡ asks_of self.old }
-        ensures unread { IfNone result ((known_to self.new ≡ known_to self.old) × (seat.new ≡ seat.old)) }
+        ensures unread { IfNone result ((known_to self.new ≡ known_to self.old)
+            × (seat.new ≡ seat.old)) }
         ensures question { IfSome result (λ a. (a.external ≡ external.now) × (a.moment ≡ moment)) }
-        ensures answered { IfSome result (λ a. IsAnswered (known_to self.old) (known_to self.new) seat.old seat.new (price_input external.now moment rows.now) a.word) }
+        ensures answered { IfSome result (λ a. IsAnswered (known_to self.old) (known_to self.new)
+            seat.old seat.new (price_input external.now moment rows.now) a.word) }
         ensures table { IsOf shared.now seat.new }
     {
         let input = Input {
@@ -89,7 +96,8 @@ impl Asker {
         Some(PriceAnswer::new(*external, moment, answer.word))
     }
 
-    /// Asks `veto` whether a route is kept out of the table, beside the rows of a table: 0 lets it in.
+    /// Asks `veto` whether a route is kept out of the table, beside the rows of a table: 0 lets it
+    /// in.
     pub fn veto(
         &mut self,
         route: &Route,
@@ -100,9 +108,11 @@ impl Asker {
     ) -> Option<VetoAnswer>
         requires table { IsOf shared.now seat.old }
         ensures history { asks_of self.new ≡ asks_of self.old }
-        ensures unread { IfNone result ((known_to self.new ≡ known_to self.old) × (seat.new ≡ seat.old)) }
+        ensures unread { IfNone result ((known_to self.new ≡ known_to self.old)
+            × (seat.new ≡ seat.old)) }
         ensures question { IfSome result (λ a. (a.route ≡ route.now) × (a.moment ≡ moment)) }
-        ensures answered { IfSome result (λ a. IsAnswered (known_to self.old) (known_to self.new) seat.old seat.new (veto_input route.now moment rows.now) a.word) }
+        ensures answered { IfSome result (λ a. IsAnswered (known_to self.old) (known_to self.new)
+            seat.old seat.new (veto_input route.now moment rows.now) a.word) }
         ensures table { IsOf shared.now seat.new }
     {
         let input = Input {

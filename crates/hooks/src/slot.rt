@@ -7,7 +7,8 @@ use std::alloc::{AllocError, Global};
 use std::marker::Model;
 use verifier::Accepted;
 
-/// Its program counts while it is `attached`. There is room for each program. A clause sees the program that it shows.
+/// Its program counts while it is `attached`. There is room for each program. A clause sees the
+/// program that it shows.
 #[derive(Drop)]
 pub struct Slot {
     accepted: Accepted,

@@ -10,19 +10,21 @@ use crate::loader::Loader;
 use std::alloc::Global;
 use std::sync::Wait;
 
-/// Makes a loader with no program at any hook, and so many askers, which have seen nothing. All memory that attaching
-/// and detaching ever need is taken here: four places for programs of 4,096 slots in each of two copies.
+/// Makes a loader with no program at any hook, and so many askers, which have seen nothing. All
+/// memory that attaching and detaching ever need is taken here: four places for programs of 4,096
+/// slots in each of two copies.
 ///
 /// # Errors
 ///
-/// `Count` where `askers` is 0 or above 64, which is tried first; `Memory` where an allocation is refused; `Places`
-/// where there was no place for an asker.
+/// `Count` where `askers` is 0 or above 64, which is tried first; `Memory` where an allocation is
+/// refused; `Places` where there was no place for an asker.
 pub fn programs<R: Wait + Drop>(
     alloc: Global,
     rt: R,
     askers: usize,
 ) -> Result<(Loader<R>, Vec<Asker>), HookError>
-    ensures made { IfOk result (λ t. (operations_of t.0 ≡ []) × (vec_len t.1 ≡ askers) × All (IsNew (history_of t.0)) t.1.items) }
+    ensures made { IfOk result (λ t. (operations_of t.0 ≡ []) × (vec_len t.1 ≡ askers)
+        × All (IsNew (history_of t.0)) t.1.items) }
     ensures count { (result ≡ Err Count) ↔ ((askers ≡ 0) ⊎ (64 < askers)) }
 {
     if askers == 0 || askers > ASKERS {

@@ -11,8 +11,8 @@ use Rattle.hooktool_commands.specs.declared.report.Report.{Report}
 abbrev pub accepted_line : (bound : ℕ) → List ℕ
 accepted_line bound = codes "accepted bound " ++ (decimal bound ++ 10 ∷ [])
 
--- An object was found of the file's code (with --fuel, of that code with its turns counted) that the
--- verifier accepts, and its bound is told.
+-- An object was found of the file's code (with --fuel, of that code with its turns counted) that
+-- the verifier accepts, and its bound is told.
 pub record IsFound (hook : Hook) (fuel : Option ℕ) (file : List ℕ) (report : Report) : Type 0 where
   pub object : ObjectParts
   pub bytes : List ℕ

@@ -26,7 +26,8 @@ IsMadeOf (requests.Try object question) report =
 -- Memory was refused, or the words ask for nothing.
 abbrev pub IsFaultOfWords : List (List ℕ) → Fault → Type 0
 IsFaultOfWords words fault =
-    (fault ≡ faults.Memory) ⊎ ((error : Error) × IsMistake words error × (fault ≡ faults.Usage error))
+    (fault ≡ faults.Memory) ⊎ ((error : Error) × IsMistake words error
+    × (fault ≡ faults.Usage error))
 
 -- a program that is refused and a run that gave no answer have status 1
 abbrev pub status_of_refused : Bool → ℕ

@@ -6,8 +6,8 @@ use Rattle.object_verdicts.specs.declared.error.VerifyError.{VerifyError}
 use Rattle.verifier.specs.Programs.{Program}
 use Rattle.hooktool_commands.specs.declared.report.Report.{Report}
 
--- The verdict is the verifier's on the object file that the bytes are. The text ends with its words, and
--- the report is a refusal where it is one.
+-- The verdict is the verifier's on the object file that the bytes are. The text ends with its
+-- words, and the report is a refusal where it is one.
 pub record IsExplained (bytes : List ℕ) (report : Report) : Type 0 where
   pub verdict : Result Program VerifyError
   pub accepts : IfOk verdict (Accepts bytes)

@@ -13,8 +13,8 @@ abbrev pub PacketIs : Packet → List ℕ → Type 0
 PacketIs (packets.Bytes bytes) packet = packet ≡ bytes.items
 PacketIs (packets.File path) packet = Unit {0}
 
--- The program of the object file ran on the question, and the report is a refusal where a run gave no
--- answer.
+-- The program of the object file ran on the question, and the report is a refusal where a run gave
+-- no answer.
 pub record IsTried (bytes packet : List ℕ) (question : Question) (report : Report) : Type 0 where
   pub trial : Trial
   pub ran : IsTrialOn bytes question.asked packet question.rows.items question.times trial

@@ -32,7 +32,8 @@ fn push_endless(out: &mut String, endless: &Endless) -> Result<(), AllocError> {
         }
     }
     out.push_str(
-        "  either let a register fall with each turn (DOWN and EACH of examples/c/leafrunt.h do)\n  or count the turns: --fuel N\n",
+        "  either let a register fall with each turn (DOWN and EACH of examples/c/leafrunt.h \
+            do)\n  or count the turns: --fuel N\n",
     )
 }
 
@@ -67,7 +68,8 @@ fn uncounted<'a>(error: CountError) -> Fault<'a> {
         CountError::NoRegister => "no turns can be counted: the program uses each of r6 to r9",
         CountError::TooMany => "no turns can be counted: --fuel is 1000000 or more",
         CountError::TooLong =>
-            "no turns can be counted: the code would have more than 4096 slots, or a jump would go too far",
+            "no turns can be counted: the code would have more than 4096 slots, or a jump would go \
+                too far",
         CountError::Memory => return Fault::Memory,
     };
     Fault::Uncounted { reason }
@@ -105,7 +107,8 @@ fn written<'a, R: Files + AllocGlobal>(
     annotated: &Annotated,
 ) -> Result<Report, Fault<'a>>
     requires { Accepts annotated.now.bytes.items annotated.now.accepted }
-    ensures told { IfOk result (λ report. string_bytes report.text ≡ accepted_line annotated.now.accepted.bound) }
+    ensures told { IfOk result (λ report. string_bytes report.text
+        ≡ accepted_line annotated.now.accepted.bound) }
     ensures done { IfOk result (λ report. report.is_refused ≡ false) }
 {
     let report = accepted(rt.alloc(), annotated.accepted.bound())?;
@@ -113,10 +116,11 @@ fn written<'a, R: Files + AllocGlobal>(
     Ok(report)
 }
 
-/// Finds statements for the code of the file at `code`, at the hook, and writes the object file `object`, if the verifier accepts it.
-/// Where it doesn't, `object` is as it was.
+/// Finds statements for the code of the file at `code`, at the hook, and writes the object file
+/// `object`, if the verifier accepts it. Where it doesn't, `object` is as it was.
 ///
-/// A fault where a file can't be read or written, the first one is no code and no object for the hook, or memory is refused.
+/// A fault where a file can't be read or written, the first one is no code and no object for the
+/// hook, or memory is refused.
 pub(crate) fn annotate<'a, R: Files + AllocGlobal>(
     rt: &R,
     hook: Hook,

@@ -24,7 +24,8 @@ impl<'a> From<ExplainError> for Fault<'a> {
 
 /// The three texts of an explanation, one behind the other.
 fn whole(explanation: Explanation) -> Result<String, AllocError>
-    ensures { IfOk result (λ text. string_bytes text ≡ (string_bytes explanation.before ++ string_bytes explanation.last)
+    ensures { IfOk result (λ text. string_bytes text ≡ (string_bytes explanation.before
+        ++ string_bytes explanation.last)
         ++ string_bytes explanation.told) }
 {
     let Explanation {
@@ -62,7 +63,8 @@ fn explanation_of<'a>(alloc: Global, bytes: &[u8]) -> Result<Report, Fault<'a>>
     })
 }
 
-/// Tells what the verifier knows at each slot of the program of the object file at `path`, up to the one that it refuses, and its verdict.
+/// Tells what the verifier knows at each slot of the program of the object file at `path`, up to
+/// the one that it refuses, and its verdict.
 ///
 /// A fault where the file can't be read, is no object file, holds no code, or memory is refused.
 pub(crate) fn explain<'a, R: Files + AllocGlobal>(

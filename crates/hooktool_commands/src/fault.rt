@@ -1,7 +1,8 @@
 //! Why a command didn't do what it was asked, and the statuses.
 
 ghost use Rattle.std.specs.Prelude.{◌≡◌, ◌≤◌};
-ghost use Rattle.hooktool_commands.specs.Statuses.{fault_of_object, fault_of_refusal, fault_of_run, fault_of_words, status_of};
+ghost use Rattle.hooktool_commands.specs.Statuses.{fault_of_object, fault_of_refusal, fault_of_run};
+ghost use Rattle.hooktool_commands.specs.Statuses.{fault_of_words, status_of};
 ghost use Rattle.hooktool_commands.specs.declared.fault.Fault.TheVariants.{Memory};
 
 use clap::error::ErrorKind;
@@ -31,7 +32,8 @@ pub enum Fault<'a> {
     /// A file can't be written.
     #[error("cannot write {path}")]
     Write { path: &'a str },
-    /// Bytes that are no code: the number of the refusal, and the slot of the first bad instruction.
+    /// Bytes that are no code: the number of the refusal, and the slot of the first bad
+    /// instruction.
     #[error("code refusal {number} slot {slot}")]
     Code { number: u8, slot: u64 },
     /// Bytes that are no object file: the number of the refusal.

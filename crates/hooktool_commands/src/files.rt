@@ -9,7 +9,8 @@ use std::alloc::Global;
 use std::rt::Files;
 use whole_files::{ReadFault, WriteFault};
 
-/// The bytes of the file at `path`. `Fault::Read` where it can't be opened or read, is no regular file, or is too long.
+/// The bytes of the file at `path`. `Fault::Read` where it can't be opened or read, is no regular
+/// file, or is too long.
 pub(crate) fn read<'a, R: Files + AllocGlobal>(rt: &R, path: &'a str) -> Result<Vec<u8>, Fault<'a>>
     ensures { IfErr result (λ fault. (fault ≡ Fault.Read path.entry) ⊎ (fault ≡ Fault.Memory)) }
 {
@@ -20,8 +21,8 @@ pub(crate) fn read<'a, R: Files + AllocGlobal>(rt: &R, path: &'a str) -> Result<
     }
 }
 
-/// Makes the file at `path` one of these bytes, written beside it first, so that after a fault it is as before. Only an object that the
-/// verifier accepts is ever written.
+/// Makes the file at `path` one of these bytes, written beside it first, so that after a fault it
+/// is as before. Only an object that the verifier accepts is ever written.
 pub(crate) fn write_accepted<'a, R: Files + AllocGlobal>(
     rt: &R,
     path: &'a str,

@@ -51,8 +51,8 @@ fn end<O: Write, E: Write>(outcome: Result<Report, Fault<'_>>, output: &mut O, e
     }
 }
 
-/// Tells that the words can't be read, and answers the status: 4 where memory was refused, 2 where a word isn't UTF-8, and 3 where that
-/// can't be told.
+/// Tells that the words can't be read, and answers the status: 4 where memory was refused, 2 where
+/// a word isn't UTF-8, and 3 where that can't be told.
 pub fn end_without_words<O: Write, E: Write>(
     alloc: Global,
     error: &io::Error,

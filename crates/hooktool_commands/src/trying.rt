@@ -115,7 +115,8 @@ fn packet_bytes<'a, R: Files + AllocGlobal>(
     }
 }
 
-/// Runs the program of the object file that these bytes are on the question, with this packet, and says what is to be told of it.
+/// Runs the program of the object file that these bytes are on the question, with this packet, and
+/// says what is to be told of it.
 fn trial_of<'a>(
     alloc: Global,
     bytes: &[u8],
@@ -139,7 +140,8 @@ fn trial_of<'a>(
     })
 }
 
-/// Runs the program of the object file at `path` on the question, and tells each run's end and what was left in counters and cells.
+/// Runs the program of the object file at `path` on the question, and tells each run's end and what
+/// was left in counters and cells.
 ///
 /// A fault where a file can't be read, is no object file, holds no code, or memory is refused.
 pub(crate) fn try_question<'a, R: Files + AllocGlobal>(
@@ -147,7 +149,8 @@ pub(crate) fn try_question<'a, R: Files + AllocGlobal>(
     path: &'a str,
     question: &Question<'a>,
 ) -> Result<Report, Fault<'a>>
-    ensures { IfOk result (λ report. (bytes packet : List ℕ) × PacketIs question.now.packet packet × IsTried bytes packet question.now report) }
+    ensures { IfOk result (λ report. (bytes packet : List ℕ) × PacketIs question.now.packet packet
+        × IsTried bytes packet question.now report) }
 {
     let bytes = files::read(rt, path)?;
     let packet = packet_bytes(rt, &question.packet)?;

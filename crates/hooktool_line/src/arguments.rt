@@ -13,10 +13,12 @@ use clap::{Arg, ArgAction, Command, Error};
 use std::alloc::{AllocError, Global};
 
 const ABOUT: &str =
-    "Makes loadable objects of programs, tells what the verifier knows of them, and tries them on a question";
+    "Makes loadable objects of programs, tells what the verifier knows of them, and tries them on \
+        a question";
 
 const ANNOTATE: &str =
-    "Finds the statements and ranks that the verifier asks for, and writes an object that it accepts";
+    "Finds the statements and ranks that the verifier asks for, and writes an object that it \
+        accepts";
 
 const ANNOTATE_MORE: &str = "\
 Example: hooktool annotate price price.bin price.o
@@ -43,7 +45,8 @@ Statuses:
 docs/HOOKTOOL.md says which C is accepted, and what to write instead of what isn't.";
 
 const EXPLAIN: &str =
-    "Prints the program of an object file slot by slot, with all that the verifier knows there, and where and why it refuses";
+    "Prints the program of an object file slot by slot, with all that the verifier knows there, \
+        and where and why it refuses";
 
 const EXPLAIN_MORE: &str = "\
 Example: hooktool explain sum.o
@@ -62,7 +65,8 @@ Statuses:
 docs/VERIFIER.md has each rule, and docs/HOOKTOOL.md how to read what is printed.";
 
 const TRY: &str =
-    "Runs the program of an object file on a question that its hook may be asked, accepted or not, and prints its answer";
+    "Runs the program of an object file on a question that its hook may be asked, accepted or not, \
+        and prints its answer";
 
 const TRY_MORE: &str = "\
 Examples: hooktool try falling_metric.o --prefix 203.0.113.0/24 --metric 50

@@ -37,7 +37,8 @@ pub(crate) fn packet_in<'a>(
     alloc: Global,
     word: Option<&'a str>,
 ) -> Result<Option<Packet<'a>>, AllocError>
-    ensures { IfOk result (Reads (λ packet. OrElse (option_map (λ w. w.now) word.entry) (IsNoPacket packet) (λ w. IsPacket w packet))) }
+    ensures { IfOk result (Reads (λ packet. OrElse (option_map (λ w. w.now) word.entry)
+        (IsNoPacket packet) (λ w. IsPacket w packet))) }
 {
     match word {
         Some(word) => packet_of(alloc, word),

@@ -14,8 +14,10 @@ use std::io::{self, ErrorKind as IoKind};
 
 /// The text for words that can't be read: memory was refused, or a word isn't UTF-8.
 pub fn unread(alloc: Global, error: &io::Error) -> Error
-    ensures memory { error_kind error.now ≡ IoKind.OutOfMemory → kind_of result ≡ ErrorKind.OutOfMemory }
-    ensures value { (kind_of result ≡ ErrorKind.OutOfMemory) ⊎ (kind_of result ≡ ErrorKind.InvalidValue) }
+    ensures memory { error_kind error.now ≡ IoKind.OutOfMemory
+        → kind_of result ≡ ErrorKind.OutOfMemory }
+    ensures value { (kind_of result ≡ ErrorKind.OutOfMemory)
+        ⊎ (kind_of result ≡ ErrorKind.InvalidValue) }
 {
     match error.kind() {
         IoKind::OutOfMemory => Error::from(AllocError),
@@ -25,9 +27,9 @@ pub fn unread(alloc: Global, error: &io::Error) -> Error
 
 /// Reads the words of a command line, of which the first is the program's name.
 ///
-/// `Ok` is just what the words ask for. `Err` has the text for the user: a mistake in the words, where
-/// they ask for nothing, or the help that they ask for; its kind is `OutOfMemory` where an allocation was
-/// refused.
+/// `Ok` is just what the words ask for. `Err` has the text for the user: a mistake in the words,
+/// where they ask for nothing, or the help that they ask for; its kind is `OutOfMemory` where an
+/// allocation was refused.
 pub fn parse<'a>(alloc: Global, words: &'a [&'a str]) -> Result<Request<'a>, Error>
     ensures { MatchResult result (Asks (map (λ w. w.now) words.entry.now))
         (IsRefusal (map (λ w. w.now) words.entry.now)) }

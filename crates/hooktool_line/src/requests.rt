@@ -7,7 +7,8 @@ ghost use Rattle.clap.specs.Values.{kind_of};
 ghost use Rattle.clap.specs.Walk.{rows_of};
 ghost use Rattle.clap.specs.declared.error.kind.ErrorKind.TheVariants as kinds;
 ghost use Rattle.hooktool_line.specs.Questions.{HasQuestion, asked_of};
-ghost use Rattle.hooktool_line.specs.Requests.{HasFuel, IsFuel, IsWrong, IsWrongWord, MadeBy, Makes};
+ghost use Rattle.hooktool_line.specs.Requests.{HasFuel, IsFuel, IsWrong, IsWrongWord, MadeBy};
+ghost use Rattle.hooktool_line.specs.Requests.{Makes};
 ghost use Rattle.hooktool_line.specs.Words.{Reads};
 
 use crate::arguments::wrong_value;
@@ -42,7 +43,8 @@ pub struct Question<'a> {
 /// What the words of a command line ask for.
 #[derive(Drop)]
 pub enum Request<'a> {
-    /// Find statements for code at a hook, and write the object. Where `fuel` is told, loops without a rank may take so many turns.
+    /// Find statements for code at a hook, and write the object. Where `fuel` is told, loops
+    /// without a rank may take so many turns.
     Annotate {
         hook: Hook,
         code: &'a str,
@@ -166,7 +168,8 @@ fn try_request<'a>(
     }
 }
 
-// What a command makes of its words. None where it makes nothing of them, or there is no such command.
+// What a command makes of its words. None where it makes nothing of them, or there is no such
+// command.
 fn made_by<'a>(
     alloc: Global,
     name: &str,
@@ -194,7 +197,8 @@ fn wrong_option(matches: &ArgMatches<'_>) -> &'static str {
         return "--kind is none of intra, inter, ext1 and ext2";
     }
     if numbers_of(matches).is_none() {
-        return "--metric, --tag, --cost and --distance are numbers up to 4294967295, --interface up to 63, --moment below 2^62";
+        return "--metric, --tag, --cost and --distance are numbers up to 4294967295, --interface \
+            up to 63, --moment below 2^62";
     }
     if number_of(matches, "times", 1, 1, 1000).is_none() {
         return "--times is no number from 1 to 1000";
@@ -215,7 +219,8 @@ fn wrong_word(name: &str, matches: &ArgMatches<'_>) -> &'static str {
 
 // The request that a command makes of its words. A wrong value where it makes none.
 fn request_by<'a>(alloc: Global, name: &str, matches: &ArgMatches<'a>) -> Result<Request<'a>, Error>
-    ensures ok { IfOk result (λ request. MadeBy name.now (rows_of (found_of matches.now)) (Some request)) }
+    ensures ok { IfOk result (λ request. MadeBy name.now (rows_of (found_of matches.now))
+        (Some request)) }
     ensures err { IfErr result (IsWrong name.now (rows_of (found_of matches.now))) }
 {
     match made_by(alloc, name, matches) {

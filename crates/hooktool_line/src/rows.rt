@@ -30,7 +30,8 @@ fn row_of(word: &str) -> Option<TableRow>
 
 /// The rows that the words are, in their order. None where a word is no row.
 fn read_rows(alloc: Global, words: &[&str]) -> Result<Option<Vec<TableRow>>, AllocError>
-    ensures { IfOk result (λ found. Reads (λ rows. AreRows (map (λ w. w.now) words.now) rows.items) found) }
+    ensures { IfOk result (λ found. Reads (λ rows. AreRows (map (λ w. w.now) words.now) rows.items)
+        found) }
 {
     let mut rows = Vec::new(alloc);
     for word in words {
@@ -47,7 +48,8 @@ pub(crate) fn rows_in(
     alloc: Global,
     words: Option<&[&str]>,
 ) -> Result<Option<Vec<TableRow>>, AllocError>
-    ensures { IfOk result (λ found. Reads (λ rows. HasRows (option_map (λ s. map (λ w. w.now) s.now) words.entry) rows.items) found) }
+    ensures { IfOk result (λ found. Reads (λ rows. HasRows (option_map (λ s. map (λ w. w.now) s.now)
+        words.entry) rows.items) found) }
 {
     match words {
         Some(words) => read_rows(alloc, words),

@@ -7,7 +7,8 @@ ghost use Rattle.words.specs.Prefixes.{Network};
 ghost use Rattle.words.specs.declared.route.ExternalType.{ExternalType};
 ghost use Rattle.words.specs.declared.route.RouteKind.{RouteKind};
 ghost use Rattle.hooktool_line.specs.Questions.{HasNumber};
-ghost use Rattle.hooktool_line.specs.Words.{IsPrefix, OrElse, Reads, everything, kind_word, type_word};
+ghost use Rattle.hooktool_line.specs.Words.{IsPrefix, OrElse, Reads, everything, kind_word};
+ghost use Rattle.hooktool_line.specs.Words.{type_word};
 
 use address_texts::{read_prefix, read_within};
 use clap::ArgMatches;
@@ -15,7 +16,8 @@ use words::{Address, ExternalType, Prefix, RouteKind};
 
 /// The word under a name.
 pub(crate) fn word_of<'a>(matches: &ArgMatches<'a>, name: &str) -> Option<&'a str>
-    ensures { option_map (λ word. word.now) result ≡ first_of name.now (rows_of (found_of matches.now)) }
+    ensures { option_map (λ word. word.now) result
+        ≡ first_of name.now (rows_of (found_of matches.now)) }
 {
     matches.get_str(name)
 }
@@ -29,7 +31,8 @@ pub(crate) fn number_of(
     most: u64,
 ) -> Option<u64>
     requires { usual ≤ most }
-    ensures read { Reads (HasNumber (rows_of (found_of matches.now)) name.now usual least most) result }
+    ensures read { Reads (HasNumber (rows_of (found_of matches.now)) name.now usual least most)
+        result }
     ensures within { IfSome result (λ n. n ≤ most) }
 {
     match word_of(matches, name) {
@@ -66,7 +69,8 @@ fn kind_of(word: &str) -> Option<RouteKind>
 
 /// The network under `prefix`, or 0.0.0.0/0.
 pub(crate) fn prefix_in(matches: &ArgMatches<'_>) -> Option<Prefix>
-    ensures { Reads (λ prefix. OrElse (first_of (codes "prefix") (rows_of (found_of matches.now))) (prefix ≡ everything)
+    ensures { Reads (λ prefix. OrElse (first_of (codes "prefix") (rows_of (found_of matches.now)))
+        (prefix ≡ everything)
         (λ word. IsPrefix word prefix)) result }
 {
     match word_of(matches, "prefix") {
@@ -77,7 +81,8 @@ pub(crate) fn prefix_in(matches: &ArgMatches<'_>) -> Option<Prefix>
 
 /// The type under `type`, or type 2.
 pub(crate) fn type_in(matches: &ArgMatches<'_>) -> Option<ExternalType>
-    ensures { Reads (λ kind. OrElse (first_of (codes "type") (rows_of (found_of matches.now))) (kind ≡ ExternalType.Type2)
+    ensures { Reads (λ kind. OrElse (first_of (codes "type") (rows_of (found_of matches.now))) (kind
+        ≡ ExternalType.Type2)
         (λ word. word ≡ type_word kind)) result }
 {
     match word_of(matches, "type") {
@@ -88,7 +93,8 @@ pub(crate) fn type_in(matches: &ArgMatches<'_>) -> Option<ExternalType>
 
 /// The kind under `kind`, or intra-area.
 pub(crate) fn kind_in(matches: &ArgMatches<'_>) -> Option<RouteKind>
-    ensures { Reads (λ kind. OrElse (first_of (codes "kind") (rows_of (found_of matches.now))) (kind ≡ RouteKind.Intra)
+    ensures { Reads (λ kind. OrElse (first_of (codes "kind") (rows_of (found_of matches.now))) (kind
+        ≡ RouteKind.Intra)
         (λ word. word ≡ kind_word kind)) result }
 {
     match word_of(matches, "kind") {

@@ -3,9 +3,12 @@ use crate::session::{Line, has, play, write_files, write_objects};
 
 // r1 = 10; r0 = 0; L: r0 += r1; r1 += -1; if r1 != 0 goto L; exit
 const SUM: &[u8] =
-    b"\xb7\x01\x00\x00\x0a\x00\x00\x00\xb7\x00\x00\x00\x00\x00\x00\x00\x0f\x10\x00\x00\x00\x00\x00\x00\x07\x01\x00\x00\xff\xff\xff\xff\x55\x01\xfd\xff\x00\x00\x00\x00\x95\x00\x00\x00\x00\x00\x00\x00";
+    b"\xb7\x01\x00\x00\x0a\x00\x00\x00\xb7\x00\x00\x00\x00\x00\x00\x00\x0f\x10\x00\x00\x00\x00\x00\
+        \x00\x07\x01\x00\x00\xff\xff\xff\xff\x55\x01\xfd\xff\x00\x00\x00\x00\x95\x00\x00\x00\x00\
+        \x00\x00\x00";
 
-// The same, slot by slot: each instruction, and what is known there of the registers that may still be read.
+// The same, slot by slot: each instruction, and what is known there of the registers that may still
+// be read.
 const SUM_TOLD: &str = "\
 hook price, rank 10 at the entry
 slot 0: r1 = 10
@@ -28,7 +31,8 @@ accepted bound 66
 
 // r6 = 0; L: r6 += 1; if r6 != 10 goto L; r0 = 0; exit
 const RISING: &[u8] =
-    b"\xb7\x06\x00\x00\x00\x00\x00\x00\x07\x06\x00\x00\x01\x00\x00\x00\x55\x06\xfe\xff\x0a\x00\x00\x00\xb7\x00\x00\x00\x00\x00\x00\x00\x95\x00\x00\x00\x00\x00\x00\x00";
+    b"\xb7\x06\x00\x00\x00\x00\x00\x00\x07\x06\x00\x00\x01\x00\x00\x00\x55\x06\xfe\xff\x0a\x00\x00\
+        \x00\xb7\x00\x00\x00\x00\x00\x00\x00\x95\x00\x00\x00\x00\x00\x00\x00";
 
 const RISES: &str = "\
 slot 2: if r6 != 10 goto -2
@@ -43,15 +47,18 @@ the loop at slot 1 has no rank: r6 rises with each turn, and none falls
   or count the turns: --fuel N
 ";
 
-// A loop that falls from too great a number, one in which nothing falls and each register is named, and a store that is unsafe.
+// A loop that falls from too great a number, one in which nothing falls and each register is named,
+// and a store that is unsafe.
 const OBJECTS: [(&str, &str); 3] = [
     (
         "annotated-high.o",
-        "hook price\nrank 0\nr6 = *u32 r1 4\nL:\nif r6 == 0 goto END\nr6 += -1\ngoto L\nEND:\nr0 = 0\nexit\n",
+        "hook price\nrank 0\nr6 = *u32 r1 4\nL:\nif r6 == 0 goto END\nr6 += -1\ngoto L\nEND:\n\
+            r0 = 0\nexit\n",
     ),
     (
         "annotated-halved.o",
-        "hook price\nrank 0\nr6 = *u32 r1 4\nr7 = 0\nr8 = 0\nr9 = 0\nL:\nr6 >>= 1\nif r6 != 0 goto L\nr0 = 0\nexit\n",
+        "hook price\nrank 0\nr6 = *u32 r1 4\nr7 = 0\nr8 = 0\nr9 = 0\nL:\nr6 >>= 1\n\
+            if r6 != 0 goto L\nr0 = 0\nexit\n",
     ),
     (
         "annotated-unsafe.o",
@@ -148,7 +155,8 @@ const LINES: &[Line] = &[
         status: 1,
         told: "the object is for price\n",
     },
-    // A loop in which no register falls: it is told, with both ways out, and its turns can be counted.
+    // A loop in which no register falls: it is told, with both ways out, and its turns can be
+    // counted.
     Line {
         words: &[
             "hooktool",

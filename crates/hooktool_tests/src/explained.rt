@@ -71,7 +71,8 @@ const ROWS: &[Row] = &[
         words: &["8 bytes at r1 + 60: context, byte 60", "allowed: 0..56"],
     },
     Row {
-        text: "hook tag\nrank 0\nr2 = *u8 r1 8\nr2 <<= 3\nr6 = map 1 0\nr6 += r2\nr0 = *u64 r6 0\nexit\n",
+        text: "hook tag\nrank 0\nr2 = *u8 r1 8\nr2 <<= 3\nr6 = map 1 0\nr6 += r2\nr0 = *u64 r6 0\n\
+            exit\n",
         refusal: "refused slot 5 rule 7 Bounds\n",
         words: &[
             "8 bytes at r6 + 0: map 1, offset 0..2040",
@@ -118,7 +119,8 @@ const ROWS: &[Row] = &[
         ],
     },
     Row {
-        text: "hook tag\nrank 0\nL:\nr0 = 0\nexit\nstate L rank 0\nwith r2 number 0 18446744073709551615 0 0\n",
+        text: "hook tag\nrank 0\nL:\nr0 = 0\nexit\nstate L rank 0\n\
+            with r2 number 0 18446744073709551615 0 0\n",
         refusal: "refused slot 0 rule 11 NotWithin\n",
         words: &[
             "from the entry to slot 0",
@@ -127,7 +129,8 @@ const ROWS: &[Row] = &[
         ],
     },
     Row {
-        text: "hook tag\nrank 0\nr0 = 0\nL:\nexit\nstate L rank 0\nwith r0 number 0 18446744073709551615 0 0\nbytes 504 512\n",
+        text: "hook tag\nrank 0\nr0 = 0\nL:\nexit\nstate L rank 0\n\
+            with r0 number 0 18446744073709551615 0 0\nbytes 504 512\n",
         refusal: "refused slot 0 rule 11 NotWithin\n",
         words: &[
             "stack 504: may be empty",
@@ -135,7 +138,8 @@ const ROWS: &[Row] = &[
         ],
     },
     Row {
-        text: "hook tag\nrank 0\nr0 = 3\nL:\nr0 += -1\nif r0 != 0 goto L\nexit\nstate L rank 0 r0 * 1\nwith r0 number 1 3 0 0\n",
+        text: "hook tag\nrank 0\nr0 = 3\nL:\nr0 += -1\nif r0 != 0 goto L\nexit\n\
+            state L rank 0 r0 * 1\nwith r0 number 1 3 0 0\n",
         refusal: "refused slot 0 rule 12 Rank\n",
         words: &[
             "the rank there: 0 + r0 * 1",
@@ -144,7 +148,9 @@ const ROWS: &[Row] = &[
         ],
     },
     Row {
-        text: "hook tag\nrank 3\nr6 = 3\nr0 = 0\nL:\nr0 += 1\nif r6 != 0 goto L\nexit\nstate L rank 0 r6 * 1\nwith r0 number 0 18446744073709551615 0 0\nwith r6 number 1 3 0 0\n",
+        text: "hook tag\nrank 3\nr6 = 3\nr0 = 0\nL:\nr0 += 1\nif r6 != 0 goto L\nexit\n\
+            state L rank 0 r6 * 1\nwith r0 number 0 18446744073709551615 0 0\n\
+            with r6 number 1 3 0 0\n",
         refusal: "refused slot 3 rule 12 Rank\n",
         words: &[
             "r6: number 1..3",

@@ -9,17 +9,22 @@ use std::alloc::Global;
 const TEXTS: [(&str, Hook, u64); 11] = [
     // the programs of examples/
     (
-        "hook count\nrank 0\nr6 = *u64 r1 8\nr7 = *u32 r1 24\nr7 &= 31\nr8 = r7\nr8 <<= 4\nr9 = map 1 0\nr9 += r8\nr2 = *u64 r9 0\nif r2 == r6 goto SAME\n*u64 r9 0 = r6\n*u64 r9 8 = 0\nSAME:\nr2 = *u64 r9 8\nr2 += 1\n*u64 r9 8 = r2\nif r2 <= 100 goto END\nr1 = r7\nr1 += 128\nr2 = 1\ncall 1\nEND:\nr0 = 0\nexit\n",
+        "hook count\nrank 0\nr6 = *u64 r1 8\nr7 = *u32 r1 24\nr7 &= 31\nr8 = r7\nr8 <<= 4\n\
+            r9 = map 1 0\nr9 += r8\nr2 = *u64 r9 0\nif r2 == r6 goto SAME\n*u64 r9 0 = r6\n\
+            *u64 r9 8 = 0\nSAME:\nr2 = *u64 r9 8\nr2 += 1\n*u64 r9 8 = r2\nif r2 <= 100 goto END\n\
+            r1 = r7\nr1 += 128\nr2 = 1\ncall 1\nEND:\nr0 = 0\nexit\n",
         Hook::Count,
         22,
     ),
     (
-        "hook count\nrank 0\nr1 = *u32 r1 20\nif r1 <= 5 goto KNOWN\nr1 = 0\nKNOWN:\nr2 = 1\ncall 1\nexit\n",
+        "hook count\nrank 0\nr1 = *u32 r1 20\nif r1 <= 5 goto KNOWN\nr1 = 0\nKNOWN:\nr2 = 1\n\
+            call 1\nexit\n",
         Hook::Count,
         6,
     ),
     (
-        "hook price\nrank 0\nr2 = *u64 r1 24\nr2 %= 86400\nr2 /= 3600\nr0 = *u32 r1 12\nr0 += 23\nr0 -= r2\nif r0 <= 16777214 goto END\nr0 = 16777214\nEND:\nexit\n",
+        "hook price\nrank 0\nr2 = *u64 r1 24\nr2 %= 86400\nr2 /= 3600\nr0 = *u32 r1 12\nr0 += 23\n\
+            r0 -= r2\nif r0 <= 16777214 goto END\nr0 = 16777214\nEND:\nexit\n",
         Hook::Price,
         9,
     ),
@@ -29,7 +34,10 @@ const TEXTS: [(&str, Hook, u64); 11] = [
         5,
     ),
     (
-        "hook veto\nrank 0\nr2 = *u32 r1 4\nr3 = *u32 r1 8\nr5 = 16\nr2 >>= 16\nif r2 == 49320 goto INSIDE\nr5 = 12\nr2 >>= 4\nif r2 == 2753 goto INSIDE\nr5 = 8\nr2 >>= 4\nif r2 == 10 goto INSIDE\nr0 = 0\nexit\nINSIDE:\nr0 = 1\nif r3 >= r5 goto END\nr0 = 0\nEND:\nexit\n",
+        "hook veto\nrank 0\nr2 = *u32 r1 4\nr3 = *u32 r1 8\nr5 = 16\nr2 >>= 16\n\
+            if r2 == 49320 goto INSIDE\nr5 = 12\nr2 >>= 4\nif r2 == 2753 goto INSIDE\nr5 = 8\n\
+            r2 >>= 4\nif r2 == 10 goto INSIDE\nr0 = 0\nexit\nINSIDE:\nr0 = 1\n\
+            if r3 >= r5 goto END\nr0 = 0\nEND:\nexit\n",
         Hook::Veto,
         17,
     ),
@@ -45,13 +53,16 @@ const TEXTS: [(&str, Hook, u64); 11] = [
         66,
     ),
     (
-        "hook count\nrank 0\nr1 = 1\ncall 3\nif r0 > 255 goto END\nr1 = r0\nr2 = 1\ncall 1\nEND:\nexit\n",
+        "hook count\nrank 0\nr1 = 1\ncall 3\nif r0 > 255 goto END\nr1 = r0\nr2 = 1\ncall 1\nEND:\n\
+            exit\n",
         Hook::Count,
         7,
     ),
     // the loop in a loop of docs/VERIFIER.md, whose outer count weighs 5 there, where 4 does
     (
-        "hook count\nrank 0\nr6 = 3\nr8 = 0\nOUTER:\nr7 = 4\nINNER:\nr1 = r6\nr1 += -1\nr1 <<= 2\nr1 += r7\nr1 += -1\ncall 3\nr8 += r0\nr7 += -1\nif r7 != 0 goto INNER\nr6 += -1\nif r6 != 0 goto OUTER\nr0 = r8\nexit\n",
+        "hook count\nrank 0\nr6 = 3\nr8 = 0\nOUTER:\nr7 = 4\nINNER:\nr1 = r6\nr1 += -1\nr1 <<= 2\n\
+            r1 += r7\nr1 += -1\ncall 3\nr8 += r0\nr7 += -1\nif r7 != 0 goto INNER\nr6 += -1\n\
+            if r6 != 0 goto OUTER\nr0 = r8\nexit\n",
         Hook::Count,
         272,
     ),
@@ -61,9 +72,12 @@ const TEXTS: [(&str, Hook, u64); 11] = [
         Hook::Tag,
         4,
     ),
-    // Statements that stand are kept: the range of r1 is wider than what is found, and the rank greater. The one at END lacks.
+    // Statements that stand are kept: the range of r1 is wider than what is found, and the rank
+    // greater. The one at END lacks.
     (
-        "hook price\nrank 0\nr1 = 10\nr0 = 0\nL:\nr0 += r1\nr1 += -1\nif r1 != 0 goto L\ngoto END\nEND:\nexit\nstate L rank 3 r1 * 2\nwith r0 number 0 18446744073709551615 0 0\nwith r1 number 1 12 0 0\n",
+        "hook price\nrank 0\nr1 = 10\nr0 = 0\nL:\nr0 += r1\nr1 += -1\nif r1 != 0 goto L\ngoto END\n\
+            END:\nexit\nstate L rank 3 r1 * 2\nwith r0 number 0 18446744073709551615 0 0\n\
+            with r1 number 1 12 0 0\n",
         Hook::Price,
         24 * 7,
     ),
@@ -92,7 +106,8 @@ fn texts_without_statements_have_the_bounds_of_their_own(rt: HostRuntime) {
     }
 }
 
-/// Code of programs in C, how many turns their loops are given, and their bounds: a multiple of the slots.
+/// Code of programs in C, how many turns their loops are given, and their bounds: a multiple of the
+/// slots.
 const CODES: [(&str, Hook, Option<u32>, u64); 13] = [
     (codes::BOGONS, Hook::Veto, None, 44),
     (codes::CHECKSUM, Hook::Count, None, 65 * 21),

@@ -6,14 +6,16 @@ const LESS: &str = "hook price\nrank 0\nr0 = *u32 r1 12\nr0 += -30\nexit\n";
 
 // A program that counts its runs in cell 1, and adds the moment's low byte to that counter.
 const RUNS: &str =
-    "hook count\nrank 0\nr1 = *u8 r1 8\nr2 = 1\ncall 1\nr6 = map 1 8\nr0 = *u64 r6 0\nr0 += 1\n*u64 r6 0 = r0\nexit\n";
+    "hook count\nrank 0\nr1 = *u8 r1 8\nr2 = 1\ncall 1\nr6 = map 1 8\nr0 = *u64 r6 0\nr0 += 1\n\
+        *u64 r6 0 = r0\nexit\n";
 
 // What the test's map gives as the cost of 10.0.0.0/8.
 const COST: &str = "hook tag\nrank 0\nr1 = wide 167772160\nr2 = 8\ncall 4\nexit\n";
 
 // Whether the route's prefix is longer than 24 bits.
 const LONG: &str =
-    "hook veto\nrank 0\nr2 = *u32 r1 8\nr0 = 0\nif r2 <= 24 goto L\nr0 = 1\nL:\nexit\nstate L rank 0\nwith r0 number 0 18446744073709551615 0 0\n";
+    "hook veto\nrank 0\nr2 = *u32 r1 8\nr0 = 0\nif r2 <= 24 goto L\nr0 = 1\nL:\nexit\n\
+        state L rank 0\nwith r0 number 0 18446744073709551615 0 0\n";
 
 // The packet's second byte as a counter: stuck where there is none.
 const TYPES: &str = "hook count\nrank 0\nr1 = 1\ncall 3\nr1 = r0\nr2 = 1\ncall 1\nexit\n";
@@ -43,7 +45,9 @@ const LINES: &[Line] = &[
             "3",
         ],
         status: 0,
-        told: "run 1: answer 1, which isn't used, used 8 of 9\nrun 2: answer 2, which isn't used, used 8 of 9\nrun 3: answer 3, which isn't used, used 8 of 9\ncounter 7 3\ncell 1 3\n",
+        told: "run 1: answer 1, which isn't used, used 8 of 9\n\
+            run 2: answer 2, which isn't used, used 8 of 9\n\
+            run 3: answer 3, which isn't used, used 8 of 9\ncounter 7 3\ncell 1 3\n",
     },
     Line {
         words: &[
@@ -89,12 +93,14 @@ const LINES: &[Line] = &[
     Line {
         words: &["hooktool", "try", "tried-types.o"],
         status: 1,
-        told: "trap 8 Argument at slot 4: call 1\n  r0: 256\n  r1: 256\n  r2: 1\n  r10: stack, byte 512\n",
+        told: "trap 8 Argument at slot 4: call 1\n  r0: 256\n  r1: 256\n  r2: 1\n  r10: stack, \
+            byte 512\n",
     },
     Line {
         words: &["hooktool", "try", "tried-round.o"],
         status: 1,
-        told: "trap 11: all instructions were used, at slot 0: r0 = 1\n  r0: 1\n  r1: context, byte 0\n  r10: stack, byte 512\n",
+        told: "trap 11: all instructions were used, at slot 0: r0 = 1\n  r0: 1\n  r1: context, \
+            byte 0\n  r10: stack, byte 512\n",
     },
     Line {
         words: &["hooktool", "try", "tried-less.o", "--packet", "@nowhere"],

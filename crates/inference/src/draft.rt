@@ -39,8 +39,8 @@ pub struct Draft {
     pub edges: Vec<Edge>,
 }
 
-/// A site that an edge leads to: its slot, whether a jump back goes there, which registers may still be
-/// read there, and where bounds that grow there stop.
+/// A site that an edge leads to: its slot, whether a jump back goes there, which registers may
+/// still be read there, and where bounds that grow there stop.
 #[derive(Clone, Copy)]
 pub struct Arrival<'a> {
     pub slot: usize,

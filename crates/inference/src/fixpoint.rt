@@ -10,8 +10,8 @@ use liveness::live_registers;
 use object::Statement;
 use std::alloc::{AllocError, Global};
 
-/// The statements that were found for code, without ranks: a place for each site, and the edges between
-/// them, with what is known there.
+/// The statements that were found for code, without ranks: a place for each site, and the edges
+/// between them, with what is known there.
 #[derive(Drop)]
 pub struct Inference {
     pub sites: Sites,
@@ -56,8 +56,8 @@ fn fall(program: &Program<'_>, draft: &mut Draft) -> Result<(), AllocError> {
     Ok(())
 }
 
-/// The statements of the program without ranks, and the edges between them. Those that are kept stay as
-/// they are.
+/// The statements of the program without ranks, and the edges between them. Those that are kept
+/// stay as they are.
 fn drafted(program: &Program<'_>, kept: &[Statement]) -> Result<Draft, AllocError> {
     let mut draft = Draft::new(program.alloc, program.sites.len())?;
     for statement in kept {
@@ -77,8 +77,8 @@ fn drafted(program: &Program<'_>, kept: &[Statement]) -> Result<Draft, AllocErro
 }
 
 /// Finds statements for the code at the hook: at each slot that a jump goes to, and behind each
-/// instruction that never goes on, and where one is given. Those that are given stay as they are, or they
-/// lend their numbers alone.
+/// instruction that never goes on, and where one is given. Those that are given stay as they are,
+/// or they lend their numbers alone.
 pub fn infer_statements(
     alloc: Global,
     code: &Code,

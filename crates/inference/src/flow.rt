@@ -1,4 +1,5 @@
-//! A pass over the code, in the order of its slots, by what each instruction makes of what is known.
+//! A pass over the code, in the order of its slots, by what each instruction makes of what is
+//! known.
 ghost use Rattle.std.specs.Prelude.{◌<◌};
 
 use crate::draft::{Arrival, Draft, Purpose};

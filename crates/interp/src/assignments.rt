@@ -8,7 +8,8 @@ ghost use Rattle.machine.specs.State.{held, operand, filled};
 ghost use Rattle.machine.specs.Label.{Silent};
 ghost use Rattle.machine.specs.Steps.{Fills, result_of, on_number, map_of};
 ghost use Rattle.machine.specs.Faults.{operation_reads};
-ghost use Rattle.interp.specs.Classes.{fault_of_fill, fault_of_change, fault_of_target, fault_of_map};
+ghost use Rattle.interp.specs.Classes.{fault_of_fill, fault_of_change, fault_of_target};
+ghost use Rattle.interp.specs.Classes.{fault_of_map};
 
 use crate::{contents, registers};
 use isa::{ByteOrder, Extension, Map, Operation, Register, Source, SwapWidth, Width, arithmetic};
@@ -23,8 +24,11 @@ pub(crate) fn arithmetic(
     source: Source,
 ) -> Result<(), Fault>
     requires { state.old.slot < 4096 }
-    ensures ok { OnOk result (Fills state.old target (result_of width operation (held state.old target) (operand state.old source)) Silent state.new) }
-    ensures err { IfErr result (λ fault. fault_of_fill (operation_reads operation (held state.old target) (operand state.old source)) (result_of width operation (held state.old target) (operand state.old source)) target ≡ Some fault) }
+    ensures ok { OnOk result (Fills state.old target (result_of width operation
+        (held state.old target) (operand state.old source)) Silent state.new) }
+    ensures err { IfErr result (λ fault. fault_of_fill (operation_reads operation
+        (held state.old target) (operand state.old source)) (result_of width operation
+        (held state.old target) (operand state.old source)) target ≡ Some fault) }
     ensures still { OnErr result (state.new ≡ state.old) }
 {
     let left = registers::held(state, target);
@@ -45,7 +49,8 @@ pub(crate) fn arithmetic(
 /// The number that a register holds.
 fn number_in(state: &State, register: Register) -> Result<u64, Fault>
     ensures ok { IfOk result (λ number. held state.now register ≡ Number number) }
-    ensures err { IfErr result (λ fault. (target : ℕ) → fault_of_change (held state.now register) target ≡ Some fault) }
+    ensures err { IfErr result (λ fault. (target : ℕ) → fault_of_change (held state.now register)
+        target ≡ Some fault) }
 {
     match registers::held(state, register) {
         Content::Nothing => Err(Fault::Empty),
@@ -57,8 +62,10 @@ fn number_in(state: &State, register: Register) -> Result<u64, Fault>
 /// NEG.
 pub(crate) fn negate(state: &mut State, width: Width, target: Register) -> Result<(), Fault>
     requires { state.old.slot < 4096 }
-    ensures ok { OnOk result (Fills state.old target (on_number (negated width) (held state.old target)) Silent state.new) }
-    ensures err { IfErr result (λ fault. fault_of_change (held state.old target) target ≡ Some fault) }
+    ensures ok { OnOk result (Fills state.old target (on_number (negated width)
+        (held state.old target)) Silent state.new) }
+    ensures err { IfErr result (λ fault. fault_of_change (held state.old target) target
+        ≡ Some fault) }
     ensures still { OnErr result (state.new ≡ state.old) }
 {
     let number = number_in(state, target)?;
@@ -81,8 +88,10 @@ pub(crate) fn sign_extend(
     source: Register,
 ) -> Result<(), Fault>
     requires { state.old.slot < 4096 }
-    ensures ok { OnOk result (Fills state.old target (on_number (extended extension) (held state.old source)) Silent state.new) }
-    ensures err { IfErr result (λ fault. fault_of_change (held state.old source) target ≡ Some fault) }
+    ensures ok { OnOk result (Fills state.old target (on_number (extended extension)
+        (held state.old source)) Silent state.new) }
+    ensures err { IfErr result (λ fault. fault_of_change (held state.old source) target
+        ≡ Some fault) }
     ensures still { OnErr result (state.new ≡ state.old) }
 {
     let number = number_in(state, source)?;
@@ -105,8 +114,10 @@ pub(crate) fn reorder(
     target: Register,
 ) -> Result<(), Fault>
     requires { state.old.slot < 4096 }
-    ensures ok { OnOk result (Fills state.old target (on_number (reordered order width) (held state.old target)) Silent state.new) }
-    ensures err { IfErr result (λ fault. fault_of_change (held state.old target) target ≡ Some fault) }
+    ensures ok { OnOk result (Fills state.old target (on_number (reordered order width)
+        (held state.old target)) Silent state.new) }
+    ensures err { IfErr result (λ fault. fault_of_change (held state.old target) target
+        ≡ Some fault) }
     ensures still { OnErr result (state.new ≡ state.old) }
 {
     let number = number_in(state, target)?;
@@ -124,7 +135,10 @@ pub(crate) fn reorder(
 /// LDDW of a number.
 pub(crate) fn load_number(state: &mut State, target: Register, number: u64) -> Result<(), Fault>
     requires { state.old.slot < 4096 }
-    ensures ok { OnOk result ((target ≢ 10) × (state.new ≡ record (filled state.old target (Number number)) { slot = state.old.slot + 2 })) }
+    ensures ok { OnOk result ((target ≢ 10)
+        × (state.new ≡ record (filled state.old target (Number number)) {
+          slot = state.old.slot + 2;
+        })) }
     ensures err { IfErr result (λ fault. fault_of_target target ≡ Some fault) }
     ensures still { OnErr result (state.new ≡ state.old) }
 {
@@ -154,7 +168,9 @@ pub(crate) fn load_map(
     offset: i32,
 ) -> Result<(), Fault>
     requires { state.old.slot < 4096 }
-    ensures ok { OnOk result ((m : Map) × (map_of map ≡ Some m) × (target ≢ 10) × (state.new ≡ record (filled state.old target (Address (pointers.Map m (widened offset)))) { slot = state.old.slot + 2 })) }
+    ensures ok { OnOk result ((m : Map) × (map_of map ≡ Some m) × (target ≢ 10)
+        × (state.new ≡ record (filled state.old target
+        (Address (pointers.Map m (widened offset)))) { slot = state.old.slot + 2 })) }
     ensures err { IfErr result (λ fault. fault_of_map (map_of map) target ≡ Some fault) }
     ensures still { OnErr result (state.new ≡ state.old) }
 {

@@ -12,15 +12,17 @@ use machine::{Hook, Input, State};
 use maps::{Seat, Shared};
 use word_machine::Run;
 
-/// Runs a program at a hook on an input, for at most `limit` instructions, with every test that the machine asks for.
+/// Runs a program at a hook on an input, for at most `limit` instructions, with every test that the
+/// machine asks for.
 ///
-/// The answer is the number in r0 at EXIT. The seat is one of the table, and its list grows by exactly the run's
-/// accesses, also where the run ends in a trap. The call takes no memory and waits for nobody.
+/// The answer is the number in r0 at EXIT. The seat is one of the table, and its list grows by
+/// exactly the run's accesses, also where the run ends in a trap. The call takes no memory and
+/// waits for nobody.
 ///
 /// # Errors
 ///
-/// `Trap::Stuck` where the machine is stuck after fewer than `limit` steps; `Trap::Limit` where `limit` instructions
-/// passed without EXIT.
+/// `Trap::Stuck` where the machine is stuck after fewer than `limit` steps; `Trap::Limit` where
+/// `limit` instructions passed without EXIT.
 pub fn run_checked(
     code: &Code,
     hook: Hook,
@@ -30,7 +32,8 @@ pub fn run_checked(
     seat: &mut Seat,
 ) -> Result<Run, Trap>
     requires { IsOf shared.now seat.old }
-    ensures outcome { Outcome (setting_of code.now hook (given_by input.now)) limit seat.old result seat.new }
+    ensures outcome { Outcome (setting_of code.now hook (given_by input.now)) limit seat.old result
+        seat.new }
     ensures table { IsOf shared.now seat.new }
 {
     let mut state = steps::start();
@@ -46,8 +49,8 @@ pub struct Halt {
     pub state: State,
 }
 
-/// Runs a program as `run_checked` does, and tells where the machine stands at the end: at EXIT, at the instruction
-/// by which it is stuck, or after `limit` instructions.
+/// Runs a program as `run_checked` does, and tells where the machine stands at the end: at EXIT, at
+/// the instruction by which it is stuck, or after `limit` instructions.
 pub fn run_to_halt(
     code: &Code,
     hook: Hook,
@@ -57,8 +60,10 @@ pub fn run_to_halt(
     seat: &mut Seat,
 ) -> Halt
     requires { IsOf shared.now seat.old }
-    ensures outcome { Outcome (setting_of code.now hook (given_by input.now)) limit seat.old result.outcome seat.new }
-    ensures halts { HaltsAt (setting_of code.now hook (given_by input.now)) limit seat.old result.outcome result.state seat.new }
+    ensures outcome { Outcome (setting_of code.now hook (given_by input.now)) limit seat.old
+        result.outcome seat.new }
+    ensures halts { HaltsAt (setting_of code.now hook (given_by input.now)) limit seat.old
+        result.outcome result.state seat.new }
     ensures table { IsOf shared.now seat.new }
 {
     let mut state = steps::start();

@@ -26,8 +26,10 @@ pub(crate) fn branch(
     distance: i16,
 ) -> Result<(), Fault>
     requires { state.old.slot < 4096 }
-    ensures ok { OnOk result (Branches state.old (tested width test (held state.old left) (operand state.old right)) distance Silent state.new) }
-    ensures err { IfErr result (λ fault. fault_of_test (held state.old left) (operand state.old right) ≡ Some fault) }
+    ensures ok { OnOk result (Branches state.old (tested width test (held state.old left)
+        (operand state.old right)) distance Silent state.new) }
+    ensures err { IfErr result (λ fault. fault_of_test (held state.old left)
+        (operand state.old right) ≡ Some fault) }
     ensures still { OnErr result (state.new ≡ state.old) }
 {
     let first = registers::held(state, left);
@@ -69,8 +71,10 @@ pub(crate) fn call(
 ) -> Result<(), Fault>
     requires slot { state.old.slot < 4096 }
     requires table { IsOf shared.now seat.old }
-    ensures ok { OnOk result ((label : Label) × CallsInto hook number (given_by input.now) state.old label state.new × Makes seat.old (label ∷ []) seat.new) }
-    ensures err { IfErr result (λ fault. fault_of_call (helper_of hook number) (held state.old 1) (held state.old 2) ≡ Some fault) }
+    ensures ok { OnOk result ((label : Label) × CallsInto hook number (given_by input.now) state.old
+        label state.new × Makes seat.old (label ∷ []) seat.new) }
+    ensures err { IfErr result (λ fault. fault_of_call (helper_of hook number) (held state.old 1)
+        (held state.old 2) ≡ Some fault) }
     ensures still { OnErr result (state.new ≡ state.old) }
     ensures unchanged { OnErr result (seat.new ≡ seat.old) }
 {

@@ -1,5 +1,6 @@
 //! Loads.
-ghost use Rattle.std.specs.Prelude.{◌≡◌, ◌≢◌, ℕ, ◌+◌, ◌<◌, ◌≤◌, ◌/◌, ◌%◌, [], ◌∷◌, OnOk, OnErr, IfOk, IfErr, IfSome, None, Some, slice_range};
+ghost use Rattle.std.specs.Prelude.{◌≡◌, ◌≢◌, ℕ, ◌+◌, ◌<◌, ◌≤◌, ◌/◌, ◌%◌, [], ◌∷◌, OnOk, OnErr};
+ghost use Rattle.std.specs.Prelude.{IfOk, IfErr, IfSome, None, Some, slice_range};
 ghost use Rattle.machine.specs.declared.state.Content.{Content};
 ghost use Rattle.machine.specs.declared.state.Pointer.{Pointer};
 ghost use Rattle.machine.specs.declared.state.Pointer.TheVariants as pointers;
@@ -25,8 +26,10 @@ fn load_context(
     input: &Input,
 ) -> Result<(), Fault>
     requires { state.old.slot < 4096 }
-    ensures ok { OnOk result (LoadsInto size (pointers.Context at) (given_by input.now) target state.old Silent state.new) }
-    ensures err { IfErr result (λ fault. fault_of_load state.old size (pointers.Context at) target ≡ Some fault) }
+    ensures ok { OnOk result (LoadsInto size (pointers.Context at) (given_by input.now) target
+        state.old Silent state.new) }
+    ensures err { IfErr result (λ fault. fault_of_load state.old size (pointers.Context at) target
+        ≡ Some fault) }
     ensures still { OnErr result (state.new ≡ state.old) }
 {
     let length = word_machine::load_length(size);
@@ -45,8 +48,10 @@ fn load_context(
 
 /// What a load from the stack finds.
 fn stack_content(state: &State, size: LoadSize, at: u64) -> Result<Content, Fault>
-    ensures ok { IfOk result (λ content. (input : Given) → Loads size (pointers.Stack at) input state.now Silent content) }
-    ensures err { IfErr result (λ fault. (target : ℕ) → fault_of_load state.now size (pointers.Stack at) target ≡ Some fault) }
+    ensures ok { IfOk result (λ content. (input : Given)
+        → Loads size (pointers.Stack at) input state.now Silent content) }
+    ensures err { IfErr result (λ fault. (target : ℕ)
+        → fault_of_load state.now size (pointers.Stack at) target ≡ Some fault) }
 {
     let length = word_machine::load_length(size);
     if at > 512 - length as u64 {
@@ -71,8 +76,10 @@ fn stack_content(state: &State, size: LoadSize, at: u64) -> Result<Content, Faul
 /// A load from the stack.
 fn load_stack(state: &mut State, size: LoadSize, target: Register, at: u64) -> Result<(), Fault>
     requires { state.old.slot < 4096 }
-    ensures ok { OnOk result ((input : Given) → LoadsInto size (pointers.Stack at) input target state.old Silent state.new) }
-    ensures err { IfErr result (λ fault. fault_of_load state.old size (pointers.Stack at) target ≡ Some fault) }
+    ensures ok { OnOk result ((input : Given) → LoadsInto size (pointers.Stack at) input target
+        state.old Silent state.new) }
+    ensures err { IfErr result (λ fault. fault_of_load state.old size (pointers.Stack at) target
+        ≡ Some fault) }
     ensures still { OnErr result (state.new ≡ state.old) }
 {
     let content = stack_content(state, size, at)?;
@@ -106,8 +113,11 @@ fn load_map(
 ) -> Result<(), Fault>
     requires slot { state.old.slot < 4096 }
     requires table { IsOf shared.now seat.old }
-    ensures ok { OnOk result ((label : Label) × ((input : Given) → LoadsInto size (pointers.Map map at) input target state.old label state.new) × Makes seat.old (label ∷ []) seat.new) }
-    ensures err { IfErr result (λ fault. fault_of_load state.old size (pointers.Map map at) target ≡ Some fault) }
+    ensures ok { OnOk result ((label : Label) × ((input : Given)
+        → LoadsInto size (pointers.Map map at) input target state.old label state.new)
+        × Makes seat.old (label ∷ []) seat.new) }
+    ensures err { IfErr result (λ fault. fault_of_load state.old size (pointers.Map map at) target
+        ≡ Some fault) }
     ensures still { OnErr result (state.new ≡ state.old) }
     ensures unchanged { OnErr result (seat.new ≡ seat.old) }
 {
@@ -141,7 +151,8 @@ fn load_at(
 ) -> Result<(), Fault>
     requires slot { state.old.slot < 4096 }
     requires table { IsOf shared.now seat.old }
-    ensures ok { OnOk result ((label : Label) × LoadsInto size pointer (given_by input.now) target state.old label state.new × Makes seat.old (label ∷ []) seat.new) }
+    ensures ok { OnOk result ((label : Label) × LoadsInto size pointer (given_by input.now) target
+        state.old label state.new × Makes seat.old (label ∷ []) seat.new) }
     ensures err { IfErr result (λ fault. fault_of_load state.old size pointer target ≡ Some fault) }
     ensures still { OnErr result (state.new ≡ state.old) }
     ensures unchanged { OnErr result (seat.new ≡ seat.old) }
@@ -166,8 +177,10 @@ pub(crate) fn load(
 ) -> Result<(), Fault>
     requires slot { state.old.slot < 4096 }
     requires table { IsOf shared.now seat.old }
-    ensures ok { OnOk result ((label : Label) × LoadsFrom size base offset (given_by input.now) target state.old label state.new × Makes seat.old (label ∷ []) seat.new) }
-    ensures err { IfErr result (λ fault. fault_of_base_load state.old size (held state.old base) offset target ≡ Some fault) }
+    ensures ok { OnOk result ((label : Label) × LoadsFrom size base offset (given_by input.now)
+        target state.old label state.new × Makes seat.old (label ∷ []) seat.new) }
+    ensures err { IfErr result (λ fault. fault_of_base_load state.old size (held state.old base)
+        offset target ≡ Some fault) }
     ensures still { OnErr result (state.new ≡ state.old) }
     ensures unchanged { OnErr result (seat.new ≡ seat.old) }
 {

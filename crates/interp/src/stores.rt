@@ -17,8 +17,10 @@ use maps::{Seat, Shared};
 /// A store of a number on the stack.
 fn store_bytes(state: &mut State, size: StoreSize, at: u64, number: u64) -> Result<(), Fault>
     requires { state.old.slot < 4096 }
-    ensures ok { OnOk result (StoresAt size (pointers.Stack at) (Number number) state.old Silent state.new) }
-    ensures err { IfErr result (λ fault. fault_of_store size (pointers.Stack at) (Number number) ≡ Some fault) }
+    ensures ok { OnOk result (StoresAt size (pointers.Stack at) (Number number) state.old Silent
+        state.new) }
+    ensures err { IfErr result (λ fault. fault_of_store size (pointers.Stack at) (Number number)
+        ≡ Some fault) }
     ensures still { OnErr result (state.new ≡ state.old) }
 {
     let length = word_machine::store_length(size);
@@ -34,8 +36,10 @@ fn store_bytes(state: &mut State, size: StoreSize, at: u64, number: u64) -> Resu
 /// A store of a pointer on the stack.
 fn store_pointer(state: &mut State, size: StoreSize, at: u64, pointer: Pointer) -> Result<(), Fault>
     requires { state.old.slot < 4096 }
-    ensures ok { OnOk result (StoresAt size (pointers.Stack at) (Address pointer) state.old Silent state.new) }
-    ensures err { IfErr result (λ fault. fault_of_store size (pointers.Stack at) (Address pointer) ≡ Some fault) }
+    ensures ok { OnOk result (StoresAt size (pointers.Stack at) (Address pointer) state.old Silent
+        state.new) }
+    ensures err { IfErr result (λ fault. fault_of_store size (pointers.Stack at) (Address pointer)
+        ≡ Some fault) }
     ensures still { OnErr result (state.new ≡ state.old) }
 {
     if !matches!(size, StoreSize::Bits64) {
@@ -61,8 +65,10 @@ fn store_cell(
 ) -> Result<(), Fault>
     requires slot { state.old.slot < 4096 }
     requires table { IsOf shared.now seat.old }
-    ensures ok { OnOk result ((label : Label) × StoresAt size (pointers.Map Cells at) (Number number) state.old label state.new × Makes seat.old (label ∷ []) seat.new) }
-    ensures err { IfErr result (λ fault. fault_of_store size (pointers.Map Cells at) (Number number) ≡ Some fault) }
+    ensures ok { OnOk result ((label : Label) × StoresAt size (pointers.Map Cells at)
+        (Number number) state.old label state.new × Makes seat.old (label ∷ []) seat.new) }
+    ensures err { IfErr result (λ fault. fault_of_store size (pointers.Map Cells at) (Number number)
+        ≡ Some fault) }
     ensures still { OnErr result (state.new ≡ state.old) }
     ensures unchanged { OnErr result (seat.new ≡ seat.old) }
 {
@@ -89,7 +95,8 @@ fn store_at(
 ) -> Result<(), Fault>
     requires slot { state.old.slot < 4096 }
     requires table { IsOf shared.now seat.old }
-    ensures ok { OnOk result ((label : Label) × StoresAt size pointer content state.old label state.new × Makes seat.old (label ∷ []) seat.new) }
+    ensures ok { OnOk result ((label : Label) × StoresAt size pointer content state.old label
+        state.new × Makes seat.old (label ∷ []) seat.new) }
     ensures err { IfErr result (λ fault. fault_of_store size pointer content ≡ Some fault) }
     ensures still { OnErr result (state.new ≡ state.old) }
     ensures unchanged { OnErr result (seat.new ≡ seat.old) }
@@ -121,8 +128,10 @@ pub(crate) fn store(
 ) -> Result<(), Fault>
     requires slot { state.old.slot < 4096 }
     requires table { IsOf shared.now seat.old }
-    ensures ok { OnOk result ((label : Label) × StoresFrom size base offset source state.old label state.new × Makes seat.old (label ∷ []) seat.new) }
-    ensures err { IfErr result (λ fault. fault_of_base_store size (held state.old base) offset (operand state.old source) ≡ Some fault) }
+    ensures ok { OnOk result ((label : Label) × StoresFrom size base offset source state.old label
+        state.new × Makes seat.old (label ∷ []) seat.new) }
+    ensures err { IfErr result (λ fault. fault_of_base_store size (held state.old base) offset
+        (operand state.old source) ≡ Some fault) }
     ensures still { OnErr result (state.new ≡ state.old) }
     ensures unchanged { OnErr result (seat.new ≡ seat.old) }
 {

@@ -64,7 +64,8 @@ pub(crate) fn wrapped(width: Width, low: u128, high: u128) -> Span
     requires { low ≤ high }
     ensures holds { (n : ℕ) → low ≤ n → n ≤ high → IsIn result (n % 2 ^ bits width) }
     ensures none_wraps { high < 2 ^ bits width → (result.low ≡ low) × (result.high ≡ high) }
-    ensures every_wraps { 2 ^ bits width ≤ low → high < 2 * 2 ^ bits width → (result.low ≡ low - 2 ^ bits width) × (result.high ≡ high - 2 ^ bits width) }
+    ensures every_wraps { 2 ^ bits width ≤ low → high < 2 * 2 ^ bits width
+        → (result.low ≡ low - 2 ^ bits width) × (result.high ≡ high - 2 ^ bits width) }
     ensures small { result.high < 2 ^ bits width }
 {
     let modulus = modulus(width);

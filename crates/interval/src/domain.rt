@@ -29,19 +29,24 @@ impl Domain for Interval {
 
     ghost constant_gives = { λ number i. (i.unsigned.low ≡ number) × (i.unsigned.high ≡ number) };
 
-    ghost stated_gives = { λ low high mask value i. low ≤ high → (i.unsigned.low ≡ low) × (i.unsigned.high ≡ high) };
+    ghost stated_gives = { λ low high mask value i. low ≤ high → (i.unsigned.low ≡ low)
+        × (i.unsigned.high ≡ high) };
 
-    ghost within_gives = { λ i other answer. IsInside (bounds_of i.unsigned) (bounds_of other.unsigned) → IsInside (bounds_of i.signed) (bounds_of other.signed) → IsTrue answer };
+    ghost within_gives = { λ i other answer. IsInside (bounds_of i.unsigned)
+        (bounds_of other.unsigned) → IsInside (bounds_of i.signed) (bounds_of other.signed)
+        → IsTrue answer };
 
     ghost alu_gives = { IsNarrowInterval };
 
-    ghost unary_gives = { λ operation operand i. IsNarrowUnaryResult operation (bounds_of operand.unsigned) (bounds_of i.unsigned) };
+    ghost unary_gives = { λ operation operand i. IsNarrowUnaryResult operation
+        (bounds_of operand.unsigned) (bounds_of i.unsigned) };
 
     ghost assume_gives = { IsTrimmedAnswer };
 
     ghost range_gives = { λ i answer. (answer.0 ≡ i.unsigned.low) × (answer.1 ≡ i.unsigned.high) };
 
-    ghost multiple_gives = { λ i k. i.unsigned.low ≡ i.unsigned.high → k ≡ trailing_zeros w64 i.unsigned.low };
+    ghost multiple_gives = { λ i k. i.unsigned.low ≡ i.unsigned.high
+        → k ≡ trailing_zeros w64 i.unsigned.low };
 
     fn constant(number: u64) -> Self {
         of(single(number))

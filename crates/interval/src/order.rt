@@ -1,9 +1,11 @@
 //! The pairs of numbers of two spans that meet a test.
-ghost use Rattle.std.specs.Prelude.{◌≡◌, ℕ, ◌*◌, ◌<◌, ◌≤◌, ◌^◌, ◌⊎◌, ◌↔◌, ◌==◌, not, nat_lt, nat_le, Bool, IsTrue, IsSome, IsSomeAnd, IfSome};
+ghost use Rattle.std.specs.Prelude.{◌≡◌, ℕ, ◌*◌, ◌<◌, ◌≤◌, ◌^◌, ◌⊎◌, ◌↔◌, ◌==◌, not, nat_lt};
+ghost use Rattle.std.specs.Prelude.{nat_le, Bool, IsTrue, IsSome, IsSomeAnd, IfSome};
 ghost use Rattle.isa.specs.declared.instruction.Width.{Width};
 ghost use Rattle.isa.specs.Arithmetic.{bits, low, test_holds};
 ghost use Rattle.interval.specs.Bounds.{IsIn, bounds_of, IsInside};
-ghost use Rattle.interval.specs.Order.{KeepsPairs, HasPartner, StaysInside, IsTightAnswer, IsUnsigned, AreNotNegative, IsTrimmed};
+ghost use Rattle.interval.specs.Order.{KeepsPairs, HasPartner, StaysInside, IsTightAnswer};
+ghost use Rattle.interval.specs.Order.{IsUnsigned, AreNotNegative, IsTrimmed};
 
 use crate::bounds::{between, modulus};
 use crate::span::Span;
@@ -61,9 +63,11 @@ fn at_most(left: Span, right: Span) -> Option<(Span, Span)>
 
 /// The span without an end that is the only number of the other.
 fn trimmed(left: Span, right: Span) -> Option<Span>
-    ensures holds { (a b : ℕ) → IsIn left a → IsIn right b → IsTrue (not (a == b)) → IsSomeAnd result (λ i. IsIn i a) }
+    ensures holds { (a b : ℕ) → IsIn left a → IsIn right b → IsTrue (not (a == b))
+        → IsSomeAnd result (λ i. IsIn i a) }
     ensures inside { IfSome result (λ i. IsInside (bounds_of i) (bounds_of left)) }
-    ensures tight { IfSome result (λ i. HasPartner (λ b. not (i.low == b)) (bounds_of right) × HasPartner (λ b. not (i.high == b)) (bounds_of right)) }
+    ensures tight { IfSome result (λ i. HasPartner (λ b. not (i.low == b)) (bounds_of right)
+        × HasPartner (λ b. not (i.high == b)) (bounds_of right)) }
 {
     if right.low != right.high {
         return Some(left);
@@ -93,9 +97,13 @@ fn different(left: Span, right: Span) -> Option<(Span, Span)>
 
 /// The pairs the other way round.
 fn swapped(answer: Option<(Span, Span)>) -> Option<(Span, Span)>
-    ensures holds { (meets : ℕ → ℕ → Bool) (left right : Span) → KeepsPairs meets right left answer → KeepsPairs (λ a b. meets b a) left right result }
-    ensures inside { (left right : Span) → StaysInside right left answer → StaysInside left right result }
-    ensures tight { (meets : ℕ → ℕ → Bool) (left right : Span) → IsTightAnswer meets right left answer → IsTightAnswer (λ a b. meets b a) left right result }
+    ensures holds { (meets : ℕ → ℕ → Bool) (left right : Span) → KeepsPairs meets right left answer
+        → KeepsPairs (λ a b. meets b a) left right result }
+    ensures inside { (left right : Span) → StaysInside right left answer
+        → StaysInside left right result }
+    ensures tight { (meets : ℕ → ℕ → Bool) (left right : Span)
+        → IsTightAnswer meets right left answer → IsTightAnswer (λ a b. meets b a) left right
+        result }
 {
     let (left, right) = answer?;
     Some((right, left))
@@ -105,7 +113,8 @@ fn swapped(answer: Option<(Span, Span)>) -> Option<(Span, Span)>
 pub(crate) fn met_unsigned(test: Test, left: Span, right: Span) -> Option<(Span, Span)>
     ensures holds { (width : Width) → KeepsPairs (test_holds width test) left right result }
     ensures inside { StaysInside left right result }
-    ensures tight { (width : Width) → IsUnsigned test → IsTightAnswer (test_holds width test) left right result }
+    ensures tight { (width : Width) → IsUnsigned test → IsTightAnswer (test_holds width test) left
+        right result }
 {
     match test {
         Test::Equal => equal(left, right),
@@ -120,7 +129,8 @@ pub(crate) fn met_unsigned(test: Test, left: Span, right: Span) -> Option<(Span,
 
 /// The test that numbers which aren't negative meet where they meet this one.
 fn unsigned(test: Test) -> Test
-    ensures same { (width : Width) (a b : ℕ) → 2 * a < 2 ^ bits width → 2 * b < 2 ^ bits width → test_holds width result a b ≡ test_holds width test a b }
+    ensures same { (width : Width) (a b : ℕ) → 2 * a < 2 ^ bits width → 2 * b < 2 ^ bits width
+        → test_holds width result a b ≡ test_holds width test a b }
     ensures unsigned { test ≡ Test.AnyBitSet ⊎ IsUnsigned result }
     ensures kept { IsUnsigned test → result ≡ test }
 {
@@ -141,10 +151,11 @@ fn are_not_negative(width: Width, left: Span, right: Span) -> bool
     (left.high as u128) < half && (right.high as u128) < half
 }
 
-/// The pairs whose low bits meet a test. Numbers above the width's greatest are left as they are, and for an order with
-/// signs those that have negative ones.
+/// The pairs whose low bits meet a test. Numbers above the width's greatest are left as they are,
+/// and for an order with signs those that have negative ones.
 pub(crate) fn assumed(test: Test, width: Width, left: Span, right: Span) -> Option<(Span, Span)>
-    ensures holds { KeepsPairs (λ a b. test_holds width test (low width a) (low width b)) left right result }
+    ensures holds { KeepsPairs (λ a b. test_holds width test (low width a) (low width b)) left right
+        result }
     ensures trimmed { IsTrimmed test width left right result }
 {
     let modulus = modulus(width);

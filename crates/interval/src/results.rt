@@ -1,6 +1,8 @@
 //! The results of each operation on the numbers of two spans.
 ghost use Rattle.std.specs.Prelude.{◌≡◌, ℕ, ◌+◌, ◌-◌, ◌*◌, ◌%◌, ◌<◌, ◌≤◌, ◌^◌};
-ghost use Rattle.isa.specs.declared.instruction.Operation.TheVariants.{Add, Subtract, Multiply, Divide, And, ShiftLeft, ShiftRight, Modulo};
+ghost use Rattle.isa.specs.declared.instruction.Operation.TheVariants.{Add, Subtract, Multiply};
+ghost use Rattle.isa.specs.declared.instruction.Operation.TheVariants.{Divide, And, ShiftLeft};
+ghost use Rattle.isa.specs.declared.instruction.Operation.TheVariants.{ShiftRight, Modulo};
 ghost use Rattle.isa.specs.Arithmetic.{bits, low};
 ghost use Rattle.absdom.specs.Unary.{unary_result, unary_modulus};
 ghost use Rattle.interval.specs.Bounds.{IsIn, bounds_of, IsSingle};
@@ -129,7 +131,8 @@ fn power(width: Width, number: u64) -> u64
 /// The numbers shifted to the left: by one number the products by its power of two.
 fn left_shift(width: Width, left: Span, right: Span) -> Span
     ensures holds { HasResults width ShiftLeft left right result }
-    ensures narrow { IsNarrow width ShiftLeft (bounds_of left) (bounds_of right) (bounds_of result) }
+    ensures narrow { IsNarrow width ShiftLeft (bounds_of left) (bounds_of right)
+        (bounds_of result) }
     ensures small { result.high < 2 ^ bits width }
 {
     if right.low != right.high {
@@ -142,7 +145,8 @@ fn left_shift(width: Width, left: Span, right: Span) -> Span
 fn right_shift(width: Width, left: Span, right: Span) -> Span
     requires left { left.high < 2 ^ bits width }
     ensures holds { HasResults width ShiftRight left right result }
-    ensures narrow { IsNarrow width ShiftRight (bounds_of left) (bounds_of right) (bounds_of result) }
+    ensures narrow { IsNarrow width ShiftRight (bounds_of left) (bounds_of right)
+        (bounds_of result) }
     ensures small { result.high < 2 ^ bits width }
 {
     if right.low != right.high {
@@ -163,7 +167,8 @@ pub(crate) fn results(width: Width, operation: Operation, left: Span, right: Spa
     requires left { left.high < 2 ^ bits width }
     requires right { right.high < 2 ^ bits width }
     ensures holds { HasResults width operation left right result }
-    ensures narrow { IsNarrowResult width operation (bounds_of left) (bounds_of right) (bounds_of result) }
+    ensures narrow { IsNarrowResult width operation (bounds_of left) (bounds_of right)
+        (bounds_of result) }
 {
     if left.low == left.high && right.low == right.high {
         return single(arithmetic::operate(width, operation, left.low, right.low));
@@ -186,7 +191,8 @@ pub(crate) fn results(width: Width, operation: Operation, left: Span, right: Spa
 fn negation(width: Width, operand: Span) -> Span
     requires { operand.high < 2 ^ bits width }
     ensures holds { (n : ℕ) → IsIn operand n → IsIn result (low width (2 ^ bits width - n)) }
-    ensures narrow { 0 < operand.low → (result.low ≡ 2 ^ bits width - operand.high) × (result.high ≡ 2 ^ bits width - operand.low) }
+    ensures narrow { 0 < operand.low → (result.low ≡ 2 ^ bits width - operand.high)
+        × (result.high ≡ 2 ^ bits width - operand.low) }
     ensures small { result.high < 2 ^ bits width }
 {
     let modulus = modulus(width);

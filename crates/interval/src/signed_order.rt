@@ -11,10 +11,12 @@ use crate::order::met_unsigned;
 use crate::span::Span;
 use isa::{Test, Width};
 
-/// The test without signs that biased numbers meet where the numbers meet this one. None for a test that does not go by
-/// the signed order.
+/// The test without signs that biased numbers meet where the numbers meet this one. None for a test
+/// that does not go by the signed order.
 fn of_biased(test: Test) -> Option<Test>
-    ensures same { IfSome result (λ other. (width : Width) (a b : ℕ) → a < 2 ^ 64 → b < 2 ^ 64 → test_holds width other a b ≡ test_holds Bits64 test (low Bits64 (biased a)) (low Bits64 (biased b))) }
+    ensures same { IfSome result (λ other. (width : Width) (a b : ℕ) → a < 2 ^ 64 → b < 2 ^ 64
+        → test_holds width other a b ≡ test_holds Bits64 test (low Bits64 (biased a))
+        (low Bits64 (biased b))) }
     ensures unsigned { IfSome result IsUnsigned }
     ensures some { TrimsSigned Bits64 test → IsSome result }
 {
@@ -29,14 +31,16 @@ fn of_biased(test: Test) -> Option<Test>
     }
 }
 
-/// The pairs that meet a test of 64 bits that goes by the signed order. Other tests leave the spans as they are.
+/// The pairs that meet a test of 64 bits that goes by the signed order. Other tests leave the spans
+/// as they are.
 pub(crate) fn assumed_signed(
     test: Test,
     width: Width,
     left: Span,
     right: Span,
 ) -> Option<(Span, Span)>
-    ensures holds { KeepsPairs (λ a b. test_holds width test (low width (biased a)) (low width (biased b))) left right result }
+    ensures holds { KeepsPairs (λ a b. test_holds width test (low width (biased a))
+        (low width (biased b))) left right result }
     ensures trimmed { IsTrimmedSigned test width left right result }
 {
     match (width, of_biased(test)) {

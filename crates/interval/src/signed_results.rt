@@ -15,8 +15,10 @@ const BIAS: u128 = 1 << 63;
 
 /// The sums. One bias of two is taken away by the third, modulo 2^64.
 fn signed_sum(left: Span, right: Span) -> Span
-    ensures holds { (a b : ℕ) → IsIn left (biased a) → IsIn right (biased b) → IsIn result (biased (low Bits64 (a + b))) }
-    ensures narrow { IsNarrowSigned Bits64 Add (bounds_of left) (bounds_of right) (bounds_of result) }
+    ensures holds { (a b : ℕ) → IsIn left (biased a) → IsIn right (biased b)
+        → IsIn result (biased (low Bits64 (a + b))) }
+    ensures narrow { IsNarrowSigned Bits64 Add (bounds_of left) (bounds_of right)
+        (bounds_of result) }
 {
     wrapped(
         Width::Bits64,
@@ -27,8 +29,10 @@ fn signed_sum(left: Span, right: Span) -> Span
 
 /// The differences. The two biases cancel out, so it is added once more.
 fn signed_difference(left: Span, right: Span) -> Span
-    ensures holds { (a b : ℕ) → b < 2 ^ 64 → IsIn left (biased a) → IsIn right (biased b) → IsIn result (biased (low Bits64 (a + (2 ^ 64 - b)))) }
-    ensures narrow { IsNarrowSigned Bits64 Subtract (bounds_of left) (bounds_of right) (bounds_of result) }
+    ensures holds { (a b : ℕ) → b < 2 ^ 64 → IsIn left (biased a) → IsIn right (biased b)
+        → IsIn result (biased (low Bits64 (a + (2 ^ 64 - b)))) }
+    ensures narrow { IsNarrowSigned Bits64 Subtract (bounds_of left) (bounds_of right)
+        (bounds_of result) }
 {
     wrapped(
         Width::Bits64,
@@ -39,8 +43,11 @@ fn signed_difference(left: Span, right: Span) -> Span
 
 /// The results of an operation. Of others than these every number may be one.
 pub(crate) fn signed_results(width: Width, operation: Operation, left: Span, right: Span) -> Span
-    ensures holds { (a b : ℕ) → a < 2 ^ 64 → b < 2 ^ 64 → IsIn left (biased a) → IsIn right (biased b) → IsIn result (biased (operate width operation (low width a) (low width b))) }
-    ensures narrow { IsNarrowSigned width operation (bounds_of left) (bounds_of right) (bounds_of result) }
+    ensures holds { (a b : ℕ) → a < 2 ^ 64 → b < 2 ^ 64 → IsIn left (biased a)
+        → IsIn right (biased b) → IsIn result (biased (operate width operation (low width a)
+        (low width b))) }
+    ensures narrow { IsNarrowSigned width operation (bounds_of left) (bounds_of right)
+        (bounds_of result) }
 {
     match (width, operation) {
         (Width::Bits64, Operation::Add) => signed_sum(left, right),

@@ -1,5 +1,6 @@
 //! Unsigned and signed bounds that narrow each other.
-ghost use Rattle.std.specs.Prelude.{◌≡◌, ℕ, ◌+◌, ◌%◌, ◌<◌, ◌≤◌, ◌^◌, ◌⊎◌, ◌↔◌, IsTrue, IsSomeAnd, IfSome, max, min};
+ghost use Rattle.std.specs.Prelude.{◌≡◌, ℕ, ◌+◌, ◌%◌, ◌<◌, ◌≤◌, ◌^◌, ◌⊎◌, ◌↔◌, IsTrue, IsSomeAnd};
+ghost use Rattle.std.specs.Prelude.{IfSome, max, min};
 ghost use Rattle.interval.specs.Bounds.{IsIn, bounds_of, IsInside};
 ghost use Rattle.interval.specs.Signs.{biased, biased_bounds, IsOnOneSide};
 ghost use Rattle.interval.specs.Members.{IsMember};
@@ -41,12 +42,15 @@ fn common(left: Span, right: Span) -> Option<Span>
     between(left.low.max(right.low), left.high.min(right.high))
 }
 
-/// The numbers that lie between the unsigned bounds and, biased, between the signed ones. Bounds that do not cross
-/// 2^63 narrow the others.
+/// The numbers that lie between the unsigned bounds and, biased, between the signed ones. Bounds
+/// that do not cross 2^63 narrow the others.
 pub(crate) fn narrowed(unsigned: Span, signed: Span) -> Option<Interval>
-    ensures holds { (n : ℕ) → IsIn unsigned n → IsIn signed (biased n) → IsSomeAnd result (λ interval. IsMember interval n) }
-    ensures unsigned { IfSome result (λ interval. IsInside (bounds_of interval.unsigned) (bounds_of unsigned)) }
-    ensures signed { IfSome result (λ interval. IsInside (bounds_of interval.signed) (bounds_of signed)) }
+    ensures holds { (n : ℕ) → IsIn unsigned n → IsIn signed (biased n)
+        → IsSomeAnd result (λ interval. IsMember interval n) }
+    ensures unsigned { IfSome result (λ interval. IsInside (bounds_of interval.unsigned)
+        (bounds_of unsigned)) }
+    ensures signed { IfSome result (λ interval. IsInside (bounds_of interval.signed)
+        (bounds_of signed)) }
 {
     if is_on_one_side(signed) {
         let unsigned = common(unsigned, turned(signed))?;
@@ -82,7 +86,8 @@ pub(crate) fn of(unsigned: Span) -> Interval
 pub(crate) fn between_both(unsigned: Span, signed: Span) -> Interval
     ensures holds { (n : ℕ) → IsIn unsigned n → IsIn signed (biased n) → IsMember result n }
     ensures unsigned { IsInside (bounds_of result.unsigned) (bounds_of unsigned) }
-    ensures signed { (n : ℕ) → IsIn unsigned n → IsIn signed (biased n) → IsInside (bounds_of result.signed) (bounds_of signed) }
+    ensures signed { (n : ℕ) → IsIn unsigned n → IsIn signed (biased n)
+        → IsInside (bounds_of result.signed) (bounds_of signed) }
 {
     match narrowed(unsigned, signed) {
         Some(interval) => interval,

@@ -1,5 +1,6 @@
 //! Code made instruction by instruction, as an assembler does.
-ghost use Rattle.std.specs.Prelude.{◌≡◌, ◌+◌, ◌≤◌, ◌<◌, ◌++◌, ◌↔◌, [], length, IsSome, IfSome, IsTrue, OnOk, OnErr, Err};
+ghost use Rattle.std.specs.Prelude.{◌≡◌, ◌+◌, ◌≤◌, ◌<◌, ◌++◌, ◌↔◌, [], length, IsSome, IfSome};
+ghost use Rattle.std.specs.Prelude.{IsTrue, OnOk, OnErr, Err};
 ghost use Rattle.isa.specs.Code.{slots_of};
 
 use crate::code::{Code, MOST_SLOTS, Slot};
@@ -67,7 +68,8 @@ impl CodeBuilder {
     /// `TooLong` comes exactly where there would be more than 4096 slots.
     pub fn push(&mut self, instruction: Instruction) -> Result<(), BuildError>
         ensures ok { OnOk result (self.new ≡ self.old ++ slots_of instruction) }
-        ensures too_long { (result ≡ Err BuildError.TooLong) ↔ (4096 < length self.old + length (slots_of instruction)) }
+        ensures too_long { (result ≡ Err BuildError.TooLong)
+            ↔ (4096 < length self.old + length (slots_of instruction)) }
         ensures err { OnErr result (self.new ≡ self.old) }
     {
         instruction.check_ranges();

@@ -1,9 +1,12 @@
-ghost use Rattle.std.specs.Prelude.{List, [], MatchResult, ◌≡◌, ◌+◌, ◌*◌, ◌≤◌, ◌<◌, ◌/◌, ◌%◌, ◌⊎◌, ◌↔◌, ◌++◌, ℕ, take, length, IfSome, Some, Ok, IfErr, IfOk, OnOk, OnErr, IsTrue};
+ghost use Rattle.std.specs.Prelude.{List, [], MatchResult, ◌≡◌, ◌+◌, ◌*◌, ◌≤◌, ◌<◌, ◌/◌, ◌%◌, ◌⊎◌};
+ghost use Rattle.std.specs.Prelude.{◌↔◌, ◌++◌, ℕ, take, length, IfSome, Some, Ok, IfErr, IfOk};
+ghost use Rattle.std.specs.Prelude.{OnOk, OnErr, IsTrue};
 ghost use Rattle.isa.specs.declared.instruction.Instruction.{Instruction};
 ghost use Rattle.std.specs.List.{flat_map, AllByRecursion};
 ghost use Rattle.isa.specs.declared.code.Slot.{Slot};
 ghost use Rattle.isa.specs.Code.{is_wide, slots_of};
-ghost use Rattle.isa.specs.Spelling.{second_half, bytes_of, bytes_of_fields, IsInstruction, Spells, SpellsSlots};
+ghost use Rattle.isa.specs.Spelling.{second_half, bytes_of, bytes_of_fields, IsInstruction, Spells};
+ghost use Rattle.isa.specs.Spelling.{SpellsSlots};
 ghost use Rattle.isa.specs.Slots.{IsHeldBy};
 ghost use Rattle.isa.specs.Refusals.{Fails, Refuses, AreSlots};
 ghost use Rattle.isa.specs.Shapes.{MayBe};
@@ -64,7 +67,8 @@ impl DecodeFault {
     }
 }
 
-/// The first fault, and the slot that it is in. A fault of a wide instruction's second slot is in its first one; `Length`, `TooLong` and `Memory` are in slot 0.
+/// The first fault, and the slot that it is in. A fault of a wide instruction's second slot is in
+/// its first one; `Length`, `TooLong` and `Memory` are in slot 0.
 #[derive(Clone, Copy, PartialEq, Eq, Debug, Error)]
 #[error("slot {slot}: {kind}")]
 pub struct DecodeError {
@@ -84,8 +88,10 @@ fn wide_instruction(fields: Fields, second: Fields) -> Option<Instruction>
     requires opcode { fields.opcode ≡ 24 }
     requires target { fields.target ≤ 10 }
     requires source { fields.source ≤ 10 }
-    ensures only { (i : Instruction) → MayBe Shape.Wide fields i → second_half i ≡ bytes_of_fields second → result ≡ Some i }
-    ensures found { IfSome result (λ i. IsHeldBy fields i × (second_half i ≡ bytes_of_fields second) × IsTrue (is_wide i)) }
+    ensures only { (i : Instruction) → MayBe Shape.Wide fields i
+        → second_half i ≡ bytes_of_fields second → result ≡ Some i }
+    ensures found { IfSome result (λ i. IsHeldBy fields i × (second_half i ≡ bytes_of_fields second)
+        × IsTrue (is_wide i)) }
 {
     if fields.offset != 0
         || second.opcode != 0
@@ -113,8 +119,10 @@ fn wide_instruction(fields: Fields, second: Fields) -> Option<Instruction>
 /// The instruction at the front of the bytes.
 fn first_instruction(bytes: &[u8]) -> Result<Instruction, DecodeFault>
     requires { 8 ≤ length bytes.now }
-    ensures found { IfOk result (λ i. IsInstruction i × (bytes_of i ≡ take (length (bytes_of i)) bytes.now)) }
-    ensures only { (i : Instruction) → IsInstruction i → bytes_of i ≡ take (length (bytes_of i)) bytes.now → result ≡ Ok i }
+    ensures found { IfOk result (λ i. IsInstruction i
+        × (bytes_of i ≡ take (length (bytes_of i)) bytes.now)) }
+    ensures only { (i : Instruction) → IsInstruction i → bytes_of i ≡ take (length (bytes_of i))
+        bytes.now → result ≡ Ok i }
     ensures fault { IfErr result (λ fault. Fails bytes.now fault) }
 {
     let fields = Fields::read(&bytes[..8]);
@@ -147,7 +155,8 @@ pub fn decode(alloc: Global, bytes: &[u8]) -> Result<Code, DecodeError>
     // What is read is spelled so.
     ensures found { IfOk result (λ code. Spells bytes.now code) }
     // What is spelled so is read, unless memory runs out.
-    ensures only { (code : List Slot) → Spells bytes.now code → MatchResult result (λ found. found ≡ code) (λ e. e.kind ≡ DecodeFault.Memory) }
+    ensures only { (code : List Slot) → Spells bytes.now code
+        → MatchResult result (λ found. found ≡ code) (λ e. e.kind ≡ DecodeFault.Memory) }
     // Which fault it is, and where; memory ran out only where the bytes spell code.
     ensures why { IfErr result (λ e. Refuses bytes.now e.slot e.kind) }
 {
@@ -166,10 +175,12 @@ pub fn decode(alloc: Global, bytes: &[u8]) -> Result<Code, DecodeError>
     Ok(Code::new(slots_of(alloc, bytes)?))
 }
 
-/// What is told of the bytes where memory ran out: the first fault, and want of memory only where there is none.
+/// What is told of the bytes where memory ran out: the first fault, and want of memory only where
+/// there is none.
 fn want_of_memory(bytes: &[u8]) -> DecodeError
     requires { AreSlots bytes.now }
-    ensures only { (is : List Instruction) → AllByRecursion IsInstruction is → bytes.now ≡ flat_map bytes_of is → result.kind ≡ DecodeFault.Memory }
+    ensures only { (is : List Instruction) → AllByRecursion IsInstruction is
+        → bytes.now ≡ flat_map bytes_of is → result.kind ≡ DecodeFault.Memory }
     ensures why { Refuses bytes.now result.slot result.kind }
 {
     let mut slot = 0;
@@ -194,7 +205,9 @@ fn want_of_memory(bytes: &[u8]) -> DecodeError
 fn slots_of(alloc: Global, bytes: &[u8]) -> Result<Vec<Slot>, DecodeError>
     requires { AreSlots bytes.now }
     ensures found { IfOk result (λ slots. SpellsSlots bytes.now slots.items) }
-    ensures only { (is : List Instruction) → AllByRecursion IsInstruction is → bytes.now ≡ flat_map bytes_of is → MatchResult result (λ slots. slots.items ≡ flat_map slots_of is) (λ e. e.kind ≡ DecodeFault.Memory) }
+    ensures only { (is : List Instruction) → AllByRecursion IsInstruction is
+        → bytes.now ≡ flat_map bytes_of is → MatchResult result (λ slots. slots.items
+        ≡ flat_map slots_of is) (λ e. e.kind ≡ DecodeFault.Memory) }
     ensures why { IfErr result (λ e. Refuses bytes.now e.slot e.kind) }
 {
     let Ok(mut slots) = Vec::with_capacity(alloc, bytes.len() / 8) else {

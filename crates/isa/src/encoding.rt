@@ -2,7 +2,11 @@
 ghost use Rattle.std.specs.Prelude.{◌≡◌, ◌+◌, ◌*◌, ◌<◌, ◌≤◌, ◌++◌, IfOk, OnOk};
 ghost use Rattle.std.specs.Int.{w16, cast_unsigned};
 ghost use Rattle.isa.specs.Code.{IsCode};
-ghost use Rattle.isa.specs.Spelling.{Spells, fields, fields_of, fields_of_extension, fields_of_store, bytes_of, second_half, bytes_of_fields, source_bit, source_register, source_number, operation_code, operation_offset, test_code, load_code, store_code, order_opcode, swap_bits, arithmetic_class, jump_class};
+ghost use Rattle.isa.specs.Spelling.{Spells, fields, fields_of, fields_of_extension};
+ghost use Rattle.isa.specs.Spelling.{fields_of_store, bytes_of, second_half, bytes_of_fields};
+ghost use Rattle.isa.specs.Spelling.{source_bit, source_register, source_number, operation_code};
+ghost use Rattle.isa.specs.Spelling.{operation_offset, test_code, load_code, store_code};
+ghost use Rattle.isa.specs.Spelling.{order_opcode, swap_bits, arithmetic_class, jump_class};
 ghost use Rattle.isa.specs.Slots.{bytes_of_half};
 
 use crate::code::{Code, Slot};
@@ -178,7 +182,9 @@ fn extension_fields(extension: Extension, target: u8, source: u8) -> Fields
 
 /// The slot of an operation on two operands.
 fn arithmetic_fields(width: Width, operation: Operation, target: u8, source: Source) -> Fields
-    ensures value { result ≡ fields (16 * operation_code operation + source_bit source + arithmetic_class width) target (source_register source) (operation_offset operation) (source_number source) }
+    ensures value { result ≡ fields (16 * operation_code operation + source_bit source
+        + arithmetic_class width) target (source_register source) (operation_offset operation)
+        (source_number source) }
     ensures source { result.source ≤ 10 }
 {
     let operand = operand_of(source);
@@ -193,7 +199,8 @@ fn arithmetic_fields(width: Width, operation: Operation, target: u8, source: Sou
 
 /// The slot of a conditional jump.
 fn branch_fields(width: Width, test: Test, left: u8, right: Source, distance: i16) -> Fields
-    ensures value { result ≡ fields (16 * test_code test + source_bit right + jump_class width) left (source_register right) (cast_unsigned w16 distance) (source_number right) }
+    ensures value { result ≡ fields (16 * test_code test + source_bit right + jump_class width) left
+        (source_register right) (cast_unsigned w16 distance) (source_number right) }
     ensures source { result.source ≤ 10 }
 {
     let operand = operand_of(right);

@@ -171,7 +171,8 @@ impl Instruction {
         )
     }
 
-    /// Says that every part is in its range, as the parts' types keep it. It does nothing when the program runs.
+    /// Says that every part is in its range, as the parts' types keep it. It does nothing when the
+    /// program runs.
     pub fn check_ranges(&self)
         ensures { IsInstruction self.now }
     {
@@ -255,7 +256,8 @@ impl Instruction {
 impl Source {
     ghost use Rattle.isa.specs.Code.{IsSource};
 
-    /// Says that the number or the register is in its range, as its type keeps it. It does nothing when the program runs.
+    /// Says that the number or the register is in its range, as its type keeps it. It does nothing
+    /// when the program runs.
     pub fn check_ranges(&self)
         ensures { IsSource self.now }
     {

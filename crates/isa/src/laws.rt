@@ -1,4 +1,5 @@
-//! Laws of the encoding and of code. Each function does nothing: what it ensures holds for all bytes and all code.
+//! Laws of the encoding and of code. Each function does nothing: what it ensures holds for all
+//! bytes and all code.
 ghost use Rattle.std.specs.Prelude.{◌≡◌, ◌≢◌, ℕ, List};
 ghost use Rattle.isa.specs.declared.code.Slot.{Slot};
 ghost use Rattle.isa.specs.declared.decoding.DecodeFault.{DecodeFault};
@@ -18,10 +19,12 @@ pub fn code_has_one_spelling()
 
 /// Bytes that are refused for another reason than memory spell no code.
 pub fn refused_bytes_spell_no_code()
-    ensures { (bytes : List ℕ) (slot : ℕ) (fault : DecodeFault) (code : List Slot) → Refuses bytes slot fault → fault ≢ DecodeFault.Memory → Spells bytes code → ⊥ }
+    ensures { (bytes : List ℕ) (slot : ℕ) (fault : DecodeFault) (code : List Slot)
+        → Refuses bytes slot fault → fault ≢ DecodeFault.Memory → Spells bytes code → ⊥ }
 {}
 
-/// In the slot after the first of a wide instruction stands its second half (RFC 9669, section 5.4).
+/// In the slot after the first of a wide instruction stands its second half (RFC 9669, section
+/// 5.4).
 pub fn a_wide_instruction_has_its_second_half()
     ensures { WideHasSecondHalf }
 {}

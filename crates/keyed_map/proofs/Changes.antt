@@ -1,10 +1,12 @@
 -- What stood at a key before all edits.
-use Rattle.std.proofs.Common.{◌≡◌, ℕ, zero, suc, ◌+◌, ◌<◌, ◌⊎◌, inl, inr, Bool, true, false, cond, List, [], ◌∷◌, length, Some, None, refl, sym, ap, subst, ◌∙◌, arith}
+use Rattle.std.proofs.Common.{◌≡◌, ℕ, zero, suc, ◌+◌, ◌<◌, ◌⊎◌, inl, inr, Bool, true, false, cond, List, [], ◌∷◌, ◌++◌, length, Some, None, refl, sym, ap, subst, ◌∙◌, arith}
 use Rattle.std.specs.Prelude.{Option, slice_get, IsTrue, not, ◌↔◌}
 use Rattle.std.specs.Cmp.{Equal-is, tied_itself}
 use Rattle.std.specs.Ordering.{eq_by_cmp, is_eq}
 use Rattle.std.specs.FinMap as map
+use Rattle.std.specs.List.{Contains}
 use Rattle.std.proofs.lemmas.Bool.{cases_eq}
+use Rattle.std.proofs.lemmas.List.Elements.{Contains-append_left, Contains-push_cases}
 use Rattle.std.proofs.lemmas.Option.{same_Some, slice_get_within}
 use Rattle.words.specs.declared.key.Key.{Key}
 use Rattle.keyed_map.specs.declared.slot.Slot.{Slot}
@@ -153,3 +155,52 @@ module _ {X : Type 0} where
       let was : map.get (live (undone es m)) edit.key ≡ held_before edit.before =
       get-live (undone es m) edit.key ∙ ap held_in (first_found es m place edit at first) ∙ held_same edit.before in
       subst (λ o. S edit.key o (map.get (live m) edit.key)) was (all edit.key)
+
+  -- what the first edit of a key found is what was settled
+  pub first_settled : (es : List (Edit X)) (m : ByKey (Slot X)) (place : ℕ) (edit : Edit X) (q : Key) → slice_get es place ≡ Some edit
+      → edit.key ≡ q → IsFirst es place q → held_before edit.before ≡ map.get (live (undone es m)) q
+  first_settled es m place edit q at its first =
+      let found = first_found es m place edit at (subst (IsFirst es place) (sym its) first) in
+      sym (get-live (undone es m) edit.key ∙ ap held_in found ∙ held_same edit.before) ∙ ap (map.get (live (undone es m))) its
+
+  -- what stands at a key without an edit is what was settled
+  pub unedited : (es : List (Edit X)) (m : ByKey (Slot X)) (q : Key) → IsFirst es (length es) q → map.get (live m) q ≡ map.get (live (undone es m)) q
+  unedited es m q none =
+      elim (before_edits es m q) [
+        | inl same ↦ get-live m q ∙ sym (get-live (undone es m) q ∙ ap held_in same)
+        | inr stood ↦ absurd (none stood.place stood.edit (slice_get_within es stood.place stood.edit stood.at) stood.at stood.its)
+      ]
+
+  -- the same, but for the keys of a list
+  abbrev pub Outside : List Key → (Key → Option X → Option X → Type 0) → Key → Option X → Option X → Type 0
+  Outside keys S key before now = (Contains keys key → ⊥) → S key before now
+
+  -- at a key, the same as at this one
+  abbrev pub JustAt : Key → (Key → Option X → Option X → Type 0) → Key → Option X → Option X → Type 0
+  JustAt q S key before now = key ≡ q → S key before now
+
+  -- each of these keys holds something else
+  abbrev pub Differ : (Key → Option X → Option X → Type 0) → ByKey X → ByKey X → List Key → Type 0
+  Differ S settled present keys =
+      (key : Key) → Contains keys key → S key (map.get settled key) (map.get present key) → ⊥
+
+  -- more keys leave fewer to be kept
+  pub still_outside : (S : Key → Option X → Option X → Type 0) (now : ByKey X) (es : List (Edit X)) (n : ℕ) (keys more : List Key)
+      → AllKeep (Outside keys S) now es n → AllKeep (Outside (keys ++ more) S) now es n
+  still_outside S now es n keys more all place e low at first none =
+      all place e low at first (λ t. none (Contains-append_left keys more e.key t))
+
+  -- one more key that holds something else
+  pub one_differs : (S : Key → Option X → Option X → Type 0) (settled present : ByKey X) (keys : List Key) (q : Key)
+      → Differ S settled present keys → (S q (map.get settled q) (map.get present q) → ⊥) → Differ S settled present (keys ++ q ∷ [])
+  one_differs S settled present keys q all one key t =
+      elim (Contains-push_cases keys q key t) [
+        | inl old ↦ all key old
+        | inr is ↦ let P : Key → Type 0 = λ k. S k (map.get settled k) (map.get present k) → ⊥ in subst P is one
+      ]
+
+  -- where a key holds the same, so does what its first edit found
+  pub kept_there : (S : Key → Option X → Option X → Type 0) (es : List (Edit X)) (m : ByKey (Slot X)) (place : ℕ) (edit : Edit X) → slice_get es place ≡ Some edit
+      → IsFirst es place edit.key → S edit.key (map.get (live (undone es m)) edit.key) (map.get (live m) edit.key) → Keeps S (live m) edit
+  kept_there S es m place edit at first same =
+      first_kept (JustAt edit.key S) es m place edit at first (λ q is. let P : Key → Type 0 = λ k. S k (map.get (live (undone es m)) k) (map.get (live m) k) in subst P (sym is) same) refl

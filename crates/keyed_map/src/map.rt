@@ -1,5 +1,7 @@
-ghost use Rattle.std.specs.Prelude.{◌≡◌, ◌==◌, ◌↔◌, ◌<◌, ◌≤◌, Some, length, slice_get, IfOk, OnOk, OnErr, IsTrue, Option, take, option_copied};
+ghost use Rattle.std.specs.Prelude.{◌≡◌, ◌==◌, ◌↔◌, ◌<◌, ◌≤◌, Some, length, slice_get, IfOk, OnOk};
+ghost use Rattle.std.specs.Prelude.{OnErr, IsTrue, Option, take, option_copied};
 ghost use Rattle.std.specs.FinMap as map;
+ghost use Rattle.std.specs.List.{Contains};
 ghost use Rattle.words.specs.declared.key.Key.{Key as KeyValue};
 ghost use Rattle.keyed_map.specs.declared.slot.Edit.{Edit as EditValue};
 ghost use Rattle.keyed_map.specs.Keys.{key_cmp};
@@ -158,7 +160,8 @@ pub trait ChangeTest<X> {
             ↔ same self.now key.now (option_copied before.entry) (option_copied now.entry)) };
 }
 
-// Whether the key of the edit at this place holds the same now as before the edit, or the edit isn't the first of its key.
+// Whether the key of the edit at this place holds the same now as before the edit, or the edit
+// isn't the first of its key.
 fn is_kept<X, T: ChangeTest<X>>(
     alloc: Global,
     test: &T,
@@ -167,7 +170,8 @@ fn is_kept<X, T: ChangeTest<X>>(
     now: Option<&X>,
 ) -> Result<bool, AllocError>
     requires { place < length edits.now }
-    ensures { (edit : EditValue X) → slice_get edits.now place ≡ Some edit → IfOk result (λ kept. IsTrue kept
+    ensures { (edit : EditValue X) → slice_get edits.now place ≡ Some edit
+        → IfOk result (λ kept. IsTrue kept
         ↔ (IsFirst edits.now place edit.key
         → T.same test.now edit.key (held_before edit.before) (option_copied now.entry))) }
 {
@@ -248,6 +252,21 @@ impl<X: Drop> KeyedMap<X> {
         }
     }
 
+    /// The value that a key had when the map was last settled, if the key was there. It looks at the
+    /// edits since.
+    pub fn settled_get(&self, key: &Key) -> Option<&X>
+        ensures { option_copied result ≡ map.get self.now.settled key.now }
+    {
+        let edits = self.edits.as_slice();
+        for place in 0..edits.len() {
+            let edit = &edits[place];
+            if edit.key.compare(key).is_eq() {
+                return held_before(&edit.before);
+            }
+        }
+        self.get(key)
+    }
+
     /// Tells whether the key is there.
     pub fn contains(&self, key: &Key) -> bool
         ensures { result ≡ map.contains_key self.now.present key.now }
@@ -294,7 +313,8 @@ impl<X: Drop> KeyedMap<X> {
 
     /// The first so many keys from a key on, in their order.
     pub fn first_from(&self, alloc: Global, key: &Key, count: usize) -> Result<Vec<Key>, AllocError>
-        ensures { IfOk result (λ keys. keys.items ≡ take count (keys_from key.now (map.keys self.now.present))) }
+        ensures { IfOk result (λ keys. keys.items
+            ≡ take count (keys_from key.now (map.keys self.now.present))) }
     {
         let mut keys = Vec::new(alloc);
         for (found, slot) in self.slots.range(*key..) {
@@ -310,7 +330,8 @@ impl<X: Drop> KeyedMap<X> {
 
     /// The keys that pass a test, in their order. It looks at each.
     pub fn keys_where<T: KeyTest<X>>(&self, alloc: Global, test: &T) -> Result<Vec<Key>, AllocError>
-        ensures { IfOk result (λ keys. keys.items ≡ keys_where (T.accepts test.now) (map.entries self.now.present)) }
+        ensures { IfOk result (λ keys. keys.items ≡ keys_where (T.accepts test.now)
+            (map.entries self.now.present)) }
     {
         let mut keys = Vec::new(alloc);
         for (key, slot) in self.slots.iter() {
@@ -324,8 +345,8 @@ impl<X: Drop> KeyedMap<X> {
         Ok(keys)
     }
 
-    /// Tells whether each key holds the same, by the test, as when the map was last settled. It looks
-    /// at the keys that were edited since. The first edit of a key tells what it held then.
+    /// Tells whether each key holds the same, by the test, as when the map was last settled. It
+    /// looks at the keys that were edited since. The first edit of a key tells what it held then.
     ///
     /// # Errors
     /// Where the test was refused memory.
@@ -342,6 +363,35 @@ impl<X: Drop> KeyedMap<X> {
             }
         }
         Ok(true)
+    }
+
+    /// The keys that hold something else, by the test, than when the map was last settled. It looks at
+    /// the keys that were edited since.
+    ///
+    /// # Errors
+    /// Where memory for the keys, or to compare what they hold, is refused.
+    pub fn changed_keys<T: ChangeTest<X>>(
+        &self,
+        alloc: Global,
+        test: &T,
+    ) -> Result<Vec<Key>, AllocError>
+        requires { (key : KeyValue) (o : Option X) → T.same test.now key o o }
+        ensures changed { IfOk result (λ keys. (key : KeyValue) → Contains keys.items key
+            → T.same test.now key (map.get self.now.settled key) (map.get self.now.present key)
+            → ⊥) }
+        ensures others { IfOk result (λ keys. (key : KeyValue) → (Contains keys.items key → ⊥)
+            → T.same test.now key (map.get self.now.settled key) (map.get self.now.present key)) }
+    {
+        let mut keys = Vec::new(alloc);
+        let edits = self.edits.as_slice();
+        for place in 0..edits.len() {
+            let edit = &edits[place];
+            let now = self.get(&edit.key);
+            if !is_kept(alloc, test, edits, place, now)? {
+                keys.push(same(&edit.key))?;
+            }
+        }
+        Ok(keys)
     }
 
     // Writes a slot, and notes what stood there.

@@ -14,7 +14,8 @@ IsKnownFilled other = Unit {0}
 
 -- each byte from start to end is
 abbrev pub AreKnownFilled : {D : Type 0} → ℕ → ℕ → List (Entry D) → Type 0
-AreKnownFilled start end known = (at : ℕ) → start ≤ at → at < end → IsKnownFilled (entry_in known at)
+AreKnownFilled start end known = (at : ℕ) → start ≤ at → at < end
+    → IsKnownFilled (entry_in known at)
 
 -- After bytes are put from start to end, of each of which `inside` is known, a byte is known to be
 -- filled if it was before; and if `inside` says so, those that were put are.

@@ -1,10 +1,12 @@
 //! What is known bit by bit.
-ghost use Rattle.std.specs.Prelude.{◌≡◌, ℕ, ◌-◌, ◌%◌, ◌<◌, ◌≤◌, ◌^◌, IsSomeAnd, IfSome, None, true, bit_and, bit_or, bit_xor};
+ghost use Rattle.std.specs.Prelude.{◌≡◌, ℕ, ◌-◌, ◌%◌, ◌<◌, ◌≤◌, ◌^◌, IsSomeAnd, IfSome, None, true};
+ghost use Rattle.std.specs.Prelude.{bit_and, bit_or, bit_xor};
 ghost use Rattle.isa.specs.declared.instruction.Width.{Width};
 ghost use Rattle.isa.specs.declared.instruction.Operation.TheVariants.{And, Or, Xor};
 ghost use Rattle.isa.specs.Arithmetic.{bits, low};
 ghost use Rattle.knownbits.specs.Masks.{HasBits, Knows, KnowsBelow};
-ghost use Rattle.knownbits.specs.Known.{IsPrecise, KnowsBoth, KnowsZero, KnowsOne, KnowsUpper, KnowsZerosTo, low_known, shared_known};
+ghost use Rattle.knownbits.specs.Known.{IsPrecise, KnowsBoth, KnowsZero, KnowsOne, KnowsUpper};
+ghost use Rattle.knownbits.specs.Known.{KnowsZerosTo, low_known, shared_known};
 
 use crate::value::KnownBits;
 use isa::Width;
@@ -67,7 +69,8 @@ pub(crate) fn cut(width: Width, known: KnownBits) -> KnownBits
 /// What is known of the low bits alone.
 pub(crate) fn shared(width: Width, known: KnownBits) -> KnownBits
     ensures is { result ≡ shared_known width known }
-    ensures holds { (a b : ℕ) → a < 2 ^ 64 → HasBits known b → low width a ≡ low width b → HasBits result a }
+    ensures holds { (a b : ℕ) → a < 2 ^ 64 → HasBits known b → low width a ≡ low width b
+        → HasBits result a }
 {
     match width {
         Width::Bits32 => KnownBits {
@@ -119,7 +122,8 @@ pub(crate) fn xor(left: KnownBits, right: KnownBits) -> KnownBits
 
 /// What both know of one number; None where they contradict each other.
 pub(crate) fn join(left: KnownBits, right: KnownBits) -> Option<KnownBits>
-    ensures holds { (n : ℕ) → HasBits left n → HasBits right n → IsSomeAnd result (λ known. HasBits known n) }
+    ensures holds { (n : ℕ) → HasBits left n → HasBits right n
+        → IsSomeAnd result (λ known. HasBits known n) }
     ensures precise { IfSome result (KnowsBoth left right) }
     ensures contradiction { (i : ℕ) → i < 64 → KnowsZero left i → KnowsOne right i → result ≡ None }
 {

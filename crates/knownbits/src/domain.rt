@@ -1,10 +1,13 @@
 //! Known bits as abstract values.
 ghost use Rattle.std.specs.Prelude.{◌≡◌, ℕ, ◌%◌, ◌<◌, ◌≤◌, ◌^◌, Option};
-ghost use Rattle.isa.specs.declared.instruction.Operation.TheVariants.{Add, Subtract, ShiftLeft, ShiftRight};
+ghost use Rattle.isa.specs.declared.instruction.Operation.TheVariants.{Add, Subtract, ShiftLeft};
+ghost use Rattle.isa.specs.declared.instruction.Operation.TheVariants.{ShiftRight};
 ghost use Rattle.isa.specs.Arithmetic.{bits, operate};
 ghost use Rattle.absdom.specs.Unary.{unary_result};
 ghost use Rattle.knownbits.specs.Masks.{HasBits, KnowsBelow};
-ghost use Rattle.knownbits.specs.Known.{IsPrecise, IsPreciseResult, IsPreciseOf, IsPreciseRange, IsPreciseUnary, IsPreciseTest, IsPreciseWithin, HasResults, KnowsUpper, KnowsZerosTo, unary_width};
+ghost use Rattle.knownbits.specs.Known.{IsPrecise, IsPreciseResult, IsPreciseOf, IsPreciseRange};
+ghost use Rattle.knownbits.specs.Known.{IsPreciseUnary, IsPreciseTest, IsPreciseWithin, HasResults};
+ghost use Rattle.knownbits.specs.Known.{KnowsUpper, KnowsZerosTo, unary_width};
 
 use crate::bits::{and, cut, every, is_single, join, low_zeros, or, shared, single, xor};
 use crate::shift::{left_shift, right_shift, shift_count};

@@ -22,7 +22,8 @@ pub(crate) fn shift_count(width: Width, number: u64) -> u32
 /// The numbers moved to the left.
 pub(crate) fn left_shift(width: Width, known: KnownBits, count: u32) -> KnownBits
     requires { count < bits width }
-    ensures holds { (n : ℕ) → n < 2 ^ bits width → HasBits known n → HasBits result (low width (n * 2 ^ count)) }
+    ensures holds { (n : ℕ) → n < 2 ^ bits width → HasBits known n
+        → HasBits result (low width (n * 2 ^ count)) }
     ensures filled { KnowsBelow result count }
     ensures moved { (i : ℕ) → i + count < bits width → Knows known i → Knows result (i + count) }
     ensures upper { KnowsUpper width result }
@@ -37,7 +38,8 @@ pub(crate) fn left_shift(width: Width, known: KnownBits, count: u32) -> KnownBit
 /// The numbers moved to the right.
 pub(crate) fn right_shift(width: Width, known: KnownBits, count: u32) -> KnownBits
     requires { count < bits width }
-    ensures holds { (n : ℕ) → n < 2 ^ bits width → HasBits known n → HasBits result (n / 2 ^ count) }
+    ensures holds { (n : ℕ) → n < 2 ^ bits width → HasBits known n
+        → HasBits result (n / 2 ^ count) }
     ensures filled { (i : ℕ) → bits width ≤ i + count → i < 64 → Knows result i }
     ensures moved { (i : ℕ) → i + count < 64 → Knows known (i + count) → Knows result i }
 {

@@ -12,7 +12,8 @@ fn known_in_both(left: KnownBits, right: KnownBits) -> u32
     ensures most { result ≤ 64 }
     ensures left { KnowsBelow left result }
     ensures right { KnowsBelow right result }
-    ensures all { (count : ℕ) → count ≤ 64 → KnowsBelow left count → KnowsBelow right count → count ≤ result }
+    ensures all { (count : ℕ) → count ≤ 64 → KnowsBelow left count → KnowsBelow right count
+        → count ≤ result }
 {
     let both = left.mask & right.mask;
     if both == u64::MAX {
@@ -23,8 +24,10 @@ fn known_in_both(left: KnownBits, right: KnownBits) -> u32
 
 /// The sums: the bits below the first one that isn't known in both.
 pub(crate) fn sum(left: KnownBits, right: KnownBits) -> KnownBits
-    ensures holds { (x y : ℕ) → HasBits left x → HasBits right y → HasBits result ((x + y) % 2 ^ 64) }
-    ensures knows { (count : ℕ) → count ≤ 64 → KnowsBelow left count → KnowsBelow right count → KnowsBelow result count }
+    ensures holds { (x y : ℕ) → HasBits left x → HasBits right y
+        → HasBits result ((x + y) % 2 ^ 64) }
+    ensures knows { (count : ℕ) → count ≤ 64 → KnowsBelow left count → KnowsBelow right count
+        → KnowsBelow result count }
 {
     let mask = low_mask(known_in_both(left, right));
     KnownBits {
@@ -35,8 +38,10 @@ pub(crate) fn sum(left: KnownBits, right: KnownBits) -> KnownBits
 
 /// The differences: the bits below the first one that isn't known in both.
 pub(crate) fn difference(left: KnownBits, right: KnownBits) -> KnownBits
-    ensures holds { (x y : ℕ) → HasBits left x → HasBits right y → HasBits result ((x + (2 ^ 64 - y)) % 2 ^ 64) }
-    ensures knows { (count : ℕ) → count ≤ 64 → KnowsBelow left count → KnowsBelow right count → KnowsBelow result count }
+    ensures holds { (x y : ℕ) → HasBits left x → HasBits right y
+        → HasBits result ((x + (2 ^ 64 - y)) % 2 ^ 64) }
+    ensures knows { (count : ℕ) → count ≤ 64 → KnowsBelow left count → KnowsBelow right count
+        → KnowsBelow result count }
 {
     let mask = low_mask(known_in_both(left, right));
     KnownBits {

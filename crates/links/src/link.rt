@@ -11,9 +11,9 @@ pub struct LinkFault {}
 /// What a worker receives and sends through. It counts its faults: each call that failed, and none
 /// that didn't.
 ///
-/// What it says of bytes that it was given to send, and of what it heard, is left open here: whoever
-/// sends or hears, proved for any link, can say it only by the call itself, with that interface and
-/// those bytes.
+/// What it says of bytes that it was given to send, and of what it heard, is left open here:
+/// whoever sends or hears, proved for any link, can say it only by the call itself, with that
+/// interface and those bytes.
 pub trait Link {
     ghost faults: { Self → ℕ };
 

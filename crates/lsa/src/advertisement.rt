@@ -1,6 +1,8 @@
 //! LSAs as values whose text is right.
 ghost use Rattle.std.specs.Prelude.{◌≡◌, ◌≢◌, ◌≤◌, ◌⊎◌, ◌++◌, length, IfOk, OnOk};
-ghost use Rattle.lsa.specs.Text.{IsBody, LsaText, Parts, body_text, max_age, reserved_sequence, text};
+ghost use Rattle.lsa.specs.Text.{IsBody, LsaText, Parts, body_text, reserved_sequence};
+ghost use Rattle.words.specs.Constants.{max_age};
+ghost use Rattle.lsa.specs.Text.{text};
 ghost use Rattle.lsa.specs.Origination.{aged, sealed_lsa};
 ghost use Rattle.lsa.specs.Outcome.{Reads};
 ghost use Rattle.lsa.specs.Ranges.{BodyFits};
@@ -15,8 +17,8 @@ use crate::writing::{put_body, type_of};
 use std::alloc::{AllocError, Global};
 use std::marker::Model;
 
-/// A link state advertisement: its header and what it says. Its text is an LSA's, with a checksum that holds.
-/// Clauses see the record of both.
+/// A link state advertisement: its header and what it says. Its text is an LSA's, with a checksum
+/// that holds. Clauses see the record of both.
 #[derive(Debug, Drop)]
 pub struct Lsa {
     header: Header,
@@ -34,8 +36,8 @@ impl Model for Lsa {
 }
 
 impl Lsa {
-    /// An LSA to be originated: the header's type, length and checksum are set as the body has them, whatever they were,
-    /// the check bytes from 1 to 255.
+    /// An LSA to be originated: the header's type, length and checksum are set as the body has
+    /// them, whatever they were, the check bytes from 1 to 255.
     pub fn new(alloc: Global, header: Header, body: Body) -> Result<Self, AllocError>
         requires age { header.age ≤ max_age }
         requires sequence { header.sequence ≢ reserved_sequence }
@@ -69,7 +71,8 @@ impl Lsa {
         self.header.age = age;
     }
 
-    /// Says that its age is at most 3600 (MaxAge), as the type keeps it. It does nothing when the program runs.
+    /// Says that its age is at most 3600 (MaxAge), as the type keeps it. It does nothing when the
+    /// program runs.
     pub fn check_age(&self)
         ensures { self.now.header.age ≤ max_age }
     {
@@ -94,7 +97,8 @@ impl Lsa {
         self.header
     }
 
-    /// Puts the text of what it says behind these bytes. The only error is that an allocation was refused.
+    /// Puts the text of what it says behind these bytes. The only error is that an allocation was
+    /// refused.
     pub fn put_body(&self, out: &mut Vec<u8>) -> Result<(), AllocError>
         ensures { OnOk result (out.new.items ≡ out.old.items ++ body_text self.now.body) }
     {
@@ -126,7 +130,8 @@ pub fn read(alloc: Global, bytes: &[u8]) -> Result<Lsa, ReadError>
     // What is read has these bytes as its text.
     ensures found { IfOk result (λ lsa. LsaText bytes.now lsa) }
     // The text of an LSA is read as that LSA, unless memory runs out.
-    ensures only { (lsa : Parts) → LsaText bytes.now lsa → result ≡ Ok lsa ⊎ (result ≡ Err ReadError.Memory) }
+    ensures only { (lsa : Parts) → LsaText bytes.now lsa → result ≡ Ok lsa
+        ⊎ (result ≡ Err ReadError.Memory) }
     // Which fault it is; want of memory comes only where there is none.
     ensures exact { Reads bytes.now result }
 {
@@ -135,7 +140,8 @@ pub fn read(alloc: Global, bytes: &[u8]) -> Result<Lsa, ReadError>
 
 fn written(alloc: Global, header: &Header, body: &Body) -> Result<Vec<u8>, AllocError>
     requires { IsBody body.now }
-    ensures { IfOk result (λ bytes. bytes.items ≡ text (record { header = header.now; body = body.now })) }
+    ensures { IfOk result (λ bytes. bytes.items
+        ≡ text (record { header = header.now; body = body.now })) }
 {
     let mut out = Vec::with_capacity(alloc, usize::from(header.length))?;
     put_header(&mut out, header)?;

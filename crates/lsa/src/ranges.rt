@@ -1,7 +1,9 @@
-//! What the types of a body's fields keep, told to proofs: nothing here does anything when the program runs.
+//! What the types of a body's fields keep, told to proofs: nothing here does anything when the
+//! program runs.
 ghost use Rattle.std.specs.List.{AllByRecursion};
 ghost use Rattle.lsa.specs.Text.{IsAttached, IsLinkTos};
-ghost use Rattle.lsa.specs.Ranges.{BodyIsTyped, ExternalIsTyped, ExternalTosIsTyped, LinkIsTyped, RouterIsTyped, SummaryIsTyped, SummaryTosIsTyped};
+ghost use Rattle.lsa.specs.Ranges.{BodyIsTyped, ExternalIsTyped, ExternalTosIsTyped, LinkIsTyped};
+ghost use Rattle.lsa.specs.Ranges.{RouterIsTyped, SummaryIsTyped, SummaryTosIsTyped};
 
 use crate::body::{
     Body, ExternalLsa, ExternalTos, Link, LinkTos, RouterLsa, SummaryLsa, SummaryTos,
@@ -103,9 +105,11 @@ fn check_external(external: &ExternalLsa)
 }
 
 impl Body {
-    /// Says that every field is in its range, as the fields' types keep it. It does nothing when the program runs.
+    /// Says that every field is in its range, as the fields' types keep it. It does nothing when
+    /// the program runs.
     ///
-    /// The types don't keep that a list is no longer than its count can say, and that a metric of three bytes is below 2^24.
+    /// The types don't keep that a list is no longer than its count can say, and that a metric of
+    /// three bytes is below 2^24.
     pub fn check_ranges(&self)
         ensures { BodyIsTyped self.now }
     {

@@ -31,7 +31,8 @@ impl Ages {
 
     /// The copy of this key may have these times from this moment on. What was foreseen stays so.
     pub fn note(&mut self, moment: Second, key: &Key, times: &Times) -> Result<(), AllocError>
-        ensures more { (q : Key) (o : Option Times) → Foresees self.old q o → Foresees self.new q o }
+        ensures more { (q : Key) (o : Option Times) → Foresees self.old q o
+            → Foresees self.new q o }
         ensures there { OnOk result (Foresees self.new key.now (Some times.now)) }
     {
         let times: Times = *times;
@@ -63,8 +64,8 @@ pub fn foresee(alloc: Global, times: &KeyedMap<Times>, moment: Second) -> Result
     Ok(ages)
 }
 
-/// What these times foresee, where what the ages foresee of them is known: it looks at the copies of
-/// the aged keys alone. Those that have MaxAge at the moment stay among the aged.
+/// What these times foresee, where what the ages foresee of them is known: it looks at the copies
+/// of the aged keys alone. Those that have MaxAge at the moment stay among the aged.
 pub fn foresee_again(
     alloc: Global,
     ages: &Ages,

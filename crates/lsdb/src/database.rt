@@ -1,5 +1,6 @@
 //! The database itself.
-ghost use Rattle.std.specs.Prelude.{◌≡◌, ◌≤◌, ◌↔◌, ◌⊎◌, drop, length, take, IfOk, IsTrue, OnOk, option_copied};
+ghost use Rattle.std.specs.Prelude.{◌≡◌, ◌≤◌, ◌↔◌, ◌⊎◌, drop, length, take, IfOk, IsTrue, OnOk};
+ghost use Rattle.std.specs.Prelude.{option_copied};
 ghost use Rattle.std.specs.FinMap as finite;
 ghost use Rattle.lsdb.specs.Copies.{
   age_out,
@@ -25,6 +26,7 @@ ghost use Rattle.lsdb.specs.Joined.{aged_at};
 ghost use Rattle.words.specs.declared.key.Key.{Key as KeyValue};
 ghost use Rattle.lsdb.specs.Limits.{exceeds, has_room, own_externals};
 
+mod changed;
 mod others;
 mod silence;
 
@@ -32,7 +34,7 @@ use crate::ages::{Ages, foresee, foresee_again};
 use crate::database_copy::DatabaseCopy;
 use crate::keyed_bodies::{KeyedBody, bodies_of};
 use crate::limits::{MOST_LSAS, MOST_OWN_EXTERNALS, is_own_external, recount};
-use crate::order::{MAX_AGE, age_at};
+use crate::order::age_at;
 use crate::stored::StoredLsa;
 use crate::times::Times;
 use keyed_map::{ChangeTest, KeyTest, KeyedMap, KeysInOrder};
@@ -41,7 +43,7 @@ use lsa::{Body, HEADER_LENGTH, Lsa, write_at_age};
 pub use others::KeyRule;
 use std::alloc::{AllocError, Global};
 use std::marker::Model;
-use words::{Key, RouterId, Second};
+use words::{Key, MAX_AGE, RouterId, Second};
 
 /// The link state database of a router: at most one copy for each key, and the copies when it was
 /// last settled.
@@ -56,8 +58,8 @@ pub struct Lsdb {
     externals: usize,
     settled_externals: usize,
     ages: Ages,
-    // at most so many of the aged keys' copies have left since the ages were foreseen, or came again;
-    // only the time that looking at the aged takes rests on it
+    // at most so many of the aged keys' copies have left since the ages were foreseen, or came
+    // again; only the time that looking at the aged takes rests on it
     past: usize,
 }
 
@@ -306,7 +308,12 @@ fn one_more_past(ages: &Ages, key: &Key, past: usize) -> usize {
 impl Lsdb {
     /// The empty database of a router. It wants no memory.
     pub fn new(alloc: Global, router: RouterId) -> Self
-        ensures { result ≡ record { router = router; present = finite.empty; settled = finite.empty } }
+        ensures { result ≡ record {
+          router = router;
+          present = finite.empty;
+          settled =
+              finite.empty;
+        } }
     {
         Lsdb {
             router,
@@ -375,9 +382,9 @@ impl Lsdb {
         }
     }
 
-    /// What the copies of the types up to this one say, or those of all types where there is none, if
-    /// they are below MaxAge at the moment, in the order of their keys (RFC 2328, section 16). It
-    /// looks at each copy of these types once, and at no other.
+    /// What the copies of the types up to this one say, or those of all types where there is none,
+    /// if they are below MaxAge at the moment, in the order of their keys (RFC 2328, section 16).
+    /// It looks at each copy of these types once, and at no other.
     ///
     /// # Errors
     /// Where memory for the list is refused.
@@ -444,8 +451,8 @@ impl Lsdb {
     /// The keys of the copies that have MaxAge at the moment, in their order.
     ///
     /// It looks at each copy only from the moment on at which one may have come of age since
-    /// `settle_at` last looked; before that, at those alone that had MaxAge then or got it since, and
-    /// at no more that have left than there are others.
+    /// `settle_at` last looked; before that, at those alone that had MaxAge then or got it since,
+    /// and at no more that have left than there are others.
     pub fn aged_keys(&self, alloc: Global, moment: Second) -> Result<Vec<Key>, AllocError>
         ensures { IfOk result (λ keys. keys.items ≡ aged_keys moment self.now.present) }
     {
@@ -464,12 +471,12 @@ impl Lsdb {
         self.lsas.keys_where(alloc, &aged_out)
     }
 
-    /// Tells whether each copy of a type up to this one, or of any type where there is none, says at
-    /// the moment what the copy of its key said when the database was last settled (RFC 2328, section
-    /// 13.2): none came or left, each has the body that it had, and neither the copy of then nor the
-    /// one of now is at MaxAge at the moment, unless they have one age. It looks at the edits since
-    /// then. Another sequence number, checksum, age below MaxAge or other Options don't count, nor
-    /// does that a copy was sent.
+    /// Tells whether each copy of a type up to this one, or of any type where there is none, says
+    /// at the moment what the copy of its key said when the database was last settled (RFC 2328,
+    /// section 13.2): none came or left, each has the body that it had, and neither the copy of
+    /// then nor the one of now is at MaxAge at the moment, unless they have one age. It looks at
+    /// the edits since then. Another sequence number, checksum, age below MaxAge or other Options
+    /// don't count, nor does that a copy was sent.
     ///
     /// # Errors
     /// Where memory for the texts of LSAs, to compare them, is refused.
@@ -496,7 +503,8 @@ impl Lsdb {
 
     // The LSA takes the place of its copy; `installed` tells whether flooding brought it.
     fn put(&mut self, moment: Second, lsa: Lsa, installed: Option<Second>) -> Result<(), AllocError>
-        ensures ok { OnOk result (self.new.present ≡ put_copy moment lsa installed self.old.present) }
+        ensures ok { OnOk result (self.new.present ≡ put_copy moment lsa installed
+            self.old.present) }
         ensures settled { self.new.settled ≡ self.old.settled }
         ensures router { self.new.router ≡ self.old.router }
     {
@@ -529,7 +537,8 @@ impl Lsdb {
 
     /// This router originated the LSA at this moment (RFC 2328, section 12.4).
     pub fn install_originated(&mut self, moment: Second, lsa: Lsa) -> Result<(), AllocError>
-        ensures ok { OnOk result (self.new.present ≡ install_originated moment lsa self.old.present) }
+        ensures ok { OnOk result (self.new.present ≡ install_originated moment lsa
+            self.old.present) }
         ensures settled { self.new.settled ≡ self.old.settled }
         ensures router { self.new.router ≡ self.old.router }
     {

@@ -5,12 +5,12 @@ ghost use Rattle.lsa.specs.Text.{text};
 ghost use Rattle.lsdb.specs.Copies.{age_now, copy_header, copy_now, is_aged_out};
 ghost use Rattle.lsdb.specs.Headers.{lsa_aged};
 
-use crate::order::{Instance, MAX_AGE, age_at};
+use crate::order::{Instance, age_at};
 use crate::times::Times;
 use lsa::{Header, Lsa, write_at_age};
 use std::alloc::{AllocError, Global};
 use std::marker::Model;
-use words::{Second, Sequence};
+use words::{MAX_AGE, Second, Sequence};
 
 /// A copy of an LSA. Clauses see it as the database has it.
 #[derive(Drop)]

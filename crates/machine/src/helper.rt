@@ -1,19 +1,19 @@
 //! The functions that programs may call.
 use isa::Hook;
 
-/// A function that programs may call (RFC 9669, section 4.3.1). It takes its arguments from r1 on and
-/// answers in r0.
+/// A function that programs may call (RFC 9669, section 4.3.1). It takes its arguments from r1 on
+/// and answers in r0.
 #[derive(Clone, Copy, PartialEq, Eq, Debug)]
 pub enum Helper {
-    /// 1, at every hook: adds an amount below 2^24 to a counter below 256. Answers 0, or 1 where the
-    /// seat's additions are spent and nothing was added.
+    /// 1, at every hook: adds an amount below 2^24 to a counter below 256. Answers 0, or 1 where
+    /// the seat's additions are spent and nothing was added.
     CounterAdd,
     /// 2, at every hook: the number in a counter below 256.
     CounterRead,
     /// 3, at `count`: the byte of the packet at an offset, or 256 past its end.
     PacketByte,
-    /// 4, at `tag`, `price` and `veto`: the cost of the first row with exactly a prefix and a length, or
-    /// 2^32 where there is none.
+    /// 4, at `tag`, `price` and `veto`: the cost of the first row with exactly a prefix and a
+    /// length, or 2^32 where there is none.
     TableCost,
 }
 

@@ -1,9 +1,11 @@
 //! What a program is run on.
 use words::TableRow;
 
-/// What a program is run on. It lends the packet and the rows, so that asking a program takes no memory.
+/// What a program is run on. It lends the packet and the rows, so that asking a program takes no
+/// memory.
 ///
-/// It is of a hook where the first four bytes of the context, the lowest first, are the hook's number.
+/// It is of a hook where the first four bytes of the context, the lowest first, are the hook's
+/// number.
 #[derive(Clone, Copy, Debug)]
 pub struct Input<'a> {
     /// The bytes that r1 points to at the start; programs read them and never write them.

@@ -1,5 +1,9 @@
 //! Laws of the machine, each the contract of a function that does nothing.
-ghost use Rattle.machine.specs.Laws.{GoesOneWay, LeastFaultCounts, FaultIsUnique, AnswerIsUnique, LabelDeterminesNext, StatesGoOn, RunsGoOn, AddingEnds, FaultIgnoresInput, SafeRunsEnd, LabelsDetermineAnswer, EmptyExitIsUnsafe, ReadsAreOfRegisters, StepsLeadByCode, StepsWriteTheirTarget};
+ghost use Rattle.machine.specs.Laws.{GoesOneWay, LeastFaultCounts, FaultIsUnique, AnswerIsUnique};
+ghost use Rattle.machine.specs.Laws.{LabelDeterminesNext, StatesGoOn, RunsGoOn, AddingEnds};
+ghost use Rattle.machine.specs.Laws.{FaultIgnoresInput, SafeRunsEnd, LabelsDetermineAnswer};
+ghost use Rattle.machine.specs.Laws.{EmptyExitIsUnsafe, ReadsAreOfRegisters, StepsLeadByCode};
+ghost use Rattle.machine.specs.Laws.{StepsWriteTheirTarget};
 
 /// No state is two of these: able to step, at EXIT with an answer, stuck.
 pub fn a_state_goes_one_way()
@@ -16,8 +20,8 @@ pub fn a_run_goes_on_until_it_ends()
     ensures { RunsGoOn }
 {}
 
-/// Where the conditions of several faults hold, the fault with the least number counts, but at a call
-/// `Helper` before the others.
+/// Where the conditions of several faults hold, the fault with the least number counts, but at a
+/// call `Helper` before the others.
 pub fn the_least_fault_counts()
     ensures { LeastFaultCounts }
 {}

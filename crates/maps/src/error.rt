@@ -17,7 +17,8 @@ impl MapsError {
     ghost use Rattle.std.specs.Prelude.{◌≡◌};
     ghost use Rattle.maps.specs.Refusals.{number_of};
 
-    /// The number of the refusal, in the order in which they are tried: 1 for `Seats`, 2 for `Memory`.
+    /// The number of the refusal, in the order in which they are tried: 1 for `Seats`, 2 for
+    /// `Memory`.
     pub fn number(self) -> u8
         ensures { result ≡ number_of self }
     {

@@ -1,9 +1,11 @@
-//! The words that programs share while they run: counters that every seat adds to, and cells of each seat's own.
+//! The words that programs share while they run: counters that every seat adds to, and cells of
+//! each seat's own.
 //!
-//! A seat is the right to use the table from one thread. What it did stands in its list of accesses, which exists in
-//! contracts alone. Between any two steps of any seats: a counter is the sum of all seats' adds to it; a read finds at
-//! least what its seat knows of the counter; a cell is what its seat last stored there, or 0; a seat makes at most
-//! 2^31 adds, each of less than 2^24, so that no counter reaches 2^61.
+//! A seat is the right to use the table from one thread. What it did stands in its list of
+//! accesses, which exists in contracts alone. Between any two steps of any seats: a counter is the
+//! sum of all seats' adds to it; a read finds at least what its seat knows of the counter; a cell
+//! is what its seat last stored there, or 0; a seat makes at most 2^31 adds, each of less than
+//! 2^24, so that no counter reaches 2^61.
 #![tactic(auto)]
 
 mod access;

@@ -4,8 +4,8 @@ use std::marker::Model;
 
 /// The right to access a table from one thread at a time, with 64 cells of its own.
 ///
-/// It may go to another thread. Contracts see its table, its number and its accesses so far, the oldest first. A table
-/// one of whose seats was dropped can't be closed any more.
+/// It may go to another thread. Contracts see its table, its number and its accesses so far, the
+/// oldest first. A table one of whose seats was dropped can't be closed any more.
 #[derive(Drop)]
 pub struct Seat {
     pub(crate) number: usize,
@@ -20,7 +20,12 @@ impl Model for Seat {
 
     ghost Value = { SeatView };
 
-    ghost view = { λ s. record { table = s.place.table_id; number = s.number; accesses = own_list s.place.me.0 } };
+    ghost view = { λ s. record {
+      table = s.place.table_id;
+      number = s.number;
+      accesses = own_list
+          s.place.me.0;
+    } };
 
     ghost invariant = { λ s. IsSeated s.number s.adds s.place.table_id.words s.place.me };
 }

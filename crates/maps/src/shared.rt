@@ -1,5 +1,6 @@
 //! The table of shared words.
-ghost use Rattle.std.specs.Prelude.{◌≡◌, ℕ, ◌^◌, ◌<◌, ◌≤◌, ◌↔◌, ◌⊎◌, [], map, length, slice_index, IfOk, vec_len};
+ghost use Rattle.std.specs.Prelude.{◌≡◌, ℕ, ◌^◌, ◌<◌, ◌≤◌, ◌↔◌, ◌⊎◌, [], map, length, slice_index};
+ghost use Rattle.std.specs.Prelude.{IfOk, vec_len};
 ghost use Rattle.std.specs.List.{sum_by, All, range_with_len};
 ghost use Rattle.std.specs.Mem.Slots.{slots_items, slots_len, IsFull};
 ghost use mathlib.Core.Option.{some};
@@ -20,8 +21,9 @@ use std::marker::Model;
 
 /// The words of one table: 256 counters that all its seats share, and 64 cells for each seat.
 ///
-/// It is lent by `&` to any number of threads, each with a seat of its own. A call with a seat makes one atomic step
-/// on one word: it waits for nobody and takes no memory. Contracts see which table it is and how many seats it gave.
+/// It is lent by `&` to any number of threads, each with a seat of its own. A call with a seat
+/// makes one atomic step on one word: it waits for nobody and takes no memory. Contracts see which
+/// table it is and how many seats it gave.
 #[derive(Drop)]
 pub struct Shared {
     table: Table<(), View, usize, WordsRule, Global>,
@@ -38,16 +40,19 @@ impl Model for Shared {
 }
 
 impl Shared {
-    /// A table whose counters and cells are 0, and its seats in the order of their numbers, 0 to `count - 1`.
+    /// A table whose counters and cells are 0, and its seats in the order of their numbers, 0 to
+    /// `count - 1`.
     ///
     /// # Errors
     ///
-    /// `Seats` where `count` is 0 or above 64, which is tried first; `Memory` where an allocation is refused.
+    /// `Seats` where `count` is 0 or above 64, which is tried first; `Memory` where an allocation
+    /// is refused.
     pub fn new(alloc: Global, count: usize) -> Result<(Shared, Vec<Seat>), MapsError>
         ensures seats { (result ≡ Err MapsError.Seats) ↔ ((count ≡ 0) ⊎ (64 < count)) }
         ensures table { IfOk result (λ r. r.0.seats ≡ count) }
         ensures own { IfOk result (λ r. All (IsOf r.0) r.1.items) }
-        ensures fresh { IfOk result (λ r. r.1.items ≡ map (fresh r.0.table) (range_with_len 0 count)) }
+        ensures fresh { IfOk result (λ r. r.1.items ≡ map (fresh r.0.table)
+            (range_with_len 0 count)) }
     {
         if count == 0 || count > SEATS {
             return Err(MapsError::Seats);
@@ -58,12 +63,13 @@ impl Shared {
         Ok((Shared { table }, seats))
     }
 
-    /// Ends the table, whose seats are these in any order, and gives each counter's sum of their adds, which
-    /// is below 2^61.
+    /// Ends the table, whose seats are these in any order, and gives each counter's sum of their
+    /// adds, which is below 2^61.
     pub fn close(self, seats: Vec<Seat>) -> Totals
         requires all { length seats.items ≡ self.seats }
         requires table { All (IsOf self) seats.items }
-        ensures sums { (k : ℕ) → k < 256 → slice_index result.sums k ≡ sum_by (λ s. adds_to k s.accesses) seats.items }
+        ensures sums { (k : ℕ) → k < 256 → slice_index result.sums k
+            ≡ sum_by (λ s. adds_to k s.accesses) seats.items }
         ensures small { (k : ℕ) → k < 256 → slice_index result.sums k < 2 ^ 61 }
         ensures lists { All (λ s. IsLawful result.sums s.accesses) seats.items }
     {
@@ -77,14 +83,16 @@ impl Shared {
         totals
     }
 
-    /// Adds an amount below 2^24 to one of the 256 counters and answers 0, or takes no step and answers 1 where the
-    /// seat has made its 2^31 adds.
+    /// Adds an amount below 2^24 to one of the 256 counters and answers 0, or takes no step and
+    /// answers 1 where the seat has made its 2^31 adds.
     pub fn add(&self, seat: &mut Seat, index: usize, amount: u64) -> u64
         requires table { IsOf self.now seat.old }
         requires index { index < 256 }
         requires amount { amount < 2 ^ 24 }
-        ensures added { adds_made seat.old.accesses < 2 ^ 31 → (result ≡ 0) × (seat.new ≡ grown seat.old (Add index amount)) }
-        ensures spent { 2 ^ 31 ≤ adds_made seat.old.accesses → (result ≡ 1) × (seat.new ≡ seat.old) }
+        ensures added { adds_made seat.old.accesses < 2 ^ 31 → (result ≡ 0)
+            × (seat.new ≡ grown seat.old (Add index amount)) }
+        ensures spent { 2 ^ 31 ≤ adds_made seat.old.accesses → (result ≡ 1)
+            × (seat.new ≡ seat.old) }
     {
         if seat.adds >= ADDS {
             return 1;
@@ -95,8 +103,8 @@ impl Shared {
         0
     }
 
-    /// The number in one of the 256 counters. It is at least what the seat's own accesses say of it: what the seat
-    /// last read there and added since.
+    /// The number in one of the 256 counters. It is at least what the seat's own accesses say of
+    /// it: what the seat last read there and added since.
     pub fn read(&self, seat: &mut Seat, index: usize) -> u64
         requires table { IsOf self.now seat.old }
         requires index { index < 256 }
@@ -132,7 +140,8 @@ impl Shared {
 
 // Cuts the view of all lists into seats of one list each.
 fn deal(alloc: Global, words: &Top, mut all: Place, count: usize) -> Result<Vec<Seat>, AllocError>
-    requires table { (all.table_id ≡ words.now.table_id) × IsSized words.now.table_id count × (words.now.key ≡ count) }
+    requires table { (all.table_id ≡ words.now.table_id) × IsSized words.now.table_id count
+        × (words.now.key ≡ count) }
     requires view { all.me ≡ (blank_lists 0 count, []) }
     ensures { IfOk result (λ v. v.items ≡ map (fresh words.now.table_id) (range_with_len 0 count)) }
 {
@@ -169,7 +178,8 @@ fn gather(words: &Top, mut seats: Vec<Seat>) -> Place
 // The counters of a table that is closed.
 fn counters(closed: &Closed<(), Global>) -> [u64; COUNTERS]
     requires { (256 ≤ slots_len closed.now.words) × IsFull closed.now.words }
-    ensures { (k : ℕ) → k < 256 → get_elem? (slots_items closed.now.words) k ≡ some (slice_index result k) }
+    ensures { (k : ℕ) → k < 256 → get_elem? (slots_items closed.now.words) k
+        ≡ some (slice_index result k) }
 {
     let mut sums = [0; COUNTERS];
     for index in 0..COUNTERS {

@@ -4,38 +4,38 @@ use Rattle.std.specs.List.{list_all}
 use Rattle.std.specs.Prelude.{Option, None, Some}
 use Rattle.words.specs.declared.key.Key.{Key}
 use Rattle.lsdb.specs.Copies.{Database}
-use Rattle.adjacency.specs.Adjacencies.{mismatched}
+use Rattle.adjacency.specs.Adjacencies.{mismatch_step}
 use Rattle.adjacency.specs.Contents.{Step, Updates}
 use Rattle.adjacency.specs.Contents as neighbor
 use Rattle.adjacency.specs.Neighbors.{Neighbor, is_exchange_or_later}
-use Rattle.adjacency.specs.Steps.{after_request, answered, lsas_of}
+use Rattle.adjacency.specs.Steps.{after_request, answer_to_request, lsas_of}
 use Rattle.received.specs.Links.{Area, Link, neighbor_at, neighbor_on}
-use Rattle.received.specs.Outcomes.{numbered, one_neighbor, sending}
+use Rattle.received.specs.Outcomes.{sends_at, one_neighbor, sending}
 use Rattle.events.specs.Packets.{is_in_exchange, is_there, requested_from}
 use Rattle.flooding.specs.Links.{start, with_neighbor}
 use Rattle.neighbor_packets.proofs.OneLink.{leaves, link, link_is, one_neighbor_is, stays}
 use mathlib.Core.Bool.{false≢true}
 
 -- from Exchange on a Request counts
-counts : (moment : ℕ) (db : Database) (keys : List Key) (n : Neighbor) → is_exchange_or_later n.state ≡ true → after_request moment db keys n ≡ answered moment db keys n
+counts : (moment : ℕ) (db : Database) (keys : List Key) (n : Neighbor) → is_exchange_or_later n.state ≡ true → after_request moment db keys n ≡ answer_to_request moment db keys n
 unfolding after_request
-counts moment db keys n is = ap (λ b. cond b (answered moment db keys n) (record { neighbor = n; sends = [] })) is
+counts moment db keys n is = ap (λ b. cond b (answer_to_request moment db keys n) (record { neighbor = n; sends = [] })) is
 
 module _ (moment k : ℕ) (a : Area) (keys : List Key) (first : 1 ≤ k) (last : k ≤ length a.links) where
   -- what all there are says of the neighbor n
   answers_by : (n : Neighbor) (l : Link) → l ≡ link moment k a first last → l.neighbor ≡ Some n → (b : Bool)
       → leaves moment k a first last
-      (cond b (record { neighbor = n; sends = map Updates (lsas_of moment a.database keys) }) (mismatched moment n)).sends
-      (with_neighbor (Some (cond b (record { neighbor = n; sends = map Updates (lsas_of moment a.database keys) }) (mismatched moment n)).neighbor) l)
-      ≡ cond b (sending moment (numbered k (map Updates (lsas_of moment a.database keys))) (start a)) (one_neighbor moment k (mismatched moment) (start a))
+      (cond b (record { neighbor = n; sends = map Updates (lsas_of moment a.database keys) }) (mismatch_step moment n)).sends
+      (with_neighbor (Some (cond b (record { neighbor = n; sends = map Updates (lsas_of moment a.database keys) }) (mismatch_step moment n)).neighbor) l)
+      ≡ cond b (sending moment (sends_at k (map Updates (lsas_of moment a.database keys))) (start a)) (one_neighbor moment k (mismatch_step moment) (start a))
   answers_by n l same is true =
       ap (λ (o : Option Neighbor). leaves moment k a first last (map Updates (lsas_of moment a.database keys)) (with_neighbor o l)) (sym is)
       ∙ ap (leaves moment k a first last (map Updates (lsas_of moment a.database keys))) same
       ∙ stays moment k a first last (map Updates (lsas_of moment a.database keys))
   answers_by n l same is false =
-      ap (λ (o : Option Neighbor). leaves moment k a first last (neighbor.sent_on (mismatched moment) o) (with_neighbor (neighbor.step_on (mismatched moment) o) l)) (sym is)
-      ∙ ap (λ (m : Link). leaves moment k a first last (neighbor.sent_on (mismatched moment) m.neighbor) (with_neighbor (neighbor.step_on (mismatched moment) m.neighbor) m)) same
-      ∙ sym (one_neighbor_is moment k a first last (mismatched moment))
+      ap (λ (o : Option Neighbor). leaves moment k a first last (neighbor.sent_on (mismatch_step moment) o) (with_neighbor (neighbor.step_on (mismatch_step moment) o) l)) (sym is)
+      ∙ ap (λ (m : Link). leaves moment k a first last (neighbor.sent_on (mismatch_step moment) m.neighbor) (with_neighbor (neighbor.step_on (mismatch_step moment) m.neighbor) m)) same
+      ∙ sym (one_neighbor_is moment k a first last (mismatch_step moment))
 
   by_neighbor : (o : Option Neighbor) (l : Link) → l ≡ link moment k a first last → l.neighbor ≡ o → is_in_exchange o ≡ true
       → leaves moment k a first last (neighbor.sent_on (after_request moment a.database keys) o) (with_neighbor (neighbor.step_on (after_request moment a.database keys) o) l)

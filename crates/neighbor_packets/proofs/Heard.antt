@@ -6,7 +6,7 @@ use Rattle.packet.specs.declared.model.Hello.{Hello}
 use Rattle.adjacency.specs.Contents.{Content, Step}
 use Rattle.adjacency.specs.Drafts.{Drafted, drafting}
 use Rattle.adjacency.specs.Neighbors.{Neighbor}
-use Rattle.adjacency.specs.Steps.{named}
+use Rattle.adjacency.specs.Steps.{named_neighbor}
 use Rattle.adjacency.proofs.Floods.{drafting-none}
 use Rattle.received.specs.Links.{Area, Link}
 use Rattle.events.specs.Hellos.{accepts, may_be}
@@ -16,7 +16,7 @@ use Rattle.flooding.specs.Steps.{one_link}
 use Rattle.neighbor_packets.specs.Heard.{after_heard, heard, may_be_named, sent_heard}
 use Rattle.neighbor_packets.proofs.OneLink.{changes_one, leaves, link, link_is, one_link_is, stays}
 
-pub may_be_is : (o : Option Neighbor) (from : ℕ) → may_be_named (named o) from ≡ may_be o from
+pub may_be_is : (o : Option Neighbor) (from : ℕ) → may_be_named (named_neighbor o) from ≡ may_be o from
 may_be_is None from = refl
 may_be_is (Some n) from = refl
 

@@ -8,7 +8,7 @@ use Rattle.adjacency.specs.Contents.{Content, Step, no_sends}
 use Rattle.adjacency.specs.Contents as neighbor
 use Rattle.adjacency.specs.Neighbors.{Neighbor}
 use Rattle.received.specs.Links.{Area, Link, change_link, link_at}
-use Rattle.received.specs.Outcomes.{Outcome, numbered, one_neighbor, only_at, sending, sent_on, step_on, stepped, stepping_sends}
+use Rattle.received.specs.Outcomes.{Outcome, sends_at, one_neighbor, only_at, sending, sent_on, step_on, stepped_links, stepping_sends}
 use Rattle.flooding.specs.Links.{start, with_neighbor}
 use Rattle.flooding.specs.Steps.{one_link, sent_by}
 use Rattle.flooding.proofs.Only.{sends_only, set_only}
@@ -57,11 +57,11 @@ module _ (moment k : ℕ) (a : Area) (first : 1 ≤ k) (last : k ≤ length a.li
 
   -- this is sent at the interface, and this is the link then
   abbrev pub leaves : List Content → Link → Outcome
-  leaves cs l = sending moment (numbered k cs) (record { area = record { links = set a.links (k - 1) l; database = a.database }; sends = [] })
+  leaves cs l = sending moment (sends_at k cs) (record { area = record { links = set a.links (k - 1) l; database = a.database }; sends = [] })
 
-  pub stays : (cs : List Content) → leaves cs link ≡ sending moment (numbered k cs) (start a)
+  pub stays : (cs : List Content) → leaves cs link ≡ sending moment (sends_at k cs) (start a)
   stays cs =
-      ap (λ (ls : List Link). sending moment (numbered k cs) (record { area = record { links = ls; database = a.database }; sends = [] }))
+      ap (λ (ls : List Link). sending moment (sends_at k cs) (record { area = record { links = ls; database = a.database }; sends = [] }))
       (set-get_or a.links (k - 1) (first_of a.links some))
 
   changed : (change : Link → Link) → change_link k change a.links ≡ set a.links (k - 1) (change link)
@@ -72,19 +72,19 @@ module _ (moment k : ℕ) (a : Area) (first : 1 ≤ k) (last : k ≤ length a.li
 
   pub one_link_is : (A : Database → Link → Link) (S : Database → Link → List Content) → one_link moment k A S (start a) ≡ leaves (S a.database link) (A a.database link)
   one_link_is A S = λ i.
-      sending moment (numbered k (sent_by (S a.database) (link_is i))) (record { area = record { links = changed (A a.database) i; database = a.database }; sends = [] })
+      sending moment (sends_at k (sent_by (S a.database) (link_is i))) (record { area = record { links = changed (A a.database) i; database = a.database }; sends = [] })
 
-  step_links : (f : Neighbor → Step) → stepped (only_at k f) a.links ≡ set a.links (k - 1) (with_neighbor (neighbor.step_on f link.neighbor) link)
+  step_links : (f : Neighbor → Step) → stepped_links (only_at k f) a.links ≡ set a.links (k - 1) (with_neighbor (neighbor.step_on f link.neighbor) link)
   step_links f =
       let g : ℕ → Link → Link = λ p l. with_neighbor (step_on (only_at k f p l) l.neighbor) l in
       sym (set_only g k (λ p l ne. ap (λ o. with_neighbor o l) (step_rests f k p l l.neighbor ne)) (k - 1) 1 a.links (with_neighbor (neighbor.step_on f link.neighbor) link) (first_of a.links some)
       (omega (arith, first, last)) (omega (arith, first)) (ap (λ o. with_neighbor o link) (step_acts f k link link.neighbor)))
 
-  step_sends : (f : Neighbor → Step) → stepping_sends (only_at k f) a.links ≡ numbered k (neighbor.sent_on f link.neighbor)
+  step_sends : (f : Neighbor → Step) → stepping_sends (only_at k f) a.links ≡ sends_at k (neighbor.sent_on f link.neighbor)
   step_sends f =
       let S : ℕ → Link → List Content = λ p l. sent_on (only_at k f p l) l.neighbor in
       sends_only S k (λ p l ne. sent_rests f k p l l.neighbor ne) (k - 1) 1 a.links (first_of a.links some) (omega (arith, first, last)) (omega (arith, first))
-      ∙ ap (numbered k) (sym (sent_acts f k link link.neighbor))
+      ∙ ap (sends_at k) (sym (sent_acts f k link link.neighbor))
 
   pub one_neighbor_is : (f : Neighbor → Step) → one_neighbor moment k f (start a) ≡ leaves (neighbor.sent_on f link.neighbor) (with_neighbor (neighbor.step_on f link.neighbor) link)
   one_neighbor_is f = λ i.
@@ -98,6 +98,6 @@ module _ (moment k : ℕ) (a : Area) (first : 1 ≤ k) (last : k ≤ length a.li
 
   -- the changes of this one link
   pub changes_one : (change : Link → Link) (cs : List Content)
-      → leaves cs (change link) ≡ sending moment (numbered k cs) (record { area = record { links = change_link k change a.links; database = a.database }; sends = [] })
+      → leaves cs (change link) ≡ sending moment (sends_at k cs) (record { area = record { links = change_link k change a.links; database = a.database }; sends = [] })
   changes_one change cs =
-      ap (λ (ls : List Link). sending moment (numbered k cs) (record { area = record { links = ls; database = a.database }; sends = [] })) (sym (changed change))
+      ap (λ (ls : List Link). sending moment (sends_at k cs) (record { area = record { links = ls; database = a.database }; sends = [] })) (sym (changed change))

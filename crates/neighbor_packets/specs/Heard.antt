@@ -1,22 +1,14 @@
 -- What a Hello makes of the link that it came in at, and what is sent there.
-use Rattle.std.specs.Prelude.{Bool, true, not, ◌&&◌, ◌==◌, bit_and, if◌then◌else◌, List, [], Option}
+use Rattle.std.specs.Prelude.{Bool, true, ◌==◌, if◌then◌else◌, List, [], Option}
 use Rattle.std.specs.Prelude.{None, Some}
 use Rattle.words.specs.Numbers.{Moment, RouterNumber}
 use Rattle.packet.specs.declared.model.Hello.{Hello}
 use Rattle.adjacency.specs.Adjacencies.{after_hello}
 use Rattle.adjacency.specs.Contents.{Content, Step}
-use Rattle.adjacency.specs.declared.interface.Interface.{Interface}
 use Rattle.adjacency.specs.declared.state.State.{State}
 use Rattle.received.specs.Links.{Link}
 use Rattle.events.specs.Hellos.{accepts, names}
 use Rattle.flooding.specs.Links.{with_neighbor}
-
--- HelloInterval, RouterDeadInterval and the E bit are those of the interface
-abbrev pub agrees_on : Interface → Hello → Bool
-agrees_on interface h =
-    h.hello_interval == interface.hello_interval
-    && h.dead_interval == interface.dead_interval
-    && not (bit_and h.options 2 == 0)
 
 -- another router is heard only where the neighbor is Down
 abbrev pub may_be_named : Option (RouterNumber × State) → RouterNumber → Bool

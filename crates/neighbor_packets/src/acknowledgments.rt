@@ -1,7 +1,7 @@
 //! Received Link State Acknowledgments (RFC 2328, section 13.7).
 ghost use Rattle.std.specs.Prelude.{◌≡◌, ◌≤◌, OnOk, length};
 ghost use Rattle.events.specs.Packets.{acknowledged_by};
-ghost use Rattle.flooding.specs.Drafted.{drafted};
+ghost use Rattle.flooding.specs.Drafted.{drafts_with};
 ghost use Rattle.flooding.specs.Links.{start};
 
 use adjacency::Draft;
@@ -60,7 +60,7 @@ pub fn acknowledged(
     ensures ok { OnOk result (area.new.present
         ≡ (acknowledged_by moment number headers.now (start area.old.present)).area) }
     ensures drafts { OnOk result (drafts.new
-        ≡ drafted (acknowledged_by moment number headers.now (start area.old.present)).sends
+        ≡ drafts_with (acknowledged_by moment number headers.now (start area.old.present)).sends
         area.old.present.links drafts.old) }
     ensures settled { area.new.settled ≡ area.old.settled }
     ensures router { area.new.router ≡ area.old.router }

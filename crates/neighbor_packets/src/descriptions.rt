@@ -1,7 +1,7 @@
 //! Received Database Descriptions (RFC 2328, section 10.6).
 ghost use Rattle.std.specs.Prelude.{◌≡◌, ◌≤◌, OnOk, length};
 ghost use Rattle.events.specs.Packets.{describe_to};
-ghost use Rattle.flooding.specs.Drafted.{drafted};
+ghost use Rattle.flooding.specs.Drafted.{drafts_with};
 ghost use Rattle.flooding.specs.Links.{start};
 
 use adjacency::Draft;
@@ -72,7 +72,7 @@ pub fn describe(
         ≡ (describe_to own moment number description.now
         (start area.old.present)).area) }
     ensures drafts { OnOk result (drafts.new
-        ≡ drafted (describe_to own moment number description.now
+        ≡ drafts_with (describe_to own moment number description.now
         (start area.old.present)).sends area.old.present.links drafts.old) }
     ensures settled { area.new.settled ≡ area.old.settled }
     ensures router { area.new.router ≡ area.old.router }

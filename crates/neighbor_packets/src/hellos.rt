@@ -1,18 +1,18 @@
 //! Received Hellos (RFC 2328, section 10.5).
 ghost use Rattle.std.specs.Prelude.{◌≡◌, ◌≤◌, ◌==◌, OnOk, length};
 ghost use Rattle.std.specs.List.{list_any};
-ghost use Rattle.events.specs.Hellos.{accepts, agrees, is_foreign, may_be, names};
+ghost use Rattle.events.specs.Hellos.{accepts, agrees, agrees_on, is_foreign, may_be, names};
 ghost use Rattle.events.specs.Packets.{after_hello};
-ghost use Rattle.flooding.specs.Drafted.{drafted};
+ghost use Rattle.flooding.specs.Drafted.{drafts_with};
 ghost use Rattle.flooding.specs.Links.{start};
-ghost use Rattle.neighbor_packets.specs.Heard.{agrees_on, may_be_named};
+ghost use Rattle.neighbor_packets.specs.Heard.{may_be_named};
 
 use adjacency::{Draft, Interface, State};
 use flooding::{Area, Link, LinkStep};
 use lsdb::Lsdb;
 use packet::Hello;
 use std::alloc::{AllocError, Global};
-use words::{RouterId, Second};
+use words::{E_BIT, RouterId, Second};
 
 /// Tells whether a packet of the router `from` may be of a neighbor: it is of some router, and not
 /// of this one, `own` (RFC 2328, section 8.2).
@@ -27,7 +27,7 @@ fn agrees_on(interface: &Interface, hello: &Hello) -> bool
 {
     hello.hello_interval == interface.hello_interval
         && hello.dead_interval == interface.dead_interval
-        && hello.options & 2 != 0
+        && hello.options & E_BIT != 0
 }
 
 fn agrees(link: &Link, hello: &Hello) -> bool
@@ -137,7 +137,7 @@ pub fn hear(
         ≡ (after_hello own moment number from hello.now
         (start area.old.present)).area) }
     ensures drafts { OnOk result (drafts.new
-        ≡ drafted (after_hello own moment number from hello.now
+        ≡ drafts_with (after_hello own moment number from hello.now
         (start area.old.present)).sends area.old.present.links drafts.old) }
     ensures settled { area.new.settled ≡ area.old.settled }
     ensures router { area.new.router ≡ area.old.router }

@@ -2,7 +2,7 @@
 ghost use Rattle.std.specs.Prelude.{◌≡◌, ◌≤◌, OnOk, length, true};
 ghost use Rattle.received.specs.Links.{neighbor_at};
 ghost use Rattle.events.specs.Packets.{is_in_exchange, requested_from};
-ghost use Rattle.flooding.specs.Drafted.{drafted};
+ghost use Rattle.flooding.specs.Drafted.{drafts_with};
 ghost use Rattle.flooding.specs.Links.{start};
 
 use adjacency::Draft;
@@ -60,7 +60,7 @@ pub fn answer(
     ensures ok { OnOk result (area.new.present
         ≡ (requested_from moment number keys.now (start area.old.present)).area) }
     ensures drafts { OnOk result (drafts.new
-        ≡ drafted (requested_from moment number keys.now (start area.old.present)).sends
+        ≡ drafts_with (requested_from moment number keys.now (start area.old.present)).sends
         area.old.present.links drafts.old) }
     ensures settled { area.new.settled ≡ area.old.settled }
     ensures router { area.new.router ≡ area.old.router }

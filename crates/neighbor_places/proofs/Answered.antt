@@ -4,10 +4,10 @@ use mathlib.Core.Bool.{false≢true}
 use Rattle.std.specs.List.{list_all}
 use Rattle.words.specs.declared.key.Key.{Key}
 use Rattle.lsdb.specs.Copies.{Database}
-use Rattle.adjacency.specs.Adjacencies.{enter_exstart, mismatched}
+use Rattle.adjacency.specs.Adjacencies.{enter_exstart, mismatch_step}
 use Rattle.adjacency.specs.Contents.{Step, Updates, no_sends, sent_on, step_on}
 use Rattle.adjacency.specs.Neighbors.{Neighbor, is_exchange_or_later}
-use Rattle.adjacency.specs.Steps.{after_request, answered, any_exchange_or_later, is_there, lsas_of}
+use Rattle.adjacency.specs.Steps.{after_request, answer_to_request, any_exchange_or_later, is_there, lsas_of}
 
 -- nothing happens to no neighbor
 pub same_step : (F G : Neighbor → Step) (o : Option Neighbor) → ((n : Neighbor) → o ≡ Some n → F n ≡ G n) → step_on F o ≡ step_on G o
@@ -35,15 +35,15 @@ module _ (moment : ℕ) (db : Database) (keys : List Key) where
 
   rests : (n : Neighbor) → is_exchange_or_later n.state ≡ false → no_sends n ≡ after_request moment db keys n
   unfolding after_request
-  rests n is = sym (ap (λ b. cond b (answered moment db keys n) (no_sends n)) is)
+  rests n is = sym (ap (λ b. cond b (answer_to_request moment db keys n) (no_sends n)) is)
 
   answers : (n : Neighbor) → is_exchange_or_later n.state ≡ true → list_all (is_there db) keys ≡ true → sends_them n ≡ after_request moment db keys n
   unfolding after_request
-  answers n is all = sym (ap (λ b. cond b (answered moment db keys n) (no_sends n)) is ∙ ap (λ b. cond b (sends_them n) (mismatched moment n)) all)
+  answers n is all = sym (ap (λ b. cond b (answer_to_request moment db keys n) (no_sends n)) is ∙ ap (λ b. cond b (sends_them n) (mismatch_step moment n)) all)
 
   fails : (n : Neighbor) → is_exchange_or_later n.state ≡ true → list_all (is_there db) keys ≡ false → enter_exstart moment n ≡ after_request moment db keys n
   unfolding after_request
-  fails n is some = sym (ap (λ b. cond b (answered moment db keys n) (no_sends n)) is ∙ ap (λ b. cond b (sends_them n) (mismatched moment n)) some ∙ ap (λ b. cond b (enter_exstart moment n) (no_sends n)) is)
+  fails n is some = sym (ap (λ b. cond b (answer_to_request moment db keys n) (no_sends n)) is ∙ ap (λ b. cond b (sends_them n) (mismatch_step moment n)) some ∙ ap (λ b. cond b (enter_exstart moment n) (no_sends n)) is)
 
   module _ (o : Option Neighbor) where
     pub rests_on : any_exchange_or_later o ≡ false → o ≡ step_on (after_request moment db keys) o

@@ -5,9 +5,9 @@ use Rattle.lsdb.specs.Copies.{Database}
 use Rattle.packet.specs.declared.model.Description.{Description}
 use Rattle.adjacency.specs.declared.state.State.{State}
 use Rattle.adjacency.specs.declared.state.State.TheVariants.{Init, ExStart, Exchange, Loading, Full}
-use Rattle.adjacency.specs.Adjacencies.{enter_exstart, mismatched, two_way_received, two_way_received_in}
+use Rattle.adjacency.specs.Adjacencies.{enter_exstart, mismatch_step, two_way_received, two_way_received_in}
 use Rattle.adjacency.specs.Contents.{Content, Step, no_sends, sent_on, step_on, then_}
-use Rattle.adjacency.specs.Descriptions.{Verdict, accept, act, after_description, as_received, in_state, judge, knows_types, master_goes_on, negotiated, slave_replies, verdict_in, with_requests}
+use Rattle.adjacency.specs.Descriptions.{Verdict, accept, act, after_description, as_received, in_state, judge, knows_types, master_goes_on, negotiated_neighbor, slave_replies, verdict_in, with_requests}
 use Rattle.adjacency.specs.Drafts.{Drafted, drafting}
 use Rattle.adjacency.specs.Exchanges.{accepted, any_init, is_init, judged, judged_on, judging, proceeding, starts_over}
 use Rattle.adjacency.specs.Neighbors.{Neighbor, is_exchange_or_later}
@@ -55,19 +55,19 @@ module _ (own moment : ℕ) (db : Database) (d : Description) (n : Neighbor) whe
       cond w.is_master (master_goes_on moment d w) (slave_replies moment d w)
 
   accepts : (m : Neighbor) → knows_types d ≡ true → goes_on m ≡ accept moment db d m
-  accepts m is = sym (ap (λ b. cond b (goes_on m) (mismatched moment m)) is)
+  accepts m is = sym (ap (λ b. cond b (goes_on m) (mismatch_step moment m)) is)
 
-  refuses : (m : Neighbor) → knows_types d ≡ false → mismatched moment m ≡ accept moment db d m
-  refuses m is = sym (ap (λ b. cond b (goes_on m) (mismatched moment m)) is)
+  refuses : (m : Neighbor) → knows_types d ≡ false → mismatch_step moment m ≡ accept moment db d m
+  refuses m is = sym (ap (λ b. cond b (goes_on m) (mismatch_step moment m)) is)
 
-  mismatches : is_exchange_or_later n.state ≡ true → enter_exstart moment n ≡ mismatched moment n
+  mismatches : is_exchange_or_later n.state ≡ true → enter_exstart moment n ≡ mismatch_step moment n
   mismatches is = sym (ap (λ b. cond b (enter_exstart moment n) (no_sends n)) is)
 
   over : (v : Verdict) → (is_late v ≡ true → is_exchange_or_later n.state ≡ true) → starts_over v d ≡ true → enter_exstart moment n ≡ act v moment db d n
   unfolding is_late
   over Verdict.Discarded late is = absurd (false≢true is)
-  over Verdict.NegotiatedAsSlave late is = refuses (negotiated false d.sequence moment db n) (unknown (knows_types d) is)
-  over Verdict.NegotiatedAsMaster late is = refuses (negotiated true n.sequence moment db n) (unknown (knows_types d) is)
+  over Verdict.NegotiatedAsSlave late is = refuses (negotiated_neighbor false d.sequence moment db n) (unknown (knows_types d) is)
+  over Verdict.NegotiatedAsMaster late is = refuses (negotiated_neighbor true n.sequence moment db n) (unknown (knows_types d) is)
   over Verdict.Repeated late is = absurd (false≢true is)
   over Verdict.Accepted late is = mismatches (late refl) ∙ refuses n (unknown (knows_types d) is)
   over Verdict.Mismatch late is = mismatches (late refl)
@@ -75,8 +75,8 @@ module _ (own moment : ℕ) (db : Database) (d : Description) (n : Neighbor) whe
   on : (v : Verdict) → starts_over v d ≡ false → proceeding v moment db d n ≡ act v moment db d n
   unfolding proceeding accepted
   on Verdict.Discarded is = refl
-  on Verdict.NegotiatedAsSlave is = accepts (negotiated false d.sequence moment db n) (known (knows_types d) is)
-  on Verdict.NegotiatedAsMaster is = accepts (negotiated true n.sequence moment db n) (known (knows_types d) is)
+  on Verdict.NegotiatedAsSlave is = accepts (negotiated_neighbor false d.sequence moment db n) (known (knows_types d) is)
+  on Verdict.NegotiatedAsMaster is = accepts (negotiated_neighbor true n.sequence moment db n) (known (knows_types d) is)
   on Verdict.Repeated is = refl
   on Verdict.Accepted is = accepts n (known (knows_types d) is)
   on Verdict.Mismatch is = absurd (false≢true (sym is))

@@ -7,7 +7,7 @@ ghost use Rattle.adjacency.specs.Drafts.{drafting};
 ghost use Rattle.adjacency.specs.Floods.{flooded, is_any};
 ghost use Rattle.adjacency.specs.Requests.{request_next};
 ghost use Rattle.adjacency.specs.Retransmissions.{after_acknowledgment};
-ghost use Rattle.adjacency.specs.Steps.{any_exchange_or_later, heard, named};
+ghost use Rattle.adjacency.specs.Steps.{any_exchange_or_later, heard, named_neighbor};
 ghost use Rattle.adjacency.specs.Views.{begins, begun, present_of};
 
 mod descriptions;
@@ -118,7 +118,7 @@ impl Place {
 
     /// The neighbor's Router ID and its state, unless it is Down.
     pub fn neighbor(&self) -> Option<(RouterId, State)>
-        ensures { result ≡ named self.now.present }
+        ensures { result ≡ named_neighbor self.now.present }
     {
         let Some(neighbor) = &self.neighbor else {
             return None;

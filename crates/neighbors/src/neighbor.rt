@@ -12,7 +12,8 @@ ghost use Rattle.adjacency.specs.Floods.{flooded, flooded_in_exchange, is_any, m
 ghost use Rattle.adjacency.specs.Floods.{request_of, without_met_request};
 ghost use Rattle.adjacency.specs.Neighbors.{fresh, is_exchange_or_loading, is_exchange_or_later};
 ghost use Rattle.adjacency.specs.Requests.{without_request};
-ghost use Rattle.adjacency.specs.Retransmissions.{acknowledged, after_acknowledgment, is_entry};
+ghost use Rattle.adjacency.specs.Retransmissions.{acknowledged_neighbor, after_acknowledgment};
+ghost use Rattle.adjacency.specs.Retransmissions.{is_entry};
 ghost use Rattle.adjacency.specs.Retransmissions.{add_retransmission, remove_retransmission};
 
 mod copying;
@@ -31,7 +32,7 @@ use packet::Description;
 use std::alloc::{AllocError, Global};
 use std::cmp::Ordering;
 use std::marker::Model;
-use words::{RouterId, Second, Sequence};
+use words::{E_BIT, RouterId, Second, Sequence};
 
 /// A neighbor (RFC 2328, section 10), and what it was when it was last settled.
 #[derive(Drop)]
@@ -142,7 +143,7 @@ pub fn initial_description(alloc: Global, sequence: u32) -> Description
 {
     Description {
         mtu: 8192,
-        options: 2,
+        options: E_BIT,
         init: true,
         more: true,
         master: true,
@@ -377,7 +378,7 @@ impl Neighbor {
     // The same instance alone is taken off the retransmission list.
     fn acknowledge(&mut self, moment: Second, header: &Header) -> Result<(), AllocError>
         ensures ok { OnOk result (self.new.present
-            ≡ acknowledged moment self.old.present header.now) }
+            ≡ acknowledged_neighbor moment self.old.present header.now) }
         ensures settled { self.new.settled ≡ self.old.settled }
     {
         let entry = self.entry(header);

@@ -6,8 +6,9 @@ ghost use Rattle.object.specs.Refusals.{error_number};
 use std::alloc::{AllocError, AllocFailed};
 use thiserror::Error;
 
-/// Why bytes are no object file: the first that holds, in the order of the tests. These are: `Short` for the header, `Magic`, `Version`,
-/// `Hook`, `Field` for the number of slots, `Short` for the rest, `Trailing`, and then for each statement in turn `Order` and `Field`.
+/// Why bytes are no object file: the first that holds, in the order of the tests. These are:
+/// `Short` for the header, `Magic`, `Version`, `Hook`, `Field` for the number of slots, `Short` for
+/// the rest, `Trailing`, and then for each statement in turn `Order` and `Field`.
 #[derive(Clone, Copy, Debug, PartialEq, Eq, Error)]
 pub enum ReadError {
     /// Fewer than 16 bytes, or fewer than the header announces.

@@ -21,7 +21,8 @@ pub enum Kind {
 impl Kind {
     ghost use Rattle.object.specs.Statements.{IsKind};
 
-    /// Says that each part is in its range, as the parts' types keep it. It does nothing when the program runs.
+    /// Says that each part is in its range, as the parts' types keep it. It does nothing when the
+    /// program runs.
     pub fn check_ranges(&self)
         ensures { IsKind self.now }
     {

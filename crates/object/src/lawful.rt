@@ -4,7 +4,8 @@ ghost use Rattle.object.specs.declared.kind.Kind.{Kind};
 ghost use Rattle.object.specs.declared.rank.Rank.{Rank};
 ghost use Rattle.object.specs.Numbers.{Term};
 ghost use Rattle.object.specs.Statements.{IsKind, IsRank, IsTermOrNone};
-ghost use Rattle.object.specs.Spelling.{fields_of_kind, fields_of_rank, term_coefficient, term_register};
+ghost use Rattle.object.specs.Spelling.{fields_of_kind, fields_of_rank, term_coefficient};
+ghost use Rattle.object.specs.Spelling.{term_register};
 
 use crate::fields::{RankFields, RegisterFields};
 use crate::kind::Kind;
@@ -15,7 +16,8 @@ use isa::Map;
 
 /// Tells whether the numbers that only a number or a map value has are zero.
 fn has_no_numbers(fields: RegisterFields) -> bool
-    ensures { IsTrue result ↔ ((fields.low ≡ 0) × (fields.high ≡ 0) × (fields.mask ≡ 0) × (fields.value ≡ 0)) }
+    ensures { IsTrue result ↔ ((fields.low ≡ 0) × (fields.high ≡ 0) × (fields.mask ≡ 0)
+        × (fields.value ≡ 0)) }
 {
     fields.low == 0 && fields.high == 0 && fields.mask == 0 && fields.value == 0
 }
@@ -119,11 +121,13 @@ pub fn kind_of(fields: RegisterFields) -> Option<Kind>
     }
 }
 
-/// The term of a register and a coefficient: none where both are zero. None of them where the coefficient is zero and the register isn't,
-/// or where the register is above 9.
+/// The term of a register and a coefficient: none where both are zero. None of them where the
+/// coefficient is zero and the register isn't, or where the register is above 9.
 fn term_of(register: u8, coefficient: u32) -> Option<Option<RankTerm>>
-    ensures found { IfSome result (λ term. (term_register term ≡ register) × (term_coefficient term ≡ coefficient)) }
-    ensures only { (term : Option Term) → IsTermOrNone term → term_register term ≡ register → term_coefficient term ≡ coefficient → result ≡ Some term }
+    ensures found { IfSome result (λ term. (term_register term ≡ register)
+        × (term_coefficient term ≡ coefficient)) }
+    ensures only { (term : Option Term) → IsTermOrNone term → term_register term ≡ register
+        → term_coefficient term ≡ coefficient → result ≡ Some term }
 {
     if coefficient == 0 {
         return if register == 0 { Some(None) } else { None };
@@ -134,10 +138,12 @@ fn term_of(register: u8, coefficient: u32) -> Option<Option<RankTerm>>
     Some(Some(term))
 }
 
-/// The rank that these numbers state, if they are lawful. Whether its registers are stated as numbers isn't tested here.
+/// The rank that these numbers state, if they are lawful. Whether its registers are stated as
+/// numbers isn't tested here.
 pub fn rank_of(fields: RankFields) -> Option<Rank>
     ensures found { IfSome result (λ rank. fields_of_rank fields.slot rank ≡ fields) }
-    ensures only { (rank : Rank) → IsRank rank → fields_of_rank fields.slot rank ≡ fields → result ≡ Some rank }
+    ensures only { (rank : Rank) → IsRank rank → fields_of_rank fields.slot rank ≡ fields
+        → result ≡ Some rank }
 {
     if fields.unused != 0 {
         return None;

@@ -1,4 +1,5 @@
-//! Laws of object files. Each function does nothing: what it ensures holds for all bytes and all objects.
+//! Laws of object files. Each function does nothing: what it ensures holds for all bytes and all
+//! objects.
 ghost use Rattle.std.specs.Prelude.{◌≡◌, ℕ, List};
 ghost use Rattle.object.specs.Objects.{ObjectParts};
 ghost use Rattle.object.specs.Spelling.{Spells};

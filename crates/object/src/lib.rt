@@ -1,4 +1,5 @@
-//! Object files: a program's code with what is stated at some of its slots, as bytes and as a type that holds no ill-formed one.
+//! Object files: a program's code with what is stated at some of its slots, as bytes and as a type
+//! that holds no ill-formed one.
 #![tactic(auto)]
 
 mod error;

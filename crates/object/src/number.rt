@@ -4,8 +4,8 @@ ghost use Rattle.object.specs.Numbers.{Numbers, IsNumbers};
 
 use std::marker::Model;
 
-/// The numbers from `low` to `high` whose bits under `mask` are those of `value`. The range isn't turned round, and `value` has no bit
-/// outside `mask`. Clauses see the record of all four.
+/// The numbers from `low` to `high` whose bits under `mask` are those of `value`. The range isn't
+/// turned round, and `value` has no bit outside `mask`. Clauses see the record of all four.
 #[derive(Clone, Copy, PartialEq, Eq, Debug)]
 pub struct StatedNumber {
     low: u64,
@@ -21,16 +21,25 @@ impl Model for StatedNumber {
 
     ghost view = { λ n. record { low = n.low; high = n.high; mask = n.mask; value = n.value } };
 
-    ghost invariant = { λ n. IsNumbers (record { low = n.low; high = n.high; mask = n.mask; value = n.value }) };
+    ghost invariant = { λ n. IsNumbers (record {
+      low = n.low;
+      high = n.high;
+      mask = n.mask;
+      value =
+          n.value;
+    }) };
 
     ghost inverse = { λ n. record { low = n.low; high = n.high; mask = n.mask; value = n.value } };
 }
 
 impl StatedNumber {
-    /// The numbers from `low` to `high` with these known bits. None where `low` is above `high`, or where `value` has a bit outside `mask`.
+    /// The numbers from `low` to `high` with these known bits. None where `low` is above `high`, or
+    /// where `value` has a bit outside `mask`.
     pub fn new(low: u64, high: u64, mask: u64, value: u64) -> Option<StatedNumber>
-        ensures some { IsSome result ↔ IsNumbers (record { low = low; high = high; mask = mask; value = value }) }
-        ensures value { IfSome result (λ numbers. numbers ≡ record { low = low; high = high; mask = mask; value = value }) }
+        ensures some { IsSome result
+            ↔ IsNumbers (record { low = low; high = high; mask = mask; value = value }) }
+        ensures value { IfSome result (λ numbers. numbers
+            ≡ record { low = low; high = high; mask = mask; value = value }) }
     {
         if high < low || value & mask != value {
             return None;

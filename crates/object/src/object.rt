@@ -6,8 +6,9 @@ use crate::statement::Statement;
 use isa::{Hook, MOST_SLOTS};
 use std::marker::Model;
 
-/// A program as a file has it: 1 to 4096 slots of code, which isn't decoded here, and statements at some of them in the order of their
-/// slots. Clauses see the record of its parts, the code as its bytes.
+/// A program as a file has it: 1 to 4096 slots of code, which isn't decoded here, and statements at
+/// some of them in the order of their slots. Clauses see the record of its parts, the code as its
+/// bytes.
 #[derive(Debug, Drop)]
 pub struct Object {
     hook: Hook,
@@ -21,9 +22,20 @@ impl Model for Object {
 
     ghost Value = { ObjectParts };
 
-    ghost view = { λ o. record { hook = o.hook; entry_rank = o.entry_rank; code = o.code.items; statements = o.statements.items } };
+    ghost view = { λ o. record {
+      hook = o.hook;
+      entry_rank = o.entry_rank;
+      code = o.code.items;
+      statements = o.statements.items;
+    } };
 
-    ghost invariant = { λ o. IsObject (record { hook = o.hook; entry_rank = o.entry_rank; code = o.code.items; statements = o.statements.items }) };
+    ghost invariant = { λ o. IsObject (record {
+      hook = o.hook;
+      entry_rank = o.entry_rank;
+      code =
+          o.code.items;
+      statements = o.statements.items;
+    }) };
 }
 
 /// Tells whether the statements' slots ascend and lie below this one.
@@ -43,16 +55,29 @@ fn are_in_order(statements: &[Statement], slots: usize) -> bool
 }
 
 impl Object {
-    /// An object of these parts. None where the code isn't 1 to 4096 whole slots, or where the statements' slots don't ascend or aren't
-    /// in the code.
+    /// An object of these parts. None where the code isn't 1 to 4096 whole slots, or where the
+    /// statements' slots don't ascend or aren't in the code.
     pub fn new(
         hook: Hook,
         entry_rank: u32,
         code: Vec<u8>,
         statements: Vec<Statement>,
     ) -> Option<Object>
-        ensures some { IsSome result ↔ IsObject (record { hook = hook; entry_rank = entry_rank; code = code.items; statements = statements.items }) }
-        ensures value { IfSome result (λ o. o ≡ record { hook = hook; entry_rank = entry_rank; code = code.items; statements = statements.items }) }
+        ensures some { IsSome result
+            ↔ IsObject (record {
+              hook = hook;
+              entry_rank = entry_rank;
+              code = code.items;
+              statements
+                  = statements.items;
+            }) }
+        ensures value { IfSome result (λ o. o ≡ record {
+          hook = hook;
+          entry_rank = entry_rank;
+          code
+              = code.items;
+          statements = statements.items;
+        }) }
     {
         let slots = code.len() / 8;
         if code.len() % 8 != 0 || slots == 0 || slots > MOST_SLOTS {
@@ -75,8 +100,18 @@ impl Object {
         code: Vec<u8>,
         statements: Vec<Statement>,
     ) -> Object
-        requires { IsObject (record { hook = hook; entry_rank = entry_rank; code = code.items; statements = statements.items }) }
-        ensures { result ≡ record { hook = hook; entry_rank = entry_rank; code = code.items; statements = statements.items } }
+        requires { IsObject (record {
+          hook = hook;
+          entry_rank = entry_rank;
+          code = code.items;
+          statements = statements.items;
+        }) }
+        ensures { result ≡ record {
+          hook = hook;
+          entry_rank = entry_rank;
+          code = code.items;
+          statements = statements.items;
+        } }
     {
         Object {
             hook,
@@ -94,7 +129,8 @@ impl Object {
         self.hook
     }
 
-    /// The rank with which the program begins: how often it may jump back, where each statement says less.
+    /// The rank with which the program begins: how often it may jump back, where each statement
+    /// says less.
     pub fn entry_rank(&self) -> u32
         ensures value { result ≡ self.now.entry_rank }
         ensures is_object { IsObject self.now }

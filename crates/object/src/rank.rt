@@ -24,10 +24,16 @@ impl Model for RankTerm {
 }
 
 impl RankTerm {
-    /// The register of this number times the coefficient. None for a register above 9 or a coefficient of 0.
+    /// The register of this number times the coefficient. None for a register above 9 or a
+    /// coefficient of 0.
     pub fn new(register: u8, coefficient: u32) -> Option<RankTerm>
-        ensures some { IsSome result ↔ IsTerm (record { register = register; coefficient = coefficient }) }
-        ensures value { IfSome result (λ term. term ≡ record { register = register; coefficient = coefficient }) }
+        ensures some { IsSome result
+            ↔ IsTerm (record { register = register; coefficient = coefficient }) }
+        ensures value { IfSome result (λ term. term ≡ record {
+          register = register;
+          coefficient =
+              coefficient;
+        }) }
     {
         if register > 9 || coefficient == 0 {
             return None;

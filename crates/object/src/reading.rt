@@ -1,5 +1,6 @@
 //! From bytes to objects.
-ghost use Rattle.std.specs.Prelude.{◌≡◌, ◌+◌, ◌*◌, ◌≤◌, ◌<◌, ◌^◌, ◌↔◌, List, length, take, drop, MatchResult, IfErr, IfOk, IfSome, IsTrue, Some};
+ghost use Rattle.std.specs.Prelude.{◌≡◌, ◌+◌, ◌*◌, ◌≤◌, ◌<◌, ◌^◌, ◌↔◌, List, length, take, drop};
+ghost use Rattle.std.specs.Prelude.{MatchResult, IfErr, IfOk, IfSome, IsTrue, Some};
 ghost use Rattle.std.specs.Int.{w32, from_le_bytes};
 ghost use Rattle.std.specs.List.{All, flat_map};
 ghost use Rattle.isa.specs.Hooks.{hook_number};
@@ -33,7 +34,8 @@ fn kind(bytes: &[u8]) -> Option<Kind>
 fn kinds(bytes: &[u8]) -> Option<[Kind; 10]>
     requires { length bytes.now ≡ 400 }
     ensures found { IfSome result (λ kinds. flat_map kind_text kinds ≡ bytes.now) }
-    ensures only { (kinds : List Kind) → All IsKind kinds → length kinds ≡ 10 → flat_map kind_text kinds ≡ bytes.now → result ≡ Some kinds }
+    ensures only { (kinds : List Kind) → All IsKind kinds → length kinds ≡ 10
+        → flat_map kind_text kinds ≡ bytes.now → result ≡ Some kinds }
 {
     let mut kinds = [Kind::Empty; 10];
     for register in 0..10 {
@@ -49,7 +51,8 @@ fn kinds(bytes: &[u8]) -> Option<[Kind; 10]>
 fn statement(bytes: &[u8]) -> Option<Statement>
     requires { length bytes.now ≡ 484 }
     ensures found { IfSome result (λ s. (statement_text s ≡ bytes.now) × IsStatement s) }
-    ensures only { (s : StatementParts) → IsStatement s → statement_text s ≡ bytes.now → result ≡ Some s }
+    ensures only { (s : StatementParts) → IsStatement s → statement_text s ≡ bytes.now
+        → result ≡ Some s }
 {
     let fields = RankFields::read(&bytes[..20]);
     let Some(rank) = rank_of(fields) else {
@@ -76,7 +79,8 @@ fn slot_of(bytes: &[u8]) -> u32
     u32_at(bytes, 0)
 }
 
-/// The statement with this index, if it is one and its slot is in its place: not below `least`, and in code of so many slots.
+/// The statement with this index, if it is one and its slot is in its place: not below `least`, and
+/// in code of so many slots.
 fn statement_at(
     bytes: &[u8],
     index: usize,
@@ -84,7 +88,8 @@ fn statement_at(
     slots: usize,
 ) -> Result<Statement, ReadError>
     requires { 484 * index + 484 ≤ length bytes.now }
-    ensures spelled { IfOk result (λ s. (statement_text s ≡ take 484 (drop (484 * index) bytes.now)) × IsStatement s) }
+    ensures spelled { IfOk result (λ s. (statement_text s ≡ take 484 (drop (484 * index) bytes.now))
+        × IsStatement s) }
     ensures ordered { IfOk result (λ s. (least ≤ s.slot) × (s.slot < slots)) }
     ensures why { IfErr result (λ e. Fails least slots (drop (484 * index) bytes.now) e) }
 {
@@ -99,7 +104,8 @@ fn statement_at(
     }
 }
 
-/// What is told of so many statements where memory ran out: the first one that fails, and want of memory only where none does.
+/// What is told of so many statements where memory ran out: the first one that fails, and want of
+/// memory only where none does.
 fn want_of_memory(bytes: &[u8], count: usize, slots: usize) -> ReadError
     requires size { length bytes.now ≡ 484 * count }
     requires most { slots < 2 ^ 32 }
@@ -155,7 +161,8 @@ fn has_magic(bytes: &[u8]) -> bool
 
 /// The hook and the fields of a header that is lawful up to the number of slots.
 fn header(bytes: &[u8]) -> Result<(Hook, HeaderFields), ReadError>
-    ensures found { IfOk result (λ header. AreFieldsOf bytes.now header.1 × (hook_number header.0 ≡ header.1.hook)) }
+    ensures found { IfOk result (λ header. AreFieldsOf bytes.now header.1
+        × (hook_number header.0 ≡ header.1.hook)) }
     ensures why { IfErr result (λ e. Refuses bytes.now e) }
 {
     if bytes.len() < 16 {
@@ -209,7 +216,8 @@ pub fn read(alloc: Global, bytes: &[u8]) -> Result<Object, ReadError>
     // What is read is spelled so.
     ensures found { IfOk result (λ object. Spells bytes.now object) }
     // What is spelled so is read, unless memory runs out.
-    ensures only { (object : ObjectParts) → Spells bytes.now object → MatchResult result (λ found. found ≡ object) (λ e. e ≡ Memory) }
+    ensures only { (object : ObjectParts) → Spells bytes.now object
+        → MatchResult result (λ found. found ≡ object) (λ e. e ≡ Memory) }
     // Which refusal it is; memory ran out only where the bytes spell an object.
     ensures why { IfErr result (λ e. Refuses bytes.now e) }
 {

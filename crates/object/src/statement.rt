@@ -1,15 +1,16 @@
 //! Statements: what holds at a slot of the code whenever the program comes there.
 ghost use Rattle.std.specs.Prelude.{◌≡◌, ◌↔◌, length, IfSome, IsSome, IsTrue};
 ghost use Rattle.std.specs.List.{All};
-ghost use Rattle.object.specs.Statements.{IsKind, IsRankOver, IsStatement, IsTermOrNone, IsTermOver, StatementParts};
+ghost use Rattle.object.specs.Statements.{IsKind, IsRankOver, IsStatement, IsTermOrNone};
+ghost use Rattle.object.specs.Statements.{IsTermOver, StatementParts};
 
 use crate::kind::Kind;
 use crate::rank::{Rank, RankTerm};
 use crate::stack::StackBytes;
 use std::marker::Model;
 
-/// What is stated at a slot: what r0 to r9 hold, which stack bytes hold bytes, and the rank, over registers that are stated as numbers.
-/// Clauses see the record of all four.
+/// What is stated at a slot: what r0 to r9 hold, which stack bytes hold bytes, and the rank, over
+/// registers that are stated as numbers. Clauses see the record of all four.
 #[derive(Clone, Copy, PartialEq, Eq, Debug)]
 pub struct Statement {
     slot: u32,
@@ -25,7 +26,12 @@ impl Model for Statement {
 
     ghost view = { λ s. record { slot = s.slot; rank = s.rank; kinds = s.kinds; stack = s.stack } };
 
-    ghost invariant = { λ s. IsStatement (record { slot = s.slot; rank = s.rank; kinds = s.kinds; stack = s.stack }) };
+    ghost invariant = { λ s. IsStatement (record {
+      slot = s.slot;
+      rank = s.rank;
+      kinds = s.kinds;
+      stack = s.stack;
+    }) };
 
     ghost inverse = { λ s. record { slot = s.slot; rank = s.rank; kinds = s.kinds; stack = s.stack } };
 }
@@ -52,10 +58,16 @@ fn is_term_over(kinds: &[Kind], term: Option<RankTerm>) -> bool
 }
 
 impl Statement {
-    /// What is stated at a slot. None where a term of the rank is of a register that isn't stated as a number.
+    /// What is stated at a slot. None where a term of the rank is of a register that isn't stated
+    /// as a number.
     pub fn new(slot: u32, rank: Rank, kinds: [Kind; 10], stack: StackBytes) -> Option<Statement>
         ensures some { IsSome result ↔ IsRankOver kinds rank }
-        ensures value { IfSome result (λ s. s ≡ record { slot = slot; rank = rank; kinds = kinds; stack = stack }) }
+        ensures value { IfSome result (λ s. s ≡ record {
+          slot = slot;
+          rank = rank;
+          kinds = kinds;
+          stack = stack;
+        }) }
     {
         check_kinds(&kinds);
         let _is_set = stack.contains(0);

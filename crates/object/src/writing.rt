@@ -1,7 +1,10 @@
 //! From objects to bytes.
 ghost use Rattle.std.specs.Prelude.{◌≡◌, ◌++◌, IfOk, OnOk};
 ghost use Rattle.std.specs.List.{flat_map};
-ghost use Rattle.object.specs.Spelling.{Spells, fields_of_kind, fields_of_rank, fields_of_header, header_bytes, kind_text, magic, no_numbers, register_fields, statement_text, term_coefficient, term_register};
+ghost use Rattle.object.specs.Spelling.{Spells, fields_of_kind, fields_of_rank, fields_of_header};
+ghost use Rattle.object.specs.Spelling.{header_bytes, kind_text, magic, no_numbers};
+ghost use Rattle.object.specs.Spelling.{register_fields, statement_text, term_coefficient};
+ghost use Rattle.object.specs.Spelling.{term_register};
 
 use crate::fields::{HeaderFields, RankFields, RegisterFields};
 use crate::kind::Kind;
@@ -116,7 +119,8 @@ fn put_statement(out: &mut Vec<u8>, statement: &Statement) -> Result<(), AllocEr
 
 /// Adds the texts of statements.
 fn put_statements(out: &mut Vec<u8>, statements: &[Statement]) -> Result<(), AllocError>
-    ensures { OnOk result (out.new.items ≡ out.old.items ++ flat_map statement_text statements.now) }
+    ensures { OnOk result (out.new.items ≡ out.old.items
+        ++ flat_map statement_text statements.now) }
 {
     for statement in statements {
         put_statement(out, statement)?;
@@ -127,7 +131,8 @@ fn put_statements(out: &mut Vec<u8>, statements: &[Statement]) -> Result<(), All
 /// Adds the header and the code.
 #[tactic(auto, using(crate::proofs::Texts::three_parts))]
 fn put_front(out: &mut Vec<u8>, object: &Object) -> Result<(), AllocError>
-    ensures { OnOk result (out.new.items ≡ out.old.items ++ (magic ++ header_bytes (fields_of_header object.now) ++ object.now.code)) }
+    ensures { OnOk result (out.new.items ≡ out.old.items
+        ++ (magic ++ header_bytes (fields_of_header object.now) ++ object.now.code)) }
 {
     out.extend_from_slice(&[0x42, 0x50, 0x46, 0x48])?;
     let header = HeaderFields {

@@ -8,8 +8,8 @@ use verifier::BUDGET;
 /// For how many instructions a program runs at most.
 #[derive(Clone, Copy, PartialEq, Eq, Debug)]
 pub enum Limit {
-    /// As many as its object allows: as many as there are slots, once and once more for each rank below the entry's, and at most
-    /// 1,000,000.
+    /// As many as its object allows: as many as there are slots, once and once more for each rank
+    /// below the entry's, and at most 1,000,000.
     Own,
     /// This many.
     Instructions(u64),

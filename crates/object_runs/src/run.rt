@@ -12,13 +12,14 @@ use machine::Input;
 use maps::{Seat, Shared};
 use std::alloc::Global;
 
-/// Runs the program of the object file that these bytes are once, at its hook and on this input, for at most so many instructions. The
-/// answer is what the machine's run of its code came to, and the seat has made just the steps of that run.
+/// Runs the program of the object file that these bytes are once, at its hook and on this input,
+/// for at most so many instructions. The answer is what the machine's run of its code came to, and
+/// the seat has made just the steps of that run.
 ///
 /// # Errors
 ///
-/// Where the bytes are no object file or its code doesn't decode; and where memory is refused, which either part tells. The seat is then
-/// as before.
+/// Where the bytes are no object file or its code doesn't decode; and where memory is refused,
+/// which either part tells. The seat is then as before.
 pub fn run_object(
     alloc: Global,
     bytes: &[u8],
@@ -28,7 +29,8 @@ pub fn run_object(
     seat: &mut Seat,
 ) -> Result<Result<Run, Trap>, RunError>
     requires { IsOf shared.now seat.old }
-    ensures runs { IfOk result (λ outcome. RunsObject bytes.now limit (given_by input.now) seat.old outcome seat.new) }
+    ensures runs { IfOk result (λ outcome. RunsObject bytes.now limit (given_by input.now) seat.old
+        outcome seat.new) }
     ensures table { IsOf shared.now seat.new }
     ensures refuses { IfErr result (Refuses bytes.now) }
     ensures same { OnErr result (seat.new ≡ seat.old) }
@@ -39,8 +41,9 @@ pub fn run_object(
     Ok(run_checked(&code, object.hook(), most, input, shared, seat))
 }
 
-/// Runs the program of an object file as `run_object` does, and tells where the machine stands at the end: at EXIT, at the instruction
-/// by which it is stuck, or after as many instructions as it may take.
+/// Runs the program of an object file as `run_object` does, and tells where the machine stands at
+/// the end: at EXIT, at the instruction by which it is stuck, or after as many instructions as it
+/// may take.
 ///
 /// # Errors
 ///
@@ -54,8 +57,10 @@ pub fn run_object_to_halt(
     seat: &mut Seat,
 ) -> Result<Halt, RunError>
     requires { IsOf shared.now seat.old }
-    ensures runs { IfOk result (λ halt. RunsObject bytes.now limit (given_by input.now) seat.old halt.outcome seat.new) }
-    ensures halts { IfOk result (λ halt. HaltsObject bytes.now limit (given_by input.now) seat.old halt.outcome halt.state seat.new) }
+    ensures runs { IfOk result (λ halt. RunsObject bytes.now limit (given_by input.now) seat.old
+        halt.outcome seat.new) }
+    ensures halts { IfOk result (λ halt. HaltsObject bytes.now limit (given_by input.now) seat.old
+        halt.outcome halt.state seat.new) }
     ensures table { IsOf shared.now seat.new }
     ensures refuses { IfErr result (Refuses bytes.now) }
     ensures same { OnErr result (seat.new ≡ seat.old) }

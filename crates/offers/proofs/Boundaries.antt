@@ -2,7 +2,7 @@
 use Rattle.std.proofs.Common.{◌≡◌, ℕ, ◌+◌, ◌<◌, List, arith, Some, None, refl, sym, ◌∙◌, ap, subst}
 use Rattle.words.specs.Prefixes.{Network}
 use Rattle.words.specs.declared.route.Route.{Route}
-use Rattle.routes.specs.Said.{Said}
+use Rattle.lsa.specs.declared.body.Body.{Body}
 use Rattle.routes.specs.declared.graph.Way.{Way}
 use Rattle.offers.specs.Borders.{AreBelow, AreCloseBy, IsBoundary, IsFound, IsListed, IsLongest, Tells, host, way_by}
 use Rattle.offers.specs.Borders.IsBoundary.{Inside, Outside}
@@ -44,8 +44,8 @@ module _ (routers : List Flagged) (told : List Route) (router : ℕ) where
 
 -- ---- what is told costs little
 
-pub told_below : (said : Said) (root : Root) (routers : List Flagged) (keys : List Key) (routes : List Route) → AreCloseBy routers → AreRoutesAmong (OfEach (Tells said root routers) keys) routes → AreBelow routes
-told_below said root routers keys routes close all route among =
+pub told_below : (root : Root) (routers : List Flagged) (bodies : List (Key × Body)) (routes : List Route) → AreCloseBy routers → AreRoutesAmong (OfEach (Tells root routers) bodies) routes → AreBelow routes
+told_below root routers bodies routes close all route among =
     let k = (all.each route).0 among in
     let t = k.is_best.offered.2 in
     let border = t.counts.reaches in

@@ -1,6 +1,5 @@
--- What is gathered from the LSAs of the keys is what the database offers within and between areas, where the ways are those of its links.
+-- What the LSAs offer one by one is what the database offers within and between areas, where the ways are those of its links.
 use Rattle.std.proofs.Common.{◌≡◌, ℕ, ◌+◌, ◌-◌, inl, inr, cond, nat_eq, List, Option, Some, None, arith, refl, sym, ◌∙◌, ap, subst}
-use Rattle.std.specs.List.{Contains}
 use Rattle.words.specs.Prefixes.{Network}
 use Rattle.words.specs.declared.key.Key.{Key}
 use Rattle.lsa.specs.declared.body.Body.{Body}
@@ -22,7 +21,7 @@ use Rattle.routes.proofs.Determined.{one_way}
 use Rattle.std.proofs.Common.{true, false, eqb-true, eq-eqb}
 use Rattle.std.proofs.lemmas.Bool.{cases_eq, cases_Bool}
 use Rattle.offers.specs.Borders.{AreFlagged, IsCounted, IsFlagged, IsListed}
-use Rattle.offers.specs.Gathering.{OfEach}
+use Rattle.offers.specs.Bodies.{OfSaid}
 use Rattle.offers.specs.Sources.{IsInner, OfNetwork, OfRouter, OfSummary, leaving}
 use Rattle.offers.specs.Sources.IsInner.{ByNetwork, ByRouter, BySummary}
 use Rattle.offers.specs.Ways.{AreWays, Ways}
@@ -102,11 +101,11 @@ module _ (said : Said) (root : Root) (ways : Ways) (are : AreWays said root ways
 
   -- ---- within and between areas
 
-  by_router : (key : Key) (o : Offer) → OfRouter said root ways key o → OffersWithin said root o
-  by_router key o k =
+  by_router : (key : Key) (says : Body) → said key ≡ Some says → (o : Offer) → OfRouter root ways (key, says) o → OffersWithin said root o
+  by_router key says is o k =
       let router = key.advertising_router in
       let here : key ≡ router_key router = λ i. record { ls_type = k.is_type i; link_state_id = k.own i; advertising_router = router } in
-      let its : said (router_key router) ≡ Some (body.Router k.lsa) = ap said (sym here) ∙ k.its in
+      let its : said (router_key router) ≡ Some (body.Router k.lsa) = ap said (sym here) ∙ is ∙ ap (λ (b : Body). Some b) k.its in
       let stub = k.offered.2 in
       record {
         node = ARouter router;
@@ -121,12 +120,12 @@ module _ (said : Said) (root : Root) (ways : Ways) (are : AreWays said root ways
         is = stub.is ∙ ap (λ d. intra stub.prefix (d + k.offered.0.metric) (leaving root router k.way).hops) (same_distance root router k.way);
       }
 
-  by_network : (key : Key) (o : Offer) → OfNetwork said ways key o → OffersWithin said root o
-  by_network key o k =
+  by_network : (key : Key) (says : Body) → said key ≡ Some says → (o : Offer) → OfNetwork ways (key, says) o → OffersWithin said root o
+  by_network key says is o k =
       let id = key.link_state_id in
       let by = key.advertising_router in
       let here : key ≡ network_key id by = λ i. record { ls_type = k.is_type i; link_state_id = id; advertising_router = by } in
-      let its : said (network_key id by) ≡ Some (body.Network k.lsa) = ap said (sym here) ∙ k.its in
+      let its : said (network_key id by) ≡ Some (body.Network k.lsa) = ap said (sym here) ∙ is ∙ ap (λ (b : Body). Some b) k.its in
       let none : k.way.distance ≡ k.way.distance + 0 = omega arith in
       record {
         node = ANetwork id by;
@@ -141,8 +140,8 @@ module _ (said : Said) (root : Root) (ways : Ways) (are : AreWays said root ways
         is = k.is ∙ ap (λ d. intra k.prefix d k.way.hops) none;
       }
 
-  by_summary : (key : Key) (o : Offer) → OfSummary said root routers key o → OffersBetween said root o
-  by_summary key o k =
+  by_summary : (key : Key) (says : Body) → said key ≡ Some says → (o : Offer) → OfSummary root routers (key, says) o → OffersBetween said root o
+  by_summary key says is o k =
       let id = key.link_state_id in
       let by = key.advertising_router in
       let here : key ≡ summary_key 3 id by = λ i. record { ls_type = k.is_type i; link_state_id = id; advertising_router = by } in
@@ -150,7 +149,7 @@ module _ (said : Said) (root : Root) (ways : Ways) (are : AreWays said root ways
         id = id;
         originator = by;
         lsa = k.lsa;
-        its = ap said (sym here) ∙ k.its;
+        its = ap said (sym here) ∙ is ∙ ap (λ (b : Body). Some b) k.its;
         border = as_way k.border;
         counts = counted_forth by k.lsa k.border k.counts;
         prefix = k.prefix;
@@ -158,73 +157,72 @@ module _ (said : Said) (root : Root) (ways : Ways) (are : AreWays said root ways
         is = k.is;
       }
 
-  pub inner_forth : (keys : List Key) (o : Offer) → OfEach (IsInner said root ways routers) keys o → OffersInside said root o
-  inner_forth keys o (key, among, ByRouter k) = inl (by_router key o k)
-  inner_forth keys o (key, among, ByNetwork k) = inl (by_network key o k)
-  inner_forth keys o (key, among, BySummary k) = inr (by_summary key o k)
+  pub inner_forth : (o : Offer) → OfSaid (IsInner root ways routers) said o → OffersInside said root o
+  inner_forth o ((key, says), is, ByRouter k) = inl (by_router key says is o k)
+  inner_forth o ((key, says), is, ByNetwork k) = inl (by_network key says is o k)
+  inner_forth o ((key, says), is, BySummary k) = inr (by_summary key says is o k)
 
-  module _ (keys : List Key) (covers : (key : Key) (says : Body) → said key ≡ Some says → Contains keys key) where
-    of_within : (node : Node) (prefix : Network) (more : ℕ) → Attaches said node prefix more → (way : WalkWay) → IsReached node way → (hops : ℕ) → (node ≡ ARouter root.router → hops ≡ 1)
-        → ((node ≡ ARouter root.router → ⊥) → hops ≡ way.hops) → OfEach (IsInner said root ways routers) keys (intra prefix (way.distance + more) hops)
-    of_within (ANetwork id by) prefix more a way is hops by_root by_others =
-        let f = found (ANetwork id by) way is in
-        let key = network_key id by in
-        let more_is : more ≡ 0 = a.3 in
-        let cost : way.distance + more ≡ f.0.distance = omega (arith, more_is, ap (λ (w : WalkWay). w.distance) f.2) in
-        let leaves : hops ≡ f.0.hops = by_others (λ e. absurd (cc)) ∙ sym (ap (λ (w : WalkWay). w.hops) f.2) in (
-          key,
-          covers key (body.Network a.0) a.1,
-          ByNetwork (record {
-            is_type = refl;
-            lsa = a.0;
-            its = a.1;
-            way = f.0;
-            reached = f.1;
-            prefix = prefix;
-            is_prefix = a.2;
-            is = λ i. intra prefix (cost i) (leaves i);
-          }),
-        )
-    of_within (ARouter router) prefix more a way is hops by_root by_others =
-        let f = found (ARouter router) way is in
-        let key = router_key router in
-        let link = a.0 in
-        let cost : way.distance + more ≡ (leaving root router f.0).distance + link.metric = omega (arith, a.4, ap (λ (w : WalkWay). w.distance) f.2, same_distance root router f.0) in
-        let leaves : hops ≡ (leaving root router f.0).hops =
-        elim (cases_eq router root.router) [
-          | inl e ↦ by_root (ap (λ n. ARouter n) e) ∙ sym (own_hops root router f.0 e)
-          | inr other ↦ by_others (λ e. let same : router ≡ root.router = cc in other same) ∙ sym (ap (λ (w : WalkWay). w.hops) f.2) ∙ sym (other_hops root router f.0 other)
-        ] in (
-          key,
-          covers key (body.Router a.1.lsa) a.1.its,
-          ByRouter (record {
-            is_type = refl;
-            own = refl;
-            lsa = a.1.lsa;
-            its = a.1.its;
-            way = f.0;
-            reached = f.1;
-            offered = (link, a.1.among, record { is_stub = a.2; prefix = prefix; is_prefix = a.3; is = λ i. intra prefix (cost i) (leaves i) });
-          }),
-        )
+  of_within : (node : Node) (prefix : Network) (more : ℕ) → Attaches said node prefix more → (way : WalkWay) → IsReached node way → (hops : ℕ) → (node ≡ ARouter root.router → hops ≡ 1)
+      → ((node ≡ ARouter root.router → ⊥) → hops ≡ way.hops) → OfSaid (IsInner root ways routers) said (intra prefix (way.distance + more) hops)
+  of_within (ANetwork id by) prefix more a way is hops by_root by_others =
+      let f = found (ANetwork id by) way is in
+      let key = network_key id by in
+      let more_is : more ≡ 0 = a.3 in
+      let cost : way.distance + more ≡ f.0.distance = omega (arith, more_is, ap (λ (w : WalkWay). w.distance) f.2) in
+      let leaves : hops ≡ f.0.hops = by_others (λ e. absurd (cc)) ∙ sym (ap (λ (w : WalkWay). w.hops) f.2) in (
+        (key, body.Network a.0),
+        a.1,
+        ByNetwork (record {
+          is_type = refl;
+          lsa = a.0;
+          its = refl;
+          way = f.0;
+          reached = f.1;
+          prefix = prefix;
+          is_prefix = a.2;
+          is = λ i. intra prefix (cost i) (leaves i);
+        }),
+      )
+  of_within (ARouter router) prefix more a way is hops by_root by_others =
+      let f = found (ARouter router) way is in
+      let key = router_key router in
+      let link = a.0 in
+      let cost : way.distance + more ≡ (leaving root router f.0).distance + link.metric = omega (arith, a.4, ap (λ (w : WalkWay). w.distance) f.2, same_distance root router f.0) in
+      let leaves : hops ≡ (leaving root router f.0).hops =
+      elim (cases_eq router root.router) [
+        | inl e ↦ by_root (ap (λ n. ARouter n) e) ∙ sym (own_hops root router f.0 e)
+        | inr other ↦ by_others (λ e. let same : router ≡ root.router = cc in other same) ∙ sym (ap (λ (w : WalkWay). w.hops) f.2) ∙ sym (other_hops root router f.0 other)
+      ] in (
+        (key, body.Router a.1.lsa),
+        a.1.its,
+        ByRouter (record {
+          is_type = refl;
+          own = refl;
+          lsa = a.1.lsa;
+          its = refl;
+          way = f.0;
+          reached = f.1;
+          offered = (link, a.1.among, record { is_stub = a.2; prefix = prefix; is_prefix = a.3; is = λ i. intra prefix (cost i) (leaves i) });
+        }),
+      )
 
-    pub inner_back : (o : Offer) → OffersInside said root o → OfEach (IsInner said root ways routers) keys o
-    inner_back o (inl k) =
-        let P : Offer → Type 0 = λ x. OfEach (IsInner said root ways routers) keys x in
-        subst P (sym k.is) (of_within k.node k.prefix k.more k.attached k.way k.reached k.hops k.by_root k.by_others)
-    inner_back o (inr k) =
-        let c = counted_back k.originator k.lsa k.border k.counts in
-        let key = summary_key 3 k.id k.originator in (
-          key,
-          covers key (body.NetworkSummary k.lsa) k.its,
-          BySummary (record {
-            is_type = refl;
-            lsa = k.lsa;
-            its = k.its;
-            border = c.0;
-            counts = c.1;
-            prefix = k.prefix;
-            is_prefix = k.is_prefix;
-            is = k.is ∙ ap (λ (w : WalkWay). inter k.prefix (w.distance + k.lsa.metric) w.hops) (sym c.2);
-          }),
-        )
+  pub inner_back : (o : Offer) → OffersInside said root o → OfSaid (IsInner root ways routers) said o
+  inner_back o (inl k) =
+      let P : Offer → Type 0 = λ x. OfSaid (IsInner root ways routers) said x in
+      subst P (sym k.is) (of_within k.node k.prefix k.more k.attached k.way k.reached k.hops k.by_root k.by_others)
+  inner_back o (inr k) =
+      let c = counted_back k.originator k.lsa k.border k.counts in
+      let key = summary_key 3 k.id k.originator in (
+        (key, body.NetworkSummary k.lsa),
+        k.its,
+        BySummary (record {
+          is_type = refl;
+          lsa = k.lsa;
+          its = refl;
+          border = c.0;
+          counts = c.1;
+          prefix = k.prefix;
+          is_prefix = k.is_prefix;
+          is = k.is ∙ ap (λ (w : WalkWay). inter k.prefix (w.distance + k.lsa.metric) w.hops) (sym c.2);
+        }),
+      )

@@ -23,6 +23,7 @@ use Rattle.routes.specs.declared.graph.Way.{Way}
 use Rattle.routes.specs.declared.node.Node.TheVariants.{ARouter}
 use Rattle.routes.proofs.Listed.{other_default}
 use Rattle.routes.proofs.Lists.{of_cons, of_empty}
+use Rattle.offers.specs.Bodies.{HaveAll}
 use Rattle.offers.specs.Borders.{AreCloseBy, AreFlagged, AscendByRouter, IsBorderFlag, IsFlagged, IsListed, TellsFlags}
 use Rattle.offers.specs.Gathering.{IsJust}
 use Rattle.offers.specs.Ways.{AreNear, Ways}
@@ -130,26 +131,26 @@ ids_ascend a b before types one two =
           ]
     ]
 
-module _ (said : Said) (ways : Ways) where
-  pub routers_ascend : (a b : Key) (r s : Flagged) → key_cmp a b ≡ Less → TellsFlags said ways a r → TellsFlags said ways b s → r.router < s.router
-  routers_ascend a b r s before p q = omega (arith, ids_ascend a b before (p.is_type ∙ sym q.is_type) p.own q.own, p.its_router, q.its_router)
+module _ (ways : Ways) where
+  pub routers_ascend : (a b : Key × Body) (r s : Flagged) → key_cmp a.0 b.0 ≡ Less → TellsFlags ways a r → TellsFlags ways b s → r.router < s.router
+  routers_ascend a b r s before p q = omega (arith, ids_ascend a.0 b.0 before (p.is_type ∙ sym q.is_type) p.own q.own, p.its_router, q.its_router)
 
-  pub are_close : (keys : List Key) (routers : List Flagged) → AreNear ways → AreTold (TellsFlags said ways) keys routers → AreCloseBy routers
-  are_close keys routers near told r among = let p = (told.each r).0 among in near (ARouter p.0.advertising_router) r.way p.2.reached
+  pub are_close : (bodies : List (Key × Body)) (routers : List Flagged) → AreNear ways → AreTold (TellsFlags ways) bodies routers → AreCloseBy routers
+  are_close bodies routers near told r among = let p = (told.each r).0 among in near (ARouter p.0.0.advertising_router) r.way p.2.reached
 
   has_one : (flags flag : ℕ) → IsBorderFlag flag → bit_and flags flag ≡ flag → (bit_and flags 1 ≡ 1) ⊎ (bit_and flags 2 ≡ 2)
   has_one flags flag (inl e) is = inl (subst (λ f. bit_and flags f ≡ f) e is)
   has_one flags flag (inr e) is = inr (subst (λ f. bit_and flags f ≡ f) e is)
 
-  pub are_flagged : (keys : List Key) (routers : List Flagged) → ((key : Key) (says : Body) → said key ≡ Some says → Contains keys key) → AreTold (TellsFlags said ways) keys routers → AreFlagged said ways routers
-  are_flagged keys routers covers told router flag way is_flag = (
+  pub are_flagged : (said : Said) (bodies : List (Key × Body)) (routers : List Flagged) → HaveAll 1 said bodies → AreTold (TellsFlags ways) bodies routers → AreFlagged said ways routers
+  are_flagged said bodies routers have told router flag way is_flag = (
     (λ k.
         let r : Flagged = record { router = router; flags = k.lsa.flags; way = way } in
-        let tells : TellsFlags said ways (router_key router) r = record {
+        let tells : TellsFlags ways (router_key router, body.Router k.lsa) r = record {
           is_type = refl;
           own = refl;
           lsa = k.lsa;
-          its = k.its;
+          its = refl;
           has_flag = has_one k.lsa.flags flag is_flag k.has_flag;
           reached = k.reached;
           its_router = refl;
@@ -157,21 +158,21 @@ module _ (said : Said) (ways : Ways) where
         } in
         record {
           listed = r;
-          among = (told.each r).1 (router_key router, covers (router_key router) (body.Router k.lsa) k.its, tells);
+          among = (told.each r).1 ((router_key router, body.Router k.lsa), have.all (router_key router) (body.Router k.lsa) (omega arith) k.its, tells);
           its_router = refl;
           has_flag = k.has_flag;
           its_way = refl;
         }),
     (λ k.
         let p = (told.each k.listed).0 k.among in
-        let key = p.0 in
+        let key = p.0.0 in
         let tells = p.2 in
         let by : key.advertising_router ≡ router = sym tells.its_router ∙ k.its_router in
         let own : key.link_state_id ≡ router = tells.own ∙ by in
         let at : key ≡ router_key router = λ i. record { ls_type = tells.is_type i; link_state_id = own i; advertising_router = by i } in
         record {
           lsa = tells.lsa;
-          its = ap said (sym at) ∙ tells.its;
+          its = ap said (sym at) ∙ have.each key p.0.1 p.1 ∙ ap (λ (b : Body). Some b) tells.its;
           has_flag = subst (λ f. bit_and f flag ≡ flag) tells.its_flags k.has_flag;
           reached = ap (λ r. ways (ARouter r)) (sym by) ∙ tells.reached ∙ ap (λ (w : Way). Some w) (sym k.its_way);
         }),

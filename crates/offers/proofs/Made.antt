@@ -3,6 +3,7 @@ use Rattle.std.proofs.Common.{◌≡◌, ◌≢◌, ◌+◌, ◌<◌, ◌⊎◌,
 use Rattle.words.specs.Prefixes.{Network}
 use Rattle.words.specs.declared.key.Key.{Key}
 use Rattle.words.specs.declared.route.Route.{Route}
+use Rattle.lsa.specs.declared.body.Body.{Body}
 use Rattle.lsa.specs.declared.body.Body.TheVariants as body
 use Rattle.lsa.specs.declared.body.ExternalLsa.{ExternalLsa}
 use Rattle.lsa.specs.declared.body.Link.{Link}
@@ -10,7 +11,6 @@ use Rattle.lsa.specs.declared.body.RouterLsa.{RouterLsa}
 use Rattle.lsa.specs.declared.body.SummaryLsa.{SummaryLsa}
 use Rattle.routes.specs.Candidates.{external_offer}
 use Rattle.routes.specs.Offers.{IsPrefix}
-use Rattle.routes.specs.Said.{Said}
 use Rattle.routes.specs.Summaries.{inter}
 use Rattle.routes.specs.declared.graph.Way.{Way}
 use Rattle.routes.specs.declared.node.Node.TheVariants.{ARouter}
@@ -24,15 +24,15 @@ use Rattle.offers.specs.Ways.{Ways}
 use Rattle.offers.specs.declared.flagged.Flagged.{Flagged}
 use Rattle.offers.proofs.Gathered.{adds_both, adds_same}
 
-module _ (said : Said) (root : Root) (ways : Ways) (routers : List Flagged) (key : Key) where
+module _ (root : Root) (ways : Ways) (routers : List Flagged) (one : Key × Body) where
   -- ---- a router
 
-  pub of_router : (lsa : RouterLsa) (way leaves : Way) (links : List Link) → key.ls_type ≡ 1 → key.link_state_id ≡ key.advertising_router → said key ≡ Some (body.Router lsa)
-      → ways (ARouter key.advertising_router) ≡ Some way → leaves ≡ leaving root key.advertising_router way → links ≡ lsa.links
-      → (xs ys : List Offer) → Adds xs ys (OfEach (IsStub leaves) links) → Adds xs ys (OfRouter said root ways key)
+  pub of_router : (lsa : RouterLsa) (way leaves : Way) (links : List Link) → one.0.ls_type ≡ 1 → one.0.link_state_id ≡ one.0.advertising_router → one.1 ≡ body.Router lsa
+      → ways (ARouter one.0.advertising_router) ≡ Some way → leaves ≡ leaving root one.0.advertising_router way → links ≡ lsa.links
+      → (xs ys : List Offer) → Adds xs ys (OfEach (IsStub leaves) links) → Adds xs ys (OfRouter root ways one)
   of_router lsa way leaves links is_type own its reached left items xs ys a =
       let Here : Way → List Link → Offer → Type 0 = λ w ls. OfEach (IsStub w) ls in
-      adds_same xs ys (Here leaves links) (OfRouter said root ways key)
+      adds_same xs ys (Here leaves links) (OfRouter root ways one)
       (λ o t. record {
         is_type = is_type;
         own = own;
@@ -43,33 +43,33 @@ module _ (said : Said) (root : Root) (ways : Ways) (routers : List Flagged) (key
         offered = subst (λ w. Here w lsa.links o) left (subst (λ ls. Here leaves ls o) items t);
       })
       (λ o k.
-      let one : Some (body.Router k.lsa) ≡ Some (body.Router lsa) = sym k.its ∙ its in
+      let bodies : body.Router k.lsa ≡ body.Router lsa = sym k.its ∙ its in
       let same : k.lsa ≡ lsa = cc in
-      let two : Some k.way ≡ Some way = sym k.reached ∙ reached in
+      let ends : Some k.way ≡ Some way = sym k.reached ∙ reached in
       let alike : k.way ≡ way = cc in
       subst (λ ls. Here leaves ls o) (sym items)
       (subst (λ w. Here w lsa.links o) (sym left)
-      (subst (λ (l : RouterLsa). Here (leaving root key.advertising_router way) l.links o) same
-      (subst (λ (w : Way). Here (leaving root key.advertising_router w) k.lsa.links o) alike k.offered))))
+      (subst (λ (l : RouterLsa). Here (leaving root one.0.advertising_router way) l.links o) same
+      (subst (λ (w : Way). Here (leaving root one.0.advertising_router w) k.lsa.links o) alike k.offered))))
       a
 
   -- ---- a summary
 
-  pub no_summary : (lsa : SummaryLsa) → said key ≡ Some (body.NetworkSummary lsa) → IsJust (IsCounted root routers key.advertising_router lsa) None → IsJust (OfSummary said root routers key) None
+  pub no_summary : (lsa : SummaryLsa) → one.1 ≡ body.NetworkSummary lsa → IsJust (IsCounted root routers one.0.advertising_router lsa) None → IsJust (OfSummary root routers one) None
   no_summary lsa its none = λ o k.
-      let one : Some (body.NetworkSummary k.lsa) ≡ Some (body.NetworkSummary lsa) = sym k.its ∙ its in
+      let bodies : body.NetworkSummary k.lsa ≡ body.NetworkSummary lsa = sym k.its ∙ its in
       let same : k.lsa ≡ lsa = cc in
-      none k.border (subst (λ l. IsCounted root routers key.advertising_router l k.border) same k.counts)
+      none k.border (subst (λ l. IsCounted root routers one.0.advertising_router l k.border) same k.counts)
 
-  pub of_summary : (lsa : SummaryLsa) (border : Way) (prefix : Network) (made : Offer) → key.ls_type ≡ 3 → said key ≡ Some (body.NetworkSummary lsa)
-      → IsJust (IsCounted root routers key.advertising_router lsa) (Some border) → IsJust (IsPrefix key.link_state_id lsa.mask) (Some prefix)
-      → made ≡ inter prefix (border.distance + lsa.metric) border.hops → IsJust (OfSummary said root routers key) (Some made)
+  pub of_summary : (lsa : SummaryLsa) (border : Way) (prefix : Network) (made : Offer) → one.0.ls_type ≡ 3 → one.1 ≡ body.NetworkSummary lsa
+      → IsJust (IsCounted root routers one.0.advertising_router lsa) (Some border) → IsJust (IsPrefix one.0.link_state_id lsa.mask) (Some prefix)
+      → made ≡ inter prefix (border.distance + lsa.metric) border.hops → IsJust (OfSummary root routers one) (Some made)
   of_summary lsa border prefix made is_type its counted under is = λ o. (
     λ k.
-        let one : Some (body.NetworkSummary k.lsa) ≡ Some (body.NetworkSummary lsa) = sym k.its ∙ its in
+        let bodies : body.NetworkSummary k.lsa ≡ body.NetworkSummary lsa = sym k.its ∙ its in
         let same : k.lsa ≡ lsa = cc in
-        let b : k.border ≡ border = (counted k.border).0 (subst (λ l. IsCounted root routers key.advertising_router l k.border) same k.counts) in
-        let p : k.prefix ≡ prefix = (under k.prefix).0 (subst (λ (l : SummaryLsa). IsPrefix key.link_state_id l.mask k.prefix) same k.is_prefix) in
+        let b : k.border ≡ border = (counted k.border).0 (subst (λ l. IsCounted root routers one.0.advertising_router l k.border) same k.counts) in
+        let p : k.prefix ≡ prefix = (under k.prefix).0 (subst (λ (l : SummaryLsa). IsPrefix one.0.link_state_id l.mask k.prefix) same k.is_prefix) in
         k.is ∙ (λ i. inter (p i) ((b i).distance + (same i).metric) (b i).hops) ∙ sym is,
     λ e. record {
       is_type = is_type;
@@ -85,43 +85,43 @@ module _ (said : Said) (root : Root) (ways : Ways) (routers : List Flagged) (key
 
   -- ---- a summary of an AS boundary router
 
-  pub none_told : (lsa : SummaryLsa) → said key ≡ Some (body.RouterSummary lsa) → IsJust (IsCounted root routers key.advertising_router lsa) None → IsJust (Tells said root routers key) None
+  pub none_told : (lsa : SummaryLsa) → one.1 ≡ body.RouterSummary lsa → IsJust (IsCounted root routers one.0.advertising_router lsa) None → IsJust (Tells root routers one) None
   none_told lsa its none = λ o k.
-      let one : Some (body.RouterSummary k.lsa) ≡ Some (body.RouterSummary lsa) = sym k.its ∙ its in
+      let bodies : body.RouterSummary k.lsa ≡ body.RouterSummary lsa = sym k.its ∙ its in
       let same : k.lsa ≡ lsa = cc in
-      none k.border (subst (λ l. IsCounted root routers key.advertising_router l k.border) same k.counts)
+      none k.border (subst (λ l. IsCounted root routers one.0.advertising_router l k.border) same k.counts)
 
-  pub of_told : (lsa : SummaryLsa) (border : Way) (made : Offer) → key.ls_type ≡ 4 → said key ≡ Some (body.RouterSummary lsa)
-      → IsJust (IsCounted root routers key.advertising_router lsa) (Some border)
-      → made ≡ inter (host key.link_state_id) (border.distance + lsa.metric) border.hops → IsJust (Tells said root routers key) (Some made)
+  pub of_told : (lsa : SummaryLsa) (border : Way) (made : Offer) → one.0.ls_type ≡ 4 → one.1 ≡ body.RouterSummary lsa
+      → IsJust (IsCounted root routers one.0.advertising_router lsa) (Some border)
+      → made ≡ inter (host one.0.link_state_id) (border.distance + lsa.metric) border.hops → IsJust (Tells root routers one) (Some made)
   of_told lsa border made is_type its counted is = λ o. (
     λ k.
-        let one : Some (body.RouterSummary k.lsa) ≡ Some (body.RouterSummary lsa) = sym k.its ∙ its in
+        let bodies : body.RouterSummary k.lsa ≡ body.RouterSummary lsa = sym k.its ∙ its in
         let same : k.lsa ≡ lsa = cc in
-        let b : k.border ≡ border = (counted k.border).0 (subst (λ l. IsCounted root routers key.advertising_router l k.border) same k.counts) in
-        k.is ∙ (λ i. inter (host key.link_state_id) ((b i).distance + (same i).metric) (b i).hops) ∙ sym is,
+        let b : k.border ≡ border = (counted k.border).0 (subst (λ l. IsCounted root routers one.0.advertising_router l k.border) same k.counts) in
+        k.is ∙ (λ i. inter (host one.0.link_state_id) ((b i).distance + (same i).metric) (b i).hops) ∙ sym is,
     λ e. record { is_type = is_type; lsa = lsa; its = its; border = border; counts = (counted border).1 refl; is = e ∙ is },
   )
 
   -- ---- an external destination
 
   module _ (told inner : List Route) where
-    pub no_external : (lsa : ExternalLsa) → said key ≡ Some (body.External lsa) → IsJust (IsOutward routers told inner key.advertising_router lsa) None → IsJust (OfExternal said root routers told inner key) None
+    pub no_external : (lsa : ExternalLsa) → one.1 ≡ body.External lsa → IsJust (IsOutward routers told inner one.0.advertising_router lsa) None → IsJust (OfExternal root routers told inner one) None
     no_external lsa its none = λ o k.
-        let one : Some (body.External k.lsa) ≡ Some (body.External lsa) = sym k.its ∙ its in
+        let bodies : body.External k.lsa ≡ body.External lsa = sym k.its ∙ its in
         let same : k.lsa ≡ lsa = cc in
-        none k.way (subst (λ l. IsOutward routers told inner key.advertising_router l k.way) same k.is_way)
+        none k.way (subst (λ l. IsOutward routers told inner one.0.advertising_router l k.way) same k.is_way)
 
-    pub of_external : (lsa : ExternalLsa) (way : Way) (prefix : Network) (made : Offer) → key.ls_type ≡ 5 → said key ≡ Some (body.External lsa) → lsa.metric < 16777215 → key.advertising_router ≢ root.router
-        → IsJust (IsOutward routers told inner key.advertising_router lsa) (Some way) → IsJust (IsPrefix key.link_state_id lsa.mask) (Some prefix)
-        → made ≡ external_offer lsa.kind prefix lsa key.advertising_router (record { distance = way.distance; hops = way.hops }) → IsJust (OfExternal said root routers told inner key) (Some made)
+    pub of_external : (lsa : ExternalLsa) (way : Way) (prefix : Network) (made : Offer) → one.0.ls_type ≡ 5 → one.1 ≡ body.External lsa → lsa.metric < 16777215 → one.0.advertising_router ≢ root.router
+        → IsJust (IsOutward routers told inner one.0.advertising_router lsa) (Some way) → IsJust (IsPrefix one.0.link_state_id lsa.mask) (Some prefix)
+        → made ≡ external_offer lsa.kind prefix lsa one.0.advertising_router (record { distance = way.distance; hops = way.hops }) → IsJust (OfExternal root routers told inner one) (Some made)
     of_external lsa way prefix made is_type its reachable another outward under is = λ o. (
       λ k.
-          let one : Some (body.External k.lsa) ≡ Some (body.External lsa) = sym k.its ∙ its in
+          let bodies : body.External k.lsa ≡ body.External lsa = sym k.its ∙ its in
           let same : k.lsa ≡ lsa = cc in
-          let w : k.way ≡ way = (outward k.way).0 (subst (λ l. IsOutward routers told inner key.advertising_router l k.way) same k.is_way) in
-          let p : k.prefix ≡ prefix = (under k.prefix).0 (subst (λ (l : ExternalLsa). IsPrefix key.link_state_id l.mask k.prefix) same k.is_prefix) in
-          k.is ∙ (λ i. external_offer (same i).kind (p i) (same i) key.advertising_router (record { distance = (w i).distance; hops = (w i).hops })) ∙ sym is,
+          let w : k.way ≡ way = (outward k.way).0 (subst (λ l. IsOutward routers told inner one.0.advertising_router l k.way) same k.is_way) in
+          let p : k.prefix ≡ prefix = (under k.prefix).0 (subst (λ (l : ExternalLsa). IsPrefix one.0.link_state_id l.mask k.prefix) same k.is_prefix) in
+          k.is ∙ (λ i. external_offer (same i).kind (p i) (same i) one.0.advertising_router (record { distance = (w i).distance; hops = (w i).hops })) ∙ sym is,
       λ e. record {
         is_type = is_type;
         lsa = lsa;
@@ -136,9 +136,9 @@ module _ (said : Said) (root : Root) (ways : Ways) (routers : List Flagged) (key
       },
     )
 
-  pub of_inner : (xs ys zs ws : List Offer) → Adds xs ys (OfRouter said root ways key) → Adds ys zs (OfNetwork said ways key) → Adds zs ws (OfSummary said root routers key) → Adds xs ws (IsInner said root ways routers key)
+  pub of_inner : (xs ys zs ws : List Offer) → Adds xs ys (OfRouter root ways one) → Adds ys zs (OfNetwork ways one) → Adds zs ws (OfSummary root routers one) → Adds xs ws (IsInner root ways routers one)
   of_inner xs ys zs ws a b c =
-      adds_same xs ws (λ o. (OfRouter said root ways key o ⊎ OfNetwork said ways key o) ⊎ OfSummary said root routers key o) (IsInner said root ways routers key)
+      adds_same xs ws (λ o. (OfRouter root ways one o ⊎ OfNetwork ways one o) ⊎ OfSummary root routers one o) (IsInner root ways routers one)
       (λ o w.
       elim w [
         | inl v ↦
@@ -154,4 +154,4 @@ module _ (said : Said) (root : Root) (ways : Ways) (routers : List Flagged) (key
         | ByNetwork n ↦ inl (inr n)
         | BySummary s ↦ inr s
       ])
-      (adds_both xs zs ws (λ o. OfRouter said root ways key o ⊎ OfNetwork said ways key o) (OfSummary said root routers key) (adds_both xs ys zs (OfRouter said root ways key) (OfNetwork said ways key) a b) c)
+      (adds_both xs zs ws (λ o. OfRouter root ways one o ⊎ OfNetwork ways one o) (OfSummary root routers one) (adds_both xs ys zs (OfRouter root ways one) (OfNetwork ways one) a b) c)

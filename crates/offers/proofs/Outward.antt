@@ -1,6 +1,5 @@
 -- What is told of AS boundary routers, forwarding addresses and external destinations, where the ways are those of the database's links.
 use Rattle.std.proofs.Common.{◌≡◌, ℕ, ◌+◌, ◌≤◌, inl, inr, IsTrue, List, Some, arith, refl, sym, ◌∙◌, ap, subst}
-use Rattle.std.specs.List.{Contains}
 use Rattle.std.proofs.lemmas.Bool.{cases_lt}
 use Rattle.words.specs.Interfaces.{has_interface}
 use Rattle.words.specs.Prefixes.{Network}
@@ -24,7 +23,7 @@ use Rattle.routes.specs.declared.root.Root.{Root}
 use Rattle.routes.proofs.Determined.{AreAlike, alike, as_good}
 use Rattle.offers.specs.Borders.{AreFlagged, IsBoundary, IsFound, IsOutward, Tells, host, way_by}
 use Rattle.offers.specs.Borders.IsBoundary.{Inside, Outside}
-use Rattle.offers.specs.Gathering.{OfEach}
+use Rattle.offers.specs.Bodies.{OfSaid}
 use Rattle.offers.specs.Sources.{OfExternal}
 use Rattle.offers.specs.Ways.{AreWays, Ways}
 use Rattle.offers.specs.declared.flagged.Flagged.{Flagged}
@@ -38,11 +37,11 @@ cheaper a b e (ByKind less) = absurd (omega (arith, e, less))
 cheaper a b e (ByCost same less) = omega (arith, less)
 cheaper a b e (ByDistance same cost less) = omega (arith, cost)
 
-module _ (said : Said) (root : Root) (ways : Ways) (are : AreWays said root ways) (routers : List Flagged) (flagged : AreFlagged said ways routers) (keys : List Key) (covers : (key : Key) (says : Body) → said key ≡ Some says → Contains keys key) where
+module _ (said : Said) (root : Root) (ways : Ways) (are : AreWays said root ways) (routers : List Flagged) (flagged : AreFlagged said ways routers) where
   -- ---- what is told of AS boundary routers
 
   abbrev Told : Offer → Type 0
-  Told o = OfEach (Tells said root routers) keys o
+  Told o = OfSaid (Tells root routers) said o
 
   record TellsOf (router : ℕ) (o : Offer) : Type 0 where
     border : WalkWay
@@ -54,7 +53,7 @@ module _ (said : Said) (root : Root) (ways : Ways) (are : AreWays said root ways
     tag : o.tag ≡ 0
 
   told_of : (router : ℕ) (o : Offer) → Told o → o.prefix ≡ host router → TellsOf router o
-  told_of router o (key, among, k) e =
+  told_of router o ((key, says), is, k) e =
       let by = key.advertising_router in
       let id : key.link_state_id ≡ router = same_router key.link_state_id router (sym (ap (λ (x : Offer). x.prefix) k.is) ∙ e) in
       let here : key ≡ summary_key 4 router by = λ i. record { ls_type = k.is_type i; link_state_id = id i; advertising_router = by } in
@@ -63,7 +62,7 @@ module _ (said : Said) (root : Root) (ways : Ways) (are : AreWays said root ways
         told = record {
           originator = by;
           lsa = k.lsa;
-          its = ap said (sym here) ∙ k.its;
+          its = ap said (sym here) ∙ is ∙ ap (λ (b : Body). Some b) k.its;
           counts = counted_forth said root ways are routers flagged by k.lsa k.border k.counts;
           is = ap (λ (x : Offer). x.cost) k.is;
         };
@@ -81,12 +80,12 @@ module _ (said : Said) (root : Root) (ways : Ways) (are : AreWays said root ways
       let far : c.0.distance ≡ border.distance = ap (λ (w : WalkWay). w.distance) c.2 in
       let cost : distance ≡ c.0.distance + t.lsa.metric = omega (arith, t.is, far) in
       let leaves : border.hops ≡ c.0.hops = sym (ap (λ (w : WalkWay). w.hops) c.2) in (
-        key,
-        covers key (body.RouterSummary t.lsa) t.its,
+        (key, body.RouterSummary t.lsa),
+        t.its,
         record {
           is_type = refl;
           lsa = t.lsa;
-          its = t.its;
+          its = refl;
           border = c.0;
           counts = c.1;
           is = λ i. inter (host router) (cost i) (leaves i);
@@ -216,8 +215,8 @@ module _ (said : Said) (root : Root) (ways : Ways) (are : AreWays said root ways
             );
       }
 
-      pub external_forth : (o : Offer) → OfEach (OfExternal said root routers told inner) keys o → OffersExternal said root o
-      external_forth o (key, among, k) =
+      pub external_forth : (o : Offer) → OfSaid (OfExternal root routers told inner) said o → OffersExternal said root o
+      external_forth o ((key, says), is, k) =
           let id = key.link_state_id in
           let by = key.advertising_router in
           let here : key ≡ record { ls_type = 5; link_state_id = id; advertising_router = by } = λ i. record { ls_type = k.is_type i; link_state_id = id; advertising_router = by } in
@@ -225,7 +224,7 @@ module _ (said : Said) (root : Root) (ways : Ways) (are : AreWays said root ways
             id = id;
             originator = by;
             lsa = k.lsa;
-            its = ap said (sym here) ∙ k.its;
+            its = ap said (sym here) ∙ is ∙ ap (λ (b : Body). Some b) k.its;
             reachable = k.reachable;
             of_another = k.of_another;
             prefix = k.prefix;
@@ -235,15 +234,15 @@ module _ (said : Said) (root : Root) (ways : Ways) (are : AreWays said root ways
             is = k.is;
           }
 
-      pub external_back : (o : Offer) → OffersExternal said root o → OfEach (OfExternal said root routers told inner) keys o
+      pub external_back : (o : Offer) → OffersExternal said root o → OfSaid (OfExternal root routers told inner) said o
       external_back o k =
           let key : Key = record { ls_type = 5; link_state_id = k.id; advertising_router = k.originator } in (
-            key,
-            covers key (body.External k.lsa) k.its,
+            (key, body.External k.lsa),
+            k.its,
             record {
               is_type = refl;
               lsa = k.lsa;
-              its = k.its;
+              its = refl;
               reachable = k.reachable;
               of_another = k.of_another;
               prefix = k.prefix;

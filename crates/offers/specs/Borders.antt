@@ -1,11 +1,13 @@
 -- Routers with a flag that ways lead to, and what area border routers tell (RFC 2328, sections 16.2
 -- and 16.4).
-use Rattle.std.specs.Prelude.{◌≡◌, ◌≢◌, ◌↔◌, ◌⊎◌, ℕ, ◌+◌, ◌<◌, ◌≤◌, Bool, false, true, List, Some, bit_and}
+use Rattle.std.specs.Prelude.{◌≡◌, ◌≢◌, ◌↔◌, ◌⊎◌, ℕ, ◌+◌, ◌<◌, ◌≤◌, Bool, false, true, List, Some}
+use Rattle.std.specs.Prelude.{bit_and}
 use Rattle.std.specs.Prelude.{slice_index_or}
 use Rattle.std.specs.List.{AllPairs, Contains}
 use Rattle.words.specs.Prefixes.{IsUnder, Network, network_address}
 use Rattle.words.specs.declared.key.Key.{Key}
 use Rattle.words.specs.declared.route.Route.{Route}
+use Rattle.lsa.specs.declared.body.Body.{Body}
 use Rattle.lsa.specs.declared.body.Body.TheVariants as body
 use Rattle.lsa.specs.declared.body.ExternalLsa.{ExternalLsa}
 use Rattle.lsa.specs.declared.body.RouterLsa.{RouterLsa}
@@ -57,15 +59,15 @@ abbrev pub AreCloseBy : List Flagged → Type 0
 AreCloseBy routers =
     (router : Flagged) → Contains routers router → router.way.distance < 1073741824
 
--- what the LSA of the key tells of its router, where a way leads to that and it has a flag
-pub record TellsFlags (said : Said) (ways : Ways) (key : Key) (router : Flagged) : Type 0 where
-  pub is_type : key.ls_type ≡ 1
-  pub own : key.link_state_id ≡ key.advertising_router
+-- what the LSA of a key tells of its router, where a way leads to that and it has a flag
+pub record TellsFlags (ways : Ways) (one : Key × Body) (router : Flagged) : Type 0 where
+  pub is_type : one.0.ls_type ≡ 1
+  pub own : one.0.link_state_id ≡ one.0.advertising_router
   pub lsa : RouterLsa
-  pub its : said key ≡ Some (body.Router lsa)
+  pub its : one.1 ≡ body.Router lsa
   pub has_flag : (bit_and lsa.flags 1 ≡ 1) ⊎ (bit_and lsa.flags 2 ≡ 2)
-  pub reached : ways (ARouter key.advertising_router) ≡ Some router.way
-  pub its_router : router.router ≡ key.advertising_router
+  pub reached : ways (ARouter one.0.advertising_router) ≡ Some router.way
+  pub its_router : router.router ≡ one.0.advertising_router
   pub its_flags : router.flags ≡ lsa.flags
 
 -- the summary counts: it is of another router, an area border router that this way leads to
@@ -83,14 +85,14 @@ abbrev pub host : ℕ → Network
 host router = record { address = network_address 32 router; length = 32 }
 
 -- the summary of the key tells of an AS boundary router
-pub record Tells (said : Said) (root : Root) (routers : List Flagged) (key : Key)
+pub record Tells (root : Root) (routers : List Flagged) (one : Key × Body)
     (o : Offer) : Type 0 where
-  pub is_type : key.ls_type ≡ 4
+  pub is_type : one.0.ls_type ≡ 4
   pub lsa : SummaryLsa
-  pub its : said key ≡ Some (body.RouterSummary lsa)
+  pub its : one.1 ≡ body.RouterSummary lsa
   pub border : Way
-  pub counts : IsCounted root routers key.advertising_router lsa border
-  pub is : o ≡ inter (host key.link_state_id) (border.distance + lsa.metric) border.hops
+  pub counts : IsCounted root routers one.0.advertising_router lsa border
+  pub is : o ≡ inter (host one.0.link_state_id) (border.distance + lsa.metric) border.hops
 
 abbrev pub way_by : Route → Way
 way_by r = record { distance = r.cost; hops = r.hops }

@@ -1,4 +1,5 @@
 pub mod Gathering
+pub mod Bodies
 pub mod Sources
 pub mod Borders
 pub mod Ways

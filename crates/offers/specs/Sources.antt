@@ -4,6 +4,7 @@ use Rattle.std.specs.Prelude.{◌≡◌, ◌≢◌, ℕ, ◌+◌, ◌<◌, List,
 use Rattle.words.specs.Prefixes.{Network}
 use Rattle.words.specs.declared.key.Key.{Key}
 use Rattle.words.specs.declared.route.Route.{Route}
+use Rattle.lsa.specs.declared.body.Body.{Body}
 use Rattle.lsa.specs.declared.body.Body.TheVariants as body
 use Rattle.lsa.specs.declared.body.ExternalLsa.{ExternalLsa}
 use Rattle.lsa.specs.declared.body.Link.{Link}
@@ -13,7 +14,6 @@ use Rattle.lsa.specs.declared.body.RouterLsa.{RouterLsa}
 use Rattle.lsa.specs.declared.body.SummaryLsa.{SummaryLsa}
 use Rattle.routes.specs.Candidates.{external_offer}
 use Rattle.routes.specs.Offers.{IsPrefix, intra}
-use Rattle.routes.specs.Said.{Said}
 use Rattle.routes.specs.Summaries.{inter}
 use Rattle.offers.specs.Ways.{Ways}
 use Rattle.routes.specs.declared.graph.Way.{Way}
@@ -37,58 +37,58 @@ pub record IsStub (way : Way) (link : Link) (o : Offer) : Type 0 where
 abbrev pub leaving : Root → ℕ → Way → Way
 leaving root router way = if nat_eq router root.router then record way { hops = 1 } else way
 
-pub record OfRouter (said : Said) (root : Root) (ways : Ways) (key : Key) (o : Offer) : Type 0 where
-  pub is_type : key.ls_type ≡ 1
-  pub own : key.link_state_id ≡ key.advertising_router
+pub record OfRouter (root : Root) (ways : Ways) (one : Key × Body) (o : Offer) : Type 0 where
+  pub is_type : one.0.ls_type ≡ 1
+  pub own : one.0.link_state_id ≡ one.0.advertising_router
   pub lsa : RouterLsa
-  pub its : said key ≡ Some (body.Router lsa)
+  pub its : one.1 ≡ body.Router lsa
   pub way : Way
-  pub reached : ways (ARouter key.advertising_router) ≡ Some way
-  pub offered : OfEach (IsStub (leaving root key.advertising_router way)) lsa.links o
+  pub reached : ways (ARouter one.0.advertising_router) ≡ Some way
+  pub offered : OfEach (IsStub (leaving root one.0.advertising_router way)) lsa.links o
 
-pub record OfNetwork (said : Said) (ways : Ways) (key : Key) (o : Offer) : Type 0 where
-  pub is_type : key.ls_type ≡ 2
+pub record OfNetwork (ways : Ways) (one : Key × Body) (o : Offer) : Type 0 where
+  pub is_type : one.0.ls_type ≡ 2
   pub lsa : NetworkLsa
-  pub its : said key ≡ Some (body.Network lsa)
+  pub its : one.1 ≡ body.Network lsa
   pub way : Way
-  pub reached : ways (ANetwork key.link_state_id key.advertising_router) ≡ Some way
+  pub reached : ways (ANetwork one.0.link_state_id one.0.advertising_router) ≡ Some way
   pub prefix : Network
-  pub is_prefix : IsPrefix key.link_state_id lsa.mask prefix
+  pub is_prefix : IsPrefix one.0.link_state_id lsa.mask prefix
   pub is : o ≡ intra prefix way.distance way.hops
 
 -- ---- between areas (section 16.2)
 
-pub record OfSummary (said : Said) (root : Root) (routers : List Flagged) (key : Key)
+pub record OfSummary (root : Root) (routers : List Flagged) (one : Key × Body)
     (o : Offer) : Type 0 where
-  pub is_type : key.ls_type ≡ 3
+  pub is_type : one.0.ls_type ≡ 3
   pub lsa : SummaryLsa
-  pub its : said key ≡ Some (body.NetworkSummary lsa)
+  pub its : one.1 ≡ body.NetworkSummary lsa
   pub border : Way
-  pub counts : IsCounted root routers key.advertising_router lsa border
+  pub counts : IsCounted root routers one.0.advertising_router lsa border
   pub prefix : Network
-  pub is_prefix : IsPrefix key.link_state_id lsa.mask prefix
+  pub is_prefix : IsPrefix one.0.link_state_id lsa.mask prefix
   pub is : o ≡ inter prefix (border.distance + lsa.metric) border.hops
 
 -- what a key's LSA offers within the area and between areas
-pub data IsInner (said : Said) (root : Root) (ways : Ways) (routers : List Flagged) (key : Key)
+pub data IsInner (root : Root) (ways : Ways) (routers : List Flagged) (one : Key × Body)
     (o : Offer) : Type 0 where
-  ByRouter : OfRouter said root ways key o → IsInner said root ways routers key o
-  ByNetwork : OfNetwork said ways key o → IsInner said root ways routers key o
-  BySummary : OfSummary said root routers key o → IsInner said root ways routers key o
+  ByRouter : OfRouter root ways one o → IsInner root ways routers one o
+  ByNetwork : OfNetwork ways one o → IsInner root ways routers one o
+  BySummary : OfSummary root routers one o → IsInner root ways routers one o
 
 -- ---- external destinations (section 16.4)
 
-pub record OfExternal (said : Said) (root : Root) (routers : List Flagged)
-    (told inner : List Route) (key : Key) (o : Offer) : Type 0 where
-  pub is_type : key.ls_type ≡ 5
+pub record OfExternal (root : Root) (routers : List Flagged) (told inner : List Route)
+    (one : Key × Body) (o : Offer) : Type 0 where
+  pub is_type : one.0.ls_type ≡ 5
   pub lsa : ExternalLsa
-  pub its : said key ≡ Some (body.External lsa)
+  pub its : one.1 ≡ body.External lsa
   pub reachable : lsa.metric < 16777215
-  pub of_another : key.advertising_router ≢ root.router
+  pub of_another : one.0.advertising_router ≢ root.router
   pub prefix : Network
-  pub is_prefix : IsPrefix key.link_state_id lsa.mask prefix
+  pub is_prefix : IsPrefix one.0.link_state_id lsa.mask prefix
   pub way : Way
-  pub is_way : IsOutward routers told inner key.advertising_router lsa way
+  pub is_way : IsOutward routers told inner one.0.advertising_router lsa way
   pub is : o
-      ≡ external_offer lsa.kind prefix lsa key.advertising_router
+      ≡ external_offer lsa.kind prefix lsa one.0.advertising_router
       (record { distance = way.distance; hops = way.hops })

@@ -1,6 +1,5 @@
 //! What networks, stub links and summaries offer (RFC 2328, sections 16.1 and 16.2).
 ghost use Rattle.std.specs.Prelude.{◌≡◌, ◌<◌, IfSome, OnOk};
-ghost use Rattle.routes.specs.Said.{said_at};
 ghost use Rattle.offers.specs.Ways.{AreNear};
 ghost use Rattle.offers.specs.Borders.{AreCloseBy, AscendByRouter};
 ghost use Rattle.offers.specs.Gathering.{Adds, AreCheap, IsJust, OfEach};
@@ -10,13 +9,11 @@ use crate::borders::counted_border;
 use crate::flagged::Flagged;
 use crate::gathering::{network_of, network_under, push_offer};
 use crate::offer::{inter, intra};
-use crate::said::{network_lsa, network_summary, router_lsa};
 use crate::ways::Ways;
-use lsa::{Link, LinkKind};
-use lsdb::Lsdb;
+use lsa::{Body, Link, LinkKind};
 use routes::{Node, Offer, Root, Way};
 use std::alloc::AllocError;
-use words::{Address, Key, RouterId, Second};
+use words::{Address, Key, RouterId};
 
 fn stub_offer(link: &Link, way: Way) -> Option<Offer>
     requires { way.distance < 1073741824 }
@@ -58,22 +55,21 @@ fn leaving(root: &Root, router: RouterId, way: Way) -> Way
 }
 
 fn push_router<W: Ways>(
-    db: &Lsdb,
-    moment: Second,
     root: &Root,
     ways: &W,
     key: &Key,
+    body: &Body,
     offers: &mut Vec<Offer>,
 ) -> Result<(), AllocError>
     requires { AreNear (W.ways ways.now) }
     ensures adds { OnOk result (Adds offers.old.items offers.new.items
-        (OfRouter (said_at moment db.now.present) root.now (W.ways ways.now) key.now)) }
+        (OfRouter root.now (W.ways ways.now) (key.now, body.now))) }
     ensures cheap { OnOk result (AreCheap offers.old.items → AreCheap offers.new.items) }
 {
     if key.ls_type != 1 || key.link_state_id.number() != key.advertising_router.number() {
         return Ok(());
     }
-    let Some(lsa) = router_lsa(db, moment, key) else {
+    let Body::Router(lsa) = body else {
         return Ok(());
     };
     let Some(way) = ways.way_to(&Node::ARouter(key.advertising_router)) else {
@@ -87,64 +83,59 @@ fn push_router<W: Ways>(
     Ok(())
 }
 
-fn network_offer<W: Ways>(db: &Lsdb, moment: Second, ways: &W, key: &Key) -> Option<Offer>
-    ensures just { IsJust (OfNetwork (said_at moment db.now.present) (W.ways ways.now) key.now)
-        result }
+fn network_offer<W: Ways>(ways: &W, key: &Key, body: &Body) -> Option<Offer>
+    ensures just { IsJust (OfNetwork (W.ways ways.now) (key.now, body.now)) result }
     ensures few { AreNear (W.ways ways.now) → IfSome result (λ o. o.cost < 2147483648) }
 {
     if key.ls_type != 2 {
         return None;
     }
-    let lsa = network_lsa(db, moment, key)?;
+    let Body::Network(lsa) = body else {
+        return None;
+    };
     let way = ways.way_to(&Node::ANetwork(key.link_state_id, key.advertising_router))?;
     let prefix = network_of(key, lsa.mask)?;
     Some(intra(prefix, way.distance, way.hops))
 }
 
-fn summary_offer(
-    db: &Lsdb,
-    moment: Second,
-    root: &Root,
-    routers: &[Flagged],
-    key: &Key,
-) -> Option<Offer>
+fn summary_offer(root: &Root, routers: &[Flagged], key: &Key, body: &Body) -> Option<Offer>
     requires ascend { AscendByRouter routers.now }
     requires close { AreCloseBy routers.now }
-    ensures just { IsJust (OfSummary (said_at moment db.now.present) root.now routers.now key.now)
-        result }
+    ensures just { IsJust (OfSummary root.now routers.now (key.now, body.now)) result }
     ensures few { IfSome result (λ o. o.cost < 2147483648) }
 {
     if key.ls_type != 3 {
         return None;
     }
-    let lsa = network_summary(db, moment, key)?;
+    let Body::NetworkSummary(lsa) = body else {
+        return None;
+    };
     let border = counted_border(root, routers, key.advertising_router, lsa)?;
     let prefix = network_of(key, lsa.mask)?;
     Some(inter(prefix, border.distance + lsa.metric, border.hops))
 }
 
-/// Adds what the LSA of this key offers within the area and between areas.
+/// Adds what this LSA offers within the area and between areas.
 ///
 /// # Errors
 /// Where memory for the offers is refused.
 pub fn push_inner<W: Ways>(
-    db: &Lsdb,
-    moment: Second,
     root: &Root,
     ways: &W,
     routers: &[Flagged],
     key: &Key,
+    body: &Body,
     offers: &mut Vec<Offer>,
 ) -> Result<(), AllocError>
     requires near { AreNear (W.ways ways.now) }
     requires ascend { AscendByRouter routers.now }
     requires close { AreCloseBy routers.now }
     ensures adds { OnOk result (Adds offers.old.items offers.new.items
-        (IsInner (said_at moment db.now.present) root.now (W.ways ways.now) routers.now key.now)) }
+        (IsInner root.now (W.ways ways.now) routers.now (key.now, body.now))) }
     ensures cheap { OnOk result (AreCheap offers.old.items → AreCheap offers.new.items) }
 {
-    push_router(db, moment, root, ways, key, offers)?;
-    push_offer(offers, network_offer(db, moment, ways, key))?;
-    push_offer(offers, summary_offer(db, moment, root, routers, key))?;
+    push_router(root, ways, key, body, offers)?;
+    push_offer(offers, network_offer(ways, key, body))?;
+    push_offer(offers, summary_offer(root, routers, key, body))?;
     Ok(())
 }

@@ -1,7 +1,6 @@
 //! Area border routers, AS boundary routers, and what summaries tell of these (RFC 2328, sections
 //! 16.2 and 16.4).
 ghost use Rattle.std.specs.Prelude.{◌≡◌, ◌<◌, IfSome};
-ghost use Rattle.routes.specs.Said.{said_at};
 ghost use Rattle.offers.specs.Borders.{
   AreBelow,
   AreCloseBy,
@@ -15,12 +14,10 @@ ghost use Rattle.offers.specs.Gathering.{IsJust};
 
 use crate::flagged::{BORDER, BOUNDARY, Flagged, flagged_way};
 use crate::offer::{host, inter, way_by};
-use crate::said::router_summary;
 use crate::search::find;
-use lsa::SummaryLsa;
-use lsdb::Lsdb;
+use lsa::{Body, SummaryLsa};
 use routes::{Offer, Root, Way};
-use words::{Key, Route, RouterId, Second};
+use words::{Key, Route, RouterId};
 
 // LSInfinity (RFC 2328, appendix B): what has this metric can't be reached.
 pub const LS_INFINITY: u32 = 0xff_ffff;
@@ -46,21 +43,17 @@ pub fn counted_border(
 
 /// What the summary of this key tells of an AS boundary router, as an offer of the router's name
 /// (RFC 2328, section 16.4).
-pub fn told_offer(
-    db: &Lsdb,
-    moment: Second,
-    root: &Root,
-    routers: &[Flagged],
-    key: &Key,
-) -> Option<Offer>
+pub fn told_offer(root: &Root, routers: &[Flagged], key: &Key, body: &Body) -> Option<Offer>
     requires ascend { AscendByRouter routers.now }
     requires close { AreCloseBy routers.now }
-    ensures { IsJust (Tells (said_at moment db.now.present) root.now routers.now key.now) result }
+    ensures { IsJust (Tells root.now routers.now (key.now, body.now)) result }
 {
     if key.ls_type != 4 {
         return None;
     }
-    let lsa = router_summary(db, moment, key)?;
+    let Body::RouterSummary(lsa) = body else {
+        return None;
+    };
     let border = counted_border(root, routers, key.advertising_router, lsa)?;
     Some(inter(
         host(key.link_state_id.number()),

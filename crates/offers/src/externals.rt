@@ -1,6 +1,5 @@
 //! What AS-external-LSAs offer (RFC 2328, section 16.4).
 ghost use Rattle.std.specs.Prelude.{◌≡◌, ◌<◌, IfSome};
-ghost use Rattle.routes.specs.Said.{said_at};
 ghost use Rattle.offers.specs.Borders.{
   AreBelow,
   AreCloseBy,
@@ -16,19 +15,18 @@ use crate::borders::{LS_INFINITY, boundary_way};
 use crate::flagged::Flagged;
 use crate::gathering::network_of;
 use crate::offer::{external, way_by};
-use crate::said::external_lsa;
 use crate::search::longest_match;
-use lsa::ExternalLsa;
-use lsdb::Lsdb;
+use lsa::{Body, ExternalLsa};
 use routes::{Offer, Root, Way};
-use words::{Key, Route, RouterId, Second};
+use words::{Key, Route, RouterId};
 
 /// What external destinations are reached by: AS boundary routers that summaries tell of, by their
 /// names, and the networks within and between areas, both in the order of their prefixes.
 #[derive(Drop)]
 pub struct Inner<'a> {
     pub routers: &'a [Route],
-    /// The area border routers and AS boundary routers of the area, in the order of their Router IDs.
+    /// The area border routers and AS boundary routers of the area, in the order of their Router
+    /// IDs.
     pub flagged: &'a [Flagged],
     pub networks: &'a [Route],
     /// Which lengths the networks' prefixes have.
@@ -54,25 +52,21 @@ fn outward_way(inner: &Inner<'_>, originator: RouterId, lsa: &ExternalLsa) -> Op
     Some(way_by(route))
 }
 
-/// What the AS-external-LSA of this key offers.
-pub fn external_offer(
-    db: &Lsdb,
-    moment: Second,
-    root: &Root,
-    inner: &Inner<'_>,
-    key: &Key,
-) -> Option<Offer>
+/// What an AS-external-LSA offers.
+pub fn external_offer(root: &Root, inner: &Inner<'_>, key: &Key, body: &Body) -> Option<Offer>
     requires flagged { AscendByRouter inner.now.flagged.now × AreCloseBy inner.now.flagged.now }
     requires routers { Ascend inner.now.routers.now × AreBelow inner.now.routers.now }
     requires networks { Ascend inner.now.networks.now × AreBelow inner.now.networks.now }
     requires lengths { HasLengths inner.now.networks.now inner.now.lengths.now }
-    ensures { IsJust (OfExternal (said_at moment db.now.present) root.now inner.now.flagged.now
-        inner.now.routers.now inner.now.networks.now key.now) result }
+    ensures { IsJust (OfExternal root.now inner.now.flagged.now inner.now.routers.now
+        inner.now.networks.now (key.now, body.now)) result }
 {
     if key.ls_type != 5 {
         return None;
     }
-    let lsa = external_lsa(db, moment, key)?;
+    let Body::External(lsa) = body else {
+        return None;
+    };
     if lsa.metric >= LS_INFINITY || key.advertising_router == root.router {
         return None;
     }

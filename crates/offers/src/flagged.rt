@@ -1,10 +1,9 @@
 //! Area border routers and AS boundary routers, with the ways to them (RFC 2328, section A.4.2).
-ghost use Rattle.std.specs.Prelude.{◌≡◌, ◌<◌, IfOk, IfSome, Some};
-ghost use Rattle.std.specs.List.{AllPairs, Contains};
+ghost use Rattle.std.specs.Prelude.{◌≡◌, ◌<◌, IfOk, IfSome};
+ghost use Rattle.std.specs.List.{Contains};
 ghost use Rattle.std.specs.Ordering.{nat_cmp};
-ghost use Rattle.std.specs.declared.cmp.Ordering.TheVariants.{Less};
-ghost use Rattle.lsa.specs.declared.body.Body.{Body as BodyValue};
-ghost use Rattle.lsdb.specs.Keys.{key_cmp};
+ghost use Rattle.lsdb.specs.Bodies.{InOrder};
+ghost use Rattle.offers.specs.Bodies.{HaveAll};
 ghost use Rattle.offers.specs.Borders.{
   AreCloseBy,
   AreFlagged,
@@ -14,16 +13,15 @@ ghost use Rattle.offers.specs.Borders.{
 };
 ghost use Rattle.offers.specs.Gathering.{IsJust};
 ghost use Rattle.offers.specs.Ways.{AreNear};
-ghost use Rattle.routes.specs.Said.{said_at};
-ghost use Rattle.words.specs.declared.key.Key.{Key as KeyValue};
+ghost use Rattle.routes.specs.Said.{Said};
 
-use crate::said::router_lsa;
 use crate::ways::Ways;
-use lsdb::Lsdb;
+use lsa::Body;
+use lsdb::KeyedBody;
 use routes::{Node, Way};
 use std::alloc::{AllocError, Global};
 use std::cmp::Ordering;
-use words::{Key, RouterId, Second};
+use words::{Key, RouterId};
 
 /// A router that a way leads to, with the flags of its router-LSA.
 #[derive(Clone, Copy, Debug)]
@@ -39,13 +37,15 @@ pub const BORDER: u8 = 1;
 pub const BOUNDARY: u8 = 2;
 
 // The router whose LSA has this key, if it has a flag and a way leads there.
-fn flagged_at<W: Ways>(db: &Lsdb, moment: Second, ways: &W, key: &Key) -> Option<Flagged>
-    ensures { IsJust (TellsFlags (said_at moment db.now.present) (W.ways ways.now) key.now) result }
+fn flagged_at<W: Ways>(ways: &W, key: &Key, body: &Body) -> Option<Flagged>
+    ensures { IsJust (TellsFlags (W.ways ways.now) (key.now, body.now)) result }
 {
     if key.ls_type != 1 || key.link_state_id.number() != key.advertising_router.number() {
         return None;
     }
-    let lsa = router_lsa(db, moment, key)?;
+    let Body::Router(lsa) = body else {
+        return None;
+    };
     if lsa.flags & BORDER != BORDER && lsa.flags & BOUNDARY != BOUNDARY {
         return None;
     }
@@ -58,30 +58,26 @@ fn flagged_at<W: Ways>(db: &Lsdb, moment: Second, ways: &W, key: &Key) -> Option
 }
 
 /// The area border routers and AS boundary routers that ways lead to, in the order of their Router
-/// IDs, so that none is looked up in the database for each LSA that it originated. The keys are those
-/// of all LSAs that say something, in their order.
+/// IDs, so that none is looked up in the database for each LSA that it originated. The bodies are
+/// in the order of their keys, those of all router-LSAs among them.
 ///
 /// # Errors
 /// Where memory for them is refused.
 pub fn flagged_routers<W: Ways>(
     alloc: Global,
-    db: &Lsdb,
-    moment: Second,
     ways: &W,
-    keys: &[Key],
+    bodies: &[KeyedBody<'_>],
 ) -> Result<Vec<Flagged>, AllocError>
     requires near { AreNear (W.ways ways.now) }
-    requires keys { (key : KeyValue) (says : BodyValue) → said_at moment db.now.present key
-        ≡ Some says → Contains keys.now key }
-    requires order { AllPairs (λ (a : KeyValue) (b : KeyValue). key_cmp a b ≡ Less) keys.now }
-    ensures flagged { IfOk result (λ routers. AreFlagged (said_at moment db.now.present)
-        (W.ways ways.now) routers.items) }
+    requires order { InOrder bodies.now }
+    ensures flagged { IfOk result (λ routers. (said : Said) → HaveAll 1 said bodies.now
+        → AreFlagged said (W.ways ways.now) routers.items) }
     ensures ascend { IfOk result (λ routers. AscendByRouter routers.items) }
     ensures close { IfOk result (λ routers. AreCloseBy routers.items) }
 {
     let mut routers = Vec::new(alloc);
-    for key in keys {
-        if let Some(router) = flagged_at(db, moment, ways, key) {
+    for one in bodies {
+        if let Some(router) = flagged_at(ways, one.key(), one.body()) {
             routers.push(router)?;
         }
     }

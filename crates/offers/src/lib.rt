@@ -10,7 +10,6 @@ mod gathering;
 mod offer;
 mod order;
 mod passes;
-mod said;
 mod search;
 mod ways;
 

@@ -33,8 +33,8 @@ error_of (verdicts.Object error) = object_error error
 error_of (verdicts.Code error) = code_error error.kind error.slot
 error_of (verdicts.Refused refusal) = rule_error refusal.slot refusal.rule
 
--- The error says why the bytes that the file at the path holds aren't accepted: what they aren't, or
--- at which slot and by which rule they are refused.
+-- The error says why the bytes that the file at the path holds aren't accepted: what they aren't,
+-- or at which slot and by which rule they are refused.
 pub record IsVerdict (holds : List ℕ → List ℕ → Type 0) (path : List ℕ) (e : AttachError)
     : Type 0 where
   pub bytes : List ℕ

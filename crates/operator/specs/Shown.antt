@@ -23,8 +23,8 @@ abbrev pub IsTableText : List ℕ → Type 0
 IsTableText text =
     (r : Router) × (table : List Route) × IsTableNow r table × (text ≡ table_text table)
 
--- The text of a table that was offered: of candidates, and beside them the rows of those that are in
--- the table, it is the text of just these.
+-- The text of a table that was offered: of candidates, and beside them the rows of those that are
+-- in the table, it is the text of just these.
 abbrev pub ShowsTable : Offers → List ℕ → Type 0
 ShowsTable offers text =
     (candidates : List Route) × (rows : List TableRow) × offers candidates rows

@@ -12,8 +12,8 @@ use whole_files::{ReadFault, read};
 
 /// Gives the bytes of files.
 ///
-/// What is so of the bytes that stand at a path is left open here: who reads by this trait alone can
-/// say it only of bytes that were read there.
+/// What is so of the bytes that stand at a path is left open here: who reads by this trait alone
+/// can say it only of bytes that were read there.
 pub trait ReadsFiles {
     ghost holds: { List ℕ → List ℕ → Type 0 };
 

@@ -23,7 +23,7 @@ use Rattle.events.specs.Endings.{links_differ, same_body}
 use Rattle.events.specs.Originations.{links_of, point_to_point, router_body, stub}
 use Rattle.flooding.specs.Links.{present}
 use Rattle.flooding.proofs.Updates.{drop_end, drop_next}
-use Rattle.originations.specs.Described.{described, described_body, described_links, full_router_on, full_routers, interfaces}
+use Rattle.originations.specs.Described.{interface_links, described_body, described_links, full_router_on, full_routers, interfaces}
 use Rattle.originations.proofs.Links.{router_fits, router_size}
 
 -- ---- the links of all interfaces
@@ -31,14 +31,14 @@ use Rattle.originations.proofs.Links.{router_fits, router_size}
 abbrev body_of : List RouterLink → Body
 body_of rs = body.Router (record { flags = 2; links = rs })
 
-one_described : (l : Link) → described l.interface (full_router_on l.neighbor) ≡ links_of l
+one_described : (l : Link) → interface_links l.interface (full_router_on l.neighbor) ≡ links_of l
 one_described l = by_neighbor l.neighbor
   where
-    by_neighbor : (o : Option Neighbor) → described l.interface (full_router_on o) ≡ point_to_point l.interface o ++ stub l.interface ∷ []
+    by_neighbor : (o : Option Neighbor) → interface_links l.interface (full_router_on o) ≡ point_to_point l.interface o ++ stub l.interface ∷ []
     by_neighbor None = refl
     by_neighbor (Some n) = by_state (is_full n.state)
       where
-        by_state : (b : Bool) → described l.interface (cond b (Some n.router) None)
+        by_state : (b : Bool) → interface_links l.interface (cond b (Some n.router) None)
             ≡ cond b (record { link_id = n.router; link_data = l.interface.address; kind = PointToPoint; metric = l.interface.cost; tos = [] } ∷ []) [] ++ stub l.interface ∷ []
         by_state true = refl
         by_state false = refl
@@ -67,7 +67,7 @@ links_with [] fs = []
 links_with (i ∷ is) [] = []
 links_with (i ∷ is) (f ∷ fs) = record { present = link_with i f; settled = link_with i f } ∷ links_with is fs
 
-one_with : (i : Interface) (f : Option ℕ) → described i f ≡ links_of (link_with i f)
+one_with : (i : Interface) (f : Option ℕ) → interface_links i f ≡ links_of (link_with i f)
 one_with i None = refl
 one_with i (Some router) = refl
 
@@ -93,12 +93,12 @@ described_size is fs says are few = router_size (links_with is fs) says (are ∙
 -- ---- one interface after the other
 
 pub described_next : (is : List Interface) (fs : List (Option ℕ)) (n : ℕ) (i : Interface) (f : Option ℕ) (said longer whole : List RouterLink)
-    → n < length is → length fs ≡ length is → i ≡ get_or is n i → f ≡ get_or fs n f → longer ≡ said ++ described i f
+    → n < length is → length fs ≡ length is → i ≡ get_or is n i → f ≡ get_or fs n f → longer ≡ said ++ interface_links i f
     → said ++ described_links (drop n is) (drop n fs) ≡ whole → longer ++ described_links (drop (n + 1) is) (drop (n + 1) fs) ≡ whole
 described_next is fs n i f said longer whole lt same here full put so_far =
     ap (λ ls. ls ++ described_links (drop (n + 1) is) (drop (n + 1) fs)) put
-    ∙ append_assoc said (described i f) (described_links (drop (n + 1) is) (drop (n + 1) fs))
-    ∙ ap (λ ls. said ++ ls) (λ k. described (here k) (full k) ++ described_links (drop (n + 1) is) (drop (n + 1) fs))
+    ∙ append_assoc said (interface_links i f) (described_links (drop (n + 1) is) (drop (n + 1) fs))
+    ∙ ap (λ ls. said ++ ls) (λ k. interface_links (here k) (full k) ++ described_links (drop (n + 1) is) (drop (n + 1) fs))
     ∙ ap (λ ls. said ++ ls) (sym (λ k. described_links (drop_next n is i lt k) (drop_next n fs f (omega (arith, lt, same)) k)))
     ∙ so_far
 

@@ -15,9 +15,9 @@ abbrev pub full_router : Option (RouterNumber × State) → Option RouterNumber
 full_router None = None
 full_router (Some p) = if is_full p.1 then Some p.0 else None
 
-abbrev pub described : Interface → Option RouterNumber → List RouterLink
-described i None = stub i ∷ []
-described i (Some router) = record {
+abbrev pub interface_links : Interface → Option RouterNumber → List RouterLink
+interface_links i None = stub i ∷ []
+interface_links i (Some router) = record {
   link_id = router;
   link_data = i.address;
   kind = PointToPoint;
@@ -43,7 +43,7 @@ full_routers links = map (λ (link : Link). full_router_on link.neighbor) links
 abbrev pub described_links : List Interface → List (Option RouterNumber) → List RouterLink
 described_links [] fs = []
 described_links (i ∷ is) [] = []
-described_links (i ∷ is) (f ∷ fs) = described i f ++ described_links is fs
+described_links (i ∷ is) (f ∷ fs) = interface_links i f ++ described_links is fs
 
 abbrev pub described_body : List Interface → List (Option RouterNumber) → Body
 described_body is fs = body.Router (record { flags = 2; links = described_links is fs })

@@ -20,7 +20,7 @@ use lsa::{Body, Header, Lsa, RouterLsa};
 use lsdb::DatabaseCopy;
 use std::alloc::{AllocError, Global};
 use std::cmp::Ordering;
-use words::{LinkStateId, RouterId, Sequence, SequenceNumber};
+use words::{E_BIT, LinkStateId, RouterId, Sequence, SequenceNumber};
 
 /// The Router IDs of the neighbors that are Full, interface n at place n - 1, None where there is
 /// none: what the router-LSA rests on beside the configuration.
@@ -65,7 +65,7 @@ fn saying(alloc: Global, says: Body) -> Result<Lsa, AllocError>
 {
     let header = Header {
         age: 0,
-        options: 2,
+        options: E_BIT,
         ls_type: 0,
         link_state_id: LinkStateId::new(0),
         advertising_router: RouterId::new(0),

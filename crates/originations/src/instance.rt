@@ -9,7 +9,7 @@ use crate::sequence::next_number;
 use lsa::{Body, Header, Lsa};
 use lsdb::Lsdb;
 use std::alloc::{AllocError, Global};
-use words::Key;
+use words::{E_BIT, Key};
 
 /// The instance of this key that follows the copy of the database and says this: of age 0, its
 /// type, length and checksum those of what it says. None where the copy has MaxSequenceNumber.
@@ -31,7 +31,7 @@ pub fn next_instance(
     };
     let header = Header {
         age: 0,
-        options: 2,
+        options: E_BIT,
         ls_type: 0,
         link_state_id: key.link_state_id,
         advertising_router: key.advertising_router,

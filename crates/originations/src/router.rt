@@ -5,7 +5,7 @@ ghost use Rattle.words.specs.Prefixes.{mask_of, network_address};
 ghost use Rattle.events.specs.Originations.{links_of, router_body, router_key, stub};
 ghost use Rattle.flooding.specs.Links.{present};
 ghost use Rattle.originations.specs.Instances.{next_instance};
-ghost use Rattle.originations.specs.Described.{described, full_router};
+ghost use Rattle.originations.specs.Described.{interface_links, full_router};
 
 use crate::instance::next_instance;
 use adjacency::{Interface, State};
@@ -81,7 +81,8 @@ pub fn put_described(
     interface: &Interface,
     full: Option<RouterId>,
 ) -> Result<(), AllocError>
-    ensures { OnOk result (links.new.items ≡ links.old.items ++ described interface.now full) }
+    ensures { OnOk result (links.new.items ≡ links.old.items
+        ++ interface_links interface.now full) }
 {
     if let Some(router) = full {
         links.push(RouterLink {

@@ -1,4 +1,5 @@
-//! What the types of a packet's fields keep, told to proofs: nothing here does anything when the program runs.
+//! What the types of a packet's fields keep, told to proofs: nothing here does anything when the
+//! program runs.
 ghost use Rattle.std.specs.List.{AllByRecursion};
 ghost use Rattle.words.specs.Fields.{AreBytes};
 ghost use Rattle.lsa.specs.Headers.{IsHeader};
@@ -88,9 +89,11 @@ fn check_body(body: &Body)
 }
 
 impl Packet {
-    /// Says that every field is in its range, as the fields' types keep it. It does nothing when the program runs.
+    /// Says that every field is in its range, as the fields' types keep it. It does nothing when
+    /// the program runs.
     ///
-    /// The types don't keep that each LSA of an Update has room for its header and the length that it says.
+    /// The types don't keep that each LSA of an Update has room for its header and the length that
+    /// it says.
     pub fn check_ranges(&self)
         ensures { PacketIsTyped self.now }
     {

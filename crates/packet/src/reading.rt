@@ -1,8 +1,10 @@
 //! Packets out of bytes.
-ghost use Rattle.std.specs.Prelude.{◌≡◌, ◌≤◌, ◌<◌, ◌+◌, ◌*◌, ◌/◌, ◌^◌, ◌⊎◌, true, length, drop, IfOk};
+ghost use Rattle.std.specs.Prelude.{◌≡◌, ◌≤◌, ◌<◌, ◌+◌, ◌*◌, ◌/◌, ◌^◌, ◌⊎◌, true, length, drop};
+ghost use Rattle.std.specs.Prelude.{IfOk};
 ghost use Rattle.lsa.specs.Headers.{header_at};
 ghost use Rattle.packet.specs.Text.{PacketText, closed, lsa_count, text};
-ghost use Rattle.packet.specs.Reading.{are_lsas, body_of, description_of, hello_of, is_filled, key_at, least_length, lsas_of, router_at};
+ghost use Rattle.packet.specs.Reading.{are_lsas, body_of, description_of, hello_of, is_filled};
+ghost use Rattle.packet.specs.Reading.{key_at, least_length, lsas_of, router_at};
 ghost use Rattle.words.specs.Records.{records};
 ghost use Rattle.packet.specs.Outcome.{Reads};
 
@@ -159,17 +161,20 @@ fn outcome(alloc: Global, bytes: &[u8]) -> Result<Packet, ReadError>
 
 /// The packet whose text the bytes are (RFC 2328, section 8.2 and appendix A.3).
 ///
-/// Refusals are tried in the order of [`Fault`](crate::Fault); `Memory` comes only where nothing is wrong with the
-/// bytes. The authentication bytes and a Hello's two Designated Routers may be anything.
+/// Refusals are tried in the order of [`Fault`](crate::Fault); `Memory` comes only where nothing is
+/// wrong with the bytes. The authentication bytes and a Hello's two Designated Routers may be
+/// anything.
 pub fn read(alloc: Global, bytes: &[u8]) -> Result<Packet, ReadError>
     // What is read has these bytes as a text.
     ensures found { IfOk result (λ p. PacketText bytes.now p) }
     // A text of a packet is read as that packet, unless memory runs out.
-    ensures only { (p : Packet) → PacketText bytes.now p → result ≡ Ok p ⊎ (result ≡ Err ReadError.Memory) }
+    ensures only { (p : Packet) → PacketText bytes.now p → result ≡ Ok p
+        ⊎ (result ≡ Err ReadError.Memory) }
     // Which fault it is; want of memory comes only where there is none.
     ensures exact { Reads bytes.now result }
     // What is read can be written.
-    ensures writable { IfOk result (λ p. (length (text closed 0 p) ≤ 8192) × (lsa_count p.body < 2 ^ 32)) }
+    ensures writable { IfOk result (λ p. (length (text closed 0 p) ≤ 8192)
+        × (lsa_count p.body < 2 ^ 32)) }
 {
     outcome(alloc, bytes)
 }

@@ -1,11 +1,14 @@
 //! Packets into bytes.
-ghost use Rattle.std.specs.Prelude.{◌≡◌, ◌≤◌, ◌<◌, ◌^◌, ◌+◌, ◌*◌, ◌++◌, ℕ, List, [], ◌∷◌, length, IfOk, OnOk, take};
+ghost use Rattle.std.specs.Prelude.{◌≡◌, ◌≤◌, ◌<◌, ◌^◌, ◌+◌, ◌*◌, ◌++◌, ℕ, List, [], ◌∷◌, length};
+ghost use Rattle.std.specs.Prelude.{IfOk, OnOk, take};
 ghost use Rattle.std.specs.List.{flat_map};
 ghost use Rattle.byteorder.specs.Endian.{big_bytes};
 ghost use Rattle.words.specs.Fields.{fields};
 ghost use Rattle.lsa.specs.Headers.{header_text};
 ghost use Rattle.packet.specs.Ranges.{LsasAreWhole};
-ghost use Rattle.packet.specs.Text.{PacketText, body_text, canonical, closed, description, flags, header, hello, key_text, lsa_count, router_text, text, type_number, type_of};
+ghost use Rattle.packet.specs.Text.{PacketText, body_text, canonical, closed, description, flags};
+ghost use Rattle.packet.specs.Text.{header, hello, key_text, lsa_count, router_text, text};
+ghost use Rattle.packet.specs.Text.{type_number, type_of};
 
 use crate::checksum::checksum;
 use crate::model::{Body, Description, Hello, Packet, PacketType};
@@ -121,7 +124,8 @@ fn put_sequence(out: &mut Vec<u8>, d: &Description) -> Result<(), AllocError>
 
 #[tactic(auto, using(crate::proofs::Sizes::two_parts))]
 fn put_hello(out: &mut Vec<u8>, h: &Hello) -> Result<(), AllocError>
-    ensures { OnOk result (out.new.items ≡ out.old.items ++ (fields (hello closed h.now) ++ flat_map router_text h.now.neighbors)) }
+    ensures { OnOk result (out.new.items ≡ out.old.items ++ (fields (hello closed h.now)
+        ++ flat_map router_text h.now.neighbors)) }
 {
     put_intervals(out, h)?;
     put_routers(out, h.neighbors.as_slice())
@@ -129,7 +133,8 @@ fn put_hello(out: &mut Vec<u8>, h: &Hello) -> Result<(), AllocError>
 
 #[tactic(auto, using(crate::proofs::Sizes::two_parts))]
 fn put_description(out: &mut Vec<u8>, d: &Description) -> Result<(), AllocError>
-    ensures { OnOk result (out.new.items ≡ out.old.items ++ (fields (description d.now) ++ flat_map header_text d.now.headers)) }
+    ensures { OnOk result (out.new.items ≡ out.old.items ++ (fields (description d.now)
+        ++ flat_map header_text d.now.headers)) }
 {
     put_sequence(out, d)?;
     put_headers(out, d.headers.as_slice())
@@ -138,7 +143,8 @@ fn put_description(out: &mut Vec<u8>, d: &Description) -> Result<(), AllocError>
 #[tactic(auto, using(crate::proofs::Sizes::two_parts))]
 fn put_update(out: &mut Vec<u8>, lsas: &[Sequence<u8>]) -> Result<(), AllocError>
     requires { length lsas.now < 2 ^ 32 }
-    ensures { OnOk result (out.new.items ≡ out.old.items ++ (big_bytes 4 (length lsas.now) ++ flat_map (λ lsa. lsa) lsas.now)) }
+    ensures { OnOk result (out.new.items ≡ out.old.items ++ (big_bytes 4 (length lsas.now)
+        ++ flat_map (λ lsa. lsa) lsas.now)) }
 {
     put_u32(out, lsas.len() as u32)?;
     put_lsas(out, lsas)
@@ -183,7 +189,9 @@ fn lsas_length(lsas: &[Sequence<u8>]) -> usize {
 // The text with 0 for its length and its checksum.
 fn draft(alloc: Global, packet: &Packet) -> Result<Vec<u8>, AllocError>
     requires { lsa_count packet.now.body < 2 ^ 32 }
-    ensures { IfOk result (λ bytes. bytes.items ≡ fields (header (type_of packet.now.body) 0 packet.now.router 0 0) ++ body_text closed packet.now.body) }
+    ensures { IfOk result (λ bytes. bytes.items
+        ≡ fields (header (type_of packet.now.body) 0 packet.now.router 0 0)
+        ++ body_text closed packet.now.body) }
 {
     let mut out = Vec::with_capacity(alloc, likely_length(&packet.body).min(8192))?;
     put_start(&mut out, type_of(&packet.body), packet.router)?;
@@ -202,7 +210,8 @@ pub fn write(alloc: Global, packet: &Packet) -> Result<Vec<u8>, AllocError>
     requires count { lsa_count packet.now.body < 2 ^ 32 }
     ensures canonical { IfOk result (λ bytes. bytes.items ≡ canonical packet.now) }
     // It is a text where each LSA of an Update has the length that it says.
-    ensures text { LsasAreWhole packet.now.body → IfOk result (λ bytes. PacketText bytes.items packet.now) }
+    ensures text { LsasAreWhole packet.now.body
+        → IfOk result (λ bytes. PacketText bytes.items packet.now) }
 {
     packet.check_ranges();
     let mut out = draft(alloc, packet)?;

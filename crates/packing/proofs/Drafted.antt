@@ -14,7 +14,7 @@ use Rattle.adjacency.specs.Rooms.{HasRoom}
 use Rattle.adjacency.specs.declared.draft.Update.{Update}
 use Rattle.received.specs.Links.{Link}
 use Rattle.received.specs.Outcomes.{Send}
-use Rattle.events.specs.Packing.{acknowledgments, at_interface, bodies, descriptions, first_key, header_size, hellos, in_key_order, is_after, lsa_size, packed, put, requests, sent_lsa, update_of, updates}
+use Rattle.events.specs.Packing.{acknowledgments, at_interface, bodies, descriptions, first_key, header_size, hellos, in_key_order, is_after, lsa_size, packed_groups, put, requests, sent_lsa, update_of, updates}
 use Rattle.event_rooms.specs.PackingLaws.{HasPacketRoom}
 use Rattle.event_rooms.proofs.Rooms.{order_all, ordered_and_packed, there}
 use Rattle.packing.specs.Bodies.{IsShort, drafted_bodies, text_size, texts, update_bodies, update_key}
@@ -116,15 +116,15 @@ all_sized delay [] is = tt
 all_sized delay (l ∷ ls) is = (sent_size delay l is.0, all_sized delay ls is.1)
 
 updates_packed : (delay : ℕ) (lsas : List Lsa) → AllByRecursion IsSized lsas
-    → update_bodies (map (drafts.update_of delay) lsas) ≡ map (update_of delay) (packed lsa_size 28 (in_key_order lsa_key lsas))
+    → update_bodies (map (drafts.update_of delay) lsas) ≡ map (update_of delay) (packed_groups lsa_size 28 (in_key_order lsa_key lsas))
 updates_packed delay lsas sized =
     let sorted : List Lsa = in_key_order lsa_key lsas in
     let same_texts : texts (in_key_order update_key (map (drafts.update_of delay) lsas)) ≡ map (sent_text delay) sorted =
     ap texts (order_map (drafts.update_of delay) update_key lsas) ∙ map_twice (λ (u : Update). u.text) (drafts.update_of delay) sorted in
     let all : AllByRecursion IsSized sorted = order_all lsa_key IsSized lsas sized in
-    ap (λ ts. map body.Update (packed text_size 28 ts)) same_texts
+    ap (λ ts. map body.Update (packed_groups text_size 28 ts)) same_texts
     ∙ ap (λ ps. map body.Update ps) (packed_map (sent_text delay) lsa_size text_size 28 sorted (all_sized delay sorted all))
-    ∙ map_twice body.Update (λ p. map (sent_text delay) p) (packed lsa_size 28 sorted)
+    ∙ map_twice body.Update (λ p. map (sent_text delay) p) (packed_groups lsa_size 28 sorted)
 
 -- ---- the whole draft
 
@@ -139,7 +139,7 @@ drafted_are delay cs room =
     let told = ap update_bodies four ∙ updates_packed delay (filter_map updates cs) (updates_sized cs room) in
     λ i.
     one i ++ two i ++ map body.Request (in_key_order first_key (three i)) ++ told i
-    ++ map body.Acknowledgment (packed header_size 24 (in_key_order key_of (five i)))
+    ++ map body.Acknowledgment (packed_groups header_size 24 (in_key_order key_of (five i)))
 
 pub draft_says : (number : ℕ) (link : Link) (sends : List Send) (d : Drafted) → IsDraftAt number link sends d
     → drafted_bodies d ≡ bodies link.interface.delay (filter_map (at_interface number) sends)

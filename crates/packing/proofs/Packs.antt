@@ -2,8 +2,8 @@
 use Rattle.std.proofs.Common.{◌≡◌, ◌≤◌, ℕ, ◌+◌, Bool, true, false, cond, List, [], ◌∷◌, ◌++◌, map, refl, sym, ap, ◌∙◌, arith, append_assoc, append-nil, length, subst}
 use Rattle.std.specs.Prelude.{nat_le}
 use Rattle.std.specs.List.{AllByRecursion}
-use Rattle.events.specs.Packing.{fill_on, packed}
-use Rattle.packing.specs.Fillings.{IsFilling, IsPackedSoFar, finished}
+use Rattle.events.specs.Packing.{fill_on, packed_groups}
+use Rattle.packing.specs.Fillings.{IsFilling, IsPackedSoFar, finished_packets}
 
 -- ---- one item after the other
 
@@ -14,17 +14,17 @@ module _ {X : Type 0} (size : X → ℕ) (begin : ℕ) (all : List X) where
     filling = record { room = omega (arith, u, low); fresh = λ e. u ∙ sym s };
     begins = s;
     room = subst (λ xs. AllByRecursion (λ x. begin + size x ≤ 8192) xs) (sym r) room;
-    is = λ i. finished size (s i) (u i) (p i) (t i) (r i);
+    is = λ i. finished_packets size (s i) (u i) (p i) (t i) (r i);
   }
 
   pub more_packed : (start used : ℕ) (packets : List (List X)) (taken before rest : List X) (x : X) (start' used' : ℕ) (packets' : List (List X)) (taken' : List X)
       → IsPackedSoFar size begin all start used packets taken before → before ≡ x ∷ rest → IsFilling start' used' taken' → start' ≡ start
-      → finished size start' used' packets' taken' rest ≡ finished size start used packets taken (x ∷ rest) → IsPackedSoFar size begin all start' used' packets' taken' rest
+      → finished_packets size start' used' packets' taken' rest ≡ finished_packets size start used packets taken (x ∷ rest) → IsPackedSoFar size begin all start' used' packets' taken' rest
   more_packed start used packets taken before rest x start' used' packets' taken' h e filling s step = record {
     filling = filling;
     begins = s ∙ h.begins;
     room = (subst (λ xs. AllByRecursion (λ y. begin + size y ≤ 8192) xs) e h.room).1;
-    is = step ∙ ap (λ xs. finished size start used packets taken xs) (sym e) ∙ h.is;
+    is = step ∙ ap (λ xs. finished_packets size start used packets taken xs) (sym e) ∙ h.is;
   }
 
   pub next_room : (start used : ℕ) (packets : List (List X)) (taken before rest : List X) (x : X) → IsPackedSoFar size begin all start used packets taken before → before ≡ x ∷ rest
@@ -35,8 +35,8 @@ module _ {X : Type 0} (size : X → ℕ) (begin : ℕ) (all : List X) where
       omega (arith, one, same)
 
   pub all_packed : (start used : ℕ) (packets : List (List X)) (taken rest : List X) → IsPackedSoFar size begin all start used packets taken rest → rest ≡ []
-      → finished size start used packets taken [] ≡ packed size begin all
-  all_packed start used packets taken rest h e = ap (λ xs. finished size start used packets taken xs) (sym e) ∙ h.is
+      → finished_packets size start used packets taken [] ≡ packed_groups size begin all
+  all_packed start used packets taken rest h e = ap (λ xs. finished_packets size start used packets taken xs) (sym e) ∙ h.is
 
 -- ---- items that move from one list to another
 
@@ -80,7 +80,7 @@ module _ {X Y : Type 0} (f : X → Y) (size : X → ℕ) (other : Y → ℕ) (st
       by_test true one next = one
       by_test false one next = ap (λ ps. map f taken ∷ ps) next
 
-  pub packed_map : (xs : List X) → AreSized xs → packed other start (map f xs) ≡ map (λ p. map f p) (packed size start xs)
+  pub packed_map : (xs : List X) → AreSized xs → packed_groups other start (map f xs) ≡ map (λ p. map f p) (packed_groups size start xs)
   packed_map [] sized = refl
   packed_map (x ∷ xs) sized =
       ap (λ n. fill_on other start (start + n) (f x ∷ []) (map f xs)) sized.0 ∙ fill_map (start + size x) (x ∷ []) xs sized.1

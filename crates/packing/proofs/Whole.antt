@@ -15,7 +15,7 @@ use Rattle.adjacency.specs.Drafts.{Drafted}
 use Rattle.adjacency.specs.Rooms.{HasRoom}
 use Rattle.received.specs.Links.{Link}
 use Rattle.received.specs.Outcomes.{Send}
-use Rattle.events.specs.Packing.{acknowledgments, at_interface, bodies, descriptions, first_key, header_size, hellos, in_key_order, lsa_size, packed, requests, sent_lsa, update_of, updates}
+use Rattle.events.specs.Packing.{acknowledgments, at_interface, bodies, descriptions, first_key, header_size, hellos, in_key_order, lsa_size, packed_groups, requests, sent_lsa, update_of, updates}
 use Rattle.event_rooms.specs.PackingLaws.{HasPacketRoom}
 use Rattle.event_rooms.proofs.Rooms.{both, mapped_all, order_all, packed_all, there}
 use Rattle.packing.specs.Bodies.{drafted_bodies}
@@ -72,11 +72,11 @@ bodies_whole delay cs room =
     let lsas : List Lsa = in_key_order lsa_key (filter_map updates cs) in
     let headers : List Header = in_key_order key_of (filter_map acknowledgments cs) in
     let sized : AllByRecursion IsSized lsas = order_all lsa_key IsSized (filter_map updates cs) (updates_sized cs room) in
-    both LsasAreWhole _ (map body.Acknowledgment (packed header_size 24 headers))
-    (both LsasAreWhole _ (map (update_of delay) (packed lsa_size 28 lsas))
+    both LsasAreWhole _ (map body.Acknowledgment (packed_groups header_size 24 headers))
+    (both LsasAreWhole _ (map (update_of delay) (packed_groups lsa_size 28 lsas))
     (both LsasAreWhole _ (map body.Request keys) (both LsasAreWhole (filter_map hellos cs) (filter_map descriptions cs) (hellos_whole cs) (descriptions_whole cs)) (requests_whole keys))
-    (mapped_all (update_of delay) (λ p. AllByRecursion IsSized p) LsasAreWhole (texts_whole delay) (packed lsa_size 28 lsas) (packed_all lsa_size 28 IsSized lsas sized)))
-    (acknowledgments_whole (packed header_size 24 headers))
+    (mapped_all (update_of delay) (λ p. AllByRecursion IsSized p) LsasAreWhole (texts_whole delay) (packed_groups lsa_size 28 lsas) (packed_all lsa_size 28 IsSized lsas sized)))
+    (acknowledgments_whole (packed_groups header_size 24 headers))
 
 paired : (P Q : Body → Type 0) (bs : List Body) → AllByRecursion P bs → AllByRecursion Q bs → AllByRecursion (λ b. P b × Q b) bs
 paired P Q [] p q = tt

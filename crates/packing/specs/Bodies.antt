@@ -7,7 +7,7 @@ use Rattle.packet.specs.declared.model.Body.{Body}
 use Rattle.packet.specs.declared.model.Body.TheVariants as body
 use Rattle.adjacency.specs.Drafts.{Drafted}
 use Rattle.adjacency.specs.declared.draft.Update.{Update}
-use Rattle.events.specs.Packing.{first_key, header_size, in_key_order, packed}
+use Rattle.events.specs.Packing.{first_key, header_size, in_key_order, packed_groups}
 
 abbrev pub update_key : Update → Key
 update_key u = u.key
@@ -27,11 +27,11 @@ AllShort updates = AllByRecursion IsShort updates
 
 abbrev pub update_bodies : List Update → List Body
 update_bodies updates =
-    map body.Update (packed text_size 28 (texts (in_key_order update_key updates)))
+    map body.Update (packed_groups text_size 28 (texts (in_key_order update_key updates)))
 
 abbrev pub acknowledgment_bodies : List Header → List Body
 acknowledgment_bodies headers =
-    map body.Acknowledgment (packed header_size 24 (in_key_order key_of headers))
+    map body.Acknowledgment (packed_groups header_size 24 (in_key_order key_of headers))
 
 abbrev pub drafted_bodies : Drafted → List Body
 drafted_bodies d =

@@ -1,7 +1,7 @@
 -- Packets while they are being filled.
 use Rattle.std.specs.Prelude.{◌≡◌, ◌≤◌, ℕ, ◌+◌, List, [], ◌∷◌, ◌++◌}
 use Rattle.std.specs.List.{AllByRecursion}
-use Rattle.events.specs.Packing.{fill_on, packed}
+use Rattle.events.specs.Packing.{fill_on, packed_groups}
 
 -- the packet that is being filled, which begins with `start` bytes, has room for the `used` ones;
 -- without an item it has no more than it begins with
@@ -10,14 +10,15 @@ pub record IsFilling {X : Type 0} (start used : ℕ) (taken : List X) : Type 0 w
   pub fresh : taken ≡ [] → used ≡ start
 
 -- the packets from the one that is being filled on, once the rest is packed too
-abbrev pub filled : {X : Type 0} → (X → ℕ) → ℕ → ℕ → List X → List X → List (List X)
-filled size start used [] rest = packed size start rest
-filled size start used (t ∷ taken) rest = fill_on size start used (t ∷ taken) rest
+abbrev pub filled_packets : {X : Type 0} → (X → ℕ) → ℕ → ℕ → List X → List X → List (List X)
+filled_packets size start used [] rest = packed_groups size start rest
+filled_packets size start used (t ∷ taken) rest = fill_on size start used (t ∷ taken) rest
 
 -- all packets, once the rest is packed too
-abbrev pub finished : {X : Type 0} → (X → ℕ) → ℕ → ℕ → List (List X) → List X → List X
+abbrev pub finished_packets : {X : Type 0} → (X → ℕ) → ℕ → ℕ → List (List X) → List X → List X
     → List (List X)
-finished size start used packets taken rest = packets ++ filled size start used taken rest
+finished_packets size start used packets taken rest = packets
+    ++ filled_packets size start used taken rest
 
 -- what was taken up of all items is packed, or in the packet that is being filled; the rest is
 -- still to come, each with room in a packet of its own
@@ -26,4 +27,4 @@ pub record IsPackedSoFar {X : Type 0} (size : X → ℕ) (begin : ℕ) (all : Li
   pub filling : IsFilling start used taken
   pub begins : start ≡ begin
   pub room : AllByRecursion (λ x. begin + size x ≤ 8192) rest
-  pub is : finished size start used packets taken rest ≡ packed size begin all
+  pub is : finished_packets size start used packets taken rest ≡ packed_groups size begin all

@@ -2,8 +2,8 @@
 ghost use Rattle.std.specs.Prelude.{◌≡◌, ◌≤◌, ◌+◌, List, [], ◌∷◌, ◌++◌};
 ghost use Rattle.std.specs.Prelude.{IfOk, OnOk};
 ghost use Rattle.std.specs.List.{AllByRecursion};
-ghost use Rattle.events.specs.Packing.{packed};
-ghost use Rattle.packing.specs.Fillings.{IsFilling, finished};
+ghost use Rattle.events.specs.Packing.{packed_groups};
+ghost use Rattle.packing.specs.Fillings.{IsFilling, finished_packets};
 
 use crate::contents::HasSize;
 use std::alloc::{AllocError, Global};
@@ -73,9 +73,9 @@ impl<X: HasSize + Drop> Filling<X> {
             (IsFilling self.new.start self.new.used self.new.taken.items) }
         ensures start { OnOk result (self.new.start ≡ self.old.start) }
         ensures packed { OnOk result ((rest : List X)
-            → finished X.size self.new.start self.new.used
+            → finished_packets X.size self.new.start self.new.used
             self.new.packets.items self.new.taken.items rest
-            ≡ finished X.size self.old.start self.old.used
+            ≡ finished_packets X.size self.old.start self.old.used
             self.old.packets.items self.old.taken.items (item ∷ rest)) }
     {
         if self.used + item.size() <= LARGEST_PACKET {
@@ -88,7 +88,7 @@ impl<X: HasSize + Drop> Filling<X> {
     // All packets, the one that is being filled too.
     fn finish(mut self, alloc: Global) -> Result<Vec<Sequence<X>>, AllocError>
         ensures { IfOk result (λ packets. packets.items
-            ≡ finished X.size self.start self.used self.packets.items self.taken.items []) }
+            ≡ finished_packets X.size self.start self.used self.packets.items self.taken.items []) }
     {
         if !self.taken.is_empty() {
             self.close(alloc)?;
@@ -109,7 +109,7 @@ pub fn packed<X: HasSize + Drop>(
     requires start { start ≤ 8192 }
     // Each has room in a packet of its own.
     requires room { AllByRecursion (λ item. start + X.size item ≤ 8192) items.items }
-    ensures { IfOk result (λ packets. packets.items ≡ packed X.size start items.items) }
+    ensures { IfOk result (λ packets. packets.items ≡ packed_groups X.size start items.items) }
 {
     let mut filling = Filling::new(alloc, start);
     for item in items {

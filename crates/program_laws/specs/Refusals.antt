@@ -53,7 +53,8 @@ pub record SoundCodeIsNotNamed : Type 0 where
 -- `r0 = 7; exit` may execute just 1,000,000 instructions, which is within the bound; with the next
 -- rank it is over, and that is told at slot 0.
 pub record HelpersAndBoundAreNamedAptly : Type 0 where
-  pub helper : (hook : Hook) (slot : ℕ) → MayRefuse hook (ended (Call (pos 1))) 0 [] slot rules.Helper
+  pub helper : (hook : Hook) (slot : ℕ) → MayRefuse hook (ended (Call (pos 1))) 0 [] slot
+      rules.Helper
       → ⊥
   pub within : (hook : Hook) (slot : ℕ) → MayRefuse hook (ended seven) 499999 [] slot rules.Budget
       → ⊥
@@ -88,8 +89,9 @@ abbrev pub cut_code : List Slot
 cut_code = Start Exit ∷ Start Exit ∷ []
 
 -- The rules on jumps, statements and the code's end have an order: where a slot breaks the one on
--- targets, none of the three behind it counts there; where it breaks that on the end, neither of the
--- two; where it can't be reached, not the last. No rule on registers counts at any of these slots.
+-- targets, none of the three behind it counts there; where it breaks that on the end, neither of
+-- the two; where it can't be reached, not the last. No rule on registers counts at any of these
+-- slots.
 pub record RulesCountInTheirOrder : Type 0 where
   pub astray_ends : IsFirst astray_code [] 1 rules.FallsOff → ⊥
   pub astray_unreached : IsFirst astray_code [] 1 rules.Unreached → ⊥

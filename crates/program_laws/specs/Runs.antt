@@ -70,7 +70,8 @@ pub record StartsAsStated {D : Type 0} (contains : D → ℕ → Type 0) (gives 
   pub byte : RunsMeetStatements contains gives loads_context hook
       (record (says_first Empty Empty) { stack = with_range 0 1 no_bytes } ∷ []) → ⊥
 
--- `r0 = 7; exit` doesn't leave a pointer in r0: so no program is accepted that states one behind it.
+-- `r0 = 7; exit` doesn't leave a pointer in r0: so no program is accepted that states one behind
+-- it.
 abbrev pub LaterSlotsAreAsStated : {D : Type 0} → (D → ℕ → Type 0) → GivesStated D → Hook → Type 0
 LaterSlotsAreAsStated contains gives hook =
     RunsMeetStatements contains gives (ended seven) hook (says 1 (Context 0) 0 ∷ []) → ⊥

@@ -1,17 +1,20 @@
-//! Laws of the definitions of programs, each carried by a function with an empty body: of what a seat may be told, of what a refusal
-//! may name, and of what the runs of an accepted program are.
+//! Laws of the definitions of programs, each carried by a function with an empty body: of what a
+//! seat may be told, of what a refusal may name, and of what the runs of an accepted program are.
 #![tactic(auto)]
 
 ghost use Rattle.isa.specs.declared.hook.Hook.{Hook};
 ghost use Rattle.program_laws.specs.Answers.{AnswersAreOfWhatStands};
-ghost use Rattle.program_laws.specs.Refusals.{HelpersAndBoundAreNamedAptly, LaterRulesDontCount, RulesCountInTheirOrder, SoundCodeIsNotNamed};
-ghost use Rattle.program_laws.specs.Runs.{LaterSlotsAreAsStated, LoadsAreOfTheContext, LoadsAreOfTheirMap, StartsAsStated, StoresAreOfTheStack};
+ghost use Rattle.program_laws.specs.Refusals.{HelpersAndBoundAreNamedAptly, LaterRulesDontCount};
+ghost use Rattle.program_laws.specs.Refusals.{RulesCountInTheirOrder, SoundCodeIsNotNamed};
+ghost use Rattle.program_laws.specs.Runs.{LaterSlotsAreAsStated, LoadsAreOfTheContext};
+ghost use Rattle.program_laws.specs.Runs.{LoadsAreOfTheirMap, StartsAsStated, StoresAreOfTheStack};
 ghost use Rattle.program_laws.specs.Seats.{AdditionsAreRefusedLast, SeatsGrow, SeatsStayLawful};
 
 use absdom::Domain;
 
-/// What a seat's list of accesses says is so after any steps that it may make, if it was before: each read of a counter found at least what
-/// the list knew, each load of a cell what was last stored, and there are at most 2^31 additions.
+/// What a seat's list of accesses says is so after any steps that it may make, if it was before:
+/// each read of a counter found at least what the list knew, each load of a cell what was last
+/// stored, and there are at most 2^31 additions.
 pub fn seats_stay_lawful()
     ensures { SeatsStayLawful }
 {}
@@ -26,8 +29,9 @@ pub fn seats_grow()
     ensures { SeatsGrow }
 {}
 
-/// An answer is that of the program that the operations leave at the hook, or the default where they leave none; the seat made just the
-/// accesses of that run, and none without a program; what was known is still known, and what the seat was told still so.
+/// An answer is that of the program that the operations leave at the hook, or the default where
+/// they leave none; the seat made just the accesses of that run, and none without a program; what
+/// was known is still known, and what the seat was told still so.
 pub fn answers_are_of_what_stands()
     ensures { AnswersAreOfWhatStands }
 {}
@@ -37,18 +41,20 @@ pub fn sound_code_is_not_named()
     ensures { SoundCodeIsNotNamed }
 {}
 
-/// No helper that there is is told as missing, and the bound is told only where it is passed, at slot 0.
+/// No helper that there is is told as missing, and the bound is told only where it is passed, at
+/// slot 0.
 pub fn helpers_and_bound_are_named_aptly()
     ensures { HelpersAndBoundAreNamedAptly }
 {}
 
-/// Where a slot breaks one of the rules on jumps, statements and the code's end, none behind it counts there, and none at a later slot.
+/// Where a slot breaks one of the rules on jumps, statements and the code's end, none behind it
+/// counts there, and none at a later slot.
 pub fn later_rules_dont_count()
     ensures { LaterRulesDontCount }
 {}
 
-/// The rules on jumps, statements and the code's end count in this order at a slot: targets, the end, what can't be reached, what isn't
-/// stated; no other rule counts where one of them is broken.
+/// The rules on jumps, statements and the code's end count in this order at a slot: targets, the
+/// end, what can't be reached, what isn't stated; no other rule counts where one of them is broken.
 pub fn rules_count_in_their_order()
     ensures { RulesCountInTheirOrder }
 {}

@@ -25,7 +25,8 @@ pub struct Circle {
     pub within: Vec<bool>,
 }
 
-/// How a number is carried round a loop: in which register at each site, and on which edges it falls.
+/// How a number is carried round a loop: in which register at each site, and on which edges it
+/// falls.
 #[derive(Drop)]
 pub struct Carried {
     pub registers: Vec<Option<u8>>,
@@ -130,8 +131,8 @@ impl<'a> Graph<'a> {
         Ok(registers)
     }
 
-    /// How the number that the register has at the head is carried round the loop. None where an edge
-    /// of the loop loses it.
+    /// How the number that the register has at the head is carried round the loop. None where an
+    /// edge of the loop loses it.
     pub fn carried(
         &self,
         circle: &Circle,

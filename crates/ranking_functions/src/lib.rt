@@ -1,5 +1,5 @@
-//! Ranks for statements that have none: for each loop a register that falls in each turn, with the least
-//! weight and constants that do. What comes out is a guess, which the verifier judges.
+//! Ranks for statements that have none: for each loop a register that falls in each turn, with the
+//! least weight and constants that do. What comes out is a guess, which the verifier judges.
 #![tactic(auto)]
 
 mod circles;

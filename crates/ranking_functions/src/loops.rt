@@ -23,8 +23,8 @@ fn spread_by(edge: &Edge, is_forward: bool, marks: &mut Vec<bool>) -> bool {
     true
 }
 
-/// Marks what the kept edges lead to from what is marked, in the order in which most of them lie. Whether
-/// anything was new.
+/// Marks what the kept edges lead to from what is marked, in the order in which most of them lie.
+/// Whether anything was new.
 fn spread(edges: &[Edge], kept: &[bool], is_forward: bool, marks: &mut Vec<bool>) -> bool {
     let mut has_changed = false;
     for passed in 0..edges.len() {
@@ -68,7 +68,8 @@ fn reached(
     Ok(marks)
 }
 
-/// The sites of the loop that goes through this one by kept edges. None where there is no such loop.
+/// The sites of the loop that goes through this one by kept edges. None where there is no such
+/// loop.
 pub fn loop_through(
     alloc: Global,
     edges: &[Edge],

@@ -67,8 +67,9 @@ fn planned(graph: &Graph<'_>, given: &[Statement], are_kept: bool) -> Result<Ran
     unsettled(graph, plan, failed)
 }
 
-/// Finds ranks for the statements. The ranks of those that are given come first where they are kept, else
-/// where none are found. `most` is the greatest constant that leaves the code within its budget.
+/// Finds ranks for the statements. The ranks of those that are given come first where they are
+/// kept, else where none are found. `most` is the greatest constant that leaves the code within its
+/// budget.
 pub fn rank_statements(
     alloc: Global,
     found: &Inference,

@@ -16,7 +16,8 @@ impl<'a> Graph<'a> {
         Ok(kept)
     }
 
-    /// Whether a loop begins at the site that has no rank on its own, though those within it have one.
+    /// Whether a loop begins at the site that has no rank on its own, though those within it have
+    /// one.
     fn is_unranked(
         &self,
         plan: &mut Plan,

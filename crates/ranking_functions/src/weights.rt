@@ -1,5 +1,5 @@
-//! The constants that ranks need: at the start of each edge as much as its end has, and more by what
-//! the edge raises.
+//! The constants that ranks need: at the start of each edge as much as its end has, and more by
+//! what the edge raises.
 
 use crate::loops::is_marked;
 use crate::plan::Plan;
@@ -22,7 +22,8 @@ const NO_BOUNDS: Bounds = Bounds {
     highs: [None; 10],
 };
 
-/// Sums of multiples of numbers that differ: the first plus `saved` is at most the second plus `needed`.
+/// Sums of multiples of numbers that differ: the first plus `saved` is at most the second plus
+/// `needed`.
 #[derive(Clone, Copy)]
 struct Gap {
     saved: u128,

@@ -5,12 +5,12 @@ use Rattle.adjacency.specs.Neighbors.{Neighbor}
 use Rattle.received.specs.Flooding.{flood_to}
 use Rattle.received.specs.Laws.{DropsRequest, FloodingExaminesEachNeighbor, Requests}
 use Rattle.received.specs.Links.{Link}
-use Rattle.adjacency.specs.Requests.{requested}
+use Rattle.adjacency.specs.Requests.{requested_entry}
 use Rattle.received.proofs.Flooded.{removed}
 
 stays : (moment : ℕ) (sender : Option ℕ) (lsa : Lsa) (number : ℕ) (link : Link) (n : Neighbor) (b : Bool)
     → (r : Requests moment sender lsa number n b false true)
-    → (requested (flood_to moment sender lsa number link n).neighbor (lsa_key lsa) ≡ Some r.entry)
+    → (requested_entry (flood_to moment sender lsa number link n).neighbor (lsa_key lsa) ≡ Some r.entry)
     × ((flood_to moment sender lsa number link n).sends ≡ [])
 stays moment sender lsa number link n true r = (
   rw (r.is_later, r.is_sender, r.is_synchronizing, r.is_requested, r.is_older) r.is_requested,

@@ -4,7 +4,7 @@ use Rattle.std.specs.Prelude.{slice_get}
 use Rattle.std.specs.List.{enumerate_from}
 use Rattle.lsdb.specs.Headers.{Lsa, lsa_key}
 use Rattle.lsdb.specs.Copies.{DatabaseCopy, install_flooded}
-use Rattle.adjacency.specs.Adjacencies.{mismatched}
+use Rattle.adjacency.specs.Adjacencies.{mismatch_step}
 use Rattle.adjacency.specs.Contents.{Step, Updates, no_sends}
 use Rattle.adjacency.specs.Neighbors.{Neighbor, is_exchange_or_later}
 use Rattle.adjacency.specs.Requests.{without_request}
@@ -97,7 +97,7 @@ module _ (Q : Fact) (kept : IsKept Q) where
   case_kept Case.NothingToFlush moment number lsa o h = h
   case_kept Case.TooSoon moment number lsa o h = h
   case_kept Case.Newer moment number lsa o h = install_kept moment number lsa o h
-  case_kept Case.BadRequest moment number lsa o h = one_keeps (Of Q) moment number (mismatched moment) (mismatched_kept Q kept moment) o h
+  case_kept Case.BadRequest moment number lsa o h = one_keeps (Of Q) moment number (mismatch_step moment) (mismatched_kept Q kept moment) o h
   case_kept Case.ImpliedAcknowledgment moment number lsa o h =
       one_keeps (Of Q) moment number (λ n. no_sends (remove_retransmission (lsa_key lsa) n)) (λ n at. released_kept Q kept (lsa_key lsa) n at) o h
   case_kept Case.Duplicate moment number lsa o h = h

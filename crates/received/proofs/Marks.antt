@@ -11,7 +11,7 @@ use Rattle.lsdb.specs.Headers.{lsa_key}
 use Rattle.lsdb.specs.Keys.{key_cmp}
 use Rattle.lsdb.proofs.Keys.{keys_total}
 use Rattle.adjacency.specs.Contents.{Content}
-use Rattle.received.specs.Outcomes.{Send, marked}
+use Rattle.received.specs.Outcomes.{Send, marked_database}
 
 pub tied : (o : Ordering) → is_eq o ≡ true → o ≡ Equal
 tied Less e = absurd (true≢false (sym e))
@@ -57,7 +57,7 @@ marked_once moment other key c db there = by_found (finite.get db other) refl
     by_found (Some d) e = by_same d e (eq_by_cmp key_cmp key other) refl
 
 mark_one : (moment : ℕ) (says : Content) (key : Key) (c : DatabaseCopy) (db : Database) → finite.get db key ≡ Some c
-    → IsStill (marked moment db says) key c
+    → IsStill (marked_database moment db says) key c
 mark_one moment (Content.SendsHello h) key c db there = (c.sent, there)
 mark_one moment (Content.Describes d) key c db there = (c.sent, there)
 mark_one moment (Content.Requests keys) key c db there = (c.sent, there)
@@ -65,8 +65,8 @@ mark_one moment (Content.Updates lsa) key c db there = marked_once moment (lsa_k
 mark_one moment (Content.Acknowledges h) key c db there = (c.sent, there)
 
 pub mark_all : (moment : ℕ) (more : List Send) (key : Key) (c : DatabaseCopy) (db : Database) → finite.get db key ≡ Some c
-    → IsStill (fold (λ (d : Database) (s : Send). marked moment d s.content) db more) key c
+    → IsStill (fold (λ (d : Database) (s : Send). marked_database moment d s.content) db more) key c
 mark_all moment [] key c db there = (c.sent, there)
 mark_all moment (s ∷ more) key c db there =
-    let one : IsStill (marked moment db s.content) key c = mark_one moment s.content key c db there in
-    mark_all moment more key (record c { sent = one.0 }) (marked moment db s.content) one.1
+    let one : IsStill (marked_database moment db s.content) key c = mark_one moment s.content key c db there in
+    mark_all moment more key (record c { sent = one.0 }) (marked_database moment db s.content) one.1

@@ -11,7 +11,7 @@ use Rattle.lsdb.specs.Copies.{Database, DatabaseCopy, install_flooded, lsa_now}
 use Rattle.lsdb.specs.Headers.{Lsa, lsa_key}
 use Rattle.lsdb.specs.Keys.{key_cmp}
 use Rattle.lsdb.proofs.Keys.{keys_total}
-use Rattle.adjacency.specs.Adjacencies.{mismatched}
+use Rattle.adjacency.specs.Adjacencies.{mismatch_step}
 use Rattle.adjacency.specs.Contents.{Acknowledges, Content, Step, Updates, no_sends}
 use Rattle.adjacency.specs.Neighbors.{Neighbor, is_exchange_or_later}
 use Rattle.adjacency.specs.Requests.{without_request}
@@ -23,7 +23,7 @@ use Rattle.received.specs.Cases.{Case}
 use Rattle.received.specs.Flooding.{flood, flood_to, gets, meets, request_of, without_met_request}
 use Rattle.received.specs.Holds.{Holds, HoldsOfEach}
 use Rattle.received.specs.Links.{Area, Link, acknowledge_later, change_link}
-use Rattle.received.specs.Outcomes.{Outcome, Send, Stepping, each_neighbor, marked, numbered, on_database, on_links, one_neighbor, only_at, sending, sent_on, step_on, stepped}
+use Rattle.received.specs.Outcomes.{Outcome, Send, Stepping, each_neighbor, marked_database, sends_at, on_database, on_links, one_neighbor, only_at, sending, sent_on, step_on, stepped_links}
 use Rattle.received.specs.Updates.{acknowledge_at_once, after_case, copy_of, install, send_copy}
 use Rattle.received.proofs.Holding.{changed_keeps, each_keeps}
 
@@ -77,16 +77,16 @@ changed_fit key change keeps db all = by_copy (finite.get db key) (fits_at db al
     by_copy None fits = all
     by_copy (Some c) fits = inserted_fit db key (change c) all (keeps c fits)
 
-marked_fit : (moment : ℕ) (says : Content) (db : Database) → AllFit db → AllFit (marked moment db says)
+marked_fit : (moment : ℕ) (says : Content) (db : Database) → AllFit db → AllFit (marked_database moment db says)
 marked_fit moment (Content.SendsHello h) db all = all
 marked_fit moment (Content.Describes d) db all = all
 marked_fit moment (Content.Requests keys) db all = all
 marked_fit moment (Content.Updates lsa) db all = changed_fit (lsa_key lsa) (λ c. record c { sent = Some moment }) (λ c fits. fits) db all
 marked_fit moment (Content.Acknowledges h) db all = all
 
-all_marked_fit : (moment : ℕ) (more : List Send) (db : Database) → AllFit db → AllFit (fold (λ (d : Database) (s : Send). marked moment d s.content) db more)
+all_marked_fit : (moment : ℕ) (more : List Send) (db : Database) → AllFit db → AllFit (fold (λ (d : Database) (s : Send). marked_database moment d s.content) db more)
 all_marked_fit moment [] db all = all
-all_marked_fit moment (s ∷ more) db all = all_marked_fit moment more (marked moment db s.content) (marked_fit moment s.content db all)
+all_marked_fit moment (s ∷ more) db all = all_marked_fit moment more (marked_database moment db s.content) (marked_fit moment s.content db all)
 
 -- ---- what is sent
 
@@ -94,7 +94,7 @@ pub joined : {X : Type 0} (P : X → Type 0) (xs ys : List X) → AllByRecursion
 joined P [] ys p q = q
 joined P (x ∷ xs) ys p q = (p.0, joined P xs ys p.1 q)
 
-pub numbered_roomy : (number : ℕ) (cs : List Content) → AllByRecursion HasRoom cs → AllByRecursion SendHasRoom (numbered number cs)
+pub numbered_roomy : (number : ℕ) (cs : List Content) → AllByRecursion HasRoom cs → AllByRecursion SendHasRoom (sends_at number cs)
 numbered_roomy number [] room = tt
 numbered_roomy number (c ∷ cs) room = (room.0, numbered_roomy number cs room.1)
 
@@ -134,18 +134,18 @@ sent_on_roomy f keeps (Some n) h = (keeps n h).sends
 
 steps_roomy : (f : Stepping) → ((number : ℕ) (link : Link) (n : Neighbor) → HasRoomyLists n → IsRoomyStep (f number link n))
     → (k : ℕ) (xs : List Link) → HoldsOfEach HasRoomyLists xs
-    → AllByRecursion SendHasRoom (flat_map (λ (e : ℕ × Link). numbered e.0 (sent_on (f e.0 e.1) e.1.neighbor)) (enumerate_from k xs))
+    → AllByRecursion SendHasRoom (flat_map (λ (e : ℕ × Link). sends_at e.0 (sent_on (f e.0 e.1) e.1.neighbor)) (enumerate_from k xs))
 steps_roomy f keeps k [] h = tt
 steps_roomy f keeps k (x ∷ xs) h =
-    joined SendHasRoom (numbered k (sent_on (f k x) x.neighbor)) (flat_map (λ (e : ℕ × Link). numbered e.0 (sent_on (f e.0 e.1) e.1.neighbor)) (enumerate_from (k + 1) xs))
+    joined SendHasRoom (sends_at k (sent_on (f k x) x.neighbor)) (flat_map (λ (e : ℕ × Link). sends_at e.0 (sent_on (f e.0 e.1) e.1.neighbor)) (enumerate_from (k + 1) xs))
     (numbered_roomy k (sent_on (f k x) x.neighbor) (sent_on_roomy (f k x) (keeps k x) x.neighbor h.0))
     (steps_roomy f keeps (k + 1) xs h.1)
 
 pub each_roomy : (moment : ℕ) (f : Stepping) → ((number : ℕ) (link : Link) (n : Neighbor) → HasRoomyLists n → IsRoomyStep (f number link n))
     → (o : Outcome) → IsRoomyOutcome o → IsRoomyOutcome (each_neighbor moment f o)
 each_roomy moment f keeps o h =
-    sending_roomy moment _ (on_links (stepped f) o) (steps_roomy f keeps 1 o.area.links h.lists)
-    (on_links_roomy (stepped f) o (each_keeps HasRoomyLists moment f (λ number link n at. (keeps number link n at).neighbor) o h.lists)
+    sending_roomy moment _ (on_links (stepped_links f) o) (steps_roomy f keeps 1 o.area.links h.lists)
+    (on_links_roomy (stepped_links f) o (each_keeps HasRoomyLists moment f (λ number link n at. (keeps number link n at).neighbor) o h.lists)
     (same_number (λ (e : ℕ × Link). record e.1 { neighbor = step_on (f e.0 e.1) e.1.neighbor }) o.area.links) h)
 
 pub one_roomy : (moment number : ℕ) (f : Neighbor → Step) → ((n : Neighbor) → HasRoomyLists n → IsRoomyStep (f n))
@@ -175,7 +175,7 @@ flood_roomy moment sender lsa o fits h = each_roomy moment (flood_to moment send
 -- ---- a received LSA
 
 at_once_roomy : (moment number : ℕ) (lsa : Lsa) (o : Outcome) → IsRoomyOutcome o → IsRoomyOutcome (acknowledge_at_once moment number lsa.header o)
-at_once_roomy moment number lsa o h = sending_roomy moment (numbered number (Acknowledges lsa.header ∷ [])) o (tt, tt) h
+at_once_roomy moment number lsa o h = sending_roomy moment (sends_at number (Acknowledges lsa.header ∷ [])) o (tt, tt) h
 
 install_roomy : (moment number : ℕ) (lsa : Lsa) (o : Outcome) → Fits lsa → IsRoomyOutcome o → IsRoomyOutcome (install moment number lsa o)
 install_roomy moment number lsa o fits h =
@@ -187,14 +187,14 @@ install_roomy moment number lsa o fits h =
 
 copy_roomy : (moment number : ℕ) (c : Option DatabaseCopy) (o : Outcome) → FitsIfThere c → IsRoomyOutcome o → IsRoomyOutcome (send_copy moment number c o)
 copy_roomy moment number None o fits h = h
-copy_roomy moment number (Some c) o fits h = sending_roomy moment (numbered number (Updates (lsa_now moment c) ∷ [])) o (now_fits moment c fits, tt) h
+copy_roomy moment number (Some c) o fits h = sending_roomy moment (sends_at number (Updates (lsa_now moment c) ∷ [])) o (now_fits moment c fits, tt) h
 
 pub case_roomy : (case : Case) (moment number : ℕ) (lsa : Lsa) (o : Outcome) → Fits lsa → IsRoomyOutcome o → IsRoomyOutcome (after_case case moment number lsa o)
 case_roomy Case.Unreadable moment number lsa o fits h = h
 case_roomy Case.NothingToFlush moment number lsa o fits h = at_once_roomy moment number lsa o h
 case_roomy Case.TooSoon moment number lsa o fits h = h
 case_roomy Case.Newer moment number lsa o fits h = install_roomy moment number lsa o fits h
-case_roomy Case.BadRequest moment number lsa o fits h = one_roomy moment number (mismatched moment) (mismatched_roomy moment) o h
+case_roomy Case.BadRequest moment number lsa o fits h = one_roomy moment number (mismatch_step moment) (mismatched_roomy moment) o h
 case_roomy Case.ImpliedAcknowledgment moment number lsa o fits h =
     one_roomy moment number (λ n. no_sends (remove_retransmission (lsa_key lsa) n)) (λ n at. quiet_roomy (remove_retransmission (lsa_key lsa) n) (released_roomy (lsa_key lsa) n at)) o h
 case_roomy Case.Duplicate moment number lsa o fits h = at_once_roomy moment number lsa o h

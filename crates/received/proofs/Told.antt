@@ -7,7 +7,7 @@ use Rattle.std.specs.List.{AllByRecursion, enumerate_from, flat_map, fold}
 use Rattle.words.specs.declared.key.Key.{Key}
 use Rattle.lsdb.specs.Copies.{Database, DatabaseCopy, install_flooded, lsa_now}
 use Rattle.lsdb.specs.Headers.{Header, Lsa, key_of, lsa_key}
-use Rattle.adjacency.specs.Adjacencies.{mismatched}
+use Rattle.adjacency.specs.Adjacencies.{mismatch_step}
 use Rattle.adjacency.specs.Contents.{Acknowledges, Content, Step, Updates, no_sends}
 use Rattle.adjacency.specs.Neighbors.{Neighbor, is_exchange_or_later}
 use Rattle.adjacency.specs.Requests.{without_request}
@@ -18,7 +18,7 @@ use Rattle.adjacency.proofs.Told.{OfContent, OfCopies, OfCopy, OfOwed, OfOwedIfA
 use Rattle.received.specs.Cases.{Case}
 use Rattle.received.specs.Flooding.{flood, flood_to, gets, meets, request_of, without_met_request}
 use Rattle.received.specs.Links.{Area, Link, acknowledge_later, change_link, link_at, neighbor_on}
-use Rattle.received.specs.Outcomes.{Outcome, Send, Stepping, each_neighbor, marked, numbered, on_database, on_links, one_neighbor, only_at, sending, sent_on, step_on, stepped}
+use Rattle.received.specs.Outcomes.{Outcome, Send, Stepping, each_neighbor, marked_database, sends_at, on_database, on_links, one_neighbor, only_at, sending, sent_on, step_on, stepped_links}
 use Rattle.received.specs.Updates.{acknowledge_at_once, after_case, copy_of, install, send_copy}
 use Rattle.received.proofs.Roomy.{same_number}
 
@@ -67,20 +67,20 @@ module _ (t : Telling) where
       by_copy None so = all
       by_copy (Some c) so = inserted_in (OfCopy t) db key (change c) all (keeps c so)
 
-  marked_told : (moment : ℕ) (says : Content) (db : Database) → OfCopies t db → OfCopies t (marked moment db says)
+  marked_told : (moment : ℕ) (says : Content) (db : Database) → OfCopies t db → OfCopies t (marked_database moment db says)
   marked_told moment (Content.SendsHello h) db all = all
   marked_told moment (Content.Describes d) db all = all
   marked_told moment (Content.Requests keys) db all = all
   marked_told moment (Content.Updates lsa) db all = changed_told (lsa_key lsa) (λ c. record c { sent = Some moment }) (λ c so. so) db all
   marked_told moment (Content.Acknowledges h) db all = all
 
-  all_marked : (moment : ℕ) (more : List Send) (db : Database) → OfCopies t db → OfCopies t (fold (λ (d : Database) (s : Send). marked moment d s.content) db more)
+  all_marked : (moment : ℕ) (more : List Send) (db : Database) → OfCopies t db → OfCopies t (fold (λ (d : Database) (s : Send). marked_database moment d s.content) db more)
   all_marked moment [] db all = all
-  all_marked moment (s ∷ more) db all = all_marked moment more (marked moment db s.content) (marked_told moment s.content db all)
+  all_marked moment (s ∷ more) db all = all_marked moment more (marked_database moment db s.content) (marked_told moment s.content db all)
 
   -- ---- what is sent
 
-  pub numbered_told : (number : ℕ) (cs : List Content) → AllByRecursion (OfContent t) cs → AllByRecursion (OfSend t) (numbered number cs)
+  pub numbered_told : (number : ℕ) (cs : List Content) → AllByRecursion (OfContent t) cs → AllByRecursion (OfSend t) (sends_at number cs)
   numbered_told number [] h = tt
   numbered_told number (c ∷ cs) h = (h.0, numbered_told number cs h.1)
 
@@ -142,18 +142,18 @@ module _ (t : Telling) where
 
   steps_told : (f : Stepping) → ((number : ℕ) (link : Link) (n : Neighbor) → OfOwed t n → OfStep t (f number link n))
       → (k : ℕ) (xs : List Link) → OfLinks t xs
-      → AllByRecursion (OfSend t) (flat_map (λ (e : ℕ × Link). numbered e.0 (sent_on (f e.0 e.1) e.1.neighbor)) (enumerate_from k xs))
+      → AllByRecursion (OfSend t) (flat_map (λ (e : ℕ × Link). sends_at e.0 (sent_on (f e.0 e.1) e.1.neighbor)) (enumerate_from k xs))
   steps_told f keeps k [] h = tt
   steps_told f keeps k (x ∷ xs) h =
-      joined (OfSend t) (numbered k (sent_on (f k x) x.neighbor)) (flat_map (λ (e : ℕ × Link). numbered e.0 (sent_on (f e.0 e.1) e.1.neighbor)) (enumerate_from (k + 1) xs))
+      joined (OfSend t) (sends_at k (sent_on (f k x) x.neighbor)) (flat_map (λ (e : ℕ × Link). sends_at e.0 (sent_on (f e.0 e.1) e.1.neighbor)) (enumerate_from (k + 1) xs))
       (numbered_told k (sent_on (f k x) x.neighbor) (sent_on_told (f k x) (keeps k x) x.neighbor h.0.neighbor))
       (steps_told f keeps (k + 1) xs h.1)
 
   pub each_told : (moment : ℕ) (f : Stepping) → ((number : ℕ) (link : Link) (n : Neighbor) → OfOwed t n → OfStep t (f number link n))
       → (o : Outcome) → OfOutcome t o → OfOutcome t (each_neighbor moment f o)
   each_told moment f keeps o h =
-      sending_told moment _ (on_links (stepped f) o) (steps_told f keeps 1 o.area.links h.links)
-      (on_links_told (stepped f) o
+      sending_told moment _ (on_links (stepped_links f) o) (steps_told f keeps 1 o.area.links h.links)
+      (on_links_told (stepped_links f) o
       (links_told (λ (e : ℕ × Link). record e.1 { neighbor = step_on (f e.0 e.1) e.1.neighbor })
       (λ k link at. record { neighbor = step_told (f k link) (keeps k link) link.neighbor at.neighbor; acknowledgments = at.acknowledgments }) 1 o.area.links h.links)
       (same_number (λ (e : ℕ × Link). record e.1 { neighbor = step_on (f e.0 e.1) e.1.neighbor }) o.area.links) h)
@@ -186,7 +186,7 @@ module _ (t : Telling) where
   -- ---- a received LSA
 
   at_once_told : (moment number : ℕ) (lsa : Lsa) (o : Outcome) → t.of_lsa lsa → OfOutcome t o → OfOutcome t (acknowledge_at_once moment number lsa.header o)
-  at_once_told moment number lsa o so h = sending_told moment (numbered number (Acknowledges lsa.header ∷ [])) o (t.header lsa so, tt) h
+  at_once_told moment number lsa o so h = sending_told moment (sends_at number (Acknowledges lsa.header ∷ [])) o (t.header lsa so, tt) h
 
   install_told : (moment number : ℕ) (lsa : Lsa) (o : Outcome) → t.of_lsa lsa → OfOutcome t o → OfOutcome t (install moment number lsa o)
   install_told moment number lsa o so h =
@@ -203,14 +203,14 @@ module _ (t : Telling) where
 
   copy_told : (moment number : ℕ) (key : Key) (c : Option DatabaseCopy) (o : Outcome) → IfThere (OfCopy t) key c → OfOutcome t o → OfOutcome t (send_copy moment number c o)
   copy_told moment number key None o so h = h
-  copy_told moment number key (Some c) o so h = sending_told moment (numbered number (Updates (lsa_now moment c) ∷ [])) o (lsa_now_told t moment c so, tt) h
+  copy_told moment number key (Some c) o so h = sending_told moment (sends_at number (Updates (lsa_now moment c) ∷ [])) o (lsa_now_told t moment c so, tt) h
 
   pub case_told : (case : Case) (moment number : ℕ) (lsa : Lsa) (o : Outcome) → t.of_lsa lsa → OfOutcome t o → OfOutcome t (after_case case moment number lsa o)
   case_told Case.Unreadable moment number lsa o so h = h
   case_told Case.NothingToFlush moment number lsa o so h = at_once_told moment number lsa o so h
   case_told Case.TooSoon moment number lsa o so h = h
   case_told Case.Newer moment number lsa o so h = install_told moment number lsa o so h
-  case_told Case.BadRequest moment number lsa o so h = one_neighbor_told moment number (mismatched moment) (mismatched_told t moment) o h
+  case_told Case.BadRequest moment number lsa o so h = one_neighbor_told moment number (mismatch_step moment) (mismatched_told t moment) o h
   case_told Case.ImpliedAcknowledgment moment number lsa o so h =
       one_neighbor_told moment number (λ n. no_sends (remove_retransmission (lsa_key lsa) n)) (λ n at. quiet_told t (remove_retransmission (lsa_key lsa) n) (released_told t (lsa_key lsa) n at)) o h
   case_told Case.Duplicate moment number lsa o so h = at_once_told moment number lsa o so h

@@ -8,7 +8,7 @@ use Rattle.packet.specs.declared.model.Description.{Description}
 use Rattle.packet.specs.declared.model.Packet.{Packet}
 use Rattle.adjacency.specs.Drafts.{Drafted}
 use Rattle.adjacency.specs.Neighbors.{Neighbor}
-use Rattle.adjacency.specs.Steps.{named}
+use Rattle.adjacency.specs.Steps.{named_neighbor}
 use Rattle.received.specs.Links.{neighbor_at}
 use Rattle.events.specs.EventState.{EventState, on_area}
 use Rattle.events.specs.Packets.{acknowledged_by, after_packet, describe_to, from_neighbor, is_from, is_heard, is_in_exchange}
@@ -17,11 +17,11 @@ use Rattle.self_originated.specs.Making.{Makes}
 use Rattle.self_originated.proofs.Making.{makes_if_false, makes_if_true, makes_nothing, makes_same}
 use Rattle.received_packets.specs.Received.{is_from_named, is_in_exchange_named}
 
-pub exchange_named : (o : Option Neighbor) → is_in_exchange_named (named o) ≡ is_in_exchange o
+pub exchange_named : (o : Option Neighbor) → is_in_exchange_named (named_neighbor o) ≡ is_in_exchange o
 exchange_named None = refl
 exchange_named (Some n) = refl
 
-pub from_named : (from : ℕ) (o : Option Neighbor) → is_from_named from (named o) ≡ is_from from o
+pub from_named : (from : ℕ) (o : Option Neighbor) → is_from_named from (named_neighbor o) ≡ is_from from o
 from_named from None = refl
 from_named from (Some n) = refl
 

@@ -1,6 +1,6 @@
 //! Packets by their types.
 ghost use Rattle.std.specs.Prelude.{◌≡◌, ◌≤◌, OnOk, false, length, true};
-ghost use Rattle.adjacency.specs.Steps.{named};
+ghost use Rattle.adjacency.specs.Steps.{named_neighbor};
 ghost use Rattle.received.specs.Links.{neighbor_at};
 ghost use Rattle.events.specs.Packets.{after_packet, from_neighbor, is_from, is_heard, is_hello};
 ghost use Rattle.events.specs.Packets.{is_in_exchange};
@@ -49,7 +49,7 @@ fn is_from_named(from: RouterId, neighbor: Option<(RouterId, State)>) -> bool
 fn neighbor_at(router: &Router, number: usize) -> Option<(RouterId, State)>
     requires first { 1 ≤ number }
     requires last { number ≤ length router.now.present.area.links }
-    ensures { result ≡ named (neighbor_at number router.now.present.area.links) }
+    ensures { result ≡ named_neighbor (neighbor_at number router.now.present.area.links) }
 {
     let links = router.area().links();
     let i = number - 1;

@@ -6,7 +6,7 @@ use Rattle.received.specs.Links.{Area, Link}
 use Rattle.received.specs.Outcomes.{Outcome, Send}
 use Rattle.events.specs.EventState.{on_area}
 use Rattle.events.specs.Routers.{Router}
-use Rattle.flooding.specs.Drafted.{drafted, drafted_from}
+use Rattle.flooding.specs.Drafted.{drafts_with, drafted_from}
 use Rattle.flooding.specs.Links.{start}
 use Rattle.flooding.proofs.Sends.{drafted_none}
 use Rattle.router_state.specs.Making.{Makes, interfaces_of}
@@ -21,7 +21,7 @@ drafted_number n sends (l ∷ ls) [] same = absurd (omega (arith, same))
 drafted_number n sends (l ∷ ls) (d ∷ ds) same = ap suc (drafted_number (n + 1) sends ls ds (omega (arith, same)))
 
 module _ (F : Outcome → Outcome) (keeps : KeepsInterfaces F) (shown old : Router) (a : Area) (before after : List Drafted) where
-  pub drafts_are : shown ≡ old → length before ≡ length old.area.links → a ≡ (F (start shown.area)).area → after ≡ drafted (F (start shown.area)).sends shown.area.links before
+  pub drafts_are : shown ≡ old → length before ≡ length old.area.links → a ≡ (F (start shown.area)).area → after ≡ drafts_with (F (start shown.area)).sends shown.area.links before
       → length after ≡ length a.links
   drafts_are is count to drafts =
       ap length drafts
@@ -29,7 +29,7 @@ module _ (F : Outcome → Outcome) (keeps : KeepsInterfaces F) (shown old : Rout
       ∙ sym (same_number (F (start shown.area)).area.links shown.area.links (keeps shown.area))
       ∙ ap (λ (b : Area). length b.links) (sym to)
 
-  pub makes_are : Appends F → shown ≡ old → a ≡ (F (start shown.area)).area → after ≡ drafted (F (start shown.area)).sends shown.area.links before
+  pub makes_are : Appends F → shown ≡ old → a ≡ (F (start shown.area)).area → after ≡ drafts_with (F (start shown.area)).sends shown.area.links before
       → Makes (on_area F) old (record shown { area = a }) before after
   makes_are appends is to drafts =
       makes_from (sym is) refl refl refl (makes_on_area F appends keeps shown (record shown { area = a }) before after (ap (λ (b : Area). record shown { area = b }) to) drafts)
@@ -52,4 +52,4 @@ module _ (F : Outcome → Outcome) (appends : Appends F) (keeps : KeepsInterface
       → Makes (on_area F) old (record shown { area = a }) first first
   makes_alone is to none first =
       makes_are F keeps shown old a first first appends is to
-      (drafted_none 1 shown.area.links first ∙ ap (λ sends. drafted sends shown.area.links first) (sym none))
+      (drafted_none 1 shown.area.links first ∙ ap (λ sends. drafts_with sends shown.area.links first) (sym none))

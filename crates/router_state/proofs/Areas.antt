@@ -6,7 +6,7 @@ use Rattle.received.specs.Links.{Area, Link, change_link}
 use Rattle.received.specs.Outcomes.{Outcome, Send, Stepping, each_neighbor, on_database, on_links, sending, step_on}
 use Rattle.flooding.specs.Links.{start}
 use Rattle.flooding.proofs.Sends.{append_none}
-use Rattle.timers.specs.Aging.{followed}
+use Rattle.timers.specs.Aging.{outcomes_in_turn}
 use Rattle.router_state.specs.Making.{interfaces_of}
 use Rattle.router_state.proofs.Making.{Appends, KeepsInterfaces}
 
@@ -32,21 +32,21 @@ pub appends_then : (F G : Outcome → Outcome) → Appends F → Appends G → A
 appends_then F G first second o =
     let p : Outcome = F (start o.area) in
     let q : Outcome = G (start p.area) in
-    ap G (first o) ∙ second (followed o p)
+    ap G (first o) ∙ second (outcomes_in_turn o p)
     ∙ (λ i. record { area = q.area; sends = append_assoc o.sends p.sends q.sends i })
-    ∙ ap (followed o) (sym (second p))
+    ∙ ap (outcomes_in_turn o) (sym (second p))
 
 pub appends_if : (F G : Outcome → Outcome) (test : Area → Bool) → Appends F → Appends G → Appends (λ o. cond (test o.area) (F o) (G o))
 appends_if F G test first second o = by_answer (test o.area)
   where
-    by_answer : (b : Bool) → cond b (F o) (G o) ≡ followed o (cond b (F (start o.area)) (G (start o.area)))
+    by_answer : (b : Bool) → cond b (F o) (G o) ≡ outcomes_in_turn o (cond b (F (start o.area)) (G (start o.area)))
     by_answer true = first o
     by_answer false = second o
 
 pub appends_maybe : {X : Type 0} (F : X → Outcome → Outcome) (x : Option X) (by : Option X → Outcome → Outcome) → ((o : Outcome) → by None o ≡ o) → ((x : X) (o : Outcome) → by (Some x) o ≡ F x o)
     → ((x : X) → Appends (F x)) → Appends (by x)
-appends_maybe F None by none some appends o = none o ∙ appends_nothing o ∙ ap (followed o) (sym (none (start o.area)))
-appends_maybe F (Some x) by none some appends o = some x o ∙ appends x o ∙ ap (followed o) (sym (some x (start o.area)))
+appends_maybe F None by none some appends o = none o ∙ appends_nothing o ∙ ap (outcomes_in_turn o) (sym (none (start o.area)))
+appends_maybe F (Some x) by none some appends o = some x o ∙ appends x o ∙ ap (outcomes_in_turn o) (sym (some x (start o.area)))
 
 -- ---- the interfaces stay
 

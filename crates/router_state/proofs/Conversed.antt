@@ -9,16 +9,16 @@ use Rattle.lsdb.specs.Headers.{Header}
 use Rattle.packet.specs.declared.model.Description.{Description}
 use Rattle.packet.specs.declared.model.Hello.{Hello}
 use Rattle.adjacency.specs.Adjacencies as adjacencies
-use Rattle.adjacency.specs.Adjacencies.{mismatched}
+use Rattle.adjacency.specs.Adjacencies.{mismatch_step}
 use Rattle.adjacency.specs.Contents.{Step, Updates, no_sends}
 use Rattle.adjacency.specs.Descriptions.{after_description}
 use Rattle.adjacency.specs.Retransmissions.{after_acknowledgment}
 use Rattle.received.specs.Links.{Area, Link, link_at}
-use Rattle.received.specs.Outcomes.{Outcome, numbered, one_neighbor, only_at, sending}
+use Rattle.received.specs.Outcomes.{Outcome, sends_at, one_neighbor, only_at, sending}
 use Rattle.events.specs.Hellos.{accepts, names}
 use Rattle.events.specs.Packets.{acknowledged_by, after_hello, describe_to, hear, heard_on, is_there, requested_from, requested_lsas, with_neighbor}
 use Rattle.flooding.specs.Links.{start}
-use Rattle.timers.specs.Aging.{followed}
+use Rattle.timers.specs.Aging.{outcomes_in_turn}
 use Rattle.router_state.specs.Making.{interfaces_of}
 use Rattle.router_state.proofs.Making.{Appends, KeepsInterfaces}
 use Rattle.router_state.proofs.Areas.{appends_nothing, change_interfaces, keeps_neighbors}
@@ -29,11 +29,11 @@ module _ (own moment number from : ℕ) (h : Hello) where
   abbrev heard : Link → Step
   heard l = adjacencies.after_hello moment from (names own h) l.neighbor
 
-  accepted_after : (s : Step) (o : Outcome) (b : Bool) → cond b (hear moment number s o) o ≡ followed o (cond b (hear moment number s (start o.area)) (start o.area))
+  accepted_after : (s : Step) (o : Outcome) (b : Bool) → cond b (hear moment number s o) o ≡ outcomes_in_turn o (cond b (hear moment number s (start o.area)) (start o.area))
   accepted_after s o true = refl
   accepted_after s o false = appends_nothing o
 
-  heard_after : (l : Option Link) (o : Outcome) → heard_on own moment number from h l o ≡ followed o (heard_on own moment number from h l (start o.area))
+  heard_after : (l : Option Link) (o : Outcome) → heard_on own moment number from h l o ≡ outcomes_in_turn o (heard_on own moment number from h l (start o.area))
   heard_after None o = appends_nothing o
   heard_after (Some l) o = accepted_after (heard l) o (accepts own from h l)
 
@@ -64,11 +64,11 @@ module _ (own moment number : ℕ) (d : Description) where
 
 module _ (moment number : ℕ) (keys : List Key) where
   abbrev sent : Database → Outcome → Outcome
-  sent db o = sending moment (numbered number (map Updates (requested_lsas moment db keys))) o
+  sent db o = sending moment (sends_at number (map Updates (requested_lsas moment db keys))) o
 
   requested_after : (o : Outcome) (b : Bool)
-      → cond b (sent o.area.database o) (one_neighbor moment number (mismatched moment) o)
-      ≡ followed o (cond b (sent o.area.database (start o.area)) (one_neighbor moment number (mismatched moment) (start o.area)))
+      → cond b (sent o.area.database o) (one_neighbor moment number (mismatch_step moment) o)
+      ≡ outcomes_in_turn o (cond b (sent o.area.database (start o.area)) (one_neighbor moment number (mismatch_step moment) (start o.area)))
   requested_after o true = refl
   requested_after o false = refl
 
@@ -76,9 +76,9 @@ module _ (moment number : ℕ) (keys : List Key) where
   appends_request o = requested_after o (list_all (is_there o.area.database) keys)
 
   requested_keeps : (a : Area) (b : Bool)
-      → interfaces_of (cond b (sent a.database (start a)) (one_neighbor moment number (mismatched moment) (start a))).area.links ≡ interfaces_of a.links
+      → interfaces_of (cond b (sent a.database (start a)) (one_neighbor moment number (mismatch_step moment) (start a))).area.links ≡ interfaces_of a.links
   requested_keeps a true = refl
-  requested_keeps a false = keeps_neighbors moment (only_at number (mismatched moment)) a
+  requested_keeps a false = keeps_neighbors moment (only_at number (mismatch_step moment)) a
 
   pub keeps_request : KeepsInterfaces (requested_from moment number keys)
   keeps_request a = requested_keeps a (list_all (is_there a.database) keys)

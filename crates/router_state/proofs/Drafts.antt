@@ -6,7 +6,7 @@ use Rattle.adjacency.specs.Drafts.{Drafted, adds, drafting}
 use Rattle.adjacency.specs.declared.interface.Interface.{Interface}
 use Rattle.received.specs.Links.{Link}
 use Rattle.received.specs.Outcomes.{Send}
-use Rattle.flooding.specs.Drafted.{at_interface, drafted, drafted_from}
+use Rattle.flooding.specs.Drafted.{at_interface, drafts_with, drafted_from}
 use Rattle.router_state.specs.Making.{interfaces_of}
 
 by_number : (k : ℕ) (x : Send) (b : Bool) (whole front back : List Content) → whole ≡ front ++ back → cons_option (cond b (Some x.content) None) whole ≡ cons_option (cond b (Some x.content) None) front ++ back
@@ -41,6 +41,6 @@ by_interfaces n sends [] ds = refl
 by_interfaces n sends (l ∷ ls) [] = refl
 by_interfaces n sends (l ∷ ls) (d ∷ ds) = λ i. drafting l.interface.delay (filter_map (at_interface n) sends) d ∷ by_interfaces (n + 1) sends ls ds i
 
-pub drafted_same : (sends : List Send) (ls ms : List Link) (ds : List Drafted) → interfaces_of ls ≡ interfaces_of ms → drafted sends ls ds ≡ drafted sends ms ds
+pub drafted_same : (sends : List Send) (ls ms : List Link) (ds : List Drafted) → interfaces_of ls ≡ interfaces_of ms → drafts_with sends ls ds ≡ drafts_with sends ms ds
 drafted_same sends ls ms ds same =
     by_interfaces 1 sends ls ds ∙ ap (λ is. drafted_by 1 sends is ds) same ∙ sym (by_interfaces 1 sends ms ds)

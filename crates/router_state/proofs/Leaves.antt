@@ -8,14 +8,14 @@ use Rattle.words.specs.Constants.{max_age}
 use Rattle.words.specs.declared.key.Key.{Key}
 use Rattle.lsdb.specs.Headers.{Lsa, lsa_aged, lsa_key}
 use Rattle.lsdb.specs.Copies.{DatabaseCopy, age_out, has_just_aged_out, is_aged_out, lsa_now}
-use Rattle.adjacency.specs.Adjacencies.{mismatched}
+use Rattle.adjacency.specs.Adjacencies.{mismatch_step}
 use Rattle.adjacency.specs.Contents.{no_sends}
 use Rattle.adjacency.specs.Requests.{request_next}
 use Rattle.adjacency.specs.Retransmissions.{remove_retransmission}
 use Rattle.received.specs.Cases.{Case}
 use Rattle.received.specs.Flooding.{flood_to}
 use Rattle.received.specs.Links.{Area, acknowledge_later, any_exchange_or_loading, change_link}
-use Rattle.received.specs.Outcomes.{Outcome, on_database, on_links, only_at, stepped}
+use Rattle.received.specs.Outcomes.{Outcome, on_database, on_links, only_at, stepped_links}
 use Rattle.received.specs.Updates.{after_case, copy_of, send_copy}
 use Rattle.events.specs.Commands.{taken_down}
 use Rattle.events.specs.Endings.{link_loading_done, remove_aged, request_all, stays, with_age, with_ages}
@@ -23,7 +23,7 @@ use Rattle.events.specs.EventState.{flood_from_nobody}
 use Rattle.events.specs.Originations.{flush_copy, install_and_flood}
 use Rattle.events.specs.Ticks.{acknowledge_all, again, run_out, send_all_again, send_hellos, with_hello_sent, without_acknowledgments}
 use Rattle.flooding.specs.Links.{flushed_copy, start}
-use Rattle.timers.specs.Aging.{followed}
+use Rattle.timers.specs.Aging.{outcomes_in_turn}
 use Rattle.router_state.specs.Making.{interfaces_of}
 use Rattle.router_state.proofs.Making.{Appends, KeepsInterfaces}
 use Rattle.router_state.proofs.Areas.{appends_links, appends_nothing, appends_then, change_interfaces, keeps_neighbors, map_interfaces}
@@ -40,7 +40,7 @@ module _ (moment : ℕ) (key : Key) where
   abbrev aged_and_flooded : DatabaseCopy → Outcome → Outcome
   aged_and_flooded c o = flood_from_nobody moment (lsa_aged max_age c.lsa) (on_database (age_out moment key) o)
 
-  flush_by : (c : DatabaseCopy) (o : Outcome) (b : Bool) → cond b o (aged_and_flooded c o) ≡ followed o (cond b (start o.area) (aged_and_flooded c (start o.area)))
+  flush_by : (c : DatabaseCopy) (o : Outcome) (b : Bool) → cond b o (aged_and_flooded c o) ≡ outcomes_in_turn o (cond b (start o.area) (aged_and_flooded c (start o.area)))
   flush_by c o true = appends_nothing o
   flush_by c o false = refl
 
@@ -63,7 +63,7 @@ module _ (moment : ℕ) (key : Key) where
 -- ---- received LSAs
 
 module _ (moment number : ℕ) (lsa : Lsa) where
-  appends_copy : (copy : Option DatabaseCopy) (o : Outcome) → send_copy moment number copy o ≡ followed o (send_copy moment number copy (start o.area))
+  appends_copy : (copy : Option DatabaseCopy) (o : Outcome) → send_copy moment number copy o ≡ outcomes_in_turn o (send_copy moment number copy (start o.area))
   appends_copy None o = appends_nothing o
   appends_copy (Some c) o = refl
 
@@ -88,9 +88,9 @@ module _ (moment number : ℕ) (lsa : Lsa) where
   keeps_case Case.NothingToFlush a = refl
   keeps_case Case.TooSoon a = refl
   keeps_case Case.Newer a =
-      change_interfaces number (acknowledge_later lsa.header) (λ l. refl) (stepped (flood_to moment (Some number) lsa) a.links)
+      change_interfaces number (acknowledge_later lsa.header) (λ l. refl) (stepped_links (flood_to moment (Some number) lsa) a.links)
       ∙ keeps_neighbors moment (flood_to moment (Some number) lsa) a
-  keeps_case Case.BadRequest a = keeps_neighbors moment (only_at number (mismatched moment)) a
+  keeps_case Case.BadRequest a = keeps_neighbors moment (only_at number (mismatch_step moment)) a
   keeps_case Case.ImpliedAcknowledgment a = keeps_neighbors moment (only_at number (λ n. no_sends (remove_retransmission (lsa_key lsa) n))) a
   keeps_case Case.Duplicate a = refl
   keeps_case Case.SequenceWraps a = refl
@@ -107,7 +107,7 @@ module _ (before moment : ℕ) where
   all_aged es o = fold (with_age before moment) o es
 
   age_by : (e : Key × DatabaseCopy) (o : Outcome) (b : Bool)
-      → cond b (flood_from_nobody moment (lsa_now moment e.1) o) o ≡ followed o (cond b (flood_from_nobody moment (lsa_now moment e.1) (start o.area)) (start o.area))
+      → cond b (flood_from_nobody moment (lsa_now moment e.1) o) o ≡ outcomes_in_turn o (cond b (flood_from_nobody moment (lsa_now moment e.1) (start o.area)) (start o.area))
   age_by e o true = refl
   age_by e o false = appends_nothing o
 
@@ -159,7 +159,7 @@ module _ (moment : ℕ) where
   abbrev without_aged : Area → Outcome → Outcome
   without_aged a o = on_database (λ db. finite.retain_keys db (stays moment a)) o
 
-  removed_by : (o : Outcome) (b : Bool) → cond b o (without_aged o.area o) ≡ followed o (cond b (start o.area) (without_aged o.area (start o.area)))
+  removed_by : (o : Outcome) (b : Bool) → cond b o (without_aged o.area o) ≡ outcomes_in_turn o (cond b (start o.area) (without_aged o.area (start o.area)))
   removed_by o true = appends_nothing o
   removed_by o false = appends_nothing (without_aged o.area o)
 

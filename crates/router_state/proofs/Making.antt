@@ -6,10 +6,10 @@ use Rattle.received.specs.Links.{Area}
 use Rattle.received.specs.Outcomes.{Outcome}
 use Rattle.events.specs.EventState.{EventState, on_area, on_router}
 use Rattle.events.specs.Routers.{Router}
-use Rattle.flooding.specs.Drafted.{drafted}
+use Rattle.flooding.specs.Drafted.{drafts_with}
 use Rattle.flooding.specs.Links.{start}
 use Rattle.flooding.proofs.Sends.{drafted_none}
-use Rattle.timers.specs.Aging.{followed}
+use Rattle.timers.specs.Aging.{outcomes_in_turn}
 use Rattle.router_state.specs.Making.{IsMaking, Makes, interfaces_of}
 use Rattle.router_state.proofs.Drafts.{drafted_append, drafted_same}
 
@@ -95,20 +95,20 @@ makes_on_router f old new ds stays is = record {
 
 -- what is sent comes after what was sent before, which is not looked at
 abbrev pub Appends : (Outcome → Outcome) → Type 0
-Appends F = (o : Outcome) → F o ≡ followed o (F (start o.area))
+Appends F = (o : Outcome) → F o ≡ outcomes_in_turn o (F (start o.area))
 
 abbrev pub KeepsInterfaces : (Outcome → Outcome) → Type 0
 KeepsInterfaces F = (a : Area) → interfaces_of (F (start a)).area.links ≡ interfaces_of a.links
 
 module _ (F : Outcome → Outcome) (appends : Appends F) (keeps : KeepsInterfaces F) where
   drafts_on_area : (p : EventState) (first : List Drafted)
-      → drafted (F (start p.router.area)).sends p.router.area.links (drafted p.sends p.router.area.links first) ≡ drafted (on_area F p).sends (on_area F p).router.area.links first
+      → drafts_with (F (start p.router.area)).sends p.router.area.links (drafts_with p.sends p.router.area.links first) ≡ drafts_with (on_area F p).sends (on_area F p).router.area.links first
   drafts_on_area p first =
       let o : Outcome = record { area = p.router.area; sends = p.sends } in
       let more : Outcome = F (start p.router.area) in
       drafted_append 1 p.sends more.sends p.router.area.links first
       ∙ drafted_same (p.sends ++ more.sends) p.router.area.links more.area.links first (sym (keeps p.router.area))
-      ∙ ap (λ (q : Outcome). drafted q.sends q.area.links first) (sym (appends o))
+      ∙ ap (λ (q : Outcome). drafts_with q.sends q.area.links first) (sym (appends o))
 
   router_on_area : (p : EventState) → ◌≡◌ {A = Router} (record p.router { area = (F (start p.router.area)).area }) (on_area F p).router
   router_on_area p =
@@ -116,14 +116,14 @@ module _ (F : Outcome → Outcome) (appends : Appends F) (keeps : KeepsInterface
       ap (λ (q : Outcome). record p.router { area = q.area }) (sym (appends o))
 
   pub makes_on_area : (old new : Router) (before after : List Drafted) → new ≡ record old { area = (F (start old.area)).area }
-      → after ≡ drafted (F (start old.area)).sends old.area.links before → Makes (on_area F) old new before after
+      → after ≡ drafts_with (F (start old.area)).sends old.area.links before → Makes (on_area F) old new before after
   makes_on_area old new before after is drafts = record {
     interfaces = ap (λ (r : Router). interfaces_of r.area.links) is ∙ keeps old.area;
     part = λ p first made. record {
       router = is ∙ ap (λ (r : Router). record r { area = (F (start r.area)).area }) made.router ∙ router_on_area p;
       drafts =
           drafts
-          ∙ (λ i. drafted (F (start (made.router i).area)).sends (made.router i).area.links (made.drafts i))
+          ∙ (λ i. drafts_with (F (start (made.router i).area)).sends (made.router i).area.links (made.drafts i))
           ∙ drafts_on_area p first;
     };
   }

@@ -3,7 +3,7 @@ use Rattle.std.specs.Prelude.{◌≡◌, List, map}
 use Rattle.adjacency.specs.Drafts.{Drafted}
 use Rattle.adjacency.specs.declared.interface.Interface.{Interface}
 use Rattle.received.specs.Links.{Link}
-use Rattle.flooding.specs.Drafted.{drafted}
+use Rattle.flooding.specs.Drafted.{drafts_with}
 use Rattle.events.specs.EventState.{EventState}
 use Rattle.events.specs.Routers.{Router}
 
@@ -12,7 +12,7 @@ use Rattle.events.specs.Routers.{Router}
 pub record IsMaking (p : EventState) (first : List Drafted) (r : Router) (ds : List Drafted)
     : Type 0 where
   pub router : r ≡ p.router
-  pub drafts : ds ≡ drafted p.sends p.router.area.links first
+  pub drafts : ds ≡ drafts_with p.sends p.router.area.links first
 
 abbrev pub interfaces_of : List Link → List Interface
 interfaces_of links = map (λ (link : Link). link.interface) links

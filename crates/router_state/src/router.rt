@@ -3,7 +3,7 @@ ghost use Rattle.std.specs.Prelude.{◌≡◌, ◌≤◌, [], length, map, IfOk}
 ghost use Rattle.std.specs.FinMap as finite;
 ghost use Rattle.std.specs.FinSet as set;
 ghost use Rattle.events.specs.Routers.{with_links};
-ghost use Rattle.flooding.specs.Links.{present, settled};
+ghost use Rattle.flooding.specs.Links.{present, settled_link};
 ghost use Rattle.router_state.specs.Owned.{AreOwn};
 
 use adjacency::Saved;
@@ -87,7 +87,7 @@ impl Router {
     pub fn new(alloc: Global, id: RouterId, links: Vec<Link>, moment: Second) -> Self
         requires few { length links.items ≤ 63 }
         ensures present { result.present ≡ with_links id (map present links.items) moment }
-        ensures settled { result.settled ≡ with_links id (map settled links.items) moment }
+        ensures settled { result.settled ≡ with_links id (map settled_link links.items) moment }
     {
         Router {
             id,

@@ -1,5 +1,6 @@
-//! Tests of a router's parts by their public calls: `lsdb`, `neighbor_places`, `routes`, `shortest_paths`, `candidates`, `tables` and
-//! `kept_routes`. They stand above, since a crate is proved once more for its tests.
+//! Tests of a router's parts by their public calls: `lsdb`, `neighbor_places`, `routes`,
+//! `shortest_paths`, `candidates`, `tables` and `kept_routes`. They stand above, since a crate is
+//! proved once more for its tests.
 #![tactic(auto)]
 
 #[cfg(test)]

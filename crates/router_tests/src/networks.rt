@@ -8,7 +8,8 @@ use std::alloc::Global;
 use std::test::Fail;
 use words::RouteKind;
 
-// A network within the area of 24 bits: its address and the cost of the route to it, by interface 1.
+// A network within the area of 24 bits: its address and the cost of the route to it, by interface
+// 1.
 type Expected = (u32, u32);
 
 #[derive(Clone, Copy)]

@@ -89,7 +89,8 @@ fn run<R: Input + Net + Threads + Wait + Clock + Log + Files + AllocGlobal + Syn
 /// if they do, and ends with the status.
 ///
 /// A standard stream that was closed at the start has the null device in its place to the end: else
-/// a socket or a file that is opened would get its number, and a datagram would be a console's line.
+/// a socket or a file that is opened would get its number, and a datagram would be a console's
+/// line.
 fn main(rt: HostRuntime) -> ExitCode {
     let _stand_ins = (stand_in(&rt), stand_in(&rt), stand_in(&rt));
     let mut input = rt.reader();

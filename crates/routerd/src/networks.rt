@@ -22,7 +22,8 @@ struct Row {
 
 // On one link.
 const ONE: Row = Row {
-    configuration: "router 1.1.1.1\ninterface 1 10.0.1.1/24 cost 10 hello 1 dead 8 rxmt 1 delay 1 port 27201 peer 27202\n",
+    configuration: "router 1.1.1.1\n\
+        interface 1 10.0.1.1/24 cost 10 hello 1 dead 8 rxmt 1 delay 1 port 27201 peer 27202\n",
     first: "add 198.51.100.0/24 5 1 0\n",
     wanted: &[
         "203.0.113.0/24 ext2 20 via 1\n",
@@ -31,7 +32,8 @@ const ONE: Row = Row {
 };
 
 const TWO: Row = Row {
-    configuration: "router 2.2.2.2\ninterface 1 10.0.1.2/24 cost 10 hello 1 dead 8 rxmt 1 delay 1 port 27202 peer 27201\n",
+    configuration: "router 2.2.2.2\n\
+        interface 1 10.0.1.2/24 cost 10 hello 1 dead 8 rxmt 1 delay 1 port 27202 peer 27201\n",
     first: "add 203.0.113.0/24 20 2 7\n",
     wanted: &[
         "198.51.100.0/24 ext1 15 via 1\n",
@@ -42,28 +44,38 @@ const TWO: Row = Row {
 // In a row, each at two interfaces: 10.0.1.0/24 and 10.0.2.0/24 lie between them, and nobody is at
 // the other ends of the outer ones.
 const LEFT: Row = Row {
-    configuration: "router 1.1.1.1\ninterface 1 10.0.9.1/24 cost 7 hello 1 dead 8 rxmt 1 delay 1 port 27301 peer 27302\ninterface 2 10.0.1.1/24 cost 10 hello 1 dead 8 rxmt 1 delay 1 port 27303 peer 27304\n",
+    configuration: "router 1.1.1.1\n\
+        interface 1 10.0.9.1/24 cost 7 hello 1 dead 8 rxmt 1 delay 1 port 27301 peer 27302\n\
+        interface 2 10.0.1.1/24 cost 10 hello 1 dead 8 rxmt 1 delay 1 port 27303 peer 27304\n",
     first: "add 203.0.113.0/24 20 2 7\n",
     wanted: &[
-        "10.0.1.0/24 intra 10 via 0\n10.0.2.0/24 intra 30 via 2\n10.0.8.0/24 intra 39 via 2\n10.0.9.0/24 intra 7 via 0\n198.51.100.0/24 ext1 35 via 2\nend\n",
+        "10.0.1.0/24 intra 10 via 0\n10.0.2.0/24 intra 30 via 2\n10.0.8.0/24 intra 39 via 2\n\
+            10.0.9.0/24 intra 7 via 0\n198.51.100.0/24 ext1 35 via 2\nend\n",
         "neighbor 2 2.2.2.2 Full\nend\n",
     ],
 };
 
 const MIDDLE: Row = Row {
-    configuration: "router 2.2.2.2\ninterface 1 10.0.1.2/24 cost 10 hello 1 dead 8 rxmt 1 delay 1 port 27304 peer 27303\ninterface 2 10.0.2.2/24 cost 20 hello 1 dead 8 rxmt 1 delay 1 port 27305 peer 27306\n",
+    configuration: "router 2.2.2.2\n\
+        interface 1 10.0.1.2/24 cost 10 hello 1 dead 8 rxmt 1 delay 1 port 27304 peer 27303\n\
+        interface 2 10.0.2.2/24 cost 20 hello 1 dead 8 rxmt 1 delay 1 port 27305 peer 27306\n",
     first: "table\n",
     wanted: &[
-        "10.0.1.0/24 intra 10 via 0\n10.0.2.0/24 intra 20 via 0\n10.0.8.0/24 intra 29 via 2\n10.0.9.0/24 intra 17 via 1\n198.51.100.0/24 ext1 25 via 2\n203.0.113.0/24 ext2 20 via 1\nend\n",
+        "10.0.1.0/24 intra 10 via 0\n10.0.2.0/24 intra 20 via 0\n10.0.8.0/24 intra 29 via 2\n\
+            10.0.9.0/24 intra 17 via 1\n198.51.100.0/24 ext1 25 via 2\n\
+            203.0.113.0/24 ext2 20 via 1\nend\n",
         "neighbor 1 1.1.1.1 Full\nneighbor 2 3.3.3.3 Full\nend\n",
     ],
 };
 
 const RIGHT: Row = Row {
-    configuration: "router 3.3.3.3\ninterface 1 10.0.2.3/24 cost 5 hello 1 dead 8 rxmt 1 delay 1 port 27306 peer 27305\ninterface 2 10.0.8.3/24 cost 9 hello 1 dead 8 rxmt 1 delay 1 port 27307 peer 27308\n",
+    configuration: "router 3.3.3.3\n\
+        interface 1 10.0.2.3/24 cost 5 hello 1 dead 8 rxmt 1 delay 1 port 27306 peer 27305\n\
+        interface 2 10.0.8.3/24 cost 9 hello 1 dead 8 rxmt 1 delay 1 port 27307 peer 27308\n",
     first: "add 198.51.100.0/24 5 1 0\n",
     wanted: &[
-        "10.0.1.0/24 intra 15 via 1\n10.0.2.0/24 intra 5 via 0\n10.0.8.0/24 intra 9 via 0\n10.0.9.0/24 intra 22 via 1\n203.0.113.0/24 ext2 20 via 1\nend\n",
+        "10.0.1.0/24 intra 15 via 1\n10.0.2.0/24 intra 5 via 0\n10.0.8.0/24 intra 9 via 0\n\
+            10.0.9.0/24 intra 22 via 1\n203.0.113.0/24 ext2 20 via 1\nend\n",
         "neighbor 1 2.2.2.2 Full\nend\n",
     ],
 };

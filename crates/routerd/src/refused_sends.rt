@@ -5,9 +5,9 @@ use std::io;
 use std::sync::atomic::{AtomicUsize, Ordering};
 use std::test::Fail;
 
-// EPERM, EACCES, EAGAIN, ENOMEM, EMSGSIZE, EADDRNOTAVAIL, ENETDOWN, ENETUNREACH, ENETRESET, ENOBUFS,
-// ECONNREFUSED, EHOSTDOWN and EHOSTUNREACH of Linux, and at last EINVAL, which a route gives that
-// lets packets vanish: a packet is lost, and the socket is of use.
+// EPERM, EACCES, EAGAIN, ENOMEM, EMSGSIZE, EADDRNOTAVAIL, ENETDOWN, ENETUNREACH, ENETRESET,
+// ENOBUFS, ECONNREFUSED, EHOSTDOWN and EHOSTUNREACH of Linux, and at last EINVAL, which a route
+// gives that lets packets vanish: a packet is lost, and the socket is of use.
 const OF_A_SEND: [i32; 14] = [1, 13, 11, 12, 90, 99, 100, 101, 102, 105, 111, 112, 113, 22];
 
 // The same without EINVAL, which no route can be the reason of there.

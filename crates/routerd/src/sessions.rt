@@ -11,12 +11,13 @@ use std::test::Fail;
 use std::thread::Threads;
 use std::time::Clock;
 
-const ONE: &str =
-    "router 1.1.1.1\ninterface 1 10.0.1.1/24 cost 10 hello 10 dead 40 rxmt 5 delay 1 port 27101 peer 27102\n";
+const ONE: &str = "router 1.1.1.1\n\
+        interface 1 10.0.1.1/24 cost 10 hello 10 dead 40 rxmt 5 delay 1 port 27101 peer 27102\n";
 
 /// The object file of `r0 = 1; exit` at `veto`: no route comes into the table.
 const VETOING: &[u8] =
-    b"BPFH\x01\x04\x00\x00\x00\x00\x00\x00\x02\x00\x00\x00\xb7\x00\x00\x00\x01\x00\x00\x00\x95\x00\x00\x00\x00\x00\x00\x00";
+    b"BPFH\x01\x04\x00\x00\x00\x00\x00\x00\x02\x00\x00\x00\xb7\x00\x00\x00\x01\x00\x00\x00\x95\x00\
+        \x00\x00\x00\x00\x00\x00";
 
 /// That of `exit` alone, which answers what r0 doesn't hold.
 const EMPTY: &[u8] =
@@ -29,11 +30,14 @@ const UNKNOWN: &[u8] =
 /// That of `r1 = 5; r2 = 3; call 1; r0 = 20; exit` at `price`: it adds 3 at counter 5, and answers
 /// 20.
 const COUNTING: &[u8] =
-    b"BPFH\x01\x03\x00\x00\x00\x00\x00\x00\x05\x00\x00\x00\xb7\x01\x00\x00\x05\x00\x00\x00\xb7\x02\x00\x00\x03\x00\x00\x00\x85\x00\x00\x00\x01\x00\x00\x00\xb7\x00\x00\x00\x14\x00\x00\x00\x95\x00\x00\x00\x00\x00\x00\x00";
+    b"BPFH\x01\x03\x00\x00\x00\x00\x00\x00\x05\x00\x00\x00\xb7\x01\x00\x00\x05\x00\x00\x00\xb7\x02\
+        \x00\x00\x03\x00\x00\x00\x85\x00\x00\x00\x01\x00\x00\x00\xb7\x00\x00\x00\x14\x00\x00\x00\
+        \x95\x00\x00\x00\x00\x00\x00\x00";
 
 /// That of `r0 = 16777215; exit` at `price`: LSInfinity, which keeps a destination back.
 const WITHHOLDING: &[u8] =
-    b"BPFH\x01\x03\x00\x00\x00\x00\x00\x00\x02\x00\x00\x00\xb7\x00\x00\x00\xff\xff\xff\x00\x95\x00\x00\x00\x00\x00\x00\x00";
+    b"BPFH\x01\x03\x00\x00\x00\x00\x00\x00\x02\x00\x00\x00\xb7\x00\x00\x00\xff\xff\xff\x00\x95\x00\
+        \x00\x00\x00\x00\x00\x00";
 
 /// The lines of a session, and what they are answered.
 #[derive(Clone, Copy)]
@@ -44,7 +48,8 @@ struct Session {
 
 const SESSIONS: &[Session] = &[
     Session {
-        lines: b"table\nneighbors\nadd 203.0.113.0/24 20 2 0\nwithdraw 203.0.113.0/24\nhello\n\xff\nquit\n",
+        lines: b"table\nneighbors\nadd 203.0.113.0/24 20 2 0\nwithdraw 203.0.113.0/24\nhello\n\xff\
+            \nquit\n",
         answers: b"10.0.1.0/24 intra 10 via 0\nend\nend\noriginated\nwithdrawn\nunknown\nunknown\n",
     },
     Session {
@@ -53,7 +58,8 @@ const SESSIONS: &[Session] = &[
     },
     Session {
         lines: b"attach nowhere\nattach prose\nattach unknown\nattach empty\ntable",
-        answers: b"cannot read nowhere\nobject refusal 1\ncode refusal 2 slot 0\nrefused slot 0 rule 5\n10.0.1.0/24 intra 10 via 0\nend\n",
+        answers: b"cannot read nowhere\nobject refusal 1\ncode refusal 2 slot 0\nrefused slot 0 rul\
+            e 5\n10.0.1.0/24 intra 10 via 0\nend\n",
     },
     // Its price is asked once; what it counted is shown, and once more at the end.
     Session {
@@ -63,7 +69,8 @@ const SESSIONS: &[Session] = &[
     // A price of LSInfinity keeps a destination back, and a longer prefix of an address that is
     // announced clashes with it.
     Session {
-        lines: b"attach withholding\nadd 203.0.113.0/24 20 2 0\ndetach price\nadd 203.0.113.0/24 20 2 0\nadd 203.0.113.0/25 20 2 0\nquit\n",
+        lines: b"attach withholding\nadd 203.0.113.0/24 20 2 0\ndetach price\n\
+            add 203.0.113.0/24 20 2 0\nadd 203.0.113.0/25 20 2 0\nquit\n",
         answers: b"attached price bound 2\nwithheld\ndetached price\noriginated\nrefused 3\n",
     },
     // A directory and a device are no regular files.
@@ -102,8 +109,8 @@ fn each_line_is_answered(rt: HostRuntime) -> Result<(), Fail> {
 }
 
 /// Its sockets are of other ports, as another test may run beside this one.
-const LONG: &str =
-    "router 1.1.1.1\ninterface 1 10.0.1.1/24 cost 10 hello 10 dead 40 rxmt 5 delay 1 port 27109 peer 27110\n";
+const LONG: &str = "router 1.1.1.1\n\
+        interface 1 10.0.1.1/24 cost 10 hello 10 dead 40 rxmt 5 delay 1 port 27109 peer 27110\n";
 
 // A line of so many letters, and `table`.
 fn long_line(alloc: Global, length: usize) -> Result<Vec<u8>, AllocError> {
@@ -146,8 +153,8 @@ impl Read for Broken {
 }
 
 /// Its sockets are of other ports again.
-const BROKEN: &str =
-    "router 1.1.1.1\ninterface 1 10.0.1.1/24 cost 10 hello 10 dead 40 rxmt 5 delay 1 port 27111 peer 27112\n";
+const BROKEN: &str = "router 1.1.1.1\n\
+        interface 1 10.0.1.1/24 cost 10 hello 10 dead 40 rxmt 5 delay 1 port 27111 peer 27112\n";
 
 #[test]
 fn an_input_that_fails_ends_it_with_status_3(rt: HostRuntime) -> Result<(), Fail> {
@@ -161,8 +168,9 @@ fn an_input_that_fails_ends_it_with_status_3(rt: HostRuntime) -> Result<(), Fail
 }
 
 /// Two interfaces at one port.
-const TWICE: &str =
-    "router 1.1.1.1\ninterface 1 10.0.1.1/24 cost 10 hello 10 dead 40 rxmt 5 delay 1 port 27103 peer 27104\ninterface 2 10.0.2.1/24 cost 10 hello 10 dead 40 rxmt 5 delay 1 port 27103 peer 27104\n";
+const TWICE: &str = "router 1.1.1.1\n\
+        interface 1 10.0.1.1/24 cost 10 hello 10 dead 40 rxmt 5 delay 1 port 27103 peer 27104\n\
+        interface 2 10.0.2.1/24 cost 10 hello 10 dead 40 rxmt 5 delay 1 port 27103 peer 27104\n";
 
 #[test]
 fn a_port_that_is_taken_ends_it(rt: HostRuntime) {

@@ -9,7 +9,7 @@ use Rattle.std.proofs.lemmas.List.Quantifiers.{all_pairs_push}
 use Rattle.std.proofs.lemmas.List.Sorted.{ranks_by, sorted_far}
 use Rattle.words.specs.Prefixes.{Network}
 use Rattle.words.specs.declared.route.Route.{Route}
-use Rattle.routes.specs.Best.{AsGood, joined, offer_cmp, route_of}
+use Rattle.routes.specs.Best.{AsGood, joined_route, offer_cmp, route_of}
 use Rattle.routes.specs.Routes.{AreRoutesAmong, IsBefore, IsRouteAmong}
 use Rattle.routes.specs.declared.offer.Offer.{Offer}
 use Rattle.routes.proofs.OneMore.{UpTo, never_itself, of_as_good, of_first, of_other, of_worse, offers_total, same_offers, up_to}
@@ -142,8 +142,8 @@ module _ (P : Offer → Type 0) (n : Offer) (up : (o : Offer) → P o → UpTo o
       ascending = all_pairs_push Ascend front now (front_pairs front last l.ascending) (λ k d low. subst (λ p. IsBefore (get_or front k d).prefix p) (sym keeps) (front_below front last l.ascending k d low));
     }
 
-    pub on_as_good : last.prefix ≡ n.prefix → AsGood last n → Listed WithIt (front ++ joined last n ∷ [])
-    on_as_good same good = replaced same (joined last n) refl (of_as_good P n up last same was_last good)
+    pub on_as_good : last.prefix ≡ n.prefix → AsGood last n → Listed WithIt (front ++ joined_route last n ∷ [])
+    on_as_good same good = replaced same (joined_route last n) refl (of_as_good P n up last same was_last good)
 
     pub on_worse : last.prefix ≡ n.prefix → (AsGood last n → ⊥) → Listed WithIt (front ++ last ∷ [])
     on_worse same other = replaced same last refl (of_worse P n up last same was_last other)
@@ -246,7 +246,7 @@ none_at offers i d sorted lt (r ∷ rest) e l = absurd (omega (arith, e))
 
 same_at : (offers : List Offer) (i : ℕ) (d : Offer) → IsSorted offer_cmp offers → i < length offers → (front : List Route) (last : Route) → Listed (Among (take i offers)) (front ++ last ∷ [])
     → last.prefix ≡ (get_or offers i d).prefix → (now : Route)
-    → (AsGood last (get_or offers i d) × (now ≡ joined last (get_or offers i d))) ⊎ ((AsGood last (get_or offers i d) → ⊥) × (now ≡ last))
+    → (AsGood last (get_or offers i d) × (now ≡ joined_route last (get_or offers i d))) ⊎ ((AsGood last (get_or offers i d) → ⊥) × (now ≡ last))
     → Listed (Among (take (i + 1) offers)) (front ++ now ∷ [])
 same_at offers i d sorted lt front last l same now which =
     let n : Offer = get_or offers i d in
@@ -254,7 +254,7 @@ same_at offers i d sorted lt front last l same now which =
     elim which [
       | inl good ↦
           subst Is (sym good.1)
-          (taken offers i d (front ++ joined last (get_or offers i d) ∷ []) lt (on_as_good (Among (take i offers)) (get_or offers i d) (before_it offers i d sorted lt) front last l same good.0))
+          (taken offers i d (front ++ joined_route last (get_or offers i d) ∷ []) lt (on_as_good (Among (take i offers)) (get_or offers i d) (before_it offers i d sorted lt) front last l same good.0))
       | inr other ↦
           subst Is (sym other.1) (taken offers i d (front ++ last ∷ []) lt (on_worse (Among (take i offers)) (get_or offers i d) (before_it offers i d sorted lt) front last l same other.0))
     ]
@@ -272,9 +272,9 @@ step_none offers i n is sorted lt front e l =
     subst Is (sym is) (none_at offers i n sorted lt front e l)
 
 pub step_same : (offers : List Offer) (i : ℕ) (n : Offer) → n ≡ get_or offers i n → IsSorted offer_cmp offers → i < length offers → (front : List Route) (last : Route) → Listed (Among (take i offers)) (front ++ last ∷ [])
-    → last.prefix ≡ n.prefix → (now : Route) → (AsGood last n × (now ≡ joined last n)) ⊎ ((AsGood last n → ⊥) × (now ≡ last)) → Listed (Among (take (i + 1) offers)) (front ++ now ∷ [])
+    → last.prefix ≡ n.prefix → (now : Route) → (AsGood last n × (now ≡ joined_route last n)) ⊎ ((AsGood last n → ⊥) × (now ≡ last)) → Listed (Among (take (i + 1) offers)) (front ++ now ∷ [])
 step_same offers i n is sorted lt front last l same now which =
-    let Which : Offer → Type 0 = λ x. (AsGood last x × (now ≡ joined last x)) ⊎ ((AsGood last x → ⊥) × (now ≡ last)) in
+    let Which : Offer → Type 0 = λ x. (AsGood last x × (now ≡ joined_route last x)) ⊎ ((AsGood last x → ⊥) × (now ≡ last)) in
     same_at offers i n sorted lt front last l (same ∙ ap (λ (x : Offer). x.prefix) is) now (subst Which is which)
 
 pub step_next : (offers : List Offer) (i : ℕ) (n : Offer) → n ≡ get_or offers i n → IsSorted offer_cmp offers → i < length offers → (front : List Route) (last : Route) → Listed (Among (take i offers)) (front ++ last ∷ [])

@@ -10,7 +10,7 @@ use Rattle.std.proofs.lemmas.Bool.{eqb-false}
 use Rattle.words.specs.Interfaces.{has_interface}
 use Rattle.words.specs.Prefixes.{Network}
 use Rattle.words.specs.declared.route.Route.{Route}
-use Rattle.routes.specs.Best.{AsGood, cost_cmp, distance_cmp, joined, kind_cmp, offer_cmp, originator_cmp, route_of, tag_cmp}
+use Rattle.routes.specs.Best.{AsGood, cost_cmp, distance_cmp, joined_route, kind_cmp, offer_cmp, originator_cmp, route_of, tag_cmp}
 use Rattle.routes.specs.Routes.{IsBefore, IsBestAmong, IsNoLater, IsNoWorse, IsRouteAmong, rank}
 use Rattle.routes.specs.Routes.IsBefore.{ByAddress, ByLength}
 use Rattle.routes.specs.Routes.IsNoLater.{ByOriginator, ByTag}
@@ -215,7 +215,7 @@ module _ (P : Offer → Type 0) (n : Offer) (up : (o : Offer) → P o → UpTo o
         }
 
     -- it is as good
-    pub of_as_good : AsGood r n → IsRouteAmong WithIt (joined r n)
+    pub of_as_good : AsGood r n → IsRouteAmong WithIt (joined_route r n)
     of_as_good good =
         let a : AreAlike k.first n = record { kind = ap rank (sym k.kind ∙ good.kind); cost = sym k.cost ∙ good.cost; distance = sym k.distance ∙ good.distance } in
         let its_best : IsBestAmong WithIt r.prefix n = record {

@@ -48,5 +48,5 @@ pub record AsGood (r : Route) (o : Offer) : Type 0 where
   pub distance : r.distance ≡ o.distance
 
 -- with the hops of the offer too
-abbrev pub joined : Route → Offer → Route
-joined r o = record r { hops = bit_or r.hops o.hops }
+abbrev pub joined_route : Route → Offer → Route
+joined_route r o = record r { hops = bit_or r.hops o.hops }

@@ -2,15 +2,16 @@
 ghost use Rattle.std.specs.Prelude.{◌≡◌, ◌↔◌, ◌⊎◌, IfOk, IsTrue};
 ghost use Rattle.std.specs.List.{Contains};
 ghost use Rattle.std.specs.List.Sorted.{IsSorted};
-ghost use Rattle.routes.specs.Best.{AsGood, joined, offer_cmp, route_of};
+ghost use Rattle.routes.specs.Best.{AsGood, joined_route, offer_cmp, route_of};
 ghost use Rattle.routes.specs.Routes.{AreRoutesAmong};
 
 use crate::offer::Offer;
 use std::alloc::{AllocError, Global};
 use words::{Prefix, Route};
 
-/// The routes of all that is offered, in the order of their prefixes (RFC 2328, sections 11, 16.1 and 16.4). The offers stand in their order:
-/// the first one for a prefix is the best one, with the least tag, and those that are as good join their hops.
+/// The routes of all that is offered, in the order of their prefixes (RFC 2328, sections 11, 16.1
+/// and 16.4). The offers stand in their order: the first one for a prefix is the best one, with the
+/// least tag, and those that are as good join their hops.
 ///
 /// # Errors
 /// Where memory for the routes is refused.
@@ -56,7 +57,8 @@ fn route_by(offer: Offer) -> Route
 
 // The route with the hops of one more offer, if that is as good.
 fn with_offer(route: Route, offer: Offer) -> Route
-    ensures { (AsGood route offer × (result ≡ joined route offer)) ⊎ ((AsGood route offer → ⊥) × (result ≡ route)) }
+    ensures { (AsGood route offer × (result ≡ joined_route route offer)) ⊎ ((AsGood route offer → ⊥)
+        × (result ≡ route)) }
 {
     if route.kind == offer.kind && route.cost == offer.cost && route.distance == offer.distance {
         Route {

@@ -1,7 +1,8 @@
 //! What reachable routers and networks offer.
 use words::{Hops, Prefix, RouteKind, RouterId};
 
-/// An offer of a way to a network (RFC 2328, sections 16.1 and 16.4). Ordered by prefix, then the better first, then by originator and tag.
+/// An offer of a way to a network (RFC 2328, sections 16.1 and 16.4). Ordered by prefix, then the
+/// better first, then by originator and tag.
 #[derive(Clone, Copy, Debug, PartialEq, Eq, PartialOrd, Ord)]
 pub struct Offer {
     pub prefix: Prefix,

@@ -56,7 +56,8 @@ fn context(bytes: Bytes) -> [u8; 64] {
     context
 }
 
-/// Runs the example once on a context with these bytes, at the seat, and tells its answer: None where it is stuck or passes its bound.
+/// Runs the example once on a context with these bytes, at the seat, and tells its answer: None
+/// where it is stuck or passes its bound.
 fn answer_of(example: &Example, bytes: Bytes, shared: &Shared, seat: &mut Seat) -> Option<u64>
     requires { IsOf shared.now seat.old }
     ensures { IsOf shared.now seat.new }
@@ -102,7 +103,8 @@ pub fn answers(rt: &impl Abort, alloc: Global, text: &str, rows: &[Answer]) -> R
     answers_so(rt, alloc, &example, rows)
 }
 
-/// Runs the example so often on a context with these bytes, at the seat, and tells whether each run ends.
+/// Runs the example so often on a context with these bytes, at the seat, and tells whether each run
+/// ends.
 fn do_all_end(example: &Example, bytes: Bytes, shared: &Shared, seat: &mut Seat, times: u32) -> bool
     requires { IsOf shared.now seat.old }
     ensures { IsOf shared.now seat.new }

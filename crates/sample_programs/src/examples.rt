@@ -62,8 +62,8 @@ fn a_tag_that_is_not_configured_is_the_length(rt: HostRuntime) -> Result<(), Fai
     answers(&rt, rt.alloc(), TAG_BY_LENGTH, TAGS)
 }
 
-// Metric 20 at midnight, at 3:00 (10,800 seconds) and at 23:59:59 (86,399 seconds); and the greatest metric that announces a destination,
-// which stays one.
+// Metric 20 at midnight, at 3:00 (10,800 seconds) and at 23:59:59 (86,399 seconds); and the
+// greatest metric that announces a destination, which stays one.
 const METRICS: &[Answer] = &[
     (&[(12, 20)], 43),
     (&[(12, 20), (24, 0x30), (25, 0x2a)], 40),

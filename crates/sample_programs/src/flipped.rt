@@ -7,8 +7,9 @@ use std::test::Fail;
 /// The bits of a byte.
 const BITS: [u8; 8] = [1, 2, 4, 8, 16, 32, 64, 128];
 
-/// The hook may be `count` or `tag` in place of `price`. The entry rank 10 may have one more of its bits below 2^18, of which there are 16:
-/// with one of its own two less, or one that is higher, it is refused.
+/// The hook may be `count` or `tag` in place of `price`. The entry rank 10 may have one more of its
+/// bits below 2^18, of which there are 16: with one of its own two less, or one that is higher, it
+/// is refused.
 const SURELY_ACCEPTED: usize = 18;
 
 fn flip(bytes: &mut [u8], at: usize, bit: u8) {

@@ -122,7 +122,8 @@ fn range_left(test: Test, value: Interval, number: u64) -> Option<Range> {
     Some(left.range())
 }
 
-// At most 63, and of these those that aren't negative, those that are positive, and those that are negative.
+// At most 63, and of these those that aren't negative, those that are positive, and those that are
+// negative.
 fn trimmed() -> Option<[Option<Range>; 4]> {
     let at_most = left_by(Test::SignedLessOrEqual, Interval::top(), 63)?;
     Some([

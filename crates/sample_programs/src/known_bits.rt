@@ -141,7 +141,8 @@ fn swaps_and_negations_give_their_result(rt: HostRuntime) {
 
 type Both = Option<(KnownBits, KnownBits)>;
 
-// 5 is 9; an odd number is one with an upper byte; a number's lower half is that of 2^32; 9 is less than 5.
+// 5 is 9; an odd number is one with an upper byte; a number's lower half is that of 2^32; 9 is less
+// than 5.
 fn assumed() -> [Both; 4] {
     let (five, nine) = (KnownBits::constant(5), KnownBits::constant(9));
     let (odd, upper) = (known(1, 1), known(0xff00, 0x1200));

@@ -1,7 +1,8 @@
-//! Programs that are safe, and programs that are unsafe in one way each, with what the verifier says of them and what their runs come to.
-//! Each is a text of assembly on few lines: a semicolon ends a line of it, a label's colon too, and `any` stands for the set of all numbers.
-//! The programs of examples/ too: each is assembled, verified and run. Their texts are copies that tools/example-texts writes. `intervals`
-//! and `known_bits` are tests of the abstract domains.
+//! Programs that are safe, and programs that are unsafe in one way each, with what the verifier
+//! says of them and what their runs come to. Each is a text of assembly on few lines: a semicolon
+//! ends a line of it, a label's colon too, and `any` stands for the set of all numbers. The
+//! programs of examples/ too: each is assembled, verified and run. Their texts are copies that
+//! tools/example-texts writes. `intervals` and `known_bits` are tests of the abstract domains.
 #![tactic(auto)]
 
 #[cfg(test)]

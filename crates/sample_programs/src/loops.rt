@@ -128,11 +128,13 @@ const NESTED: [Safe; 4] = [
     (
         "hook count; rank 19; r6 = 3; r8 = 0; \
         OUTER: r7 = 4; \
-        INNER: r1 = r6; r1 += -1; r1 <<= 2; r1 += r7; r1 += -1; call 3; r8 += r0; r7 += -1; if r7 != 0 goto INNER; \
+        INNER: r1 = r6; r1 += -1; r1 <<= 2; r1 += r7; r1 += -1; call 3; r8 += r0; r7 += -1; \
+        if r7 != 0 goto INNER; \
         r6 += -1; if r6 != 0 goto OUTER; \
         r0 = r8; exit; \
         state OUTER rank 4 r6 * 5; with r6 number 1 3 0 0; with r8 any; \
-        state INNER rank 0 r6 * 5 r7 * 1; with r6 number 1 3 0 0; with r7 number 1 4 0 0; with r8 any",
+        state INNER rank 0 r6 * 5 r7 * 1; with r6 number 1 3 0 0; with r7 number 1 4 0 0; \
+        with r8 any",
         [3072, 51],
     ),
     // the inner loop takes as many turns as are left of the outer one
@@ -143,7 +145,8 @@ const NESTED: [Safe; 4] = [
         r6 += -1; if r6 != 0 goto OUTER; \
         exit; \
         state OUTER rank 0 r6 * 7; with r0 any; with r6 number 1 5 0 0; \
-        state INNER rank 0 r6 * 6 r7 * 1; with r0 any; with r6 number 1 5 0 0; with r7 number 1 5 0 0",
+        state INNER rank 0 r6 * 6 r7 * 1; with r0 any; with r6 number 1 5 0 0; \
+        with r7 number 1 5 0 0",
         [15, 15],
     ),
     // either count falls, by a bit of the context: the answer is what is left of the other
@@ -155,7 +158,8 @@ const NESTED: [Safe; 4] = [
         ODD: r8 >>= 1; r7 += -1; if r7 != 0 goto L; \
         r0 = r6; exit; \
         state L rank 0 r6 * 1 r7 * 1; with r6 number 1 7 0 0; with r7 number 1 7 0 0; with r8 any; \
-        state ODD rank 0 r6 * 1 r7 * 1; with r6 number 1 7 0 0; with r7 number 1 7 0 0; with r8 any",
+        state ODD rank 0 r6 * 1 r7 * 1; with r6 number 1 7 0 0; with r7 number 1 7 0 0; \
+        with r8 any",
         [7, 4],
     ),
     // two loops, one behind the other: the second is ranked by its own register

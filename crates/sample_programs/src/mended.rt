@@ -1,4 +1,5 @@
-//! For each rule the smallest program that breaks it, and the same one mended, as docs/VERIFIER.md tells them.
+//! For each rule the smallest program that breaks it, and the same one mended, as docs/VERIFIER.md
+//! tells them.
 use crate::trials::{refuses_at, tried};
 use std::alloc::Global;
 use std::process::Abort;

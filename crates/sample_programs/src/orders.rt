@@ -1,17 +1,20 @@
-//! Which of two rules is told that a program breaks: at a call the helper first, then what registers hold, then the frame, then the edges,
-//! the jump's before the next slot's; at an edge what is known before the rank; and the edge into slot 0 before what slot 0 breaks by itself.
+//! Which of two rules is told that a program breaks: at a call the helper first, then what
+//! registers hold, then the frame, then the edges, the jump's before the next slot's; at an edge
+//! what is known before the rank; and the edge into slot 0 before what slot 0 breaks by itself.
 use crate::trials::refuses_at;
 use std::test::Fail;
 
 /// A program, and the slot and the rule of its refusal.
 const FIRST: [(&str, usize, u8); 13] = [
-    // r1 is a pointer, which no helper takes; but there is no helper 9, and none of number 3 at `veto`
+    // r1 is a pointer, which no helper takes; but there is no helper 9, and none of number 3 at
+    // `veto`
     ("hook veto; rank 0; call 9; exit", 0, 9),
     ("hook veto; rank 0; call 3; exit", 0, 9),
     // r5 is empty, r10 a pointer, and neither may be written to r10
     ("hook tag; rank 0; r10 = r5; r0 = 0; exit", 0, 5),
     ("hook tag; rank 0; w10 += 8; r0 = 0; exit", 0, 6),
-    // the last four bytes of the cells, which have room for half of a number at no multiple of eight
+    // the last four bytes of the cells, which have room for half of a number at no multiple of
+    // eight
     (
         "hook tag; rank 0; r6 = map 1 508; r0 = *u64 r6 0; exit",
         2,
@@ -46,7 +49,8 @@ const FIRST: [(&str, usize, u8); 13] = [
     ("hook tag; rank 0; L: exit; state L rank 1", 0, 12),
     // the jump leads to where nothing is stated, and the next slot's edge lacks r2
     (
-        "hook tag; rank 0; r0 = *u8 r1 16; if r0 > 100 goto +1; N: exit; exit; state N rank 0; with r2 any",
+        "hook tag; rank 0; r0 = *u8 r1 16; if r0 > 100 goto +1; N: exit; exit; state N rank 0; \
+            with r2 any",
         1,
         4,
     ),

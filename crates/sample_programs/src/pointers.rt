@@ -21,7 +21,8 @@ const BYTES: [Safe; 4] = [
     // a sum that is kept on the stack through a loop
     (
         "hook count; rank 5; *u64 r10 -8 = 0; r6 = 5; \
-        L: r1 = r6; call 3; r2 = *u64 r10 -8; r2 += r0; *u64 r10 -8 = r2; r6 += -1; if r6 != 0 goto L; \
+        L: r1 = r6; call 3; r2 = *u64 r10 -8; r2 += r0; *u64 r10 -8 = r2; r6 += -1; \
+        if r6 != 0 goto L; \
         r0 = *u64 r10 -8; exit; \
         state L rank 0 r6 * 1; with r6 number 1 5 0 0; bytes 504 512",
         [1280, 47],
@@ -32,7 +33,8 @@ const BYTES: [Safe; 4] = [
 const STORED: [Safe; 6] = [
     // the context's pointer, kept through a call, which empties r1
     (
-        "hook count; rank 0; *u64 r10 -8 = r1; r1 = 0; call 3; r1 = *u64 r10 -8; r2 = *u32 r1 16; r0 += r2; exit",
+        "hook count; rank 0; *u64 r10 -8 = r1; r1 = 0; call 3; r1 = *u64 r10 -8; r2 = *u32 r1 16; \
+            r0 += r2; exit",
         [256, 202],
     ),
     // a map's pointer at an unknown distance
@@ -49,13 +51,15 @@ const STORED: [Safe; 6] = [
     ),
     // a pointer to the stack itself
     (
-        "hook price; rank 0; r6 = r10; r6 += -8; *u64 r10 -16 = r6; r7 = *u64 r10 -16; *u64 r7 0 = 5; \
+        "hook price; rank 0; r6 = r10; r6 += -8; *u64 r10 -16 = r6; r7 = *u64 r10 -16; \
+            *u64 r7 0 = 5; \
         r0 = *u64 r10 -8; exit",
         [5, 5],
     ),
     // a store beside a stored pointer leaves it
     (
-        "hook price; rank 0; *u64 r10 -16 = r1; *u64 r10 -8 = 1; r2 = *u64 r10 -16; r0 = *u32 r2 4; exit",
+        "hook price; rank 0; *u64 r10 -16 = r1; *u64 r10 -8 = 1; r2 = *u64 r10 -16; r0 = *u32 r2 \
+            4; exit",
         [0, 7],
     ),
     // to and fro within the context

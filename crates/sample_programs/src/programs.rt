@@ -1,4 +1,5 @@
-//! Programs that are accepted with their bound, and programs that break one rule at one slot, by the verifier itself.
+//! Programs that are accepted with their bound, and programs that break one rule at one slot, by
+//! the verifier itself.
 use absdom::Pair;
 use asm::{AsmError, assemble};
 use interval::Interval;
@@ -11,7 +12,8 @@ use std::process::Abort;
 use std::test::Fail;
 use verifier::{Accepted, Refusal, Rule, verify};
 
-// Objects are made once more where they aren't made, since an allocation may be refused once, in a run of the tests with a refusal.
+// Objects are made once more where they aren't made, since an allocation may be refused once, in a
+// run of the tests with a refusal.
 
 /// The object of the text.
 pub(crate) fn object_of(alloc: Global, text: &str) -> Result<Object, AsmError> {
@@ -21,8 +23,8 @@ pub(crate) fn object_of(alloc: Global, text: &str) -> Result<Object, AsmError> {
     }
 }
 
-/// What the verifier says of the program of an object. An allocation may be refused once, as a run of the tests with a refusal makes it,
-/// which is told at slot 0.
+/// What the verifier says of the program of an object. An allocation may be refused once, as a run
+/// of the tests with a refusal makes it, which is told at slot 0.
 pub(crate) fn verified(
     rt: &impl Abort,
     alloc: Global,
@@ -176,7 +178,8 @@ fn straight_programs_are_accepted(rt: HostRuntime) -> Result<(), Fail> {
 }
 
 const OF_EACH_REGION: &str =
-    "hook price\nrank 0\nr2 = *u32 r1 0\n*u64 r10 -8 = r2\nr3 = map 0 0\nr0 = *u64 r3 0\nr4 = map 1 8\n*u64 r4 0 = r0\nexit\n";
+    "hook price\nrank 0\nr2 = *u32 r1 0\n*u64 r10 -8 = r2\nr3 = map 0 0\nr0 = *u64 r3 0\n\
+        r4 = map 1 8\n*u64 r4 0 = r0\nexit\n";
 
 fn are_of_each_region(regions: &[Region]) -> bool {
     regions.len() == 9
@@ -195,18 +198,21 @@ fn the_region_of_each_load_and_store_is_kept(rt: HostRuntime) -> Result<(), Fail
 
 // A counter by a number of the context: masked by 255 and shifted by 3; by 511; shifted by 2.
 const LAWFUL_WALK: &[(&str, u64)] = &[(
-    "hook price\nrank 0\nr1 = *u64 r1 8\nr1 &= 255\nr1 <<= 3\nr2 = map 0 0\nr2 += r1\nr0 = *u64 r2 0\nexit\n",
+    "hook price\nrank 0\nr1 = *u64 r1 8\nr1 &= 255\nr1 <<= 3\nr2 = map 0 0\nr2 += r1\n\
+        r0 = *u64 r2 0\nexit\n",
     8,
 )];
 
 const LAWLESS_WALKS: &[(&str, usize, u8)] = &[
     (
-        "hook price\nrank 0\nr1 = *u64 r1 8\nr1 &= 511\nr1 <<= 3\nr2 = map 0 0\nr2 += r1\nr0 = *u64 r2 0\nexit\n",
+        "hook price\nrank 0\nr1 = *u64 r1 8\nr1 &= 511\nr1 <<= 3\nr2 = map 0 0\nr2 += r1\n\
+            r0 = *u64 r2 0\nexit\n",
         6,
         7,
     ),
     (
-        "hook price\nrank 0\nr1 = *u64 r1 8\nr1 &= 255\nr1 <<= 2\nr2 = map 0 0\nr2 += r1\nr0 = *u64 r2 0\nexit\n",
+        "hook price\nrank 0\nr1 = *u64 r1 8\nr1 &= 255\nr1 <<= 2\nr2 = map 0 0\nr2 += r1\n\
+            r0 = *u64 r2 0\nexit\n",
         6,
         8,
     ),
@@ -221,19 +227,27 @@ fn a_walk_over_the_counters_needs_its_mask_and_its_shift(rt: HostRuntime) -> Res
 // The sum of the numbers up to 1, 2, 10 and 1000, counted down.
 const SUMS: &[(&str, u64)] = &[
     (
-        "hook price\nrank 1\nr1 = 1\nr0 = 0\nL:\nr0 += r1\nr1 += -1\nif r1 != 0 goto L\nexit\nstate L rank 0 r1 * 1\nwith r0 number 0 18446744073709551615 0 0\nwith r1 number 1 1 0 0\n",
+        "hook price\nrank 1\nr1 = 1\nr0 = 0\nL:\nr0 += r1\nr1 += -1\nif r1 != 0 goto L\nexit\n\
+            state L rank 0 r1 * 1\nwith r0 number 0 18446744073709551615 0 0\n\
+            with r1 number 1 1 0 0\n",
         12,
     ),
     (
-        "hook price\nrank 2\nr1 = 2\nr0 = 0\nL:\nr0 += r1\nr1 += -1\nif r1 != 0 goto L\nexit\nstate L rank 0 r1 * 1\nwith r0 number 0 18446744073709551615 0 0\nwith r1 number 1 2 0 0\n",
+        "hook price\nrank 2\nr1 = 2\nr0 = 0\nL:\nr0 += r1\nr1 += -1\nif r1 != 0 goto L\nexit\n\
+            state L rank 0 r1 * 1\nwith r0 number 0 18446744073709551615 0 0\n\
+            with r1 number 1 2 0 0\n",
         18,
     ),
     (
-        "hook price\nrank 10\nr1 = 10\nr0 = 0\nL:\nr0 += r1\nr1 += -1\nif r1 != 0 goto L\nexit\nstate L rank 0 r1 * 1\nwith r0 number 0 18446744073709551615 0 0\nwith r1 number 1 10 0 0\n",
+        "hook price\nrank 10\nr1 = 10\nr0 = 0\nL:\nr0 += r1\nr1 += -1\nif r1 != 0 goto L\nexit\n\
+            state L rank 0 r1 * 1\nwith r0 number 0 18446744073709551615 0 0\n\
+            with r1 number 1 10 0 0\n",
         66,
     ),
     (
-        "hook price\nrank 1000\nr1 = 1000\nr0 = 0\nL:\nr0 += r1\nr1 += -1\nif r1 != 0 goto L\nexit\nstate L rank 0 r1 * 1\nwith r0 number 0 18446744073709551615 0 0\nwith r1 number 1 1000 0 0\n",
+        "hook price\nrank 1000\nr1 = 1000\nr0 = 0\nL:\nr0 += r1\nr1 += -1\nif r1 != 0 goto L\n\
+            exit\nstate L rank 0 r1 * 1\nwith r0 number 0 18446744073709551615 0 0\n\
+            with r1 number 1 1000 0 0\n",
         6006,
     ),
 ];
@@ -241,12 +255,16 @@ const SUMS: &[(&str, u64)] = &[
 // Up to 10, with the rank 9 at the entry, and with 0 for the least number at the loop.
 const WRONG_SUMS: &[(&str, usize, u8)] = &[
     (
-        "hook price\nrank 9\nr1 = 10\nr0 = 0\nL:\nr0 += r1\nr1 += -1\nif r1 != 0 goto L\nexit\nstate L rank 0 r1 * 1\nwith r0 number 0 18446744073709551615 0 0\nwith r1 number 1 10 0 0\n",
+        "hook price\nrank 9\nr1 = 10\nr0 = 0\nL:\nr0 += r1\nr1 += -1\nif r1 != 0 goto L\nexit\n\
+            state L rank 0 r1 * 1\nwith r0 number 0 18446744073709551615 0 0\n\
+            with r1 number 1 10 0 0\n",
         1,
         12,
     ),
     (
-        "hook price\nrank 10\nr1 = 10\nr0 = 0\nL:\nr0 += r1\nr1 += -1\nif r1 != 0 goto L\nexit\nstate L rank 0 r1 * 1\nwith r0 number 0 18446744073709551615 0 0\nwith r1 number 0 10 0 0\n",
+        "hook price\nrank 10\nr1 = 10\nr0 = 0\nL:\nr0 += r1\nr1 += -1\nif r1 != 0 goto L\nexit\n\
+            state L rank 0 r1 * 1\nwith r0 number 0 18446744073709551615 0 0\n\
+            with r1 number 0 10 0 0\n",
         4,
         11,
     ),
@@ -258,26 +276,31 @@ fn a_loop_needs_its_rank_and_its_range(rt: HostRuntime) -> Result<(), Fail> {
     refuses_each(&rt, rt.alloc(), WRONG_SUMS)
 }
 
-/// The counter of the moment's number, if the moment is from 0 to 63 by two signed tests, and else 0.
+/// The counter of the moment's number, if the moment is from 0 to 63 by two signed tests, and else
+/// 0.
 pub(crate) const COUNTER_OF_THE_MOMENT: &str =
-    "hook price\nrank 0\nr1 = *u64 r1 24\nif r1 s> 63 goto L\nif r1 s< 0 goto L\nr1 <<= 3\nr2 = map 0 0\nr2 += r1\nr0 = *u64 r2 0\nexit\nL:\nr0 = 0\nexit\nstate L rank 0\n";
+    "hook price\nrank 0\nr1 = *u64 r1 24\nif r1 s> 63 goto L\nif r1 s< 0 goto L\nr1 <<= 3\n\
+        r2 = map 0 0\nr2 += r1\nr0 = *u64 r2 0\nexit\nL:\nr0 = 0\nexit\nstate L rank 0\n";
 
 const TESTED: &[(&str, u64)] = &[(COUNTER_OF_THE_MOMENT, 11)];
 
 // The same without the least, without the greatest, and with a greatest that is too far.
 const TESTED_LESS: &[(&str, usize, u8)] = &[
     (
-        "hook price\nrank 0\nr1 = *u64 r1 24\nif r1 s> 63 goto L\nr1 <<= 3\nr2 = map 0 0\nr2 += r1\nr0 = *u64 r2 0\nexit\nL:\nr0 = 0\nexit\nstate L rank 0\n",
+        "hook price\nrank 0\nr1 = *u64 r1 24\nif r1 s> 63 goto L\nr1 <<= 3\nr2 = map 0 0\n\
+            r2 += r1\nr0 = *u64 r2 0\nexit\nL:\nr0 = 0\nexit\nstate L rank 0\n",
         6,
         7,
     ),
     (
-        "hook price\nrank 0\nr1 = *u64 r1 24\nif r1 s< 0 goto L\nr1 <<= 3\nr2 = map 0 0\nr2 += r1\nr0 = *u64 r2 0\nexit\nL:\nr0 = 0\nexit\nstate L rank 0\n",
+        "hook price\nrank 0\nr1 = *u64 r1 24\nif r1 s< 0 goto L\nr1 <<= 3\nr2 = map 0 0\nr2 += r1\n\
+            r0 = *u64 r2 0\nexit\nL:\nr0 = 0\nexit\nstate L rank 0\n",
         6,
         7,
     ),
     (
-        "hook price\nrank 0\nr1 = *u64 r1 24\nif r1 s> 256 goto L\nif r1 s< 0 goto L\nr1 <<= 3\nr2 = map 0 0\nr2 += r1\nr0 = *u64 r2 0\nexit\nL:\nr0 = 0\nexit\nstate L rank 0\n",
+        "hook price\nrank 0\nr1 = *u64 r1 24\nif r1 s> 256 goto L\nif r1 s< 0 goto L\nr1 <<= 3\n\
+            r2 = map 0 0\nr2 += r1\nr0 = *u64 r2 0\nexit\nL:\nr0 = 0\nexit\nstate L rank 0\n",
         7,
         7,
     ),
@@ -290,7 +313,8 @@ fn two_signed_tests_bound_a_number_together(rt: HostRuntime) -> Result<(), Fail>
 }
 
 const DEAD: &[(&str, u64)] = &[(
-    "hook veto\nrank 0\nr0 = 0\nif r0 == 0 goto +2\nr5 = r6\nexit\nexit\nstate 4 rank 0\nwith r0 number 0 18446744073709551615 0 0\n",
+    "hook veto\nrank 0\nr0 = 0\nif r0 == 0 goto +2\nr5 = r6\nexit\nexit\nstate 4 rank 0\n\
+        with r0 number 0 18446744073709551615 0 0\n",
     5,
 )];
 
@@ -335,7 +359,8 @@ fn each_rule_is_named_at_its_slot(rt: HostRuntime) -> Result<(), Fail> {
 }
 
 const TESTED_CELL: &[(&str, usize, u8)] = &[(
-    "hook count\nrank 0\nr6 = map 1 0\nr1 = *u64 r6 0\nif r1 >= 64 goto L\nr1 = *u64 r6 0\nr2 = 1\ncall 1\nexit\nL:\nr0 = 0\nexit\nstate L rank 0\n",
+    "hook count\nrank 0\nr6 = map 1 0\nr1 = *u64 r6 0\nif r1 >= 64 goto L\nr1 = *u64 r6 0\nr2 = 1\n\
+        call 1\nexit\nL:\nr0 = 0\nexit\nstate L rank 0\n",
     6,
     10,
 )];
@@ -352,7 +377,8 @@ const UNTESTED_BYTE: &[(&str, usize, u8)] = &[(
 )];
 
 const TESTED_BYTE: &[(&str, u64)] = &[(
-    "hook count\nrank 0\nr1 = 1\ncall 3\nif r0 > 255 goto END\nr1 = r0\nr2 = 1\ncall 1\nEND:\nexit\nstate END rank 0\nwith r0 number 0 256 0 0\n",
+    "hook count\nrank 0\nr1 = 1\ncall 3\nif r0 > 255 goto END\nr1 = r0\nr2 = 1\ncall 1\nEND:\n\
+        exit\nstate END rank 0\nwith r0 number 0 256 0 0\n",
     7,
 )];
 

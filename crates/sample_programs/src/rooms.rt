@@ -37,7 +37,8 @@ fn a_room_answers_nothing(rt: HostRuntime) -> Result<(), Fail> {
     Ok(())
 }
 
-// The bound and the hook of a program of three instructions with the rank 5, and of one of two with the rank 0.
+// The bound and the hook of a program of three instructions with the rank 5, and of one of two with
+// the rank 0.
 fn are_copied(rt: &impl Abort, target: &mut Accepted, long: &Accepted, short: &Accepted)
     requires { HasRoom target.old }
 {

@@ -29,7 +29,8 @@ fn context_of(hook: Hook, moment: u8) -> [u8; 64]
     context
 }
 
-/// What the program answers at this moment where counter 5 has 77, and the instructions that it takes.
+/// What the program answers at this moment where counter 5 has 77, and the instructions that it
+/// takes.
 fn ended(alloc: Global, accepted: &Accepted, moment: u8) -> Result<(u64, u64), Fail> {
     let input = Input {
         context: context_of(accepted.hook(), moment),

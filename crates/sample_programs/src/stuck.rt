@@ -1,8 +1,10 @@
-//! Programs that are unsafe in one way each: refused at one slot by one rule, and stuck there, or without an end, on some input.
+//! Programs that are unsafe in one way each: refused at one slot by one rule, and stuck there, or
+//! without an end, on some input.
 use crate::trials::{Unsafe, refuses_each};
 use std::test::Fail;
 
-/// Targets, and the end of the code: the run leaves the code (trap 1) or comes between the two halves of an instruction (trap 2).
+/// Targets, and the end of the code: the run leaves the code (trap 1) or comes between the two
+/// halves of an instruction (trap 2).
 const PLACES: [Unsafe; 8] = [
     ("hook tag; rank 0; r0 = 0; goto +1; exit", 1, 1, 1),
     ("hook tag; rank 0; r0 = 0; goto -3; exit", 1, 1, 1),
@@ -154,14 +156,16 @@ const BOUNDS: [Unsafe; 8] = [
     ),
     // 200 & 127 is 72, and there are 64 cells
     (
-        "hook tag; rank 0; r2 = *u8 r1 16; r2 &= 127; r2 <<= 3; r3 = map 1 0; r3 += r2; r0 = *u64 r3 0; exit",
+        "hook tag; rank 0; r2 = *u8 r1 16; r2 &= 127; r2 <<= 3; r3 = map 1 0; r3 += r2; r0 = *u64 \
+            r3 0; exit",
         6,
         7,
         5,
     ),
     // the test is one off: 64 passes it
     (
-        "hook tag; rank 0; r2 = *u8 r1 20; if r2 > 64 goto L; r2 <<= 3; r3 = map 1 0; r3 += r2; r0 = *u64 r3 0; exit; \
+        "hook tag; rank 0; r2 = *u8 r1 20; if r2 > 64 goto L; r2 <<= 3; r3 = map 1 0; r3 += r2; \
+            r0 = *u64 r3 0; exit; \
         L: r0 = 0; exit; state L rank 0",
         6,
         7,
@@ -176,8 +180,8 @@ const BOUNDS: [Unsafe; 8] = [
     ),
 ];
 
-/// A map is accessed elsewhere than at a multiple of eight, or by another size (trap 6); helpers are unknown (trap 7) or are handed too
-/// much (trap 8).
+/// A map is accessed elsewhere than at a multiple of eight, or by another size (trap 6); helpers
+/// are unknown (trap 7) or are handed too much (trap 8).
 const MAPS_AND_HELPERS: [Unsafe; 9] = [
     (
         "hook tag; rank 0; r6 = map 1 4; r0 = *u64 r6 0; exit",
@@ -192,7 +196,8 @@ const MAPS_AND_HELPERS: [Unsafe; 9] = [
         6,
     ),
     (
-        "hook tag; rank 0; r2 = *u8 r1 4; r2 &= 63; r2 <<= 2; r3 = map 1 0; r3 += r2; r0 = *u64 r3 0; exit",
+        "hook tag; rank 0; r2 = *u8 r1 4; r2 &= 63; r2 <<= 2; r3 = map 1 0; r3 += r2; r0 = *u64 r3 \
+            0; exit",
         6,
         8,
         6,
@@ -213,7 +218,8 @@ const MAPS_AND_HELPERS: [Unsafe; 9] = [
 /// What comes to a statement isn't within it: the run is stuck behind it, or has no end (trap 11).
 const STATEMENTS: [Unsafe; 4] = [
     (
-        "hook tag; rank 0; r2 = 0; goto L; L: r0 = *u8 r2 0; exit; state L rank 0; with r2 context 0",
+        "hook tag; rank 0; r2 = 0; goto L; L: r0 = *u8 r2 0; exit; state L rank 0; with r2 context \
+            0",
         1,
         11,
         4,
@@ -225,7 +231,8 @@ const STATEMENTS: [Unsafe; 4] = [
         3,
     ),
     (
-        "hook tag; rank 0; r2 = *u8 r1 16; L: r2 <<= 3; r3 = map 1 0; r3 += r2; r0 = *u64 r3 0; exit; \
+        "hook tag; rank 0; r2 = *u8 r1 16; L: r2 <<= 3; r3 = map 1 0; r3 += r2; r0 = *u64 r3 0; \
+            exit; \
         state L rank 0; with r2 number 0 63 0 0",
         0,
         11,

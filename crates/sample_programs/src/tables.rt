@@ -58,7 +58,8 @@ const WALKS: [Safe; 11] = [
     // each cell is written and read, and all are added
     (
         "hook veto; rank 64; r6 = 64; r7 = 0; \
-        L: r2 = r6; r2 += -1; r2 <<= 3; r3 = map 1 0; r3 += r2; *u64 r3 0 = r6; r4 = *u64 r3 0; r7 += r4; \
+        L: r2 = r6; r2 += -1; r2 <<= 3; r3 = map 1 0; r3 += r2; *u64 r3 0 = r6; r4 = *u64 r3 0; \
+        r7 += r4; \
         r6 += -1; if r6 != 0 goto L; \
         r0 = r7; exit; \
         state L rank 0 r6 * 1; with r6 number 1 64 0 0; with r7 any",
@@ -77,7 +78,8 @@ const WALKS: [Safe; 11] = [
 const CALLS: [Safe; 7] = [
     // twice the cost of a route, where there is one
     (
-        "hook tag; rank 0; r1 = wide 3221225984; r2 = 24; call 4; r1 = wide 4294967296; if r0 == r1 goto NONE; \
+        "hook tag; rank 0; r1 = wide 3221225984; r2 = 24; call 4; r1 = wide 4294967296; \
+            if r0 == r1 goto NONE; \
         r0 *= 2; exit; \
         NONE: r0 = 0; exit; \
         state NONE rank 0",

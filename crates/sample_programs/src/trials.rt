@@ -18,7 +18,8 @@ use std::test::Fail;
 use verifier::{Accepted, Rule};
 use words::{Address, Prefix, TableRow};
 
-// Each of these is done once more where it isn't done, since an allocation may be refused once, in a run of the tests with a refusal.
+// Each of these is done once more where it isn't done, since an allocation may be refused once, in
+// a run of the tests with a refusal.
 
 // The text with a line feed behind each semicolon and each label.
 fn lines_of(alloc: Global, text: &str) -> Option<String> {
@@ -39,7 +40,8 @@ fn assembled(alloc: Global, text: &str) -> Option<Object> {
     assemble(alloc, &text).ok()
 }
 
-/// The program of a text in which a semicolon or a label's colon ends a line, and `any` is the set of all numbers.
+/// The program of a text in which a semicolon or a label's colon ends a line, and `any` is the set
+/// of all numbers.
 pub fn object_of(alloc: Global, text: &str) -> Result<Object, Fail> {
     if let Some(object) = assembled(alloc, text) {
         return Ok(object);
@@ -199,7 +201,8 @@ fn checked_of(
     Ok(run_checked(code, hook, limit, input, &words, &mut seat))
 }
 
-/// What the run and the checked run of an accepted program come to, each on a table of its own. The checked run is given its bound.
+/// What the run and the checked run of an accepted program come to, each on a table of its own. The
+/// checked run is given its bound.
 fn both_runs(
     alloc: Global,
     accepted: &Accepted,
@@ -213,7 +216,8 @@ fn both_runs(
     Ok((ended, checked))
 }
 
-/// The answer of an accepted program on an input: its run takes at most its bound, and is the checked one.
+/// The answer of an accepted program on an input: its run takes at most its bound, and is the
+/// checked one.
 fn answer_on(
     alloc: Global,
     accepted: &Accepted,
@@ -251,8 +255,8 @@ fn rich_answer(alloc: Global, accepted: &Accepted, code: &Code) -> Result<Option
     answer_on(alloc, accepted, code, &input)
 }
 
-/// Whether the accepted program gives by `run` what it gives by `run_checked`, within its bound, on a hundred inputs: a packet of up to 20
-/// bytes, one row or none, and contexts that differ.
+/// Whether the accepted program gives by `run` what it gives by `run_checked`, within its bound, on
+/// a hundred inputs: a packet of up to 20 bytes, one row or none, and contexts that differ.
 pub fn runs_agree(alloc: Global, accepted: &Accepted, code: &Code) -> Result<bool, Fail> {
     let hook = accepted.hook();
     let rows = rows(alloc)?;
@@ -339,8 +343,8 @@ fn answers_so(
     Ok(())
 }
 
-/// The program is accepted with its bound, gives by `run` what it gives by `run_checked`, and answers this on an input of zeros and on
-/// the other one.
+/// The program is accepted with its bound, gives by `run` what it gives by `run_checked`, and
+/// answers this on an input of zeros and on the other one.
 fn accepts(rt: &impl Abort, alloc: Global, text: &str, answers: [u64; 2]) -> Result<(), Fail> {
     let tried = tried(alloc, text)?;
     is_accepted(rt, &tried, text, bound_of(&tried.object));
@@ -374,7 +378,8 @@ fn ends_so(
     Ok(())
 }
 
-/// The program is accepted with this bound, and its run on the other input, by `run` and by `run_checked`, comes to this.
+/// The program is accepted with this bound, and its run on the other input, by `run` and by
+/// `run_checked`, comes to this.
 pub fn ends(
     rt: &impl Abort,
     alloc: Global,
@@ -422,8 +427,8 @@ fn rich_trap(alloc: Global, tried: &Trial, limit: u64) -> Result<Option<Trap>, F
     Ok(checked_of(alloc, &tried.code, hook, limit, &input)?.err())
 }
 
-/// Where the checked run of refused code is stuck, on an input of zeros or on the other one: within the number of instructions that its
-/// object allows and one more, which may leave the code.
+/// Where the checked run of refused code is stuck, on an input of zeros or on the other one: within
+/// the number of instructions that its object allows and one more, which may leave the code.
 fn trap_of(alloc: Global, tried: &Trial) -> Result<Option<Trap>, Fail> {
     let limit = bound_of(&tried.object).wrapping_add(1);
     match bare_trap(alloc, tried, limit)? {

@@ -1,4 +1,5 @@
-//! The worked programs of the documents: their bounds, their answers and how many instructions they take.
+//! The worked programs of the documents: their bounds, their answers and how many instructions they
+//! take.
 ghost use Rattle.std.specs.Prelude.{◌≡◌, ◌≤◌};
 ghost use Rattle.std.specs.List.{slice_range};
 ghost use Rattle.isa.specs.Hooks.{hook_number};

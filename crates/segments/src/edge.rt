@@ -11,7 +11,8 @@ use kinds::{State, Target, bytes_within, kinds_within};
 use ranks::{bound_of, falls};
 use transfer::rule::Rule;
 
-/// Whether what is known at an edge is within the statement that it leads to, and the rank falls as it has to.
+/// Whether what is known at an edge is within the statement that it leads to, and the rank falls as
+/// it has to.
 pub fn enter<'a, D: Domain>(
     target: &Target<'a, D>,
     back: bool,

@@ -1,5 +1,6 @@
 //! What one instruction makes of what is known, and where it may lead.
-ghost use Rattle.std.specs.Prelude.{◌≡◌, ◌<◌, ℕ, List, IfErr, IfOk, IsOk, IsSome, IsSomeAnd, Some, false, nat_le, true, slice_get};
+ghost use Rattle.std.specs.Prelude.{◌≡◌, ◌<◌, ℕ, List, IfErr, IfOk, IsOk, IsSome, IsSomeAnd, Some};
+ghost use Rattle.std.specs.Prelude.{false, nat_le, true, slice_get};
 ghost use Rattle.isa.specs.declared.code.Slot.{Slot as AnySlot};
 ghost use Rattle.isa.specs.declared.code.Slot.TheVariants.{Start};
 ghost use Rattle.isa.specs.declared.hook.Hook.{Hook as AnyHook};

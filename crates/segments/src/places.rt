@@ -1,5 +1,7 @@
 //! Where the instruction at a slot may lead, and whether it may lead there.
-ghost use Rattle.std.specs.Prelude.{◌≡◌, ◌↔◌, ◌+◌, ◌<◌, ◌≤◌, ◌⊎◌, List, IfErr, IfOk, IfSome, IsSome, IsSomeAnd, IsTrue, MatchResult, None, Some, false, length, slice_get, true};
+ghost use Rattle.std.specs.Prelude.{◌≡◌, ◌↔◌, ◌+◌, ◌<◌, ◌≤◌, ◌⊎◌, List, IfErr, IfOk, IfSome};
+ghost use Rattle.std.specs.Prelude.{IsSome, IsSomeAnd, IsTrue, MatchResult, None, Some, false};
+ghost use Rattle.std.specs.Prelude.{length, slice_get, true};
 ghost use Rattle.object.specs.Statements.{StatementParts};
 ghost use Rattle.isa.specs.declared.code.Slot.TheVariants.{Start};
 ghost use Rattle.isa.specs.Flow.{Begins, size, jump_target, slot_at_distance};

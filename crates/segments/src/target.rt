@@ -1,5 +1,6 @@
 //! The statements by their slots.
-ghost use Rattle.std.specs.Prelude.{◌≡◌, ◌↔◌, ℕ, IfOk, IsSome, IsTrue, MatchOption, None, Some, length};
+ghost use Rattle.std.specs.Prelude.{◌≡◌, ◌↔◌, ℕ, IfOk, IsSome, IsTrue, MatchOption, None, Some};
+ghost use Rattle.std.specs.Prelude.{length};
 ghost use Rattle.object.specs.Objects.{AreStatements};
 ghost use Rattle.segments.specs.Places.{target_at};
 ghost use Rattle.segments.specs.Stated.{AreTargets, MeetStatements};

@@ -51,8 +51,8 @@ fn is_lost(error: &io::Error) -> bool
 }
 
 /// Whether a packet went out, by what a send answered: a send that the system refuses for a reason
-/// of the packet or of its way (a rule of a firewall, no way there, no room for it) is a packet that
-/// is lost, as OSPF expects some to be.
+/// of the packet or of its way (a rule of a firewall, no way there, no room for it) is a packet
+/// that is lost, as OSPF expects some to be.
 ///
 /// # Errors
 ///

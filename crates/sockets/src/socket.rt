@@ -7,8 +7,8 @@ use std::net::{Ipv4Addr, SocketAddr};
 
 /// A socket of datagrams whose calls don't wait.
 ///
-/// What it says of bytes that it was handed for a port of 127.0.0.1, and of a datagram that it gave,
-/// is left open here: a link, proved for any socket, can say it only by the call itself.
+/// What it says of bytes that it was handed for a port of 127.0.0.1, and of a datagram that it
+/// gave, is left open here: a link, proved for any socket, can say it only by the call itself.
 pub trait DatagramSocket {
     ghost takes: { Self → (port : ℕ) → List ℕ → Type 0 };
 
@@ -18,8 +18,8 @@ pub trait DatagramSocket {
     fn send(&self, bytes: &[u8], port: u16) -> io::Result<usize>
         ensures { takes self.now port bytes.now };
 
-    /// Puts a datagram that is there at the buffer's front, and tells its length. One that is longer
-    /// than the buffer is cut.
+    /// Puts a datagram that is there at the buffer's front, and tells its length. One that is
+    /// longer than the buffer is cut.
     fn receive(&self, buffer: &mut [u8; 8193]) -> io::Result<usize>
         ensures length { IfOk result (λ n. n ≤ 8193) }
         ensures handed { IfOk result (λ n. hands self.now (take n buffer.new)) };

@@ -99,8 +99,8 @@ impl<'a, S> Sockets<'a, S> {
 ///
 /// # Errors
 ///
-/// `Wait` where a socket can't be waited at, or there are more than 65,535; `Memory` where memory was
-/// refused.
+/// `Wait` where a socket can't be waited at, or there are more than 65,535; `Memory` where memory
+/// was refused.
 pub fn listening<'x, R: Net>(
     rt: &R,
     alloc: Global,
@@ -126,7 +126,8 @@ fn take<S: DatagramSocket>(
     buffer: &mut [u8; 8193],
 ) -> Result<Option<usize>, LinkFault>
     ensures length { IfOk result (λ n. IfSome n (λ n. n ≤ 8193)) }
-    ensures handed { IfOk result (λ n. IfSome n (λ n. S.hands wire.now.socket (take n buffer.new))) }
+    ensures handed { IfOk result (λ n.
+        IfSome n (λ n. S.hands wire.now.socket (take n buffer.new))) }
 {
     came(wire.socket.receive(buffer))
 }
@@ -149,7 +150,8 @@ fn hear<S: DatagramSocket>(
     buffer: &mut [u8; 8193],
 ) -> Result<Option<usize>, LinkFault>
     ensures length { IfOk result (λ n. IfSome n (λ n. n ≤ 8193)) }
-    ensures handed { IfOk result (λ n. IfSome n (λ n. S.hands wire.now.socket (take n buffer.new))) }
+    ensures handed { IfOk result (λ n.
+        IfSome n (λ n. S.hands wire.now.socket (take n buffer.new))) }
 {
     if let Some(length) = take(wire, buffer)? {
         return Ok(Some(length));

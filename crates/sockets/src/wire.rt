@@ -45,7 +45,8 @@ fn bound<R: Net>(rt: &R, configured: &ConfiguredInterface) -> Result<Wire, Socke
     }
 }
 
-/// Binds the socket of each interface, in order. What interface n sends goes to the peer of the nth.
+/// Binds the socket of each interface, in order. What interface n sends goes to the peer of the
+/// nth.
 ///
 /// # Errors
 ///

@@ -33,7 +33,8 @@ fn routes() -> Option<[Route; 4]> {
 }
 
 const TABLE: &str =
-    "10.0.1.0/24 intra 10 via 0\n10.0.2.0/24 inter 15 via 1,2,63\n198.51.100.0/24 ext1 30 via 1\n203.0.113.0/24 ext2 20 via 1\nend\n";
+    "10.0.1.0/24 intra 10 via 0\n10.0.2.0/24 inter 15 via 1,2,63\n198.51.100.0/24 ext1 30 via 1\n\
+        203.0.113.0/24 ext2 20 via 1\nend\n";
 
 #[test]
 fn a_table_has_a_line_for_each_route(rt: HostRuntime) -> Result<(), Fail> {
@@ -63,7 +64,8 @@ fn neighbors() -> [Option<(RouterId, State)>; 6] {
 }
 
 const NEIGHBORS: &str =
-    "neighbor 2 2.2.2.2 Init\nneighbor 3 2.2.2.2 ExStart\nneighbor 4 2.2.2.2 Exchange\nneighbor 5 2.2.2.2 Loading\nneighbor 6 2.2.2.2 Full\nend\n";
+    "neighbor 2 2.2.2.2 Init\nneighbor 3 2.2.2.2 ExStart\nneighbor 4 2.2.2.2 Exchange\n\
+        neighbor 5 2.2.2.2 Loading\nneighbor 6 2.2.2.2 Full\nend\n";
 
 #[test]
 fn a_neighbor_that_is_down_has_no_line(rt: HostRuntime) -> Result<(), Fail> {

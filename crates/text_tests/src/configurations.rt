@@ -7,8 +7,8 @@ use std::process::Abort;
 use std::test::Fail;
 use words::{Address, RouterId};
 
-const FIRST: &str =
-    "router 1.1.1.1\ninterface 1 10.0.1.1/24 cost 10 hello 10 dead 40 rxmt 5 delay 1 port 7001 peer 7002\n";
+const FIRST: &str = "router 1.1.1.1\n\
+        interface 1 10.0.1.1/24 cost 10 hello 10 dead 40 rxmt 5 delay 1 port 7001 peer 7002\n";
 
 // The line at which the text is refused, or 0.
 fn refused_at(alloc: Global, text: &str) -> u64 {
@@ -32,7 +32,8 @@ fn are_refused(rt: &impl Abort, alloc: Global, rows: &[(&str, u64)]) {
     }
 }
 
-/// The configuration of one router with each of these lines for its only interface is refused at it.
+/// The configuration of one router with each of these lines for its only interface is refused at
+/// it.
 fn are_interfaces_refused(rt: &impl Abort, alloc: Global, lines: &[&str]) -> Result<(), Fail> {
     for line in lines {
         is_interface_refused(rt, alloc, line)?;
@@ -78,8 +79,10 @@ fn one_interface_is_read(rt: HostRuntime) -> Result<(), Fail> {
 }
 
 // The greatest numbers, and the least.
-const ENDS: &str =
-    "router 255.255.255.255\ninterface 1 0.0.0.0/0 cost 65535 hello 65535 dead 4294967295 rxmt 65535 delay 3600 port 65535 peer 1\ninterface 2 10.0.2.1/32 cost 1 hello 1 dead 1 rxmt 1 delay 1 port 7003 peer 7004";
+const ENDS: &str = "router 255.255.255.255\n\
+        interface 1 0.0.0.0/0 cost 65535 hello 65535 dead 4294967295 rxmt 65535 delay 3600 port \
+        65535 peer 1\ninterface 2 10.0.2.1/32 cost 1 hello 1 dead 1 rxmt 1 delay 1 port 7003 peer \
+        7004";
 
 fn is_of(configured: &Configured, router: u32, interfaces: usize) -> bool {
     configured.router == RouterId::new(router)
@@ -156,7 +159,9 @@ fn numbers_past_their_ranges_are_refused(rt: HostRuntime) -> Result<(), Fail> {
 }
 
 const ADDRESS_AGAIN: &[(&str, u64)] = &[(
-    "router 1.1.1.1\ninterface 1 10.0.1.1/24 cost 10 hello 10 dead 40 rxmt 5 delay 1 port 7001 peer 7002\ninterface 2 10.0.1.1/30 cost 10 hello 10 dead 40 rxmt 5 delay 1 port 7001 peer 7002\n",
+    "router 1.1.1.1\n\
+        interface 1 10.0.1.1/24 cost 10 hello 10 dead 40 rxmt 5 delay 1 port 7001 peer 7002\n\
+        interface 2 10.0.1.1/30 cost 10 hello 10 dead 40 rxmt 5 delay 1 port 7001 peer 7002\n",
     3,
 )];
 

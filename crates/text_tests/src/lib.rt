@@ -1,5 +1,5 @@
-//! Tests of `words`, `lsa` and `packet`, and of `console`, by their public calls. They stand above, since a crate is proved once more for
-//! its tests.
+//! Tests of `words`, `lsa` and `packet`, and of `console`, by their public calls. They stand above,
+//! since a crate is proved once more for its tests.
 #![tactic(auto)]
 
 #[cfg(test)]

@@ -8,7 +8,7 @@ use Rattle.adjacency.specs.Contents.{Acknowledges, Content, Describes, Requests,
 use Rattle.adjacency.specs.Drafts.{Drafted, adds, drafting, update_of}
 use Rattle.adjacency.specs.declared.draft.Update.{Update}
 use Rattle.received.specs.Links.{Link}
-use Rattle.received.specs.Outcomes.{numbered}
+use Rattle.received.specs.Outcomes.{sends_at}
 use Rattle.flooding.proofs.Sends.{draft_from}
 use Rattle.timers.specs.Marks.{key_of_update, keys_behind, mark_each, update_count}
 use Rattle.timers.proofs.Stepped.{marks, marks-append}
@@ -67,7 +67,7 @@ updates_drafted delay (Acknowledges h ∷ cs) d = updates_drafted delay cs (adds
 new_updates : (delay : ℕ) (cs : List Content) (d : Drafted) → drop (length d.updates) (drafting delay cs d).updates ≡ updates_of delay cs
 new_updates delay cs d = ap (drop (length d.updates)) (updates_drafted delay cs d) ∙ behind_all d.updates (updates_of delay cs)
 
-marks_of : (moment delay n : ℕ) (cs : List Content) (d : Database) → marks moment d (numbered n cs) ≡ mark_each moment d (map key_of_update (updates_of delay cs))
+marks_of : (moment delay n : ℕ) (cs : List Content) (d : Database) → marks moment d (sends_at n cs) ≡ mark_each moment d (map key_of_update (updates_of delay cs))
 marks_of moment delay n [] d = refl
 marks_of moment delay n (SendsHello h ∷ cs) d = marks_of moment delay n cs d
 marks_of moment delay n (Describes e ∷ cs) d = marks_of moment delay n cs d
@@ -81,19 +81,19 @@ module _ (moment : ℕ) (S : Link → List Content) where
   sent_at n l = S l
 
   pub marks_are : (n : ℕ) (ls : List Link) (ds : List Drafted) (d : Database) → length ds ≡ length ls
-      → mark_each moment d (keys_behind (map update_count ds) (draft_from sent_at n ls ds)) ≡ marks moment d (flat_map (λ (e : ℕ × Link). numbered e.0 (S e.1)) (enumerate_from n ls))
+      → mark_each moment d (keys_behind (map update_count ds) (draft_from sent_at n ls ds)) ≡ marks moment d (flat_map (λ (e : ℕ × Link). sends_at e.0 (S e.1)) (enumerate_from n ls))
   marks_are n [] [] d all = refl
   marks_are n [] (e ∷ ds) d all = absurd (omega (arith, all))
   marks_are n (l ∷ ls) [] d all = absurd (omega (arith, all))
   marks_are n (l ∷ ls) (e ∷ ds) d all =
       let delay = l.interface.delay in
-      let rest = flat_map (λ (e : ℕ × Link). numbered e.0 (S e.1)) (enumerate_from (n + 1) ls) in
+      let rest = flat_map (λ (e : ℕ × Link). sends_at e.0 (S e.1)) (enumerate_from (n + 1) ls) in
       let keys = keys_behind (map update_count ds) (draft_from sent_at (n + 1) ls ds) in
       ap (λ us. mark_each moment d (map key_of_update us ++ keys)) (new_updates delay (S l) e)
       ∙ mark_each-append moment (map key_of_update (updates_of delay (S l))) keys d
       ∙ ap (λ b. mark_each moment b keys) (sym (marks_of moment delay n (S l) d))
-      ∙ marks_are (n + 1) ls ds (marks moment d (numbered n (S l))) (omega (arith, all))
-      ∙ sym (marks-append moment (numbered n (S l)) rest d)
+      ∙ marks_are (n + 1) ls ds (marks moment d (sends_at n (S l))) (omega (arith, all))
+      ∙ sym (marks-append moment (sends_at n (S l)) rest d)
 
   pub length-drafts : (n : ℕ) (ls : List Link) (ds : List Drafted) → length ds ≡ length ls → length (draft_from sent_at n ls ds) ≡ length ds
   length-drafts n [] ds all = refl

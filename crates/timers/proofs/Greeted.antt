@@ -4,14 +4,14 @@ use Rattle.std.specs.Prelude.{Option, None, Some}
 use Rattle.adjacency.specs.Contents.{Content, SendsHello}
 use Rattle.adjacency.specs.Drafts.{Drafted, drafting}
 use Rattle.adjacency.specs.Neighbors.{Neighbor}
-use Rattle.adjacency.specs.Steps.{named}
+use Rattle.adjacency.specs.Steps.{named_neighbor}
 use Rattle.adjacency.proofs.Floods.{drafting-none}
 use Rattle.received.specs.Links.{Link}
 use Rattle.events.specs.Hellos.{heard_of, hello_is_due, hello_on, with_hello_sent}
 use Rattle.events.specs.Ticks.{hello_sent_on}
 use Rattle.timers.specs.Greetings.{routers_of}
 
-pub heard_is : (o : Option Neighbor) → routers_of (named o) ≡ heard_of o
+pub heard_is : (o : Option Neighbor) → routers_of (named_neighbor o) ≡ heard_of o
 heard_is None = refl
 heard_is (Some n) = refl
 

@@ -14,10 +14,10 @@ use Rattle.received.specs.Links.{Area, Link}
 use Rattle.received.specs.Outcomes.{Outcome, Send, step_on, stepping_sends}
 use Rattle.received.proofs.Marks.{IsStill, mark_all}
 use Rattle.events.specs.Endings.{with_age, with_ages}
-use Rattle.flooding.specs.Drafted.{at_interface, drafted, drafted_from}
+use Rattle.flooding.specs.Drafted.{at_interface, drafts_with, drafted_from}
 use Rattle.flooding.specs.Links.{come_of_age, come_of_age_copy, start}
 use Rattle.flooding.proofs.Sends.{append_none, drafted_none}
-use Rattle.timers.specs.Aging.{each_come_of_age, followed}
+use Rattle.timers.specs.Aging.{each_come_of_age, outcomes_in_turn}
 use Rattle.timers.proofs.Stepped.{marks}
 
 -- ---- the copies stay what they were, whenever they were sent
@@ -46,19 +46,19 @@ still_all db = still_each db (finite.entries db) (entries_in (There db) db (λ k
 
 -- ---- one entry, and the key of one copy
 
-nothing_followed : (o : Outcome) → o ≡ followed o (start o.area)
+nothing_followed : (o : Outcome) → o ≡ outcomes_in_turn o (start o.area)
 nothing_followed o = λ i. record { area = o.area; sends = sym (append_none o.sends) i }
 
 module _ (before moment : ℕ) where
   by_age : (e : Key × DatabaseCopy) (o : Outcome) (b : Bool)
-      → cond b (flood moment None (lsa_now moment e.1) o) o ≡ followed o (cond b (flood moment None (lsa_now moment e.1) (start o.area)) (start o.area))
+      → cond b (flood moment None (lsa_now moment e.1) o) o ≡ outcomes_in_turn o (cond b (flood moment None (lsa_now moment e.1) (start o.area)) (start o.area))
   by_age e o true = refl
   by_age e o false = nothing_followed o
 
-  aged_by_key : (e : Key × DatabaseCopy) (o : Outcome) → IsStill o.area.database e.0 e.1 → with_age before moment o e ≡ followed o (come_of_age before moment e.0 o.area)
+  aged_by_key : (e : Key × DatabaseCopy) (o : Outcome) → IsStill o.area.database e.0 e.1 → with_age before moment o e ≡ outcomes_in_turn o (come_of_age before moment e.0 o.area)
   aged_by_key e o still =
       by_age e o (has_just_aged_out before moment e.1)
-      ∙ ap (λ (c : Option DatabaseCopy). followed o (come_of_age_copy before moment c (start o.area))) (sym still.1)
+      ∙ ap (λ (c : Option DatabaseCopy). outcomes_in_turn o (come_of_age_copy before moment c (start o.area))) (sym still.1)
 
   still_aged : (e : Key × DatabaseCopy) (es : List (Key × DatabaseCopy)) (o : Outcome) (b : Bool) → AllByRecursion (StillThere o.area.database) es
       → AllByRecursion (StillThere (cond b (flood moment None (lsa_now moment e.1) o) o).area.database) es
@@ -69,7 +69,7 @@ module _ (before moment : ℕ) where
   keys_of es = map (λ e. e.0) (filter (λ e. is_aged_out moment e.1) es)
 
   abbrev going_on : List Key → Outcome → Outcome
-  going_on keys o = followed o (each_come_of_age before moment keys o.area)
+  going_on keys o = outcomes_in_turn o (each_come_of_age before moment keys o.area)
 
   by_test : (e : Key × DatabaseCopy) (es : List (Key × DatabaseCopy)) (o : Outcome) → IsStill o.area.database e.0 e.1 → (b : Bool) → is_aged_out moment e.1 ≡ b
       → going_on (keys_of es) (with_age before moment o e) ≡ going_on (map (λ e. e.0) (cond b (e ∷ filter (λ e. is_aged_out moment e.1) es) (filter (λ e. is_aged_out moment e.1) es))) o
@@ -129,13 +129,13 @@ module _ (before moment : ℕ) (a : Area) (ds : List Drafted) where
   flooded_now lsa = flood moment None lsa (start a)
 
   abbrev DraftedAfter : List Send → Outcome → Type 0
-  DraftedAfter more p = drafted more p.area.links (drafted p.sends a.links ds) ≡ drafted (p.sends ++ more) a.links ds
+  DraftedAfter more p = drafts_with more p.area.links (drafts_with p.sends a.links ds) ≡ drafts_with (p.sends ++ more) a.links ds
 
   abbrev CountedAfter : Outcome → Type 0
-  CountedAfter p = length (drafted p.sends a.links ds) ≡ length p.area.links
+  CountedAfter p = length (drafts_with p.sends a.links ds) ≡ length p.area.links
 
   unchanged : (more : List Send) → DraftedAfter more (start a)
-  unchanged more = ap (drafted more a.links) (sym (drafted_none 1 a.links ds))
+  unchanged more = ap (drafts_with more a.links) (sym (drafted_none 1 a.links ds))
 
   uncounted : length ds ≡ length a.links → CountedAfter (start a)
   uncounted same = ap length (sym (drafted_none 1 a.links ds)) ∙ same

@@ -18,13 +18,13 @@ abbrev pub without_each : List Link → Database → List Key → Database
 without_each links db keys = fold (without_acknowledged links) db keys
 
 -- what was sent, and what was sent after it
-abbrev pub followed : Outcome → Outcome → Outcome
-followed p q = record { area = q.area; sends = p.sends ++ q.sends }
+abbrev pub outcomes_in_turn : Outcome → Outcome → Outcome
+outcomes_in_turn p q = record { area = q.area; sends = p.sends ++ q.sends }
 
 -- the copies of these keys that have come to MaxAge since the moment before are flooded, one after
 -- the other
 abbrev pub each_come_of_age : (before : Moment) → (moment : Moment) → List Key → Area → Outcome
 each_come_of_age before moment [] a = start a
 each_come_of_age before moment (key ∷ keys) a =
-    followed (come_of_age before moment key a)
+    outcomes_in_turn (come_of_age before moment key a)
     (each_come_of_age before moment keys (come_of_age before moment key a).area)

@@ -1,6 +1,6 @@
 //! Delayed acknowledgments (RFC 2328, section 13.5).
 ghost use Rattle.std.specs.Prelude.{◌≡◌, OnOk, length};
-ghost use Rattle.flooding.specs.Drafted.{drafted};
+ghost use Rattle.flooding.specs.Drafted.{drafts_with};
 ghost use Rattle.flooding.specs.Links.{start};
 ghost use Rattle.events.specs.Ticks.{acknowledge_all};
 
@@ -46,7 +46,7 @@ pub fn acknowledge_all(
     ensures ok { OnOk result (area.new.present
         ≡ (acknowledge_all moment (start area.old.present)).area) }
     ensures drafts { OnOk result (drafts.new
-        ≡ drafted (acknowledge_all moment (start area.old.present)).sends
+        ≡ drafts_with (acknowledge_all moment (start area.old.present)).sends
         area.old.present.links drafts.old) }
     ensures settled { area.new.settled ≡ area.old.settled }
     ensures router { area.new.router ≡ area.old.router }

@@ -1,6 +1,6 @@
 //! Copies that have come to MaxAge (RFC 2328, section 14).
 ghost use Rattle.std.specs.Prelude.{◌≡◌, OnOk, length};
-ghost use Rattle.flooding.specs.Drafted.{drafted};
+ghost use Rattle.flooding.specs.Drafted.{drafts_with};
 ghost use Rattle.flooding.specs.Links.{start};
 ghost use Rattle.events.specs.Endings.{remove_aged, with_ages};
 ghost use Rattle.timers.specs.Aging.{each_come_of_age, without_acknowledged, without_each};
@@ -74,7 +74,7 @@ fn each_come_of_age(
     ensures ok { OnOk result (area.new.present
         ≡ (each_come_of_age before moment keys.now area.old.present).area) }
     ensures drafts { OnOk result (drafts.new
-        ≡ drafted (each_come_of_age before moment keys.now area.old.present).sends
+        ≡ drafts_with (each_come_of_age before moment keys.now area.old.present).sends
         area.old.present.links drafts.old) }
     ensures settled { area.new.settled ≡ area.old.settled }
     ensures router { area.new.router ≡ area.old.router }
@@ -102,7 +102,7 @@ pub fn with_ages(
     ensures ok { OnOk result (area.new.present
         ≡ (with_ages before moment (start area.old.present)).area) }
     ensures drafts { OnOk result (drafts.new
-        ≡ drafted (with_ages before moment (start area.old.present)).sends
+        ≡ drafts_with (with_ages before moment (start area.old.present)).sends
         area.old.present.links drafts.old) }
     ensures settled { area.new.settled ≡ area.old.settled }
     ensures router { area.new.router ≡ area.old.router }

@@ -2,7 +2,7 @@
 ghost use Rattle.std.specs.Prelude.{◌≡◌, ◌≤◌, IfOk, OnOk, length};
 ghost use Rattle.words.specs.Prefixes.{mask_of};
 ghost use Rattle.adjacency.specs.Adjacencies.{has_passed};
-ghost use Rattle.flooding.specs.Drafted.{drafted};
+ghost use Rattle.flooding.specs.Drafted.{drafts_with};
 ghost use Rattle.flooding.specs.Links.{start};
 ghost use Rattle.events.specs.Hellos.{heard_of, hello_is_due, hello_on, is_due};
 ghost use Rattle.events.specs.Ticks.{send_hellos};
@@ -13,7 +13,7 @@ use flooding::{Area, Link, LinkStep};
 use lsdb::Lsdb;
 use packet::Hello;
 use std::alloc::{AllocError, Global};
-use words::{RouterId, Second, Sequence};
+use words::{E_BIT, RouterId, Second, Sequence};
 
 // From the start to the moment, at least so many seconds have passed.
 fn has_passed(start: Second, interval: u16, moment: Second) -> bool
@@ -85,7 +85,7 @@ fn hello_on(alloc: Global, link: &Link) -> Result<Hello, AllocError>
     Ok(Hello {
         mask: mask(interface.length),
         hello_interval: interface.hello_interval,
-        options: 2,
+        options: E_BIT,
         priority: 1,
         dead_interval: interface.dead_interval,
         neighbors,
@@ -137,7 +137,7 @@ pub fn send_hellos(
     ensures ok { OnOk result (area.new.present
         ≡ (send_hellos moment (start area.old.present)).area) }
     ensures drafts { OnOk result (drafts.new
-        ≡ drafted (send_hellos moment (start area.old.present)).sends
+        ≡ drafts_with (send_hellos moment (start area.old.present)).sends
         area.old.present.links drafts.old) }
     ensures settled { area.new.settled ≡ area.old.settled }
     ensures router { area.new.router ≡ area.old.router }

@@ -1,6 +1,6 @@
 //! What is requested next of each neighbor (RFC 2328, section 10.9).
 ghost use Rattle.std.specs.Prelude.{◌≡◌, OnOk, length};
-ghost use Rattle.flooding.specs.Drafted.{drafted};
+ghost use Rattle.flooding.specs.Drafted.{drafts_with};
 ghost use Rattle.flooding.specs.Links.{start};
 ghost use Rattle.events.specs.Endings.{request_all};
 
@@ -51,7 +51,7 @@ pub fn request_all(
     ensures ok { OnOk result (area.new.present
         ≡ (request_all moment (start area.old.present)).area) }
     ensures drafts { OnOk result (drafts.new
-        ≡ drafted (request_all moment (start area.old.present)).sends
+        ≡ drafts_with (request_all moment (start area.old.present)).sends
         area.old.present.links drafts.old) }
     ensures settled { area.new.settled ≡ area.old.settled }
     ensures router { area.new.router ≡ area.old.router }

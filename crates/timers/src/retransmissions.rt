@@ -1,6 +1,6 @@
 //! What a Tick sends again (RFC 2328, sections 10.8, 10.9 and 13.6).
 ghost use Rattle.std.specs.Prelude.{◌≡◌, IfOk, OnOk, drop, length, map};
-ghost use Rattle.flooding.specs.Drafted.{drafted};
+ghost use Rattle.flooding.specs.Drafted.{drafts_with};
 ghost use Rattle.flooding.specs.Links.{start};
 ghost use Rattle.events.specs.Ticks.{send_all_again};
 ghost use Rattle.timers.specs.Marks.{key_of_update, keys_behind, mark_each, update_count};
@@ -102,7 +102,7 @@ pub fn send_all_again(
     ensures ok { OnOk result (area.new.present
         ≡ (send_all_again moment (start area.old.present)).area) }
     ensures drafts { OnOk result (drafts.new
-        ≡ drafted (send_all_again moment (start area.old.present)).sends
+        ≡ drafts_with (send_all_again moment (start area.old.present)).sends
         area.old.present.links drafts.old) }
     ensures settled { area.new.settled ≡ area.old.settled }
     ensures router { area.new.router ≡ area.old.router }

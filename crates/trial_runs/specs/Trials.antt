@@ -16,9 +16,9 @@ use Rattle.trial_runs.specs.declared.error.TrialError.TheVariants as errors
 use Rattle.trial_runs.specs.declared.runs.Ending.{Ending}
 use Rattle.trial_runs.specs.declared.trial.Trial.{Trial}
 
--- The seat ran the program of the object file that the bytes are once on the input, with this end, for
--- as many instructions as its object allows; and the slot and the registers are those where the machine
--- then stood.
+-- The seat ran the program of the object file that the bytes are once on the input, with this end,
+-- for as many instructions as its object allows; and the slot and the registers are those where the
+-- machine then stood.
 pub record RunsOnce (bytes : List ℕ) (input : Given) (seat : SeatView) (ending : Ending)
     (next : SeatView) : Type 0 where
   pub runs : RunsObject bytes Own input seat ending.outcome next
@@ -34,8 +34,8 @@ RunsInARow bytes input seat (ending ∷ rest) last =
     (next : SeatView) × RunsOnce bytes input seat ending next
     × RunsInARow bytes input next rest last
 
--- A seat of a new table, that had done nothing, ran the program so many times in a row. The counters
--- have what it added, and the cells what it last stored there.
+-- A seat of a new table, that had done nothing, ran the program so many times in a row. The
+-- counters have what it added, and the cells what it last stored there.
 pub record IsTrial (bytes : List ℕ) (input : Given) (times : ℕ) (trial : Trial) : Type 0 where
   pub seat : SeatView
   pub unused : seat ≡ fresh seat.table 0
@@ -45,8 +45,8 @@ pub record IsTrial (bytes : List ℕ) (input : Given) (times : ℕ) (trial : Tri
   pub counters : (k : ℕ) → k < 256 → slice_index trial.counters k ≡ adds_to k seat_after.accesses
   pub cells : (j : ℕ) → j < 64 → slice_index trial.cells j ≡ last_stored j seat_after.accesses
 
--- The same on the question, as its object's hook is asked it, with this packet and these rows of the
--- routing table.
+-- The same on the question, as its object's hook is asked it, with this packet and these rows of
+-- the routing table.
 pub record IsTrialOn (bytes : List ℕ) (asked : Asked) (packet : List ℕ) (rows : List TableRow)
     (times : ℕ) (trial : Trial) : Type 0 where
   pub object : ObjectParts

@@ -1,5 +1,5 @@
-//! Runs of an object's program on a question that is put in named fields, several in a row on the same
-//! counters and cells.
+//! Runs of an object's program on a question that is put in named fields, several in a row on the
+//! same counters and cells.
 #![tactic(auto)]
 
 mod error;

@@ -11,8 +11,8 @@ use maps::{Seat, Shared};
 use object_runs::{Limit, run_object_to_halt};
 use std::alloc::Global;
 
-/// How a run ended, and where the machine then stood: at EXIT, at the instruction by which it is stuck, or where it was
-/// when its instructions were used up.
+/// How a run ended, and where the machine then stood: at EXIT, at the instruction by which it is
+/// stuck, or where it was when its instructions were used up.
 #[derive(Clone, Copy)]
 pub struct Ending {
     pub outcome: Result<Run, Trap>,
@@ -31,7 +31,8 @@ fn run_once(
     seat: &mut Seat,
 ) -> Result<Ending, TrialError>
     requires { IsOf shared.now seat.old }
-    ensures ran { IfOk result (λ ending. RunsOnce bytes.now (given_by input.now) seat.old ending seat.new) }
+    ensures ran { IfOk result (λ ending. RunsOnce bytes.now (given_by input.now) seat.old ending
+        seat.new) }
     ensures table { IsOf shared.now seat.new }
     ensures refuses { IfErr result (IsRefusal bytes.now) }
 {
@@ -54,7 +55,8 @@ pub(crate) fn run_in_a_row(
     seat: &mut Seat,
 ) -> Result<Vec<Ending>, TrialError>
     requires { IsOf shared.now seat.old }
-    ensures ran { IfOk result (λ endings. RunsInARow bytes.now (given_by input.now) seat.old endings.items seat.new) }
+    ensures ran { IfOk result (λ endings. RunsInARow bytes.now (given_by input.now) seat.old
+        endings.items seat.new) }
     ensures times { IfOk result (λ endings. length endings.items ≡ times) }
     ensures table { IsOf shared.now seat.new }
     ensures refuses { IfErr result (IsRefusal bytes.now) }

@@ -19,12 +19,14 @@ pub struct Trial {
     pub cells: [u64; 64],
 }
 
-/// Runs the program of the object file that these bytes are so many times in a row, at its hook and on this question,
-/// packet and rows of the routing table, each time for as many instructions as its object allows.
+/// Runs the program of the object file that these bytes are so many times in a row, at its hook and
+/// on this question, packet and rows of the routing table, each time for as many instructions as
+/// its object allows.
 ///
 /// # Errors
 ///
-/// `Program` where the bytes are no object file or its code doesn't decode; want of memory is told by it or by `Memory`.
+/// `Program` where the bytes are no object file or its code doesn't decode; want of memory is told
+/// by it or by `Memory`.
 pub fn try_object<'x>(
     alloc: Global,
     bytes: &[u8],

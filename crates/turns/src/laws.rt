@@ -1,8 +1,8 @@
 //! Laws of turns, carried by functions that do nothing.
 ghost use Rattle.turns.specs.Laws.{AnswersAreBesideATable, CountReachesNoEvent};
 
-/// A program at `count` reaches no event: a turn for a datagram gives the packet that came, whatever
-/// is answered.
+/// A program at `count` reaches no event: a turn for a datagram gives the packet that came,
+/// whatever is answered.
 pub fn count_reaches_no_event()
     ensures { CountReachesNoEvent }
 {}

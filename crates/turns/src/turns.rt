@@ -22,9 +22,9 @@ use words::Second;
 /// passes no gate. It may wait for the lock.
 ///
 /// At a [`Book`](book::Book) the outs are those that the event gives, by the rules of a whole
-/// event, from some router to some router; which router it was, only the book knows. An installation
-/// happens at the moment of the router's last event, where that is later than the turn's: it may
-/// have passed while the programs were asked. All else happens at the turn's moment.
+/// event, from some router to some router; which router it was, only the book knows. An
+/// installation happens at the moment of the router's last event, where that is later than the
+/// turn's: it may have passed while the programs were asked. All else happens at the turn's moment.
 ///
 /// Refused: `Away` where `tag`, `price` or `veto` got no reading; else as the book refuses it
 /// ([`Book::apply_anew`](book::Book::apply_anew)): its journal first, then the router's order.

@@ -73,7 +73,8 @@ pub fn verify<D: Domain>(
         IsFirst code statements.now refusal.slot refusal.rule) }
     ensures plain { IsPlain code entry_rank statements.now
         → IfErr result (λ refusal. refusal.rule ≡ Rule.Memory) }
-    // The bound is tried before anything needs memory, so no want of memory hides that it is passed.
+    // The bound is tried before anything needs memory, so no want of memory hides that it is
+    // passed.
     ensures over { budget < (entry_rank + 1) * length code
         → IsErrOf result (record { slot = 0; rule = Rule.Budget }) }
 {

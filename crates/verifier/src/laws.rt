@@ -5,7 +5,8 @@ ghost use Rattle.isa.specs.declared.instruction.Instruction.TheVariants.{Call, E
 ghost use Rattle.isa.specs.declared.instruction.Source.TheVariants.{Immediate, Register};
 ghost use Rattle.object.specs.declared.kind.Kind.TheVariants.{Empty};
 ghost use Rattle.kinds.specs.Stated.{any_number};
-ghost use Rattle.verifier.specs.Examples.{ended, endless_code, moved, only_seven, says, says_byte, says_term, seven, tested_code};
+ghost use Rattle.verifier.specs.Examples.{ended, endless_code, moved, only_seven, says, says_byte};
+ghost use Rattle.verifier.specs.Examples.{says_term, seven, tested_code};
 ghost use Rattle.verifier.specs.Plain.{IsPlain};
 
 /// `r0 = 7; if r0 == 0 goto L; L: exit` is a plain program where r0 is stated as any number at L.

@@ -1,5 +1,6 @@
 //! The pass over the slots, in the order of their addresses.
-ghost use Rattle.std.specs.Prelude.{◌≡◌, ◌+◌, ◌<◌, ℕ, List, false, true, IfErr, IfOk, IsOk, IsSome, MatchOption, None, Some, length, slice_get};
+ghost use Rattle.std.specs.Prelude.{◌≡◌, ◌+◌, ◌<◌, ℕ, List, false, true, IfErr, IfOk, IsOk, IsSome};
+ghost use Rattle.std.specs.Prelude.{MatchOption, None, Some, length, slice_get};
 ghost use Rattle.isa.specs.Code.{is_wide};
 ghost use Rattle.isa.specs.declared.code.Slot.TheVariants.{Start};
 ghost use Rattle.isa.specs.Flow.{Begins, size};
@@ -9,9 +10,11 @@ ghost use Rattle.object.specs.Statements.{StatementParts};
 ghost use Rattle.kinds.specs.Plain.{kind_in};
 ghost use Rattle.kinds.specs.declared.statement.Target.{Target as AnyTarget};
 ghost use Rattle.verifier.specs.Kept.{GoesInto, IsKept};
-ghost use Rattle.verifier.specs.Pass.{ComesPlainly, HasRank, IsPlainIfLive, IsPlainProgram, KeepsPlain};
+ghost use Rattle.verifier.specs.Pass.{ComesPlainly, HasRank, IsPlainIfLive, IsPlainProgram};
+ghost use Rattle.verifier.specs.Pass.{KeepsPlain};
 ghost use Rattle.segments.specs.Places.{IsWellPlaced, segment_of, target_at};
-ghost use Rattle.segments.specs.Refusals.{IsFirst, IsFirstHere, IsPassedTo, IsWellMade, MayFollow, MayRefuse};
+ghost use Rattle.segments.specs.Refusals.{IsFirst, IsFirstHere, IsPassedTo, IsWellMade, MayFollow};
+ghost use Rattle.segments.specs.Refusals.{MayRefuse};
 ghost use Rattle.segments.specs.Segments.{IsCurrentUnlessStated, IsFine, IsFollowed};
 ghost use Rattle.segments.specs.Stated.{AreTargets};
 
@@ -31,7 +34,8 @@ use segments::places::{check_places, falls_through, slots_of};
 use segments::target::{is_stated, stated_at};
 use transfer::rule::Rule;
 
-/// What is known at the slot, with the start of the segment that it is in: a statement starts a new one.
+/// What is known at the slot, with the start of the segment that it is in: a statement starts a new
+/// one.
 fn arrive<'a, D: Domain>(
     targets: &[Option<Target<'a, D>>],
     slot: usize,
@@ -218,7 +222,8 @@ pub fn pass_all<'a, D: Domain>(
         → AreTargets D.contains statements targets.now
         → IfErr result (λ refusal.
         MayRefuse hook code.now entry_rank statements refusal.slot refusal.rule) }
-    ensures first { (statements : List StatementParts) → AreTargets D.contains statements targets.now
+    ensures first { (statements : List StatementParts)
+        → AreTargets D.contains statements targets.now
         → IfErr result (λ refusal. IsFirst code.now statements refusal.slot refusal.rule) }
     ensures plain { (statements : List StatementParts) (entry_rank : ℕ)
         → IsPlainProgram D.contains code.now entry_rank statements targets.now

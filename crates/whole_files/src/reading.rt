@@ -30,8 +30,8 @@ fn is_regular<R: Files>(rt: &R, path: &str) -> bool {
 ///
 /// # Errors
 ///
-/// `Unreadable` where it can't be opened or read, is no regular file (a directory, a pipe or a device),
-/// or has more than 16,777,216 bytes; `Memory` where an allocation was refused.
+/// `Unreadable` where it can't be opened or read, is no regular file (a directory, a pipe or a
+/// device), or has more than 16,777,216 bytes; `Memory` where an allocation was refused.
 pub fn read<R: Files + AllocGlobal>(rt: &R, path: &str) -> Result<Vec<u8>, ReadFault>
     ensures within { IfOk result (λ bytes. vec_len bytes ≤ 16777216) }
 {

@@ -50,8 +50,8 @@ fn is_special<R: Files>(rt: &R, path: &str) -> bool {
 }
 
 /// Makes the file at `path` one of these bytes. They are written beside it first, to `path` with
-/// `.part` behind it, and take its name once they are whole, so that after an error it is as before;
-/// only where a device or a pipe is there, they are written to it.
+/// `.part` behind it, and take its name once they are whole, so that after an error it is as
+/// before; only where a device or a pipe is there, they are written to it.
 ///
 /// # Errors
 ///

@@ -18,6 +18,10 @@ ls_refresh_time = 1800
 abbrev pub min_ls_interval : ℕ
 min_ls_interval = 5
 
+-- the E-bit of Options: AS-external-LSAs are flooded here (RFC 2328, section A.2)
+abbrev pub e_bit : ℕ
+e_bit = 2
+
 -- LSInfinity: a metric of this or more announces nothing
 abbrev pub ls_infinity : ℕ
 ls_infinity = 0xffffff
@@ -34,11 +38,13 @@ max_sequence_number = pos 2147483647
 abbrev pub largest_packet : ℕ
 largest_packet = 8192
 
--- one Description has room for so many headers
+-- one Description has room for so many headers: 20 bytes each, behind 24 of the packet's header and
+-- 8 of its own (RFC 2328, section A.3.3)
 abbrev pub most_headers_described : ℕ
 most_headers_described = 408
 
--- one Request has room for so many keys
+-- one Request has room for so many keys: 12 bytes each, behind 24 of the packet's header (section
+-- A.3.4)
 abbrev pub most_keys_requested : ℕ
 most_keys_requested = 680
 

@@ -7,7 +7,8 @@ use crate::hops::Hops;
 use crate::identifiers::{AreaId, RouterId};
 use crate::sequence_number::SequenceNumber;
 
-/// The least and the greatest sequence number: InitialSequenceNumber and MaxSequenceNumber (RFC 2328, section 12.1.6).
+/// The least and the greatest sequence number: InitialSequenceNumber and MaxSequenceNumber (RFC
+/// 2328, section 12.1.6).
 pub fn sequence_numbers() -> (SequenceNumber, SequenceNumber)
     ensures initial { result.0 ≡ initial_sequence_number }
     ensures max { result.1 ≡ max_sequence_number }

@@ -1,5 +1,7 @@
--- The life of a worker: what its clock showed, what its link heard, and the turns that came of both.
-use Rattle.std.specs.Prelude.{◌≡◌, ◌≢◌, ◌⊎◌, ℕ, zero, suc, ◌+◌, ◌≤◌, List, [], ◌∷◌, ◌++◌, length, Option, Some, None, MatchOption}
+-- The life of a worker: what its clock showed, what its link heard, and the turns that came of
+-- both.
+use Rattle.std.specs.Prelude.{◌≡◌, ◌≢◌, ◌⊎◌, ℕ, zero, suc, ◌+◌, ◌≤◌, List, [], ◌∷◌, ◌++◌, length}
+use Rattle.std.specs.Prelude.{Option, Some, None, MatchOption}
 use Rattle.std.specs.Prelude.{Result, Ok, Err, MatchResult}
 use Rattle.hooks.specs.declared.operation.Operation.{Operation}
 use Rattle.turns.specs.Turns.{IsTurned, Offers, Took}
@@ -40,20 +42,31 @@ pub record Standing (Link Clock : Type 0) : Type 0 where
 
 -- ---- a turn
 
--- what is said of a worker at the port of this number that knew these operations, with such a link and such a clock
-abbrev pub senses_of : {Link Clock : Type 0} → Gives Link → Hears Link → Shows Clock → Offers → Took → (known : List Operation)
+-- what is said of a worker at the port of this number that knew these operations, with such a link
+-- and such a clock
+abbrev pub senses_of : {Link Clock : Type 0} → Gives Link → Hears Link → Shows Clock → Offers → Took
+    → (known : List Operation)
     → (number : ℕ) → Senses Link Clock
 senses_of gives hears shows offers took known number =
-    record { gives = gives; hears = hears; shows = shows; turns = IsTurned offers took known; number = number }
+    record {
+      gives = gives;
+      hears = hears;
+      shows = shows;
+      turns = IsTurned offers took known;
+      number
+          = number;
+    }
 
 -- the link was given what it sends, and then what its refresh sends
-abbrev pub IsSent : {Link : Type 0} → Gives Link → (before : Link) → Turned → (after : Link) → Type 0
+abbrev pub IsSent : {Link : Type 0} → Gives Link → (before : Link) → Turned → (after : Link)
+    → Type 0
 IsSent gives before turned after =
     MatchOption turned.refreshed (IsGivenEach gives before turned.outs.items after)
     (λ outs. IsGivenEach gives before (turned.outs.items ++ outs.items) after)
 
 -- the clock showed each of these moments and nothing else, the latest first
-abbrev pub ShowsEach : {Clock : Type 0} → Shows Clock → (before : Clock) → List ℕ → (after : Clock) → Type 0
+abbrev pub ShowsEach : {Clock : Type 0} → Shows Clock → (before : Clock) → List ℕ → (after : Clock)
+    → Type 0
 ShowsEach shows before [] after = after ≡ before
 ShowsEach {Clock = Clock} shows before (moment ∷ moments) after =
     (between : Clock) × ShowsEach shows before moments between × shows between moment after
@@ -63,9 +76,11 @@ abbrev pub latest : (first : ℕ) → List ℕ → ℕ
 latest first [] = first
 latest first (moment ∷ moments) = moment
 
--- a turn was tried at the first moment, and then at most three times again, each time at a moment that the clock showed then; where it is
--- refused since the router's clock is ahead, it was tried three times again
-pub record IsTried {Clock : Type 0} (shows : Shows Clock) (before : Clock) (first : ℕ) (after : Clock) (last : ℕ)
+-- a turn was tried at the first moment, and then at most three times again, each time at a moment
+-- that the clock showed then; where it is refused since the router's clock is ahead, it was tried
+-- three times again
+pub record IsTried {Clock : Type 0} (shows : Shows Clock) (before : Clock) (first : ℕ)
+    (after : Clock) (last : ℕ)
     (outcome : Result Turned TurnError) : Type 0 where
   pub again : List ℕ
   pub few : length again ≤ 3
@@ -73,7 +88,8 @@ pub record IsTried {Clock : Type 0} (shows : Shows Clock) (before : Clock) (firs
   pub at_last : last ≡ latest first again
   pub thrice : outcome ≡ Err clock_back → length again ≡ 3
 
--- a turn, and the link was given what it sends; where it is refused nothing is sent, and the router has no event more
+-- a turn, and the link was given what it sends; where it is refused nothing is sent, and the router
+-- has no event more
 pub record Serves {Link Clock : Type 0} (senses : Senses Link Clock) (moment : ℕ) (work : Work)
     (before : Standing Link Clock) (ended : ℕ) (after : Standing Link Clock) : Type 0 where
   pub outcome : Result Turned TurnError
@@ -86,7 +102,8 @@ pub record Serves {Link Clock : Type 0} (senses : Senses Link Clock) (moment : �
 -- ---- a round
 
 -- the clock showed a moment: that of the last Tick, or another one, and then there is a Tick's turn
-pub record Ticks {Link Clock : Type 0} (senses : Senses Link Clock) (ticked : Option ℕ) (before : Standing Link Clock)
+pub record Ticks {Link Clock : Type 0} (senses : Senses Link Clock) (ticked : Option ℕ)
+    (before : Standing Link Clock)
     (next : Option ℕ) (after : Standing Link Clock) : Type 0 where
   pub moment : ℕ
   pub shown : Clock
@@ -95,34 +112,41 @@ pub record Ticks {Link Clock : Type 0} (senses : Senses Link Clock) (ticked : Op
       ⊎ ((ticked ≢ Some moment) × ((ended : ℕ) × (next ≡ Some ended)
       × Serves senses moment Tick (record before { clock = shown }) ended after))
 
--- a datagram came: there is a turn with it at the interface of the worker's port, at a moment that the clock showed then; or there was no
--- memory for it, and it is lost
-abbrev pub IsTurnedTo : {Link Clock : Type 0} → Senses Link Clock → (bytes : List ℕ) → (before after : Standing Link Clock) → Type 0
+-- a datagram came: there is a turn with it at the interface of the worker's port, at a moment that
+-- the clock showed then; or there was no memory for it, and it is lost
+abbrev pub IsTurnedTo : {Link Clock : Type 0} → Senses Link Clock → (bytes : List ℕ)
+    → (before after : Standing Link Clock) → Type 0
 IsTurnedTo {Clock = Clock} senses bytes before after =
     (after ≡ before)
     ⊎ ((moment : ℕ) × (shown : Clock) × (ended : ℕ) × senses.shows before.clock moment shown
-    × Serves senses moment (Datagram senses.number bytes) (record before { clock = shown }) ended after)
+    × Serves senses moment (Datagram senses.number bytes) (record before { clock = shown }) ended
+    after)
 
 -- what is done about what was heard
-abbrev pub IsHeard : {Link Clock : Type 0} → Senses Link Clock → Option (List ℕ) → (before after : Standing Link Clock) → Type 0
+abbrev pub IsHeard : {Link Clock : Type 0} → Senses Link Clock → Option (List ℕ)
+    → (before after : Standing Link Clock) → Type 0
 IsHeard senses None before after = after ≡ before
 IsHeard senses (Some bytes) before after = IsTurnedTo senses bytes before after
 
 -- the link heard a datagram or none
-pub record Listens {Link Clock : Type 0} (senses : Senses Link Clock) (before after : Standing Link Clock) : Type 0 where
+pub record Listens {Link Clock : Type 0} (senses : Senses Link Clock) (before after : Standing Link
+    Clock) : Type 0 where
   pub heard : Option (List ℕ)
   pub between : Link
   pub is_heard : senses.hears before.link heard between
   pub turn : IsHeard senses heard (record before { link = between }) after
 
 -- a round: first the time, and then the link
-abbrev pub Round : {Link Clock : Type 0} → Senses Link Clock → (ticked : Option ℕ) → (before : Standing Link Clock)
+abbrev pub Round : {Link Clock : Type 0} → Senses Link Clock → (ticked : Option ℕ)
+    → (before : Standing Link Clock)
     → (next : Option ℕ) → (after : Standing Link Clock) → Type 0
 Round {Link = Link} {Clock = Clock} senses ticked before next after =
-    (between : Standing Link Clock) × Ticks senses ticked before next between × Listens senses between after
+    (between : Standing Link Clock) × Ticks senses ticked before next between
+    × Listens senses between after
 
 -- so many rounds, after which this is the moment of the last Tick
-abbrev pub Lives : {Link Clock : Type 0} → Senses Link Clock → (start : Standing Link Clock) → (rounds : ℕ)
+abbrev pub Lives : {Link Clock : Type 0} → Senses Link Clock → (start : Standing Link Clock)
+    → (rounds : ℕ)
     → (ticked : Option ℕ) → (now : Standing Link Clock) → Type 0
 Lives senses start zero ticked now = (ticked ≡ None) × (now ≡ start)
 Lives {Link = Link} {Clock = Clock} senses start (suc rounds) ticked now =
@@ -130,5 +154,7 @@ Lives {Link = Link} {Clock = Clock} senses start (suc rounds) ticked now =
     × Round senses earlier then ticked now
 
 -- some rounds
-abbrev pub HasLived : {Link Clock : Type 0} → Senses Link Clock → (start now : Standing Link Clock) → Type 0
-HasLived senses start now = (rounds : ℕ) × (ticked : Option ℕ) × Lives senses start rounds ticked now
+abbrev pub HasLived : {Link Clock : Type 0} → Senses Link Clock → (start now : Standing Link Clock)
+    → Type 0
+HasLived senses start now = (rounds : ℕ) × (ticked : Option ℕ) × Lives senses start rounds ticked
+    now

@@ -1,8 +1,8 @@
 //! Tests of the router's book and of its workers, by their public calls. They stand above, since a
 //! crate is proved once more for its tests.
 //!
-//! A test is a list of steps, which a player carries out at a router with three ports; or the life of
-//! two routers on one link, in memory, each by the turns of its worker.
+//! A test is a list of steps, which a player carries out at a router with three ports; or the life
+//! of two routers on one link, in memory, each by the turns of its worker.
 #![tactic(auto)]
 
 #[cfg(test)]

@@ -34,8 +34,8 @@ pub enum Scene<'a> {
     /// The worker at interface 1 runs by a clock that shows these moments, one a round, and hears
     /// nothing.
     Clock(&'a [u64]),
-    /// A turn of port 1 at moment 5 is held at its gate, until port 2 has ticked at each moment from
-    /// 5 to below this.
+    /// A turn of port 1 at moment 5 is held at its gate, until port 2 has ticked at each moment
+    /// from 5 to below this.
     Held(Holds, u64),
     /// A datagram at interface 1 is counted before its turn passes the gate.
     Watched,
@@ -176,9 +176,9 @@ pub fn play<R: Threads + Wait + Clock + Abort + Sync>(
     play_at::<Brand, R, &R>(rt, alloc, setup, loader, core, destination, scene)
 }
 
-/// Plays the scene four times, each from its start: it ends so each time but one at most, in which an
-/// allocation may have been refused, as a run of the tests with a refusal makes it. A scene of two
-/// threads is spared only where a turn was refused memory; a long one is played twice at most.
+/// Plays the scene four times, each from its start: it ends so each time but one at most, in which
+/// an allocation may have been refused, as a run of the tests with a refusal makes it. A scene of
+/// two threads is spared only where a turn was refused memory; a long one is played twice at most.
 pub fn ends<R: Threads + Wait + Clock + Abort + Sync>(
     rt: &R,
     alloc: Global,

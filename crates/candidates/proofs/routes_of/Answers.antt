@@ -1,12 +1,14 @@
-use Rattle.std.proofs.Common.{take, ap, ◌∙◌}
-use Rattle.std.specs.FinMap as finite
-use Rattle.candidates.proofs.Keyed.{covered, keys_ascend}
+use Rattle.std.proofs.Common.{None, sym, subst}
+use Rattle.lsdb.specs.Bodies.{AreBodies, InOrder}
+use Rattle.routes.specs.Said.{Said, said_at}
+use Rattle.candidates.proofs.Each.{all_bodies}
 use Rattle.candidates.proofs.routes_of.Goals as goal
 
-pub routes_of_keys-requires-clause-keys : goal.routes_of_keys-requires-clause-keys
-routes_of_keys-requires-clause-keys g c =
-    covered c.args.moment c.args.db.now.present c.deref.result.now (c.deref.ensures.value ∙ c.in_ok-keys.ensures ∙ ap (λ n. take n (finite.keys c.args.db.now.present)) c.len.ensures)
+pub routes_of_bodies-requires-clause-order : goal.routes_of_bodies-requires-clause-order
+routes_of_bodies-requires-clause-order g c = subst InOrder (sym c.deref.ensures.value) c.in_ok-bodies.ensures.bodies.ascend
 
-pub routes_of_keys-requires-clause-order : goal.routes_of_keys-requires-clause-order
-routes_of_keys-requires-clause-order g c =
-    keys_ascend c.args.db.now.present c.deref.result.now (c.deref.ensures.value ∙ c.in_ok-keys.ensures ∙ ap (λ n. take n (finite.keys c.args.db.now.present)) c.len.ensures)
+pub returns : goal.returns
+returns g c =
+    let said : Said = said_at c.args.moment c.args.db.now.present in
+    c.in_ok-routes.ensures said c.requires.ways
+    (all_bodies 5 said c.deref.result.now (subst (AreBodies None said) (sym c.deref.ensures.value) c.in_ok-bodies.ensures.bodies))

@@ -1,5 +1,5 @@
-//! Each opcode, both ways. The bytes are those of RFC 9669, sections 3 to 5: opcode, registers (source and target),
-//! offset and immediate.
+//! Each opcode, both ways. The bytes are those of RFC 9669, sections 3 to 5: opcode, registers
+//! (source and target), offset and immediate.
 use super::*;
 
 // Instructions, and the bytes that spell them.
@@ -42,7 +42,8 @@ fn check_encoded<R: AllocGlobal + Abort>(rt: &R, code: &Code, bytes: &[u8]) -> R
     Ok(())
 }
 
-// An operation, its offset, and its opcodes: of 32 bits with an immediate and with a register, of 64 bits likewise.
+// An operation, its offset, and its opcodes: of 32 bits with an immediate and with a register, of
+// 64 bits likewise.
 const OPERATIONS: &[(Operation, u8, [u8; 4])] = &[
     (Operation::Add, 0, [0x04, 0x0c, 0x07, 0x0f]),
     (Operation::Subtract, 0, [0x14, 0x1c, 0x17, 0x1f]),
@@ -79,7 +80,8 @@ fn r7(rt: &impl Abort) -> Source {
     Source::Register(register(rt, 7))
 }
 
-// Four ways to say the second operand, -2 and r7, with the opcode and the bytes of the registers and of the immediate: r3 is the first.
+// Four ways to say the second operand, -2 and r7, with the opcode and the bytes of the registers
+// and of the immediate: r3 is the first.
 fn operands(rt: &impl Abort, opcodes: [u8; 4]) -> [(Width, Source, u8, u8, u8); 4] {
     let [number32, register32, number64, register64] = opcodes;
     [
@@ -383,8 +385,8 @@ fn loads_and_stores(rt: HostRuntime) -> Result<(), Fail> {
     listing.check(&rt)
 }
 
-// Lines of assembly: `w1 s%= w2`, `if w1 s< -1 goto -2`, `*u16 r10 -2 = 513`, `r3 = *s32 r1 4`, `r0 = swap32`,
-// `r0 = wide 4294967298`.
+// Lines of assembly: `w1 s%= w2`, `if w1 s< -1 goto -2`, `*u16 r10 -2 = 513`, `r3 = *s32 r1 4`, `r0
+// = swap32`, `r0 = wide 4294967298`.
 #[test]
 fn lines_of_assembly(rt: HostRuntime) -> Result<(), Fail> {
     let modulo = Instruction::Arithmetic {

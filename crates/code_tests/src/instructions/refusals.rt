@@ -1,7 +1,8 @@
 //! Bytes that are no code, with the refusal and its slot.
 use super::*;
 
-// The refusal and its slot. One allocation may be refused, as a run of the tests with a refusal makes it.
+// The refusal and its slot. One allocation may be refused, as a run of the tests with a refusal
+// makes it.
 fn fault_of(rt: &impl AllocGlobal, bytes: &[u8]) -> Option<(usize, DecodeFault)> {
     let error = match decode(rt.alloc(), bytes).err()? {
         DecodeError {
@@ -77,7 +78,8 @@ const SLOTS: &[([u8; 8], DecodeFault)] = &[
     ([0x18, 0x60, 0, 0, 0, 0, 0, 0], DecodeFault::HalfWide),
 ];
 
-// The bytes come to this refusal and its slot, or are code where there is none. What is particular about them is told if they don't.
+// The bytes come to this refusal and its slot, or are code where there is none. What is particular
+// about them is told if they don't.
 fn come_to<R: AllocGlobal + Abort, D: Debug>(
     rt: &R,
     bytes: &[u8],

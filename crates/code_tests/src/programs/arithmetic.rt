@@ -5,7 +5,8 @@ const LEAST32: u64 = 0x8000_0000;
 
 const LEAST64: u64 = 0x8000_0000_0000_0000;
 
-// The instruction on r1 and r2: r1 before, r2, the instruction, r1 after. By RFC 9669, section 4.1 and 4.2.
+// The instruction on r1 and r2: r1 before, r2, the instruction, r1 after. By RFC 9669, section 4.1
+// and 4.2.
 const OPERATIONS: &[(u64, u64, u64, u64)] = &[
     // sums and differences wrap
     (u64::MAX, 2, 0x210f, 1),

@@ -103,7 +103,8 @@ const TESTS: &[(u64, u64, u64, bool)] = &[
     (0, 0, 0xffff_ffff_0000_00d6, false),
 ];
 
-// The program that leaps over one slot where the test of the two numbers holds. The source is r2 where the test reads a register.
+// The program that leaps over one slot where the test of the two numbers holds. The source is r2
+// where the test reads a register.
 fn testing(a: u64, b: u64, test: u64) -> [u64; 8] {
     let first = wide(1, a);
     let second = wide(2, b);

@@ -4,7 +4,8 @@ use super::*;
 // r2 = 1
 const ONE: u64 = 0x1_0000_02b7;
 
-// In each program r1 and r10 are pointers. A use that isn't refused would end with trap 3, since r0 is empty at EXIT.
+// In each program r1 and r10 are pointers. A use that isn't refused would end with trap 3, since r0
+// is empty at EXIT.
 fn is_refused<R: AllocGlobal + Abort>(rt: &R, slots: &[u64]) -> Result<(), Fail> {
     comes_to(rt, slots, (4, 0))
 }

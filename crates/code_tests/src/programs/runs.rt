@@ -64,8 +64,8 @@ fn a_cell_is_the_seats_own(rt: HostRuntime) -> Result<(), Fail> {
     Ok(())
 }
 
-// OFFSET, MASK and SHIFT, and what this comes to: r1 = *u64 r1 OFFSET; r1 &= MASK; r1 <<= SHIFT; r2 = map 0 0; r2 += r1;
-// r0 = *u64 r2 0; exit.
+// OFFSET, MASK and SHIFT, and what this comes to: r1 = *u64 r1 OFFSET; r1 &= MASK; r1 <<= SHIFT; r2
+// = map 0 0; r2 += r1; r0 = *u64 r2 0; exit.
 const NAMED: &[(u64, u64, u64, (u64, u64))] = &[
     (8, 0xff, 3, (0, 7)),
     (8, 0x3ff, 3, (5, 0)),

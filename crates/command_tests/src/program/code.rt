@@ -67,7 +67,8 @@ const CASES: [Case<'static>; 11] = [
         1,
         "seat 1 trap 8\n",
     ),
-    // r1 = 5; r2 = 3; call 1; r0 = r1; exit: what was added is printed though the run is stuck later
+    // r1 = 5; r2 = 3; call 1; r0 = r1; exit: what was added is printed though the run is stuck
+    // later
     (
         &[
             0xb7, 1, 0, 0, 5, 0, 0, 0, 0xb7, 2, 0, 0, 3, 0, 0, 0, 0x85, 0, 0, 0, 1, 0, 0, 0, 0xbf,

@@ -17,10 +17,13 @@ const TOO_LARGE: &[u8] = b"hook price\nrank 0\nr0 = 2147483648\nexit\n";
 const TOO_LARGE_TOLD: &str = "source refusal 3 line 3\n";
 
 const SUM: &[u8] =
-    b"hook price\nrank 10\nr1 = 10\nr0 = 0\nL:\nr0 += r1\nr1 += -1\nif r1 != 0 goto L\nexit\nstate L rank 0 r1 * 1\nwith r0 number 0 18446744073709551615 0 0\nwith r1 number 1 10 0 0\n";
+    b"hook price\nrank 10\nr1 = 10\nr0 = 0\nL:\nr0 += r1\nr1 += -1\nif r1 != 0 goto L\nexit\nstate \
+        L rank 0 r1 * 1\nwith r0 number 0 18446744073709551615 0 0\nwith r1 number 1 10 0 0\n";
 
 const LISTED: &str =
-    "hook price\nrank 10\nr1 = 10\nr0 = 0\nr0 += r1\nr1 += -1\nif r1 != 0 goto -3\nexit\nstate 2 rank 0 r1 * 1\nwith r0 number 0 18446744073709551615 0 0\nwith r1 number 1 10 0 0\n";
+    "hook price\nrank 10\nr1 = 10\nr0 = 0\nr0 += r1\nr1 += -1\nif r1 != 0 goto -3\nexit\n\
+        state 2 rank 0 r1 * 1\nwith r0 number 0 18446744073709551615 0 0\n\
+        with r1 number 1 10 0 0\n";
 
 #[test]
 fn a_text_is_assembled_listed_and_run(rt: HostRuntime) -> Result<(), Fail> {

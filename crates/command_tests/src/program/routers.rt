@@ -1,4 +1,5 @@
-//! The command `route`: the configuration, the console's streams and the status go to the router and back.
+//! The command `route`: the configuration, the console's streams and the status go to the router
+//! and back.
 
 use super::{Step, path_for, play};
 use commands::Routing;

@@ -48,7 +48,8 @@ fn status_with<R: Files + AllocGlobal + Threads + Sync>(
     )
 }
 
-// The words have a text of so many bytes to print: where the output takes fewer they end with 3, and where it takes all with this status.
+// The words have a text of so many bytes to print: where the output takes fewer they end with 3,
+// and where it takes all with this status.
 fn fails_below<R: Files + AllocGlobal + Threads + Sync + Abort>(
     rt: &R,
     words: &[&str],

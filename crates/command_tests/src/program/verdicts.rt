@@ -1,4 +1,5 @@
-//! Verdicts of `verify`: the lines and statuses of programs that are accepted and refused, and of files that hold none.
+//! Verdicts of `verify`: the lines and statuses of programs that are accepted and refused, and of
+//! files that hold none.
 
 use super::{EXIT_SLOT, counting, expect, remove, small, write_file};
 use std::process;

@@ -1,6 +1,6 @@
 //! Links and database once more.
 ghost use Rattle.std.specs.Prelude.{◌≡◌, IfOk, map};
-ghost use Rattle.flooding.specs.Links.{present, settled};
+ghost use Rattle.flooding.specs.Links.{present, settled_link};
 
 use super::Area;
 use crate::link::Link;
@@ -8,7 +8,7 @@ use std::alloc::{AllocError, Global};
 
 fn copy_links(alloc: Global, links: &[Link]) -> Result<Vec<Link>, AllocError>
     ensures present { IfOk result (λ made. map present made.items ≡ map present links.now) }
-    ensures settled { IfOk result (λ made. map settled made.items ≡ map present links.now) }
+    ensures settled { IfOk result (λ made. map settled_link made.items ≡ map present links.now) }
 {
     let mut made = Vec::new(alloc);
     for i in 0..links.len() {

@@ -3,7 +3,7 @@ ghost use Rattle.std.specs.Prelude.{◌≡◌, ◌≤◌, OnOk, length, map};
 ghost use Rattle.std.specs.FinMap as finite;
 ghost use Rattle.lsdb.specs.Copies.{mark_sent};
 ghost use Rattle.received.specs.Links.{change_link};
-ghost use Rattle.flooding.specs.Drafted.{drafted};
+ghost use Rattle.flooding.specs.Drafted.{drafts_with};
 ghost use Rattle.flooding.specs.Links.{start, without_neighbor};
 ghost use Rattle.flooding.specs.Steps.{one_link, sends_of};
 
@@ -52,7 +52,8 @@ impl Area {
           links = map (S.after step.now self.old.present.database) self.old.present.links;
         }) }
         ensures drafts { OnOk result (drafts.new
-            ≡ drafted (sends_of (S.sends step.now self.old.present.database) self.old.present.links)
+            ≡ drafts_with (sends_of (S.sends step.now self.old.present.database)
+            self.old.present.links)
             self.old.present.links drafts.old) }
         ensures settled { self.new.settled ≡ self.old.settled }
         ensures router { self.new.router ≡ self.old.router }
@@ -80,7 +81,7 @@ impl Area {
             ≡ (one_link moment number (S.after step.now) (S.sends step.now)
             (start self.old.present)).area) }
         ensures drafts { OnOk result (drafts.new
-            ≡ drafted (one_link moment number (S.after step.now) (S.sends step.now)
+            ≡ drafts_with (one_link moment number (S.after step.now) (S.sends step.now)
             (start self.old.present)).sends self.old.present.links drafts.old) }
         ensures settled { self.new.settled ≡ self.old.settled }
         ensures router { self.new.router ≡ self.old.router }

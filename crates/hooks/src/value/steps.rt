@@ -60,7 +60,8 @@ impl Programs {
         requires asked { IsAsked (given_by input.now) }
         requires stands { Stands self.now }
         requires table { IsOf shared.now seat.old }
-        ensures answered { (labels : List Label) × Makes seat.old labels seat.new × Answers (listed self.now) (given_by input.now) labels result }
+        ensures answered { (labels : List Label) × Makes seat.old labels seat.new
+            × Answers (listed self.now) (given_by input.now) labels result }
         ensures table { IsOf shared.now seat.new }
     {
         let hook = hook_of(input);

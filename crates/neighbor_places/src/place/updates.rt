@@ -2,7 +2,7 @@
 //! section 13).
 ghost use Rattle.std.specs.Prelude.{◌≡◌, ℕ, OnOk};
 ghost use Rattle.lsa.specs.Headers.{key_of};
-ghost use Rattle.adjacency.specs.Adjacencies.{mismatched};
+ghost use Rattle.adjacency.specs.Adjacencies.{mismatch_step};
 ghost use Rattle.adjacency.specs.Contents.{no_sends, sent_on, step_on};
 ghost use Rattle.adjacency.specs.Drafts.{drafting};
 ghost use Rattle.adjacency.specs.Retransmissions.{remove_retransmission};
@@ -80,9 +80,10 @@ impl Place {
         moment: Second,
         draft: &mut Draft,
     ) -> Result<(), AllocError>
-        ensures ok { OnOk result (self.new.present ≡ step_on (mismatched moment) self.old.present) }
+        ensures ok { OnOk result (self.new.present ≡ step_on (mismatch_step moment)
+            self.old.present) }
         ensures draft { OnOk result ((delay : ℕ) → draft.new
-            ≡ drafting delay (sent_on (mismatched moment) self.old.present) draft.old) }
+            ≡ drafting delay (sent_on (mismatch_step moment) self.old.present) draft.old) }
         ensures settled { self.new.settled ≡ self.old.settled }
     {
         let exchanging = self.is_exchange_or_later();

@@ -12,7 +12,7 @@ ghost use Rattle.adjacency.specs.Descriptions.{
   is_wanted,
   left_to_describe,
   master_goes_on,
-  negotiated,
+  negotiated_neighbor,
   next_description,
   repeat,
   slave_replies,
@@ -21,6 +21,7 @@ ghost use Rattle.adjacency.specs.Descriptions.{
 };
 ghost use Rattle.adjacency.specs.Drafts.{drafting};
 ghost use Rattle.adjacency.specs.Exchanges.{accepted, entry_header, proceeding, verdict_of};
+ghost use Rattle.words.specs.Constants.{most_headers_described};
 
 use super::Neighbor;
 use super::negotiation::remove_keys;
@@ -32,7 +33,7 @@ use lsa::Header;
 use lsdb::{Lsdb, age_at, newer};
 use packet::Description;
 use std::alloc::{AllocError, Global};
-use words::{Key, Second, Sequence};
+use words::{E_BIT, Key, Second, Sequence};
 
 /// One Description has room for so many headers.
 const MOST_HEADERS_DESCRIBED: usize = 408;
@@ -234,7 +235,7 @@ impl Neighbor {
     // The keys of the headers that the next Description has room for.
     fn first_described(&self, alloc: Global) -> Result<Vec<Key>, AllocError>
         ensures { IfOk result (λ keys. keys.items
-            ≡ take 408 (finite.keys self.now.present.summary)) }
+            ≡ take most_headers_described (finite.keys self.now.present.summary)) }
     {
         self.summary.first(alloc, MOST_HEADERS_DESCRIBED)
     }
@@ -246,7 +247,7 @@ impl Neighbor {
         moment: Second,
         keys: &[Key],
     ) -> Result<Description, AllocError>
-        requires { keys.now ≡ take 408 (finite.keys self.now.present.summary) }
+        requires { keys.now ≡ take most_headers_described (finite.keys self.now.present.summary) }
         ensures { IfOk result (λ next. next ≡ next_description moment self.now.present) }
     {
         let headers = headers_of(alloc, moment, &self.summary, keys)?;
@@ -255,7 +256,7 @@ impl Neighbor {
         let headers = Sequence::from_vec(headers);
         Ok(Description {
             mtu: 8192,
-            options: 2,
+            options: E_BIT,
             init: false,
             more,
             master: self.standing.is_master,
@@ -266,7 +267,7 @@ impl Neighbor {
 
     // What was described needn't be again.
     fn shorten(&mut self, keys: &[Key]) -> Result<(), AllocError>
-        requires { keys.now ≡ take 408 (finite.keys self.old.present.summary) }
+        requires { keys.now ≡ take most_headers_described (finite.keys self.old.present.summary) }
         ensures ok { OnOk result (self.new.present
             ≡ record self.old.present { summary = left_to_describe self.old.present }) }
         ensures settled { self.new.settled ≡ self.old.settled }
@@ -406,11 +407,11 @@ impl Neighbor {
     ) -> Result<(), AllocError>
         ensures ok { OnOk result (self.new.present
             ≡ (accepted moment database.now.present description.now
-            (negotiated false description.now.sequence moment database.now.present
+            (negotiated_neighbor false description.now.sequence moment database.now.present
             self.old.present)).neighbor) }
         ensures draft { OnOk result ((delay : ℕ) → draft.new
             ≡ drafting delay (accepted moment database.now.present description.now
-            (negotiated false description.now.sequence moment database.now.present
+            (negotiated_neighbor false description.now.sequence moment database.now.present
             self.old.present)).sends draft.old) }
         ensures settled { self.new.settled ≡ self.old.settled }
     {
@@ -429,11 +430,11 @@ impl Neighbor {
     ) -> Result<(), AllocError>
         ensures ok { OnOk result (self.new.present
             ≡ (accepted moment database.now.present description.now
-            (negotiated true self.old.present.sequence moment database.now.present
+            (negotiated_neighbor true self.old.present.sequence moment database.now.present
             self.old.present)).neighbor) }
         ensures draft { OnOk result ((delay : ℕ) → draft.new
             ≡ drafting delay (accepted moment database.now.present description.now
-            (negotiated true self.old.present.sequence moment database.now.present
+            (negotiated_neighbor true self.old.present.sequence moment database.now.present
             self.old.present)).sends draft.old) }
         ensures settled { self.new.settled ≡ self.old.settled }
     {

@@ -4,7 +4,7 @@ ghost use Rattle.std.specs.Prelude.{◌≡◌, OnOk};
 ghost use Rattle.std.specs.FinMap as finite;
 ghost use Rattle.std.specs.List.{fold};
 ghost use Rattle.lsdb.specs.Copies.{is_aged_out};
-ghost use Rattle.adjacency.specs.Descriptions.{aged_copies, negotiated, young_copies};
+ghost use Rattle.adjacency.specs.Descriptions.{aged_copies, negotiated_neighbor, young_copies};
 ghost use Rattle.adjacency.specs.Exchanges.{is_young, with_key};
 
 use super::Neighbor;
@@ -136,7 +136,7 @@ impl Neighbor {
         database: &Lsdb,
     ) -> Result<(), AllocError>
         ensures ok { OnOk result (self.new.present
-            ≡ negotiated is_master sequence moment database.now.present self.old.present) }
+            ≡ negotiated_neighbor is_master sequence moment database.now.present self.old.present) }
         ensures settled { self.new.settled ≡ self.old.settled }
     {
         self.enter_exchange(moment, is_master, sequence);

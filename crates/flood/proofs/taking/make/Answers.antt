@@ -7,7 +7,7 @@ use Rattle.events.specs.Packing.{outs_of}
 use Rattle.events.specs.Refusals.{exceeds}
 use Rattle.flood_laws.specs.Keeping.{AreTexts}
 use Rattle.flood.specs.Drafts.{AreDrafts}
-use Rattle.flood.specs.Parts.{made}
+use Rattle.flood.specs.Parts.{made_state}
 use Rattle.flood.proofs.Happening.{made_has_room}
 use Rattle.flood.proofs.Made.{made_drafts, made_router}
 use Rattle.flood.proofs.taking.make.Goals as goal
@@ -33,7 +33,7 @@ outs-requires-clause-drafts c =
     let count = c.in_ok-drafts.drafts.ok.0 in
     let full : c.in_ok-drafts.drafts.len ≡ length c.make_event.new.drafts = omega arith in
     let back = ap (λ n. take n (c.make_event.new.drafts ++ drop (length c.make_event.new.drafts) c.in_ok-drafts.drafts.items)) full ∙ take-append_seam c.make_event.new.drafts _ in
-    (old.area.links, (made old c.args.moment c.args.part).sends, subst (AreDrafts old.area.links (made old c.args.moment c.args.part).sends) (sym back) are)
+    (old.area.links, (made_state old c.args.moment c.args.part).sends, subst (AreDrafts old.area.links (made_state old c.args.moment c.args.part).sends) (sym back) are)
 
 pub returns-clause-made : goal.returns-clause-made
 returns-clause-made c =
@@ -47,7 +47,7 @@ returns-clause-made c =
     let count = c.in_ok-drafts.drafts.ok.0 in
     let full : c.in_ok-drafts.drafts.len ≡ length c.make_event.new.drafts = omega arith in
     let back = ap (λ n. take n (c.make_event.new.drafts ++ drop (length c.make_event.new.drafts) c.in_ok-drafts.drafts.items)) full ∙ take-append_seam c.make_event.new.drafts _ in
-    let sends = (made old c.args.moment c.args.part).sends in
+    let sends = (made_state old c.args.moment c.args.part).sends in
     record {
       router = made_router old c.make_event.new.router.present c.args.moment c.args.part c.deref_mut.result.now c.make_event.new.drafts m none;
       outs =
@@ -67,7 +67,7 @@ returns-clause-texts c =
     let count = c.in_ok-drafts.drafts.ok.0 in
     let full : c.in_ok-drafts.drafts.len ≡ length c.make_event.new.drafts = omega arith in
     let back = ap (λ n. take n (c.make_event.new.drafts ++ drop (length c.make_event.new.drafts) c.in_ok-drafts.drafts.items)) full ∙ take-append_seam c.make_event.new.drafts _ in
-    let sends = (made old c.args.moment c.args.part).sends in
+    let sends = (made_state old c.args.moment c.args.part).sends in
     subst (λ own. AreTexts own old.area.links sends) c.id-own.ensures (c.in_ok-outs.ensures.texts old.area.links sends (subst (AreDrafts old.area.links sends) (sym back) are))
 
 pub returns-clause-limit : goal.returns-clause-limit

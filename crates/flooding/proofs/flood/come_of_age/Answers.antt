@@ -4,7 +4,7 @@ use Rattle.lsdb.specs.Copies.{lsa_now}
 use Rattle.received.specs.Flooding.{flood}
 use Rattle.received.specs.Outcomes.{Outcome}
 use Rattle.keyed_map.proofs.Helds.{on_ok}
-use Rattle.flooding.specs.Drafted.{drafted}
+use Rattle.flooding.specs.Drafted.{drafts_with}
 use Rattle.flooding.specs.Links.{area_of, come_of_age_copy, flooded_copy, present, start}
 use Rattle.flooding.proofs.Sends.{drafted_none}
 use Rattle.flooding.proofs.flood.come_of_age.Goals as goal
@@ -46,7 +46,7 @@ returns-in_default-clause-drafts c =
     let o : Outcome = start (area_of c.args.links.now c.args.database.now.present) in
     let P = map present c.args.links.now in
     let ds = c.args.drafts.now in
-    drafted_none 1 P ds ∙ ap (λ q. drafted (come_of_age_copy b m q o).sends P ds) c.in_default.ensures
+    drafted_none 1 P ds ∙ ap (λ q. drafts_with (come_of_age_copy b m q o).sends P ds) c.in_default.ensures
 
 pub returns-then-came-clause-drafts : goal.returns-then-came-clause-drafts
 returns-then-came-clause-drafts c =
@@ -59,9 +59,9 @@ returns-then-came-clause-drafts c =
     on_ok c.flood.result
     (λ is.
     is
-    ∙ ap (λ q. drafted (flooded_copy m None q o).sends P ds) (sym c.in-Some.ensures)
-    ∙ ap (λ t. drafted (cond t whole o).sends P ds) (sym c.if-came.true ∙ c.has_just_aged_out-came.ensures)
-    ∙ ap (λ q. drafted (come_of_age_copy b m q o).sends P ds) c.in-Some.ensures)
+    ∙ ap (λ q. drafts_with (flooded_copy m None q o).sends P ds) (sym c.in-Some.ensures)
+    ∙ ap (λ t. drafts_with (cond t whole o).sends P ds) (sym c.if-came.true ∙ c.has_just_aged_out-came.ensures)
+    ∙ ap (λ q. drafts_with (come_of_age_copy b m q o).sends P ds) c.in-Some.ensures)
     c.flood.ensures.drafts
 
 pub returns-clause-drafts : goal.returns-clause-drafts
@@ -72,5 +72,5 @@ returns-clause-drafts c =
     let P = map present c.args.links.now in
     let ds = c.args.drafts.now in
     let whole : Outcome = flood m None (lsa_now m c.in-Some.copy) o in
-    drafted_none 1 P ds ∙ ap (λ t. drafted (cond t whole o).sends P ds) (sym c.if-came.false ∙ c.has_just_aged_out-came.ensures)
-    ∙ ap (λ q. drafted (come_of_age_copy b m q o).sends P ds) c.in-Some.ensures
+    drafted_none 1 P ds ∙ ap (λ t. drafts_with (cond t whole o).sends P ds) (sym c.if-came.false ∙ c.has_just_aged_out-came.ensures)
+    ∙ ap (λ q. drafts_with (come_of_age_copy b m q o).sends P ds) c.in-Some.ensures

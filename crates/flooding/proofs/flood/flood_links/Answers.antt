@@ -3,9 +3,9 @@ use Rattle.lsdb.specs.Copies.{lsa_now}
 use Rattle.adjacency.specs.Contents as neighbor
 use Rattle.adjacency.specs.Drafts.{drafting}
 use Rattle.adjacency.specs.Floods.{flooded, is_any}
-use Rattle.received.specs.Outcomes.{stepped, stepping_sends}
+use Rattle.received.specs.Outcomes.{stepped_links, stepping_sends}
 use Rattle.flooding.specs.Drafted.{drafted_from}
-use Rattle.flooding.specs.Links.{present, settled, with_neighbor}
+use Rattle.flooding.specs.Links.{present, settled_link, with_neighbor}
 use Rattle.flooding.proofs.Finish.{finished_counts, finished_drafts, finished_items, finishes_next}
 use Rattle.flooding.proofs.Flooded.{after_draft, after_step, begins, counts, sent_is, step, step_is}
 use Rattle.flooding.proofs.Kept.{shows_kept}
@@ -19,7 +19,7 @@ loop-i-init c = record {
 
 pub returns-in_err-one-clause-settled : goal.returns-in_err-one-clause-settled
 returns-in_err-one-clause-settled c =
-    shows_kept settled c.loop-i.links c.loop-i.i c.index-links-i.result c.flood.new.self c.index-links-i.is c.in_err-one.ensures.settled ∙ c.loop-i.invariant.settled
+    shows_kept settled_link c.loop-i.links c.loop-i.i c.index-links-i.result c.flood.new.self c.index-links-i.is c.in_err-one.ensures.settled ∙ c.loop-i.invariant.settled
 
 pub loop-i-preserved : goal.loop-i-preserved
 loop-i-preserved c =
@@ -32,14 +32,14 @@ loop-i-preserved c =
     let sending = ap (λ b. neighbor.sent_on (flooded c.args.moment b lsa) old.present.neighbor) c.is_sender-from.ensures ∙ sent_is c.args.moment c.args.sender lsa (c.loop-i.i + 1) old.present old.present.neighbor in
     record {
       floods = finishes_next present (after_step c.args.moment c.args.sender lsa) (after_draft c.args.moment c.args.sender lsa) (counts c.args.moment c.args.sender lsa) c.loop-i.i c.loop-i.links c.loop-i.drafts c.loop-i.sent
-          (stepped F P) (drafted_from 1 (stepping_sends F P) P c.args.drafts.now) (is_any (stepping_sends F P))
+          (stepped_links F P) (drafted_from 1 (stepping_sends F P) P c.args.drafts.now) (is_any (stepping_sends F P))
           c.flood.new.self c.index-links-i.result c.flood.new.draft c.index-drafts-i.result c.in_ok-one.one c.was_sent-sent.result
           (omega (arith, c.loop-i-test.true, c.loop-i.auto.links)) (omega (arith, c.loop-i-test.true, c.loop-i.auto.drafts, c.requires))
           (c.in_ok-one.ensures.ok ∙ ap (λ o. with_neighbor o old.present) stepping)
           (c.in_ok-one.ensures.draft ∙ ap (λ cs. drafting old.present.interface.delay cs draft) sending)
           (c.in_ok-one.ensures.sent ∙ ap is_any sending)
           c.was_sent-sent.ensures c.loop-i.invariant.floods;
-      settled = shows_kept settled c.loop-i.links c.loop-i.i c.index-links-i.result c.flood.new.self c.index-links-i.is c.in_ok-one.ensures.settled ∙ c.loop-i.invariant.settled;
+      settled = shows_kept settled_link c.loop-i.links c.loop-i.i c.index-links-i.result c.flood.new.self c.index-links-i.is c.in_ok-one.ensures.settled ∙ c.loop-i.invariant.settled;
     }
 
 pub returns-clause-links : goal.returns-clause-links
@@ -48,7 +48,7 @@ returns-clause-links c =
     let P = map present c.args.links.now in
     let F = step c.args.moment c.args.sender lsa in
     finished_items present (after_step c.args.moment c.args.sender lsa) (after_draft c.args.moment c.args.sender lsa) (counts c.args.moment c.args.sender lsa) c.loop-i.i c.loop-i.links c.loop-i.drafts c.loop-i.sent
-    (stepped F P) (drafted_from 1 (stepping_sends F P) P c.args.drafts.now) (is_any (stepping_sends F P))
+    (stepped_links F P) (drafted_from 1 (stepping_sends F P) P c.args.drafts.now) (is_any (stepping_sends F P))
     (omega (arith, c.loop-i-test.false, c.loop-i.auto.i-end, c.loop-i.auto.links)) c.loop-i.invariant.floods
 
 pub returns-clause-drafts : goal.returns-clause-drafts
@@ -57,7 +57,7 @@ returns-clause-drafts c =
     let P = map present c.args.links.now in
     let F = step c.args.moment c.args.sender lsa in
     finished_drafts present (after_step c.args.moment c.args.sender lsa) (after_draft c.args.moment c.args.sender lsa) (counts c.args.moment c.args.sender lsa) c.loop-i.i c.loop-i.links c.loop-i.drafts c.loop-i.sent
-    (stepped F P) (drafted_from 1 (stepping_sends F P) P c.args.drafts.now) (is_any (stepping_sends F P))
+    (stepped_links F P) (drafted_from 1 (stepping_sends F P) P c.args.drafts.now) (is_any (stepping_sends F P))
     (omega (arith, c.loop-i-test.false, c.loop-i.auto.i-end, c.loop-i.auto.links)) (omega (arith, c.loop-i-test.false, c.loop-i.auto.i-end, c.loop-i.auto.drafts, c.requires)) c.loop-i.invariant.floods
 
 pub returns-clause-sent : goal.returns-clause-sent
@@ -66,5 +66,5 @@ returns-clause-sent c =
     let P = map present c.args.links.now in
     let F = step c.args.moment c.args.sender lsa in
     finished_counts present (after_step c.args.moment c.args.sender lsa) (after_draft c.args.moment c.args.sender lsa) (counts c.args.moment c.args.sender lsa) c.loop-i.i c.loop-i.links c.loop-i.drafts c.loop-i.sent
-    (stepped F P) (drafted_from 1 (stepping_sends F P) P c.args.drafts.now) (is_any (stepping_sends F P))
+    (stepped_links F P) (drafted_from 1 (stepping_sends F P) P c.args.drafts.now) (is_any (stepping_sends F P))
     (omega (arith, c.loop-i-test.false, c.loop-i.auto.i-end, c.loop-i.auto.links)) c.loop-i.invariant.floods

@@ -6,7 +6,7 @@ use Rattle.lsdb.specs.Headers.{lsa_aged}
 use Rattle.received.specs.Flooding.{flood}
 use Rattle.received.specs.Outcomes.{Outcome}
 use Rattle.keyed_map.proofs.Helds.{on_ok}
-use Rattle.flooding.specs.Drafted.{drafted}
+use Rattle.flooding.specs.Drafted.{drafts_with}
 use Rattle.flooding.specs.Links.{area_of, flooded_copy, flushed_copy, present, start}
 use Rattle.flooding.proofs.Installed.{aged_now, aged_out}
 use Rattle.flooding.proofs.Sends.{drafted_none}
@@ -22,7 +22,7 @@ returns-in_default-clause-drafts c =
     let a = area_of c.args.links.now c.args.database.now.present in
     let P = map present c.args.links.now in
     drafted_none 1 P c.args.drafts.now
-    ∙ ap (λ q. drafted (flushed_copy c.args.moment c.args.key.now q (start a)).sends P c.args.drafts.now) c.in_default.ensures
+    ∙ ap (λ q. drafts_with (flushed_copy c.args.moment c.args.key.now q (start a)).sends P c.args.drafts.now) c.in_default.ensures
 
 pub returns-then-aged-clause-ok : goal.returns-then-aged-clause-ok
 returns-then-aged-clause-ok c =
@@ -39,8 +39,8 @@ returns-then-aged-clause-drafts c =
     let copy = c.in-Some.copy in
     let whole : Outcome = flood c.args.moment None (lsa_aged 3600 copy.lsa) (start (area_of c.args.links.now (age_out c.args.moment c.args.key.now c.args.database.now.present))) in
     drafted_none 1 P c.args.drafts.now
-    ∙ ap (λ b. drafted (cond b (start a) whole).sends P c.args.drafts.now) (sym c.if-aged.true ∙ c.is_aged_out-aged.ensures)
-    ∙ ap (λ q. drafted (flushed_copy c.args.moment c.args.key.now q (start a)).sends P c.args.drafts.now) c.in-Some.ensures
+    ∙ ap (λ b. drafts_with (cond b (start a) whole).sends P c.args.drafts.now) (sym c.if-aged.true ∙ c.is_aged_out-aged.ensures)
+    ∙ ap (λ q. drafts_with (flushed_copy c.args.moment c.args.key.now q (start a)).sends P c.args.drafts.now) c.in-Some.ensures
 
 pub returns-clause-ok : goal.returns-clause-ok
 returns-clause-ok c =
@@ -77,9 +77,9 @@ returns-clause-drafts c =
     on_ok c.flood.result
     (λ is.
     is
-    ∙ ap (λ e. drafted (flooded_copy m None (finite.get e k) (start (area_of ls e))).sends P ds) c.in_ok-age_out.ensures.ok
-    ∙ ap (λ o. drafted (flooded_copy m None o after).sends P ds) (aged_out m k d copy (sym c.in-Some.ensures))
-    ∙ ap (λ l. drafted (flood m None l after).sends P ds) (aged_now m copy)
-    ∙ ap (λ b. drafted (cond b (start a) whole).sends P ds) (sym c.if-aged.false ∙ c.is_aged_out-aged.ensures)
-    ∙ ap (λ q. drafted (flushed_copy m k q (start a)).sends P ds) c.in-Some.ensures)
+    ∙ ap (λ e. drafts_with (flooded_copy m None (finite.get e k) (start (area_of ls e))).sends P ds) c.in_ok-age_out.ensures.ok
+    ∙ ap (λ o. drafts_with (flooded_copy m None o after).sends P ds) (aged_out m k d copy (sym c.in-Some.ensures))
+    ∙ ap (λ l. drafts_with (flood m None l after).sends P ds) (aged_now m copy)
+    ∙ ap (λ b. drafts_with (cond b (start a) whole).sends P ds) (sym c.if-aged.false ∙ c.is_aged_out-aged.ensures)
+    ∙ ap (λ q. drafts_with (flushed_copy m k q (start a)).sends P ds) c.in-Some.ensures)
     c.flood.ensures.drafts

@@ -1,17 +1,17 @@
 use Rattle.std.proofs.Common.{refl, sym, ap, ◌∙◌, arith}
-use Rattle.flooding.specs.Links.{present, settled}
+use Rattle.flooding.specs.Links.{present, settled_link}
 use Rattle.flooding.proofs.Kept.{mixed_all, mixed_next, mixed_none, shows_kept}
 use Rattle.flooding.proofs.flood.roll_back_links.Goals as goal
 
 pub loop-i-init : goal.loop-i-init
-loop-i-init c = record { stays = refl; comes = mixed_none present settled c.args.links.now }
+loop-i-init c = record { stays = refl; comes = mixed_none present settled_link c.args.links.now }
 
 pub loop-i-preserved : goal.loop-i-preserved
 loop-i-preserved c = record {
-  stays = shows_kept settled c.loop-i.links c.loop-i.i c.index-links-i.result c.roll_back.new.self c.index-links-i.is (ap settled c.roll_back.ensures) ∙ c.loop-i.invariant.stays;
-  comes = mixed_next present settled c.loop-i.i c.loop-i.links c.roll_back.new.self c.index-links-i.result (ap present c.roll_back.ensures) (omega (arith, c.loop-i-test.true, c.loop-i.auto.links)) ∙ c.loop-i.invariant.comes;
+  stays = shows_kept settled_link c.loop-i.links c.loop-i.i c.index-links-i.result c.roll_back.new.self c.index-links-i.is (ap settled_link c.roll_back.ensures) ∙ c.loop-i.invariant.stays;
+  comes = mixed_next present settled_link c.loop-i.i c.loop-i.links c.roll_back.new.self c.index-links-i.result (ap present c.roll_back.ensures) (omega (arith, c.loop-i-test.true, c.loop-i.auto.links)) ∙ c.loop-i.invariant.comes;
 }
 
 pub returns-clause-present : goal.returns-clause-present
 returns-clause-present c =
-    sym (mixed_all present settled c.loop-i.i c.loop-i.links (omega (arith, c.loop-i-test.false, c.loop-i.auto.i-end, c.loop-i.auto.links))) ∙ c.loop-i.invariant.comes
+    sym (mixed_all present settled_link c.loop-i.i c.loop-i.links (omega (arith, c.loop-i-test.false, c.loop-i.auto.i-end, c.loop-i.auto.links))) ∙ c.loop-i.invariant.comes

@@ -1,10 +1,10 @@
 use Rattle.std.proofs.Common.{◌≡◌, map}
-use Rattle.flooding.specs.Links.{present, settled}
+use Rattle.flooding.specs.Links.{present, settled_link}
 use Rattle.flooding.proofs.Kept.{mixed}
 use Rattle.flooding.proofs.flood.roll_back_links.Given as goal
 
 abbrev pub invariant-loop-i : goal.invariant-loop-i
 invariant-loop-i l = record {
-  stays : map settled l.links ≡ map settled l.fn.links;
-  comes : mixed present settled l.i l.links ≡ map settled l.fn.links;
+  stays : map settled_link l.links ≡ map settled_link l.fn.links;
+  comes : mixed present settled_link l.i l.links ≡ map settled_link l.fn.links;
 }

@@ -1,17 +1,17 @@
 use Rattle.std.proofs.Common.{refl, sym, ap, ◌∙◌, arith}
-use Rattle.flooding.specs.Links.{present, settled}
+use Rattle.flooding.specs.Links.{present, settled_link}
 use Rattle.flooding.proofs.Kept.{mixed_all, mixed_next, mixed_none, shows_kept}
 use Rattle.flooding.proofs.flood.settle_links.Goals as goal
 
 pub loop-i-init : goal.loop-i-init
-loop-i-init c = record { stays = refl; comes = mixed_none settled present c.args.links.now }
+loop-i-init c = record { stays = refl; comes = mixed_none settled_link present c.args.links.now }
 
 pub loop-i-preserved : goal.loop-i-preserved
 loop-i-preserved c = record {
   stays = shows_kept present c.loop-i.links c.loop-i.i c.index-links-i.result c.settle.new.self c.index-links-i.is (ap present c.settle.ensures) ∙ c.loop-i.invariant.stays;
-  comes = mixed_next settled present c.loop-i.i c.loop-i.links c.settle.new.self c.index-links-i.result (ap settled c.settle.ensures) (omega (arith, c.loop-i-test.true, c.loop-i.auto.links)) ∙ c.loop-i.invariant.comes;
+  comes = mixed_next settled_link present c.loop-i.i c.loop-i.links c.settle.new.self c.index-links-i.result (ap settled_link c.settle.ensures) (omega (arith, c.loop-i-test.true, c.loop-i.auto.links)) ∙ c.loop-i.invariant.comes;
 }
 
 pub returns-clause-settled : goal.returns-clause-settled
 returns-clause-settled c =
-    sym (mixed_all settled present c.loop-i.i c.loop-i.links (omega (arith, c.loop-i-test.false, c.loop-i.auto.i-end, c.loop-i.auto.links))) ∙ c.loop-i.invariant.comes
+    sym (mixed_all settled_link present c.loop-i.i c.loop-i.links (omega (arith, c.loop-i-test.false, c.loop-i.auto.i-end, c.loop-i.auto.links))) ∙ c.loop-i.invariant.comes

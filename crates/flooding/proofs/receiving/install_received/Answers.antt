@@ -3,14 +3,14 @@ use Rattle.std.specs.Prelude.{Some}
 use Rattle.keyed_map.proofs.Helds.{on_ok}
 use Rattle.lsdb.specs.Headers.{Header}
 use Rattle.received.specs.Links.{Area, acknowledge_later, change_link}
-use Rattle.flooding.specs.Links.{area_of, installed}
+use Rattle.flooding.specs.Links.{area_of, install_outcome}
 use Rattle.flooding.proofs.Marking.{area_is}
 use Rattle.flooding.proofs.receiving.install_received.Goals as goal
 
 pub returns-clause-ok : goal.returns-clause-ok
 returns-clause-ok c =
     let n = c.args.number in
-    let o = installed c.args.moment (Some n) c.args.lsa (area_of c.args.links.now c.args.database.now.present) in
+    let o = install_outcome c.args.moment (Some n) c.args.lsa (area_of c.args.links.now c.args.database.now.present) in
     on_ok c.acknowledge_later.result
     (λ is.
     area_is is refl

@@ -3,7 +3,7 @@ use Rattle.keyed_map.proofs.Helds.{on_ok}
 use Rattle.lsa.specs.Headers.{key_of}
 use Rattle.lsdb.specs.Copies.{mark_sent}
 use Rattle.received.specs.Updates.{send_copy}
-use Rattle.flooding.specs.Drafted.{drafted}
+use Rattle.flooding.specs.Drafted.{drafts_with}
 use Rattle.flooding.specs.Links.{area_of, present, start}
 use Rattle.flooding.proofs.Marking.{area_is}
 use Rattle.flooding.proofs.Sends.{drafted_none}
@@ -18,7 +18,7 @@ pub returns-in_default-clause-drafts : goal.returns-in_default-clause-drafts
 returns-in_default-clause-drafts c =
     let a = area_of c.args.links.now c.args.database.now.present in
     drafted_none 1 (map present c.args.links.now) c.args.drafts.now
-    ∙ ap (λ q. drafted (send_copy c.args.moment c.args.number q (start a)).sends (map present c.args.links.now) c.args.drafts.now) c.in_default.ensures
+    ∙ ap (λ q. drafts_with (send_copy c.args.moment c.args.number q (start a)).sends (map present c.args.links.now) c.args.drafts.now) c.in_default.ensures
 
 pub returns-clause-ok : goal.returns-clause-ok
 returns-clause-ok c =
@@ -36,5 +36,5 @@ returns-clause-drafts c =
     on_ok c.mark_sent.result
     (λ _.
     c.in_ok-update.ensures
-    ∙ ap (λ q. drafted (send_copy c.args.moment c.args.number q (start a)).sends (map present c.args.links.now) c.args.drafts.now) c.in-Some.ensures)
+    ∙ ap (λ q. drafts_with (send_copy c.args.moment c.args.number q (start a)).sends (map present c.args.links.now) c.args.drafts.now) c.in-Some.ensures)
     c.mark_sent.ensures.ok

@@ -1,7 +1,7 @@
 use Rattle.std.proofs.Common.{◌-◌, arith}
 use Rattle.keyed_map.proofs.Helds.{on_ok}
 use Rattle.received.specs.Links.{acknowledge_later}
-use Rattle.flooding.specs.Links.{settled}
+use Rattle.flooding.specs.Links.{settled_link}
 use Rattle.flooding.proofs.Kept.{shows_kept}
 use Rattle.flooding.proofs.Only.{links_changed}
 use Rattle.flooding.proofs.rows.acknowledge_later.Goals as goal
@@ -14,4 +14,4 @@ returns-clause-links c =
 
 pub returns-clause-settled : goal.returns-clause-settled
 returns-clause-settled c =
-    shows_kept settled c.args.links.now (c.args.number - 1) c.index-links-i.result c.acknowledge_later.new.self c.index-links-i.is c.acknowledge_later.ensures.settled
+    shows_kept settled_link c.args.links.now (c.args.number - 1) c.index-links-i.result c.acknowledge_later.new.self c.index-links-i.is c.acknowledge_later.ensures.settled

@@ -4,7 +4,7 @@ use Rattle.lsa.specs.Headers.{key_of}
 use Rattle.adjacency.specs.Contents.{no_sends}
 use Rattle.adjacency.specs.Neighbors.{Neighbor}
 use Rattle.adjacency.specs.Retransmissions.{remove_retransmission}
-use Rattle.flooding.specs.Links.{settled}
+use Rattle.flooding.specs.Links.{settled_link}
 use Rattle.flooding.proofs.Kept.{shows_kept}
 use Rattle.flooding.proofs.Only.{links_stepped}
 use Rattle.flooding.proofs.rows.release.Goals as goal
@@ -18,4 +18,4 @@ returns-clause-links c =
 
 pub returns-clause-settled : goal.returns-clause-settled
 returns-clause-settled c =
-    shows_kept settled c.args.links.now (c.args.number - 1) c.index-links-i.result c.take_off.new.self c.index-links-i.is c.take_off.ensures.settled
+    shows_kept settled_link c.args.links.now (c.args.number - 1) c.index-links-i.result c.take_off.new.self c.index-links-i.is c.take_off.ensures.settled

@@ -3,9 +3,9 @@ use Rattle.std.specs.Prelude.{Option}
 use Rattle.keyed_map.proofs.Helds.{on_ok}
 use Rattle.adjacency.specs.Drafts.{Drafted}
 use Rattle.received.specs.Links.{Link}
-use Rattle.received.specs.Outcomes.{numbered}
-use Rattle.flooding.specs.Drafted.{drafted}
-use Rattle.flooding.specs.Links.{present, settled}
+use Rattle.received.specs.Outcomes.{sends_at}
+use Rattle.flooding.specs.Drafted.{drafts_with}
+use Rattle.flooding.specs.Links.{present, settled_link}
 use Rattle.flooding.specs.Steps.{key_of_update, mark_each, sent_by}
 use Rattle.flooding.proofs.Kept.{shows_kept}
 use Rattle.flooding.proofs.Marking.{area_is, marks}
@@ -15,11 +15,11 @@ use Rattle.flooding.proofs.steps.step_link.Goals as goal
 
 pub returns-in_err-take-clause-links : goal.returns-in_err-take-clause-links
 returns-in_err-take-clause-links g c =
-    shows_kept settled c.args.links.now (c.args.number - 1) c.index-links-i.result c.take.new.link c.index-links-i.is c.in_err-take.ensures.settled
+    shows_kept settled_link c.args.links.now (c.args.number - 1) c.index-links-i.result c.take.new.link c.index-links-i.is c.in_err-take.ensures.settled
 
 pub returns-clause-links : goal.returns-clause-links
 returns-clause-links g c =
-    shows_kept settled c.args.links.now (c.args.number - 1) c.index-links-i.result c.take.new.link c.index-links-i.is c.in_ok-take.ensures.settled
+    shows_kept settled_link c.args.links.now (c.args.number - 1) c.index-links-i.result c.take.new.link c.index-links-i.is c.in_ok-take.ensures.settled
 
 pub returns-clause-ok : goal.returns-clause-ok
 returns-clause-ok g c =
@@ -40,7 +40,7 @@ returns-clause-ok g c =
     ∙ (λ j. mark_each c.args.moment db (map key_of_update (drop (length (c.updates-count.ensures j)) (c.updates.ensures j))))
     ∙ ap (λ (e : Drafted). mark_each c.args.moment db (map key_of_update (drop (length d.updates) e.updates))) c.in_ok-take.ensures.draft
     ∙ marks_behind c.args.moment old.interface.delay k (S old) db d
-    ∙ ap (λ (o : Option Link). marks c.args.moment db (numbered k (sent_by S o))) here))
+    ∙ ap (λ (o : Option Link). marks c.args.moment db (sends_at k (sent_by S o))) here))
     c.mark_behind.ensures.ok
 
 pub returns-clause-drafts : goal.returns-clause-drafts
@@ -55,5 +55,5 @@ returns-clause-drafts g c =
     (λ is.
     drafts_sent ls i k c.take.new.link c.index-links-i.result (omega (arith, c.requires.first, c.requires.last)) (omega (arith, c.requires.first)) (S old) c.args.drafts.now c.take.new.draft c.index-drafts-i.result
     (omega (arith, c.requires.first, c.requires.last, c.requires.drafts)) c.in_ok-take.ensures.draft
-    ∙ ap (λ (o : Option Link). drafted (numbered k (sent_by S o)) (map present ls) c.args.drafts.now) here)
+    ∙ ap (λ (o : Option Link). drafts_with (sends_at k (sent_by S o)) (map present ls) c.args.drafts.now) here)
     c.mark_behind.ensures.ok

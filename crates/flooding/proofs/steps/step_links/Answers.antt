@@ -1,6 +1,6 @@
 use Rattle.std.proofs.Common.{false, map, refl, ◌∙◌, arith}
-use Rattle.flooding.specs.Drafted.{drafted}
-use Rattle.flooding.specs.Links.{present, settled}
+use Rattle.flooding.specs.Drafted.{drafts_with}
+use Rattle.flooding.specs.Links.{present, settled_link}
 use Rattle.flooding.specs.Steps.{sends_of}
 use Rattle.flooding.proofs.Changes.{after, after_draft, begins, counts}
 use Rattle.flooding.proofs.Finish.{finished_drafts, finished_items, finishes_next}
@@ -20,11 +20,11 @@ loop-i-preserved g c =
     let P = map present c.args.links.now in
     record {
       steps = finishes_next present (after A S) (after_draft A S) (counts A S) c.loop-i.i c.loop-i.links c.loop-i.drafts false
-          (map A P) (drafted (sends_of S P) P c.args.drafts.now) false
+          (map A P) (drafts_with (sends_of S P) P c.args.drafts.now) false
           c.take.new.link c.index-links-i.result c.take.new.draft c.index-drafts-i.result false false
           (omega (arith, c.loop-i-test.true, c.loop-i.auto.links)) (omega (arith, c.loop-i-test.true, c.loop-i.auto.drafts, c.requires))
           c.in_ok-take.ensures.ok c.in_ok-take.ensures.draft refl refl c.loop-i.invariant.steps;
-      settled = shows_kept settled c.loop-i.links c.loop-i.i c.index-links-i.result c.take.new.link c.index-links-i.is c.in_ok-take.ensures.settled ∙ c.loop-i.invariant.settled;
+      settled = shows_kept settled_link c.loop-i.links c.loop-i.i c.index-links-i.result c.take.new.link c.index-links-i.is c.in_ok-take.ensures.settled ∙ c.loop-i.invariant.settled;
     }
 
 pub returns-clause-links : goal.returns-clause-links
@@ -32,7 +32,7 @@ returns-clause-links g c =
     let A = g.S.LinkStep.after c.args.step.now c.args.database.now.present in
     let S = g.S.LinkStep.sends c.args.step.now c.args.database.now.present in
     let P = map present c.args.links.now in
-    finished_items present (after A S) (after_draft A S) (counts A S) c.loop-i.i c.loop-i.links c.loop-i.drafts false (map A P) (drafted (sends_of S P) P c.args.drafts.now) false
+    finished_items present (after A S) (after_draft A S) (counts A S) c.loop-i.i c.loop-i.links c.loop-i.drafts false (map A P) (drafts_with (sends_of S P) P c.args.drafts.now) false
     (omega (arith, c.loop-i-test.false, c.loop-i.auto.i-end, c.loop-i.auto.links)) c.loop-i.invariant.steps
 
 pub returns-clause-drafts : goal.returns-clause-drafts
@@ -40,9 +40,9 @@ returns-clause-drafts g c =
     let A = g.S.LinkStep.after c.args.step.now c.args.database.now.present in
     let S = g.S.LinkStep.sends c.args.step.now c.args.database.now.present in
     let P = map present c.args.links.now in
-    finished_drafts present (after A S) (after_draft A S) (counts A S) c.loop-i.i c.loop-i.links c.loop-i.drafts false (map A P) (drafted (sends_of S P) P c.args.drafts.now) false
+    finished_drafts present (after A S) (after_draft A S) (counts A S) c.loop-i.i c.loop-i.links c.loop-i.drafts false (map A P) (drafts_with (sends_of S P) P c.args.drafts.now) false
     (omega (arith, c.loop-i-test.false, c.loop-i.auto.i-end, c.loop-i.auto.links)) (omega (arith, c.loop-i-test.false, c.loop-i.auto.i-end, c.loop-i.auto.drafts, c.requires)) c.loop-i.invariant.steps
 
 pub returns-in_err-take-clause-settled : goal.returns-in_err-take-clause-settled
 returns-in_err-take-clause-settled g c =
-    shows_kept settled c.loop-i.links c.loop-i.i c.index-links-i.result c.take.new.link c.index-links-i.is c.in_err-take.ensures.settled ∙ c.loop-i.invariant.settled
+    shows_kept settled_link c.loop-i.links c.loop-i.i c.index-links-i.result c.take.new.link c.index-links-i.is c.in_err-take.ensures.settled ∙ c.loop-i.invariant.settled

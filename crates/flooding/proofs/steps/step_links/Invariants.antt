@@ -1,10 +1,10 @@
 use Rattle.std.proofs.Common.{◌≡◌, map}
-use Rattle.flooding.specs.Links.{present, settled}
+use Rattle.flooding.specs.Links.{present, settled_link}
 use Rattle.flooding.proofs.Changes.{Steps}
 use Rattle.flooding.proofs.steps.step_links.Given as goal
 
 abbrev pub invariant-loop-i : goal.invariant-loop-i
 invariant-loop-i g l = record {
   steps : Steps (g.S.LinkStep.after l.step l.database.present) (g.S.LinkStep.sends l.step l.database.present) l.i l.links l.drafts (map present l.fn.links) l.fn.drafts;
-  settled : map settled l.links ≡ map settled l.fn.links;
+  settled_link : map settled_link l.links ≡ map settled_link l.fn.links;
 }

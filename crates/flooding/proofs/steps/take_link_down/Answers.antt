@@ -1,6 +1,6 @@
 use Rattle.std.proofs.Common.{◌-◌, map, sym, ap, arith}
 use Rattle.std.proofs.lemmas.List.{length-map}
-use Rattle.flooding.specs.Links.{present, settled, without_neighbor}
+use Rattle.flooding.specs.Links.{present, settled_link, without_neighbor}
 use Rattle.flooding.proofs.Kept.{shows_kept}
 use Rattle.flooding.proofs.OneLink.{changed_after, changed_at, changed_before}
 use Rattle.flooding.proofs.steps.take_link_down.Goals as goal
@@ -20,4 +20,4 @@ returns-clause-present c =
 
 pub returns-clause-settled : goal.returns-clause-settled
 returns-clause-settled c =
-    shows_kept settled c.args.links.now (c.args.number - 1) c.index-links-number.result c.take_down.new.self c.index-links-number.is (ap settled c.take_down.ensures)
+    shows_kept settled_link c.args.links.now (c.args.number - 1) c.index-links-number.result c.take_down.new.self c.index-links-number.is (ap settled_link c.take_down.ensures)

@@ -5,7 +5,7 @@ use Rattle.adjacency.specs.Contents.{no_sends}
 use Rattle.adjacency.specs.Neighbors.{Neighbor}
 use Rattle.adjacency.specs.Retransmissions.{after_acknowledgment}
 use Rattle.received.specs.Outcomes.{Outcome}
-use Rattle.flooding.specs.Drafted.{drafted}
+use Rattle.flooding.specs.Drafted.{drafts_with}
 use Rattle.neighbor_packets.proofs.OneLink.{steps}
 use Rattle.neighbor_packets.proofs.acknowledgments.acknowledged.Goals as goal
 
@@ -19,4 +19,4 @@ pub returns-clause-drafts : goal.returns-clause-drafts
 returns-clause-drafts c =
     let f = λ (db : Database) (n : Neighbor). no_sends (after_acknowledgment c.args.moment c.args.headers.now n) in
     let same = steps c.args.moment c.args.number c.args.area.now.present c.requires.first c.requires.last f in
-    on_ok c.step_link.result (λ is. is ∙ ap (λ (o : Outcome). drafted o.sends c.args.area.now.present.links c.args.drafts.now) same) c.step_link.ensures.drafts
+    on_ok c.step_link.result (λ is. is ∙ ap (λ (o : Outcome). drafts_with o.sends c.args.area.now.present.links c.args.drafts.now) same) c.step_link.ensures.drafts

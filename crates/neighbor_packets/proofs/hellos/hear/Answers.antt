@@ -1,7 +1,7 @@
 use Rattle.std.proofs.Common.{ap, ◌∙◌}
 use Rattle.keyed_map.proofs.Helds.{on_ok}
 use Rattle.received.specs.Outcomes.{Outcome}
-use Rattle.flooding.specs.Drafted.{drafted}
+use Rattle.flooding.specs.Drafted.{drafts_with}
 use Rattle.neighbor_packets.proofs.Heard.{hears}
 use Rattle.neighbor_packets.proofs.hellos.hear.Goals as goal
 
@@ -13,4 +13,4 @@ returns-clause-ok c =
 pub returns-clause-drafts : goal.returns-clause-drafts
 returns-clause-drafts c =
     let same = hears c.args.own c.args.moment c.args.number c.args.from c.args.hello.now c.args.area.now.present c.requires.first c.requires.last in
-    on_ok c.step_link.result (λ is. is ∙ ap (λ (o : Outcome). drafted o.sends c.args.area.now.present.links c.args.drafts.now) same) c.step_link.ensures.drafts
+    on_ok c.step_link.result (λ is. is ∙ ap (λ (o : Outcome). drafts_with o.sends c.args.area.now.present.links c.args.drafts.now) same) c.step_link.ensures.drafts

@@ -1,7 +1,7 @@
 use Rattle.std.proofs.Common.{◌≡◌, ◌≤◌, ◌+◌, IfOk, ap, sym, ◌∙◌, arith, length, subst}
 use Rattle.std.specs.List.{AllByRecursion}
 use Rattle.std.specs.Vec.Iter.{into_iter_items, into_iter_len}
-use Rattle.events.specs.Packing.{packed}
+use Rattle.events.specs.Packing.{packed_groups}
 use Rattle.packing.proofs.Packs.{all_packed, more_packed, next_room, none_left, nothing_packed}
 use Rattle.packing.proofs.packing.packed.Goals as goal
 
@@ -42,5 +42,5 @@ returns g c =
     let rest = into_iter_items c.loop-item.item-iterator in
     let all = into_iter_items c.into_iter-item-iterator.result in
     let none = none_left rest (into_iter_len c.loop-item.item-iterator) c.loop-item.invariant.3 c.in-None.ensures.steps.0 in
-    let whole = all_packed size c.args.start all _ _ _ _ rest c.loop-item.invariant.2 none ∙ ap (λ xs. packed size c.args.start xs) c.into_iter-item-iterator.ensures.into_iter_gives.0 in
+    let whole = all_packed size c.args.start all _ _ _ _ rest c.loop-item.invariant.2 none ∙ ap (λ xs. packed_groups size c.args.start xs) c.into_iter-item-iterator.ensures.into_iter_gives.0 in
     subst (λ ps. IfOk c.finish.result (λ packets. packets.items ≡ ps)) whole c.finish.ensures

@@ -1,7 +1,7 @@
 use Rattle.std.proofs.Common.{◌-◌, length, ap, ◌∙◌, arith}
 use Rattle.std.proofs.lemmas.List.{length-map}
 use Rattle.adjacency.specs.Kept.{Kept}
-use Rattle.adjacency.specs.Steps.{named}
+use Rattle.adjacency.specs.Steps.{named_neighbor}
 use Rattle.received.specs.Links.{Link, neighbor_at}
 use Rattle.flooding.specs.Kept.{RouterArea}
 use Rattle.flooding.specs.Links.{present}
@@ -14,6 +14,6 @@ returns c =
     let ls = c.links-links.result.now in
     let same = c.links-links.ensures.present ∙ ap (λ (a : RouterArea). a.present.links) c.area.ensures.parts in
     c.neighbor.ensures
-    ∙ ap (λ (k : Kept Link). named k.present.neighbor) c.index-links-i.is
-    ∙ ap named (shown_neighbor ls (n - 1) n c.index-links-i.result (omega (arith, c.requires.first, c.requires.last, length-map ls present, ap length same)) (omega (arith, c.requires.first)))
-    ∙ ap (λ links. named (neighbor_at n links)) same
+    ∙ ap (λ (k : Kept Link). named_neighbor k.present.neighbor) c.index-links-i.is
+    ∙ ap named_neighbor (shown_neighbor ls (n - 1) n c.index-links-i.result (omega (arith, c.requires.first, c.requires.last, length-map ls present, ap length same)) (omega (arith, c.requires.first)))
+    ∙ ap (λ links. named_neighbor (neighbor_at n links)) same

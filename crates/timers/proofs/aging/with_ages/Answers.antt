@@ -2,7 +2,7 @@ use Rattle.std.proofs.Common.{◌≡◌, ap, sym, ◌∙◌}
 use Rattle.keyed_map.proofs.Helds.{on_ok}
 use Rattle.lsdb.specs.Copies.{aged_keys}
 use Rattle.received.specs.Links.{Area}
-use Rattle.flooding.specs.Drafted.{drafted}
+use Rattle.flooding.specs.Drafted.{drafts_with}
 use Rattle.timers.specs.Aging.{each_come_of_age}
 use Rattle.timers.proofs.OfAge.{ages_are}
 use Rattle.timers.proofs.Within.{nothing_ages}
@@ -28,7 +28,7 @@ returns-clause-drafts c =
     let ds = c.args.drafts.now in
     let keys = c.deref.ensures.value ∙ c.in_ok-aged.ensures ∙ ap (λ d. aged_keys m d.present) c.database.ensures in
     on_ok c.each_come_of_age.result
-    (λ is. is ∙ ap (λ ks. drafted (each_come_of_age b m ks a).sends a.links ds) keys ∙ ap (λ o. drafted o.sends a.links ds) (ages_are b m a))
+    (λ is. is ∙ ap (λ ks. drafts_with (each_come_of_age b m ks a).sends a.links ds) keys ∙ ap (λ o. drafts_with o.sends a.links ds) (ages_are b m a))
     c.each_come_of_age.ensures.drafts
 
 pub returns-then-count-clause-ok : goal.returns-then-count-clause-ok
@@ -43,4 +43,4 @@ returns-then-count-clause-drafts c =
     let ds = c.args.drafts.now in
     let same : c.args.before ≡ c.args.moment = cc in
     drafted_none 1 a.links ds
-    ∙ ap (λ o. drafted o.sends a.links ds) (sym (nothing_ages c.args.before c.args.moment same (start a)))
+    ∙ ap (λ o. drafts_with o.sends a.links ds) (sym (nothing_ages c.args.before c.args.moment same (start a)))

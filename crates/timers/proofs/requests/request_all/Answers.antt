@@ -1,7 +1,7 @@
 use Rattle.std.proofs.Common.{sym, ap, ◌∙◌}
 use Rattle.adjacency.specs.Requests.{request_next}
 use Rattle.received.specs.Links.{Link}
-use Rattle.flooding.specs.Drafted.{drafted}
+use Rattle.flooding.specs.Drafted.{drafts_with}
 use Rattle.keyed_map.proofs.Helds.{on_ok}
 use Rattle.timers.proofs.Requested.{requests_mark_nothing}
 use Rattle.timers.proofs.Stepped.{areas, links_are, marks, marks_none, sends, sends_are}
@@ -20,4 +20,4 @@ pub returns-clause-drafts : goal.returns-clause-drafts
 returns-clause-drafts c =
     let F = λ (l : Link). request_next c.args.moment in
     let ls = c.args.area.now.present.links in
-    on_ok c.step_links.result (λ is. is ∙ ap (λ ss. drafted ss ls c.args.drafts.now) (sends_are F 1 ls)) c.step_links.ensures.drafts
+    on_ok c.step_links.result (λ is. is ∙ ap (λ ss. drafts_with ss ls c.args.drafts.now) (sends_are F 1 ls)) c.step_links.ensures.drafts

@@ -3,7 +3,7 @@ use Rattle.std.proofs.lemmas.List.{length-map}
 use Rattle.adjacency.specs.Retransmissions.{send_again}
 use Rattle.received.specs.Links.{Area, Link}
 use Rattle.keyed_map.proofs.Helds.{on_ok}
-use Rattle.flooding.specs.Drafted.{drafted}
+use Rattle.flooding.specs.Drafted.{drafts_with}
 use Rattle.flooding.proofs.Sends.{drafts_are}
 use Rattle.timers.specs.Marks.{keys_behind, mark_each, sent_again, update_count}
 use Rattle.timers.proofs.Again.{length-drafts, marks_are, sent_at}
@@ -40,4 +40,4 @@ returns-clause-drafts c =
     let ls = c.args.area.now.present.links in
     let db = c.args.area.now.present.database in
     let F = λ (l : Link). send_again c.args.moment l.interface.retransmit_interval db in
-    on_ok c.mark_all.result (λ is. c.in_ok-step_links.ensures.drafts ∙ ap (λ ss. drafted ss ls c.args.drafts.now) (sends_are F 1 ls)) c.mark_all.ensures.ok
+    on_ok c.mark_all.result (λ is. c.in_ok-step_links.ensures.drafts ∙ ap (λ ss. drafts_with ss ls c.args.drafts.now) (sends_are F 1 ls)) c.mark_all.ensures.ok

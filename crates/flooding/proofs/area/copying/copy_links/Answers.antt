@@ -1,4 +1,4 @@
-use Rattle.flooding.specs.Links.{present, settled}
+use Rattle.flooding.specs.Links.{present, settled_link}
 use Rattle.flooding.proofs.Copies.{copied_next}
 use Rattle.flooding.proofs.area.copying.copy_links.Goals as goal
 
@@ -10,5 +10,5 @@ loop-i-preserved c =
     let longer = c.push.new.self.items in
     record {
       shown = copied_next present present links made longer c.loop-i.i link c.in_ok-copy.field-0 c.loop-i-test.true c.index-links-i.is c.in_ok-push.ensures.items c.in_ok-copy.ensures.present c.loop-i.invariant.shown;
-      fresh = copied_next present settled links made longer c.loop-i.i link c.in_ok-copy.field-0 c.loop-i-test.true c.index-links-i.is c.in_ok-push.ensures.items c.in_ok-copy.ensures.settled c.loop-i.invariant.fresh;
+      fresh = copied_next present settled_link links made longer c.loop-i.i link c.in_ok-copy.field-0 c.loop-i-test.true c.index-links-i.is c.in_ok-push.ensures.items c.in_ok-copy.ensures.settled c.loop-i.invariant.fresh;
     }

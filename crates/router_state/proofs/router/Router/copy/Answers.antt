@@ -1,6 +1,6 @@
 use Rattle.std.proofs.Common.{◌≡◌, length, sym, ap, subst, ◌∙◌, arith}
 use Rattle.std.proofs.lemmas.List.{length-map}
-use Rattle.flooding.specs.Links.{present, settled}
+use Rattle.flooding.specs.Links.{present, settled_link}
 use Rattle.router_state.specs.Owned.{AreOwn}
 use Rattle.router_state.proofs.router.Router.copy.Goals as goal
 
@@ -11,7 +11,7 @@ invariant_of-result c =
     let count : length c.in_ok-area.area.settled.links ≡ length c.self.inside.area.settled.links =
     ap (λ a. length a.settled.links) c.in_ok-area.ensures
     ∙ ap length (sym c.links-links.ensures.present) ∙ length-map links present
-    ∙ sym (length-map links settled) ∙ ap length c.links-links.ensures.settled in (
+    ∙ sym (length-map links settled_link) ∙ ap length c.links-links.ensures.settled in (
       ap (λ a. a.router) c.in_ok-area.ensures ∙ c.self.invariant.0,
       omega (arith, count, c.self.invariant.1),
       subst (AreOwn id) (sym c.in_ok-announced.ensures.present) c.self.invariant.2,

@@ -4,7 +4,7 @@ use Rattle.std.specs.FinMap as finite
 use Rattle.lsdb.specs.Copies.{DatabaseCopy}
 use Rattle.received.specs.Links.{Area}
 use Rattle.received.specs.Outcomes.{Outcome}
-use Rattle.flooding.specs.Drafted.{drafted}
+use Rattle.flooding.specs.Drafted.{drafts_with}
 use Rattle.flooding.specs.Links.{start}
 use Rattle.events.specs.EventState.{on_area}
 use Rattle.events.specs.Originations.{flush_copy}
@@ -26,7 +26,7 @@ returns-clause-makes c =
     (λ to drafts.
     makes_same (λ p is. ap (λ (d : Option DatabaseCopy). on_area (flush_copy m k d) p) (ap (λ (r : Router). finite.get r.area.database k) (view ∙ sym is)))
     (makes_are (flush_copy m k copy) (keeps_flush m k copy) _ c.args.self.now.present c.flush.new.self.present c.args.drafts.now c.flush.new.drafts (appends_flush m k copy) view
-    (to ∙ ap (λ (o : Outcome). o.area) flushed) (drafts ∙ ap (λ (o : Outcome). drafted o.sends a.links c.args.drafts.now) flushed)))
+    (to ∙ ap (λ (o : Outcome). o.area) flushed) (drafts ∙ ap (λ (o : Outcome). drafts_with o.sends a.links c.args.drafts.now) flushed)))
     c.flush.ensures.ok c.flush.ensures.drafts
 
 pub returns-clause-drafts : goal.returns-clause-drafts
@@ -40,5 +40,5 @@ returns-clause-drafts c =
     both c.flush.result
     (λ to drafts.
     drafts_are (flush_copy m k copy) (keeps_flush m k copy) _ c.args.self.now.present c.flush.new.self.present c.args.drafts.now c.flush.new.drafts view c.requires.drafts
-    (to ∙ ap (λ (o : Outcome). o.area) flushed) (drafts ∙ ap (λ (o : Outcome). drafted o.sends a.links c.args.drafts.now) flushed))
+    (to ∙ ap (λ (o : Outcome). o.area) flushed) (drafts ∙ ap (λ (o : Outcome). drafts_with o.sends a.links c.args.drafts.now) flushed))
     c.flush.ensures.ok c.flush.ensures.drafts

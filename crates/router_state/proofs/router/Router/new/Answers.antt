@@ -2,7 +2,7 @@ use Rattle.std.proofs.Common.{◌≡◌, length, sym, ap, subst, ◌∙◌, arit
 use Rattle.std.proofs.lemmas.List.{length-map}
 use Rattle.adjacency.specs.Views.{keys_of}
 use Rattle.adjacency.proofs.Neighbors.{no_keys}
-use Rattle.flooding.specs.Links.{settled}
+use Rattle.flooding.specs.Links.{settled_link}
 use Rattle.router_state.specs.Owned.{AreOwn}
 use Rattle.router_state.proofs.Announced.{none_own}
 use Rattle.router_state.proofs.router.Router.new.Goals as goal
@@ -10,7 +10,7 @@ use Rattle.router_state.proofs.router.Router.new.Goals as goal
 pub invariant_of-result : goal.invariant_of-result
 invariant_of-result c =
     let id = c.args.id in
-    let count : length c.new.result.settled.links ≡ length c.args.links.items = ap (λ a. length a.settled.links) c.new.ensures ∙ length-map c.args.links.items settled in (
+    let count : length c.new.result.settled.links ≡ length c.args.links.items = ap (λ a. length a.settled.links) c.new.ensures ∙ length-map c.args.links.items settled_link in (
       ap (λ a. a.router) c.new.ensures,
       omega (arith, count, c.requires.few),
       subst (AreOwn id) (sym (ap (λ h. h.present) c.new-2.ensures)) (none_own id),

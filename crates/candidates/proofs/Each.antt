@@ -1,0 +1,55 @@
+-- What the LSAs of a list offer is what those of the database offer, if the list has all of their types.
+use Rattle.std.proofs.Common.{◌≡◌, ◌≤◌, ℕ, List, None, Some, arith}
+use Rattle.std.specs.List.{Contains}
+use Rattle.words.specs.declared.key.Key.{Key}
+use Rattle.words.specs.declared.route.Route.{Route}
+use Rattle.lsa.specs.declared.body.Body.{Body}
+use Rattle.lsdb.specs.Bodies.{AreBodies}
+use Rattle.routes.specs.Said.{Said}
+use Rattle.routes.specs.declared.offer.Offer.{Offer}
+use Rattle.routes.specs.declared.root.Root.{Root}
+use Rattle.offers.specs.Bodies.{HaveAll, OfSaid}
+use Rattle.offers.specs.Borders.{Tells}
+use Rattle.offers.specs.Gathering.{OfEach}
+use Rattle.offers.specs.Sources.{IsInner, OfExternal}
+use Rattle.offers.specs.Sources.IsInner.{ByNetwork, ByRouter, BySummary}
+use Rattle.offers.specs.Ways.{Ways}
+use Rattle.offers.specs.declared.flagged.Flagged.{Flagged}
+
+-- ---- which types offer
+
+-- only LSAs of the types up to this one offer
+abbrev pub AreUpTo : ℕ → (Key × Body → Offer → Type 0) → Type 0
+AreUpTo last Q = (one : Key × Body) (o : Offer) → Q one o → one.0.ls_type ≤ last
+
+pub inner_up_to : (root : Root) (ways : Ways) (routers : List Flagged) → AreUpTo 4 (IsInner root ways routers)
+inner_up_to root ways routers one o (ByRouter k) = omega (arith, k.is_type)
+inner_up_to root ways routers one o (ByNetwork k) = omega (arith, k.is_type)
+inner_up_to root ways routers one o (BySummary k) = omega (arith, k.is_type)
+
+pub told_up_to : (root : Root) (routers : List Flagged) → AreUpTo 4 (Tells root routers)
+told_up_to root routers one o k = omega (arith, k.is_type)
+
+pub external_up_to : (root : Root) (routers : List Flagged) (told inner : List Route) → AreUpTo 5 (OfExternal root routers told inner)
+external_up_to root routers told inner one o k = omega (arith, k.is_type)
+
+-- ---- there and back
+
+module _ (last : ℕ) (said : Said) (bodies : List (Key × Body)) (have : HaveAll last said bodies) (Q : Key × Body → Offer → Type 0) where
+  pub of_said : (o : Offer) → OfEach Q bodies o → OfSaid Q said o
+  of_said o ((key, says), among, q) = ((key, says), have.each key says among, q)
+
+  pub of_each : AreUpTo last Q → (o : Offer) → OfSaid Q said o → OfEach Q bodies o
+  of_each up o ((key, says), is, q) = ((key, says), have.all key says (up (key, says) o q) is, q)
+
+pub all_bodies : (last : ℕ) (said : Said) (bodies : List (Key × Body)) → AreBodies None said bodies → HaveAll last said bodies
+all_bodies last said bodies are = record {
+  each = λ key says among. ((are.each key says).0 among).1;
+  all = λ key says up is. (are.each key says).1 (tt, is);
+}
+
+pub fewer : (most last : ℕ) (said : Said) (bodies : List (Key × Body)) → last ≤ most → HaveAll most said bodies → HaveAll last said bodies
+fewer most last said bodies low have = record {
+  each = have.each;
+  all = λ key says up is. have.all key says (omega (arith, up, low)) is;
+}

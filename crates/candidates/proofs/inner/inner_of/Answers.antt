@@ -1,0 +1,38 @@
+use Rattle.std.proofs.Common.{List, arith, sym, subst, ◌∙◌}
+use Rattle.std.specs.List.{Contains}
+use Rattle.std.specs.Prelude.{◌↔◌}
+use Rattle.offers.specs.Borders.{AreCloseBy, AscendByRouter, HasLengths, Tells}
+use Rattle.offers.specs.Gathering.{Adds, OfEach}
+use Rattle.offers.specs.Sources.{IsInner}
+use Rattle.offers.specs.declared.flagged.Flagged.{Flagged}
+use Rattle.routes.specs.Routes.{AreRoutesAmong}
+use Rattle.candidates.proofs.All.{of_inside, of_networks, of_told}
+use Rattle.candidates.proofs.Each.{fewer}
+use Rattle.candidates.proofs.inner.inner_of.Goals as goal
+
+pub returns-clause-searchable : goal.returns-clause-searchable
+returns-clause-searchable g c = record {
+  flagged = (c.in_ok-flagged.ensures.ascend, c.in_ok-flagged.ensures.close);
+  told = (c.in_ok-told.ensures.routes.ascending, c.in_ok-told.ensures.few);
+  networks = (c.in_ok-networks.ensures.routes.ascending, c.in_ok-networks.ensures.few c.in_ok-offers.ensures.cheap);
+  lengths = c.lengths_of-lengths.ensures;
+}
+
+pub returns-clause-inner : goal.returns-clause-inner
+returns-clause-inner g c said are have =
+    let root = c.args.root.now in
+    let ways = g.W.Ways.ways c.args.ways.now in
+    let bodies = c.args.bodies.now in
+    let routers = c.in_ok-flagged.flagged.items in
+    let flagged = c.in_ok-flagged.ensures.flagged said (fewer 4 1 said bodies (omega arith) have) in
+    let added = c.in_ok-offers.ensures.adds in
+    let inside = of_inside said root ways are routers flagged bodies have c.in_ok-offers.offers.items added in
+    record {
+      flagged = flagged;
+      told = of_told said root ways are routers flagged bodies have c.in_ok-told.told.items c.in_ok-told.ensures.routes;
+      networks = of_networks said root ways are routers flagged bodies have c.in_ok-offers.offers.items c.in_ok-networks.networks.items added c.in_ok-networks.ensures.routes;
+      offers = λ o. (
+        (λ t. (inside o).0 ((c.routes_of_offers.ensures.same o).0 t)),
+        (λ k. (c.routes_of_offers.ensures.same o).1 ((inside o).1 k)),
+      );
+    }

@@ -1,0 +1,28 @@
+-- What the LSAs of types 1 to 4 give (RFC 2328, sections 16.1 to 16.3), on which external
+-- destinations rest (section 16.4).
+use Rattle.std.specs.Prelude.{◌↔◌}
+use Rattle.std.specs.List.{Contains}
+use Rattle.candidates.specs.declared.inner.InnerRoutes.{InnerRoutes}
+use Rattle.offers.specs.Bodies.{OfSaid}
+use Rattle.offers.specs.Borders.{AreBelow, AreCloseBy, AreFlagged, Ascend, AscendByRouter}
+use Rattle.offers.specs.Borders.{HasLengths, Tells}
+use Rattle.offers.specs.Ways.{Ways}
+use Rattle.routes.specs.Routes.{AreRoutesAmong}
+use Rattle.routes.specs.Said.{Said}
+use Rattle.routes.specs.Summaries.{OffersInside}
+use Rattle.routes.specs.declared.offer.Offer.{Offer}
+use Rattle.routes.specs.declared.root.Root.{Root}
+
+-- each is in its order, and with a metric more no cost passes 32 bits
+pub record AreSearchable (inner : InnerRoutes) : Type 0 where
+  pub flagged : AscendByRouter inner.flagged.items × AreCloseBy inner.flagged.items
+  pub told : Ascend inner.told.items × AreBelow inner.told.items
+  pub networks : Ascend inner.networks.items × AreBelow inner.networks.items
+  pub lengths : HasLengths inner.networks.items inner.lengths
+
+-- they are those of what the LSAs say, where these are the ways of their links
+pub record AreInner (said : Said) (root : Root) (ways : Ways) (inner : InnerRoutes) : Type 0 where
+  pub flagged : AreFlagged said ways inner.flagged.items
+  pub told : AreRoutesAmong (OfSaid (Tells root inner.flagged.items) said) inner.told.items
+  pub networks : AreRoutesAmong (OffersInside said root) inner.networks.items
+  pub offers : (o : Offer) → Contains inner.offers.items o ↔ OffersInside said root o

@@ -1,0 +1,64 @@
+//! What the LSAs of types 1 to 4 give (RFC 2328, sections 16.1 to 16.3), on which external
+//! destinations rest (section 16.4).
+ghost use Rattle.std.specs.Prelude.{◌≡◌, IfOk};
+ghost use Rattle.candidates.specs.Inner.{AreInner, AreSearchable};
+ghost use Rattle.lsdb.specs.Bodies.{InOrder};
+ghost use Rattle.offers.specs.Bodies.{HaveAll};
+ghost use Rattle.offers.specs.Ways.{AreNear, AreWays};
+ghost use Rattle.routes.specs.Said.{Said};
+
+use lsdb::KeyedBody;
+use offers::{
+    Flagged, Ways, flagged_routers, inner_offers, lengths_of, routes_of_offers, told_routes,
+};
+use routes::{Offer, Root};
+use std::alloc::{AllocError, Global};
+use words::Route;
+
+/// What routers, networks and summaries give.
+#[derive(Drop)]
+pub struct InnerRoutes {
+    /// The area border routers and AS boundary routers that ways lead to, in the order of their
+    /// Router IDs.
+    pub flagged: Vec<Flagged>,
+    /// What summaries tell of AS boundary routers, as routes to the routers' names.
+    pub told: Vec<Route>,
+    /// The networks within the area and between areas, in the order of their prefixes.
+    pub networks: Vec<Route>,
+    /// Which lengths the networks' prefixes have.
+    pub lengths: [bool; 33],
+    /// What is offered within the area and between areas.
+    pub offers: Vec<Offer>,
+}
+
+/// What the LSAs of types 1 to 4 give. The bodies have those of these types, in the order of their
+/// keys; others among them make no difference.
+///
+/// # Errors
+/// Where memory for it is refused.
+pub fn inner_of<W: Ways>(
+    alloc: Global,
+    root: &Root,
+    ways: &W,
+    bodies: &[KeyedBody<'_>],
+) -> Result<InnerRoutes, AllocError>
+    requires near { AreNear (W.ways ways.now) }
+    requires order { InOrder bodies.now }
+    ensures searchable { IfOk result (λ inner. AreSearchable inner) }
+    ensures inner { IfOk result (λ inner. (said : Said)
+        → AreWays said root.now (W.ways ways.now) → HaveAll 4 said bodies.now
+        → AreInner said root.now (W.ways ways.now) inner) }
+{
+    let flagged = flagged_routers(alloc, ways, bodies)?;
+    let told = told_routes(alloc, root, &flagged, bodies)?;
+    let mut offers = inner_offers(alloc, root, ways, &flagged, bodies)?;
+    let networks = routes_of_offers(alloc, &mut offers)?;
+    let lengths = lengths_of(&networks);
+    Ok(InnerRoutes {
+        flagged,
+        told,
+        networks,
+        lengths,
+        offers,
+    })
+}

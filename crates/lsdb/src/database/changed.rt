@@ -1,0 +1,69 @@
+//! Which copies say something else than when the database was last settled, and what they said then.
+ghost use Rattle.std.specs.Prelude.{◌≡◌, IfOk, option_copied};
+ghost use Rattle.std.specs.FinMap as finite;
+ghost use Rattle.std.specs.List.{Contains};
+ghost use Rattle.lsdb.specs.Changes.{SaysTheSame};
+ghost use Rattle.lsdb.specs.Copies.{said_by};
+ghost use Rattle.lsdb.specs.Joined.{aged_at};
+ghost use Rattle.words.specs.declared.key.Key.{Key as KeyValue};
+
+use super::{AlikeAges, Lsdb, SameBodies, tells_max_age};
+use crate::times::Times;
+use lsa::Body;
+use std::alloc::{AllocError, Global};
+use words::{Key, Second};
+
+// Whether these times are of MaxAge at the moment.
+fn is_aged(moment: Second, times: Option<&Times>) -> bool
+    ensures { result ≡ aged_at moment (option_copied times.entry) }
+{
+    match times {
+        None => false,
+        Some(times) => tells_max_age(moment, times),
+    }
+}
+
+impl Lsdb {
+    /// The keys whose copies don't say at the moment what the copies of these keys said when the
+    /// database was last settled, as `keeps` compares them (RFC 2328, section 13.2). A key may stand
+    /// there twice. It looks at the edits since then.
+    ///
+    /// # Errors
+    /// Where memory for the keys, or for the texts of LSAs, to compare them, is refused.
+    pub fn changed_keys(&self, alloc: Global, moment: Second) -> Result<Vec<Key>, AllocError>
+        ensures changed { IfOk result (λ keys. (key : KeyValue) → Contains keys.items key
+            → SaysTheSame moment (finite.get self.now.settled key) (finite.get self.now.present key)
+            → ⊥) }
+        ensures others { IfOk result (λ keys. (key : KeyValue) → (Contains keys.items key → ⊥)
+            → SaysTheSame moment
+            (finite.get self.now.settled key) (finite.get self.now.present key)) }
+    {
+        let mut keys = self
+            .lsas
+            .changed_keys(alloc, &SameBodies { last_type: None })?;
+        let ages = AlikeAges {
+            lsas: &self.lsas,
+            last_type: None,
+            moment,
+        };
+        let aged = self.times.changed_keys(alloc, &ages)?;
+        keys.extend_from_slice(&aged)?;
+        Ok(keys)
+    }
+
+    /// What the copy of this key said when the database was last settled, if there was one below
+    /// MaxAge at the moment. It looks at the edits since then.
+    pub fn settled_body_at(&self, moment: Second, key: &Key) -> Option<&Body>
+        ensures { option_copied result ≡ said_by moment (finite.get self.now.settled key.now) }
+    {
+        match self.lsas.settled_get(key) {
+            None => None,
+            Some(stored) => {
+                if is_aged(moment, self.times.settled_get(key)) {
+                    return None;
+                }
+                Some(stored.lsa().body())
+            }
+        }
+    }
+}
