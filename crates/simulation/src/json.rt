@@ -1,5 +1,5 @@
 //! What is printed for programs: an object of JSON on one line.
-use crate::words::{scenario_word, topology_word};
+use crate::names::{scenario_word, topology_word};
 use simulated_histories::{Look, Outcome, Phase, Plan};
 use simulated_networks::Counts;
 use std::io::{self, Write};

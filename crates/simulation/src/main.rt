@@ -6,11 +6,11 @@
 mod arguments;
 mod fault;
 mod json;
+mod names;
 mod program;
 mod reading;
 mod requests;
 mod telling;
-mod words;
 mod work;
 
 use std::alloc::{AllocError, Global};

@@ -6,7 +6,7 @@ ghost use Rattle.simulated_networks.specs.declared.topology.Kind.{Kind};
 ghost use Rattle.simulation.specs.Words.{IsNumber, OrElse, scenario_word, topology_word};
 
 use crate::arguments::wrong_value;
-use crate::words::{scenario_of, topology_of};
+use crate::names::{scenario_of, topology_of};
 use address_texts::read_within;
 use clap::{ArgMatches, Error};
 use simulated_histories::Scenario;

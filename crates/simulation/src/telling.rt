@@ -1,5 +1,5 @@
 //! What is printed for people.
-use crate::words::scenario_word;
+use crate::names::scenario_word;
 use simulated_histories::{Act, Outcome, Phase, Plan, Scenario};
 use std::io::{self, Write};
 
