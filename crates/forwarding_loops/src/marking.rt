@@ -1,7 +1,9 @@
 //! Which routers lie on a loop.
 ghost use Rattle.std.specs.Prelude.{◌≡◌, ℕ, ◌<◌, IfOk, OnOk, length};
 ghost use Rattle.std.specs.List.{All};
-ghost use Rattle.forwarding_loops.specs.Loops.{AreLoops, GoesRoundOnly, HoldsWholeLoops, IsAmong, IsBoth, MarksBetween, MarksLoopsAt, MarksLoopsBefore};
+ghost use Rattle.forwarding_loops.specs.Loops.{AreLoops, GoesRoundOnly, HoldsWholeLoops, IsAmong};
+ghost use Rattle.forwarding_loops.specs.Loops.{IsBoth, MarksBetween, MarksLoopsAt};
+ghost use Rattle.forwarding_loops.specs.Loops.{MarksLoopsBefore};
 
 use crate::hop::Hop;
 use crate::reaching::{reached, turn_all};
@@ -58,7 +60,8 @@ fn mark_loops_at(
     mark_between(alloc, hops, place, &ahead, marks)
 }
 
-// Marks the routers of all loops that come by the router before the hop, if the costs don't fall along it.
+// Marks the routers of all loops that come by the router before the hop, if the costs don't fall
+// along it.
 fn mark_loops_before(
     alloc: Global,
     hops: &[Hop],
@@ -103,8 +106,9 @@ fn mark_all(
 
 /// Marks the routers that lie on a loop, of as many as there are costs.
 ///
-/// Each router's cost is that of its route. Where the costs fall along each hop there is no loop, and nothing else is looked at: a loop has
-/// a hop along which they don't. Any costs give the same marks.
+/// Each router's cost is that of its route. Where the costs fall along each hop there is no loop,
+/// and nothing else is looked at: a loop has a hop along which they don't. Any costs give the same
+/// marks.
 ///
 /// # Errors
 /// Where memory for marks is refused.

@@ -1,12 +1,14 @@
 //! Where a packet may come to from a router, and from where one may come to it.
 ghost use Rattle.std.specs.Prelude.{◌≡◌, ℕ, IfOk, length, map, true, false};
 ghost use Rattle.std.specs.List.{All};
-ghost use Rattle.forwarding_loops.specs.Loops.{AreReached, IsAmong, IsMarked, IsPassedOn, IsSpread, PassesOn, Walk, turned};
+ghost use Rattle.forwarding_loops.specs.Loops.{AreReached, IsAmong, IsMarked, IsPassedOn, IsSpread};
+ghost use Rattle.forwarding_loops.specs.Loops.{PassesOn, Walk, turned};
 
 use crate::hop::Hop;
 use std::alloc::{AllocError, Global};
 
-// Marks the end of the hop, if it leads out of the start or a router that is marked. Tells whether it was marked anew.
+// Marks the end of the hop, if it leads out of the start or a router that is marked. Tells whether
+// it was marked anew.
 fn pass_on(hop: Hop, start: usize, marks: &mut [bool]) -> bool
     requires { IsAmong (length marks.old) hop }
     ensures passes { result ≡ true → PassesOn start hop marks.old marks.new }
@@ -23,7 +25,8 @@ fn pass_on(hop: Hop, start: usize, marks: &mut [bool]) -> bool
     true
 }
 
-// Marks the ends of hops that lead out of the start or a router that is marked. Tells whether any was marked anew.
+// Marks the ends of hops that lead out of the start or a router that is marked. Tells whether any
+// was marked anew.
 fn spread(hops: &[Hop], start: usize, marks: &mut [bool]) -> bool
     requires within { All (IsAmong (length marks.old)) hops.now }
     requires sound { AreReached hops.now start marks.old }
@@ -61,7 +64,8 @@ pub fn reached(
     requires { All (IsAmong routers) hops.now }
     ensures count { IfOk result (λ marks. length marks.items ≡ routers) }
     ensures sound { IfOk result (λ marks. AreReached hops.now start marks.items) }
-    ensures complete { IfOk result (λ marks. (k : ℕ) → Walk hops.now start k → IsMarked marks.items k) }
+    ensures complete { IfOk result (λ marks. (k : ℕ) → Walk hops.now start k
+        → IsMarked marks.items k) }
 {
     let mut marks = vec![in alloc; false; routers]?;
     spread_all(hops, start, &mut marks);

@@ -9,7 +9,8 @@ use crate::hop::Hop;
 use std::alloc::{AllocError, Global};
 use words::Hops;
 
-/// A router's way to a prefix: the interfaces by which packets leave, with bit k for interface k, where 0 is the router itself; and the cost.
+/// A router's way to a prefix: the interfaces by which packets leave, with bit k for interface k,
+/// where 0 is the router itself; and the cost.
 #[derive(Clone, Copy)]
 pub struct Way {
     pub hops: u64,
@@ -43,8 +44,10 @@ fn add_hop(
     interface: u8,
     to: usize,
 ) -> Result<(), AllocError>
-    ensures added { OnOk result (hops.new.items ≡ hops.old.items ++ hop_by ways.now from interface to) }
-    ensures within { All (IsAmong (length ways.now)) hops.old.items → All (IsAmong (length ways.now)) hops.new.items }
+    ensures added { OnOk result (hops.new.items ≡ hops.old.items
+        ++ hop_by ways.now from interface to) }
+    ensures within { All (IsAmong (length ways.now)) hops.old.items
+        → All (IsAmong (length ways.now)) hops.new.items }
 {
     if from >= ways.len() {
         return Ok(());
@@ -62,7 +65,8 @@ fn add_hop(
 // The next hops over the link, of both routers.
 fn add_hops(hops: &mut Vec<Hop>, ways: &[Way], link: &Link) -> Result<(), AllocError>
     ensures added { OnOk result (hops.new.items ≡ hops.old.items ++ hops_over ways.now link.now) }
-    ensures within { All (IsAmong (length ways.now)) hops.old.items → All (IsAmong (length ways.now)) hops.new.items }
+    ensures within { All (IsAmong (length ways.now)) hops.old.items
+        → All (IsAmong (length ways.now)) hops.new.items }
 {
     add_hop(hops, ways, link.one, link.one_interface, link.other)?;
     add_hop(hops, ways, link.other, link.other_interface, link.one)
@@ -86,7 +90,8 @@ fn costs_of(alloc: Global, ways: &[Way]) -> Result<Vec<u32>, AllocError>
     ways.iter().map(|way| way.cost).collect(alloc)
 }
 
-/// Counts the routers to which a packet for a prefix may come back, if each router hands it on by its way over one of these links.
+/// Counts the routers to which a packet for a prefix may come back, if each router hands it on by
+/// its way over one of these links.
 ///
 /// # Errors
 /// Where memory for next hops and marks is refused.

@@ -4,11 +4,11 @@ ghost use Rattle.words.specs.declared.key.Key.{Key};
 ghost use Rattle.lsdb.specs.Foresight.{Foresees, ForeseesAll};
 ghost use Rattle.lsdb.specs.declared.times.Times.{Times};
 
-use crate::order::{MAX_AGE, age_at};
+use crate::order::age_at;
 use crate::times::Times;
 use keyed_map::KeyedMap;
 use std::alloc::{AllocError, Global};
-use words::{Key, Second};
+use words::{Key, MAX_AGE, Second};
 
 /// Which keys' copies may have MaxAge before a moment: no others have.
 #[derive(Drop)]

@@ -4,7 +4,8 @@ use simulated_networks::{Faults, Random};
 /// What is done with a network. Routers and destinations go by their places and numbers.
 #[derive(Clone, Copy)]
 pub enum Act {
-    /// The next packet that is under way comes; it is lost; it comes twice; or it comes after the one behind it.
+    /// The next packet that is under way comes; it is lost; it comes twice; or it comes after the
+    /// one behind it.
     Comes,
     Lost,
     Twice,
@@ -62,8 +63,8 @@ fn chosen_rarely(random: &mut Random, place: u32, faults: &Faults, restarts: boo
     }
 }
 
-/// The next act among so many routers and destinations. Packets are lost, late and repeated, and routers begin anew, where that is asked
-/// for.
+/// The next act among so many routers and destinations. Packets are lost, late and repeated, and
+/// routers begin anew, where that is asked for.
 pub fn chosen(
     random: &mut Random,
     routers: u32,

@@ -1,5 +1,6 @@
-//! Histories of simulated networks: scenarios from a start over a change to rest, and lists of single acts after which Full neighbors'
-//! databases differ, made shorter until none can be left out.
+//! Histories of simulated networks: scenarios from a start over a change to rest, and lists of
+//! single acts after which Full neighbors' databases differ, made shorter until none can be left
+//! out.
 #![tactic(auto)]
 
 mod acts;

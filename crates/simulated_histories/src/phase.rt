@@ -51,7 +51,8 @@ const NO_SUM: Sum = Sum {
 /// A part of a history.
 #[derive(Drop)]
 pub struct Phase {
-    /// The last second in which a link that was up wasn't Full, and the last in which all wasn't calm.
+    /// The last second in which a link that was up wasn't Full, and the last in which all wasn't
+    /// calm.
     pub full: u64,
     pub settled: u64,
     /// How long it took.

@@ -14,7 +14,8 @@ pub enum Scenario {
     Restart,
     /// The link goes down and up again every ten seconds, for a minute.
     Flap,
-    /// All links between the lower and the upper half of the places go down, and up again after a minute.
+    /// All links between the lower and the upper half of the places go down, and up again after a
+    /// minute.
     Partition,
     /// All destinations are announced at once.
     Announce,

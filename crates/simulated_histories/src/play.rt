@@ -50,7 +50,8 @@ struct Side<'a> {
     interface: u8,
 }
 
-// Whether the route leads from the one side to the other and back, though neither announces its prefix.
+// Whether the route leads from the one side to the other and back, though neither announces its
+// prefix.
 fn goes_round(one: &Side<'_>, other: &Side<'_>, route: &Route, others: &[Route]) -> bool {
     leads_by(route, one.interface)
         && leads_back(others, route, other.interface)
@@ -141,7 +142,8 @@ impl<'a> Play<'a> {
         fits
     }
 
-    // The event happens to the router at the place; nothing, where there is none or it refuses the event.
+    // The event happens to the router at the place; nothing, where there is none or it refuses the
+    // event.
     fn takes(&mut self, place: usize, event: &Event) -> Result<(), Fault> {
         match self.routers.step(place, self.moment, event)? {
             Some(outs) => memory(self.sends_all(place, outs)),
@@ -294,7 +296,8 @@ impl<'a> Play<'a> {
         false
     }
 
-    /// Tells whether two neighbors hand packets for a prefix to each other that neither of them announces.
+    /// Tells whether two neighbors hand packets for a prefix to each other that neither of them
+    /// announces.
     ///
     /// # Errors
     /// Where memory is refused.

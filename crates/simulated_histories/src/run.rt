@@ -201,6 +201,10 @@ impl<'a> Run<'a> {
         if second > 120 {
             return Ok(());
         }
+        self.strikes()
+    }
+
+    fn strikes(&mut self) -> Result<(), Fault> {
         if self.random.below(100) < 30 {
             self.loses_a_link()?;
         }
@@ -261,38 +265,56 @@ impl<'a> Run<'a> {
         })
     }
 
+    // A second of the scenario. Tells whether all has been calm for a while since the last act.
+    fn goes_on(
+        &mut self,
+        scenario: Scenario,
+        second: u64,
+        phase: &mut Phase,
+    ) -> Result<bool, Fault> {
+        self.second(scenario, second)?;
+        let look = self.look(second, self.plan.watches)?;
+        phase.note(look)?;
+        Ok(second > scenario.last_act() && phase.has_settled_for(self.plan.stay))
+    }
+
     // Seconds until all is calm for a while after the last act.
     fn phase(&mut self, scenario: Scenario, phase: &mut Phase) -> Result<(), Fault> {
-        for second in 1..=self.plan.seconds {
-            self.second(scenario, second)?;
-            let look = self.look(second, self.plan.watches)?;
-            phase.note(look)?;
-            if second > scenario.last_act() && phase.has_settled_for(self.plan.stay) {
+        for before in 0..self.plan.seconds {
+            if self.goes_on(scenario, before.saturating_add(1), phase)? {
                 return Ok(());
             }
         }
         Ok(())
     }
 
+    fn idles(&mut self) -> Result<(), Fault> {
+        self.network.passes()?;
+        self.network.delivers()
+    }
+
     // Seconds in which nothing is lost, late or repeated, of which the last is looked at.
     fn rests(&mut self, phase: &mut Phase) -> Result<(), Fault> {
         self.network.set_faults(Faults::NONE);
-        for second in 1..=self.plan.calm {
-            self.second(Scenario::Start, second)?;
+        for _second in 0..self.plan.calm {
+            self.idles()?;
         }
         let look = self.look(self.plan.calm, true)?;
         phase.note(look)?;
         Ok(())
     }
 
+    // Nobody announces a destination, and each link is up.
+    fn clears(&mut self) -> Result<(), Fault> {
+        let (destinations, links) = (self.events.len(), self.links());
+        self.tables.begin(&self.network, destinations)?;
+        self.owners.resize(destinations, NOBODY)?;
+        self.down.resize(links, 0)?;
+        Ok(())
+    }
+
     fn begins(&mut self) -> Result<(), Fault> {
-        self.tables.begin(&self.network, self.events.len())?;
-        for _event in self.events {
-            self.owners.push(NOBODY)?;
-        }
-        for _link in 0..self.links() {
-            self.down.push(0)?;
-        }
+        self.clears()?;
         self.network.set_faults(self.plan.faults);
         match self.plan.scenario {
             Scenario::Announce => Ok(()),

@@ -1,5 +1,7 @@
-//! Histories by chance that end with a fault, and the shortest one that is left of each when acts are taken out.
-ghost use Rattle.std.specs.Prelude.{◌≡◌, ◌+◌, ◌<◌, ◌≤◌, ◌++◌, IfOk, IfSome, drop, if◌then◌else◌, length, slice_set, take, vec_len};
+//! Histories by chance that end with a fault, and the shortest one that is left of each when acts
+//! are taken out.
+ghost use Rattle.std.specs.Prelude.{◌≡◌, ◌+◌, ◌<◌, ◌≤◌, ◌++◌, IfOk, IfSome, drop, if◌then◌else◌};
+ghost use Rattle.std.specs.Prelude.{length, slice_set, take, vec_len};
 
 use crate::acts::{Act, chosen};
 use crate::play::Play;
@@ -50,7 +52,8 @@ const TURNS: u32 = 8;
 // The acts without so many from a place on.
 fn without(alloc: Global, acts: &[Act], from: usize, many: usize) -> Result<Vec<Act>, AllocError>
     requires { from ≤ length acts.now }
-    ensures kept { IfOk result (λ kept. kept.items ≡ take from acts.now ++ drop (from + many) acts.now) }
+    ensures kept { IfOk result (λ kept. kept.items ≡ take from acts.now
+        ++ drop (from + many) acts.now) }
     ensures fewer { IfOk result (λ kept. vec_len kept ≤ length acts.now) }
 {
     let mut kept = Vec::from_slice(alloc, &acts[..from])?;
@@ -120,7 +123,8 @@ impl Search {
         seen
     }
 
-    // Takes so many acts out from a place on, if the rest still shows what is sought. Tells whether.
+    // Takes so many acts out from a place on, if the rest still shows what is sought. Tells
+    // whether.
     fn leaves_out(
         &self,
         stage: Stage<'_>,

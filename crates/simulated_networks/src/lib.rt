@@ -1,5 +1,6 @@
-//! Networks of many routers in memory, under a virtual clock: what is sent comes to the router at the other end of a link, or is lost,
-//! comes later or comes twice, as numbers made from a seed say. The same seed makes the same run on any machine.
+//! Networks of many routers in memory, under a virtual clock: what is sent comes to the router at
+//! the other end of a link, or is lost, comes later or comes twice, as numbers made from a seed
+//! say. The same seed makes the same run on any machine.
 #![tactic(auto)]
 
 mod addresses;

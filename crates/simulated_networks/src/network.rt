@@ -44,7 +44,8 @@ fn memory(fits: bool) -> Result<(), Fault> {
 }
 
 impl Network {
-    /// The routers of the topology, which begin at 0 and know nothing, with the numbers of this seed. Nothing is lost, late or repeated.
+    /// The routers of the topology, which begin at 0 and know nothing, with the numbers of this
+    /// seed. Nothing is lost, late or repeated.
     ///
     /// # Errors
     /// Where memory is refused, or the times aren't allowed.
@@ -233,7 +234,8 @@ impl Network {
         }
     }
 
-    /// The event happens to the router at the place; nothing, where there is none. An event that the router refuses is counted.
+    /// The event happens to the router at the place; nothing, where there is none. An event that
+    /// the router refuses is counted.
     ///
     /// # Errors
     /// Where memory is refused.

@@ -62,7 +62,8 @@ fn see_way(network: &Network, ways: &[Way], place: usize, is_there: bool) -> See
     seen
 }
 
-/// How many routers' ways lead nowhere, are missing, have another cost, or are there though nobody announces the prefix.
+/// How many routers' ways lead nowhere, are missing, have another cost, or are there though nobody
+/// announces the prefix.
 pub fn see_ways(network: &Network, ways: &[Way], is_there: bool) -> Seen {
     let mut seen = Seen::NOTHING;
     for place in 0..ways.len() {

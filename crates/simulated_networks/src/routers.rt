@@ -86,7 +86,8 @@ fn begun(
     }
 }
 
-// What the router sends at an event; None where it refuses the event for another reason than that memory is refused.
+// What the router sends at an event; None where it refuses the event for another reason than that
+// memory is refused.
 fn stepped(core: &mut Core, moment: u64, event: &Event) -> Result<Option<Vec<Out>>, Fault> {
     match core.step(Second::new(moment), event) {
         Ok(outs) => Ok(Some(outs)),
@@ -114,7 +115,8 @@ fn both_hold(one: &Core, other: &Core, key: &Key) -> bool {
     }
 }
 
-/// Tells whether both hold LSAs of the same keys with the same lengths, sequence numbers and checksums.
+/// Tells whether both hold LSAs of the same keys with the same lengths, sequence numbers and
+/// checksums.
 pub fn holds_the_same(one: &Core, other: &Core) -> bool {
     if one.database().len() != other.database().len() {
         return false;
@@ -127,8 +129,8 @@ pub fn holds_the_same(one: &Core, other: &Core) -> bool {
     true
 }
 
-/// The routers of a network, by their places. They have no `Drop`: who has them closes them, so that no other crate proves once more how the
-/// parts of a router are let go.
+/// The routers of a network, by their places. They have no `Drop`: who has them closes them, so
+/// that no other crate proves once more how the parts of a router are let go.
 pub struct Routers {
     cores: Vec<Core>,
 }
@@ -174,8 +176,8 @@ impl Routers {
         self.cores.get(place)
     }
 
-    /// What the router at a place sends at an event; None where there is no router, or it refuses the event for another reason than that
-    /// memory is refused.
+    /// What the router at a place sends at an event; None where there is no router, or it refuses
+    /// the event for another reason than that memory is refused.
     ///
     /// # Errors
     /// Where memory is refused.

@@ -11,7 +11,8 @@ use words::{Route, RouteKind};
 /// The place of who announces an external destination that nobody announces.
 pub const NOBODY: usize = 0xffff_ffff;
 
-/// What the tables were when they were last looked at. Each is taken anew only where its router may have changed.
+/// What the tables were when they were last looked at. Each is taken anew only where its router may
+/// have changed.
 #[derive(Drop)]
 pub struct Tables {
     alloc: Global,
@@ -227,7 +228,8 @@ impl Tables {
         Ok(seen)
     }
 
-    /// What the tables of all routers say now, where each external destination is announced by the router at this place.
+    /// What the tables of all routers say now, where each external destination is announced by the
+    /// router at this place.
     ///
     /// # Errors
     /// Where memory is refused.

@@ -3,7 +3,8 @@ use crate::random::Random;
 use forwarding_loops::Link;
 use std::alloc::{AllocError, Global};
 
-/// What an interface of a router leads to: the router at a place, over a link, at an interface there.
+/// What an interface of a router leads to: the router at a place, over a link, at an interface
+/// there.
 #[derive(Clone, Copy)]
 pub struct End {
     pub place: usize,
@@ -39,7 +40,8 @@ pub struct Topology {
 const MOST_INTERFACES: usize = 63;
 
 impl Topology {
-    /// The topology of this kind with so many routers (a fat tree: with at most so many). Each link costs 10 and less than `spread` more.
+    /// The topology of this kind with so many routers (a fat tree: with at most so many). Each link
+    /// costs 10 and less than `spread` more.
     ///
     /// # Errors
     /// Where memory is refused.
@@ -204,7 +206,8 @@ impl Topology {
         Ok(())
     }
 
-    // Joins the upper switch of a pod to the lower ones of the pod, and to its switches at the core.
+    // Joins the upper switch of a pod to the lower ones of the pod, and to its switches at the
+    // core.
     fn join_upper(
         &mut self,
         random: &mut Random,
@@ -222,7 +225,8 @@ impl Topology {
         Ok(())
     }
 
-    // First the switches at the core, half times half; then pods of twice half, half of them upper ones.
+    // First the switches at the core, half times half; then pods of twice half, half of them upper
+    // ones.
     fn join_pods(&mut self, random: &mut Random, half: usize) -> Result<(), AllocError> {
         let pods = half.wrapping_mul(2);
         for pod in 0..pods {

@@ -70,12 +70,14 @@ impl Wires {
         }
     }
 
-    /// The event is under way to an end, and comes with the next round. False where memory is refused.
+    /// The event is under way to an end, and comes with the next round. False where memory is
+    /// refused.
     pub fn send(&mut self, end: &End, event: Event) -> bool {
         add(&mut self.next, end, event, 0)
     }
 
-    /// The event is under way to an end, and comes at a later moment. False where memory is refused.
+    /// The event is under way to an end, and comes at a later moment. False where memory is
+    /// refused.
     pub fn send_late(&mut self, end: &End, event: Event, due: u64) -> bool {
         add(&mut self.late, end, event, due)
     }

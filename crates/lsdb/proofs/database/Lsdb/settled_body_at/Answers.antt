@@ -13,12 +13,12 @@ returns-in-None c =
 pub returns-then-is_aged : goal.returns-then-is_aged
 returns-then-is_aged c =
     says_no_more c.args.moment c.self.inside.lsas.settled c.self.inside.times.settled c.args.key.now c.in-Some.stored.now (sym c.in-Some.ensures)
-    (ap (aged_at c.args.moment) (sym c.settled_get-2.ensures) ∙ sym c.is_aged.ensures ∙ c.if-is_aged.true)
+    (ap (aged_at c.args.moment) (sym c.settled_get-in-Some.ensures) ∙ sym c.is_aged.ensures ∙ c.if-is_aged.true)
     ∙ ap (λ h. said_by c.args.moment (finite.get h.settled c.args.key.now)) c.self.view_is
 
 pub returns-else-is_aged : goal.returns-else-is_aged
 returns-else-is_aged c =
     ap (λ b. Some b) c.body.ensures ∙ ap (λ l. Some l.body) c.lsa.ensures
     ∙ says_it c.args.moment c.self.inside.lsas.settled c.self.inside.times.settled c.args.key.now c.in-Some.stored.now (sym c.in-Some.ensures)
-    c.self.invariant.settled (ap (aged_at c.args.moment) (sym c.settled_get-2.ensures) ∙ sym c.is_aged.ensures ∙ c.if-is_aged.false)
+    c.self.invariant.settled (ap (aged_at c.args.moment) (sym c.settled_get-in-Some.ensures) ∙ sym c.is_aged.ensures ∙ c.if-is_aged.false)
     ∙ ap (λ h. said_by c.args.moment (finite.get h.settled c.args.key.now)) c.self.view_is
