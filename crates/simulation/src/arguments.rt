@@ -36,7 +36,16 @@ Example: simulation search --topology row --routers 3 --externals 2 --hello 2 --
            --retransmit 2 --seeds 200
 
 Prints each history that was found, act by act, and how many there are. docs/ROUTER.md tells the
-shortest ones packet by packet.
+shortest ones packet by packet. Routers R are counted from 0 on:
+  Comes, Lost, Twice, Exchanged   what becomes of the next packet (Exchanged: it and the one after
+                                  it change places)
+  Again(N)                        the packet comes that was sent N before the end
+  Tick(R), Passes                 a Tick at R; a second, with a Tick at each router
+  Announce(R, D), Withdraw(R, D)  R announces destination D, or withdraws it
+  LinkDown(R, I), Restart(R)      R's interface I goes down; R begins anew
+  Calm(N)                         N seconds in which all packets come
+
+--loss, --late and --twice say by any number above 0 that packets may be lost, late or repeated.
 
 Statuses:
   0  none was found
