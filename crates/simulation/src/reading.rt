@@ -70,11 +70,6 @@ pub fn small_of(
     Ok(u32::try_from(number).unwrap_or(usual))
 }
 
-/// Tells whether the word of this name is there.
-pub fn flag_in(matches: &ArgMatches<'_>, name: &str) -> bool {
-    matches.get_flag(name)
-}
-
 /// The shape under `topology`.
 ///
 /// # Errors

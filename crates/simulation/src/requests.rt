@@ -1,6 +1,6 @@
 //! What the words of a command line ask for.
 use crate::arguments::{error, whole};
-use crate::reading::{faults_in, flag_in, number_of, scenario_in, small_of, times_in, topology_in};
+use crate::reading::{faults_in, number_of, scenario_in, small_of, times_in, topology_in};
 use clap::error::ErrorKind;
 use clap::{ArgMatches, Error};
 use simulated_histories::{Plan, Search, Sought};
@@ -44,17 +44,17 @@ fn run(alloc: Global, matches: &ArgMatches<'_>) -> Result<Request, Error> {
         seconds: number_of(alloc, matches, "seconds", 300, 1, MOST)?,
         stay: number_of(alloc, matches, "stay", 12, 0, MOST)?,
         calm: number_of(alloc, matches, "calm", 60, 0, MOST)?,
-        watches: flag_in(matches, "watch"),
+        watches: matches.get_flag("watch"),
     };
     Ok(Request::Run {
         plan,
         seeds: number_of(alloc, matches, "seeds", 1, 1, MOST)?,
-        json: flag_in(matches, "json"),
+        json: matches.get_flag("json"),
     })
 }
 
 fn search(alloc: Global, matches: &ArgMatches<'_>) -> Result<Request, Error> {
-    let sought = if flag_in(matches, "loops") {
+    let sought = if matches.get_flag("loops") {
         Sought::Loops
     } else {
         Sought::Databases
@@ -65,7 +65,7 @@ fn search(alloc: Global, matches: &ArgMatches<'_>) -> Result<Request, Error> {
         externals: small_of(alloc, matches, "externals", 0, 0, 100_000)?,
         times: times_in(alloc, matches)?,
         faults: faults_in(alloc, matches)?,
-        restarts: flag_in(matches, "restarts"),
+        restarts: matches.get_flag("restarts"),
         steps: small_of(alloc, matches, "steps", 500, 0, 1_000_000)?,
         calm: small_of(alloc, matches, "calm", 60, 0, 1_000_000)?,
     };
