@@ -34,6 +34,8 @@ mod operator;
 #[cfg(test)]
 mod packets;
 #[cfg(test)]
+mod plans;
+#[cfg(test)]
 mod refusals;
 #[cfg(test)]
 mod retransmissions;
