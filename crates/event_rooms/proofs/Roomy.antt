@@ -233,7 +233,7 @@ parts_roomy = record {
       let lsas : List Lsa = requested_lsas moment o.area.database keys in
       sending_roomy moment (sends_at number (map Content.Updates lsas)) o
       (numbered_roomy number (map Content.Updates lsas) (updates_room lsas (copies_fit moment o.area.database h.fit keys))) h;
-  mismatch = λ moment number o h. one_roomy moment number (adjacencies.mismatched moment) (mismatched_roomy moment) o h;
+  mismatch = λ moment number o h. one_roomy moment number (adjacencies.mismatch_step moment) (mismatched_roomy moment) o h;
   acknowledgment = λ moment number headers o h.
       one_roomy moment number (λ n. no_sends (after_acknowledgment moment headers n))
       (λ n at. quiet_roomy (after_acknowledgment moment headers n) (acknowledgment_roomy moment headers n at)) o h;

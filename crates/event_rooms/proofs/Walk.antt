@@ -102,7 +102,7 @@ pub record IsKeptByParts (i : Invariant) : Type 0 where
   pub description : (own moment number : ℕ) (d : Description) → Keeps i (describe_to own moment number d)
   pub requested : (moment number : ℕ) (keys : List Key) (o : Outcome) → OfOutcome i o
       → OfOutcome i (sending moment (sends_at number (map Content.Updates (requested_lsas moment o.area.database keys))) o)
-  pub mismatch : (moment number : ℕ) → Keeps i (one_neighbor moment number (adjacencies.mismatched moment))
+  pub mismatch : (moment number : ℕ) → Keeps i (one_neighbor moment number (adjacencies.mismatch_step moment))
   pub acknowledgment : (moment number : ℕ) (headers : List Header) → Keeps i (acknowledged_by moment number headers)
   -- a Tick
   pub due : (moment : ℕ) (r : Router) → i.of_announced r.id r.announced → AllByRecursion i.of_key (due_keys moment r)
@@ -217,7 +217,7 @@ module _ (i : Invariant) (kept : IsKeptByParts i) where
   requests_answered : (moment number : ℕ) (keys : List Key) (o : Outcome) → OfOutcome i o → OfOutcome i (requested_from moment number keys o)
   requests_answered moment number keys o h =
       chosen (OfOutcome i) (list_all (is_there o.area.database) keys) (sending moment (sends_at number (map Content.Updates (requested_lsas moment o.area.database keys))) o)
-      (one_neighbor moment number (adjacencies.mismatched moment) o)
+      (one_neighbor moment number (adjacencies.mismatch_step moment) o)
       (λ is. kept.requested moment number keys o h) (λ is. kept.mismatch moment number o h)
 
   from_neighbor_kept : (moment number from : ℕ) (in_exchange : Bool) (b : Body) (p : EventState) → OfBrought i.of_lsa b → InProgress p

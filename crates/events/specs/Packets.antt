@@ -63,7 +63,7 @@ requested_from moment number keys o =
     if list_all (is_there o.area.database) keys
     then sending moment
     (sends_at number (map Content.Updates (requested_lsas moment o.area.database keys))) o
-    else one_neighbor moment number (adjacencies.mismatched moment) o
+    else one_neighbor moment number (adjacencies.mismatch_step moment) o
 
 -- ---- Updates (section 13)
 

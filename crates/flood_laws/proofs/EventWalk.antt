@@ -76,7 +76,7 @@ pub record IsKeptToo (i : Invariant) (X Y : Lately) (start : EventState) (moment
       → X (outcome start) start.router.originated → X (acknowledged_by moment number headers (outcome start)) start.router.originated
   pub requested : (number : ℕ) (keys : List Key) (o : Outcome) (t : ByKey ℕ) → OfOutcome i o → X o t
       → X (sending moment (sends_at number (map Content.Updates (requested_lsas moment o.area.database keys))) o) t
-  pub mismatch : (number : ℕ) → KeepsToo i X (one_neighbor moment number (adjacencies.mismatched moment))
+  pub mismatch : (number : ℕ) → KeepsToo i X (one_neighbor moment number (adjacencies.mismatch_step moment))
   -- a Tick
   pub forgets : (r : Router) (o : Outcome) → OfOutcome i o → X o r.originated → X o (forget_originations moment r).originated
   pub inactive : KeepsToo i X (on_links (map (run_out moment)))
@@ -199,13 +199,13 @@ module _ (i : Invariant) (kept : IsKeptByParts i) (X Y : Lately) (old : Router) 
     requests_answered : (keys : List Key) (o : Outcome) → OfOutcome i o → OfOutcome i (requested_from moment number keys o)
     requests_answered keys o h =
         chosen (OfOutcome i) (list_all (is_there o.area.database) keys) (sending moment (sends_at number (map Content.Updates (requested_lsas moment o.area.database keys))) o)
-        (one_neighbor moment number (adjacencies.mismatched moment) o)
+        (one_neighbor moment number (adjacencies.mismatch_step moment) o)
         (λ is. kept.requested moment number keys o h) (λ is. kept.mismatch moment number o h)
 
     requests_answered_too : (keys : List Key) (o : Outcome) (t : ByKey ℕ) → OfOutcome i o → X o t → X (requested_from moment number keys o) t
     requests_answered_too keys o t h x =
         chosen (λ (q : Outcome). X q t) (list_all (is_there o.area.database) keys) (sending moment (sends_at number (map Content.Updates (requested_lsas moment o.area.database keys))) o)
-        (one_neighbor moment number (adjacencies.mismatched moment) o)
+        (one_neighbor moment number (adjacencies.mismatch_step moment) o)
         (λ is. too.requested number keys o t h x) (λ is. too.mismatch number o t h x)
 
   -- the readable LSAs of an Update are among them

@@ -105,7 +105,7 @@ module _ (Q : Fact) (kept : IsKept Q) where
         one_keeps (Of Q) moment number (after_description own moment o.area.database d)
         (description_kept Q kept own moment o.area.database d tt) o h;
     requested = λ moment number keys o h. h;
-    mismatch = λ moment number o h. one_keeps (Of Q) moment number (adjacencies.mismatched moment) (mismatched_kept Q kept moment) o h;
+    mismatch = λ moment number o h. one_keeps (Of Q) moment number (adjacencies.mismatch_step moment) (mismatched_kept Q kept moment) o h;
     acknowledgment = λ moment number headers o h.
         one_keeps (Of Q) moment number (λ n. no_sends (after_acknowledgment moment headers n)) (acknowledgment_kept Q kept moment headers) o h;
     due = λ moment r own. keys_any (due_keys moment r);

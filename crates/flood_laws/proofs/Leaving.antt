@@ -565,7 +565,7 @@ module _ (old : Router) (moment : ℕ) (event : Occurrence) (number : ℕ) (befo
     case_became Case.NothingToFlush lsa o t among other is h = sent_became (sends_at place (Content.Acknowledges lsa.header ∷ [])) o t h
     case_became Case.TooSoon lsa o t among other is h = h
     case_became Case.Newer lsa o t among other is h = install_became lsa o t among is h
-    case_became Case.BadRequest lsa o t among other is h = one_became place (adjacencies.mismatched moment) (mismatched_owing key name Asked moment) o t h
+    case_became Case.BadRequest lsa o t among other is h = one_became place (adjacencies.mismatch_step moment) (mismatched_owing key name Asked moment) o t h
     case_became Case.ImpliedAcknowledgment lsa o t among other is h = implied_became lsa o t among other is h
     case_became Case.Duplicate lsa o t among other is h = sent_became (sends_at place (Content.Acknowledges lsa.header ∷ [])) o t h
     case_became Case.SequenceWraps lsa o t among other is h = h
@@ -821,7 +821,7 @@ module _ (old : Router) (moment : ℕ) (event : Occurrence) (number : ℕ) (befo
           record { became = acknowledgment_became start place packet heard standing headers start.router.originated is h.became; remembers = h.remembers };
       requested = λ place keys o t area h.
           record { became = sent_became (sends_at place (map Content.Updates (requested_lsas moment o.area.database keys))) o t h.became; remembers = h.remembers };
-      mismatch = λ place o t area h. record { became = one_became place (adjacencies.mismatched moment) (mismatched_owing key name Asked moment) o t h.became; remembers = h.remembers };
+      mismatch = λ place o t area h. record { became = one_became place (adjacencies.mismatch_step moment) (mismatched_owing key name Asked moment) o t h.became; remembers = h.remembers };
       forgets = λ r o area h. forget_lately o r h;
       inactive = λ o t area h. record { became = inactive_became o t h.became; remembers = h.remembers };
       again = λ o t area h. record { became = again_became o t h.became; remembers = h.remembers };

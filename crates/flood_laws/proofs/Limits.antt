@@ -269,7 +269,7 @@ module _ (id : RouterNumber) where
     hello = λ own_id moment number from hello o h. hello_heard own_id moment number from hello (link_at number o.area.links) o h;
     description = λ own_id moment number d o h. one_within moment number (after_description own_id moment o.area.database d) o h;
     requested = λ moment number keys o h. sent_within moment (sends_at number (map Content.Updates (requested_lsas moment o.area.database keys))) o h;
-    mismatch = λ moment number o h. one_within moment number (adjacencies.mismatched moment) o h;
+    mismatch = λ moment number o h. one_within moment number (adjacencies.mismatch_step moment) o h;
     acknowledgment = λ moment number headers o h. one_within moment number (λ n. no_sends (after_acknowledgment moment headers n)) o h;
     due = λ moment r same. keys_any (due_keys moment r);
     inactive = λ moment o h. h;

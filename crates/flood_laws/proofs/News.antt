@@ -296,7 +296,7 @@ module _ (old : Router) (moment : ℕ) (event : Occurrence) where
     case_last Case.NothingToFlush lsa o t among h = all_marked t (sends_at place (Content.Acknowledges lsa.header ∷ [])) o.area.database h
     case_last Case.TooSoon lsa o t among h = h
     case_last Case.Newer lsa o t among h = install_last lsa o t among h
-    case_last Case.BadRequest lsa o t among h = all_marked t (stepping_sends (only_at place (adjacencies.mismatched moment)) o.area.links) o.area.database h
+    case_last Case.BadRequest lsa o t among h = all_marked t (stepping_sends (only_at place (adjacencies.mismatch_step moment)) o.area.links) o.area.database h
     case_last Case.ImpliedAcknowledgment lsa o t among h =
         all_marked t (stepping_sends (only_at place (λ n. no_sends (remove_retransmission (lsa_key lsa) n))) o.area.links) o.area.database h
     case_last Case.Duplicate lsa o t among h = all_marked t (sends_at place (Content.Acknowledges lsa.header ∷ [])) o.area.database h
@@ -363,8 +363,8 @@ module _ (old : Router) (moment : ℕ) (event : Occurrence) where
             remembers = h.remembers;
           };
       mismatch = λ place o t its h. record {
-        area = one_neighbor_told (T t) moment place (adjacencies.mismatched moment) (mismatched_told (T t) moment) o h.area;
-        last = all_marked t (stepping_sends (only_at place (adjacencies.mismatched moment)) o.area.links) o.area.database h.last;
+        area = one_neighbor_told (T t) moment place (adjacencies.mismatch_step moment) (mismatched_told (T t) moment) o h.area;
+        last = all_marked t (stepping_sends (only_at place (adjacencies.mismatch_step moment)) o.area.links) o.area.database h.last;
         remembers = h.remembers;
       };
       forgets = λ r o its h. forget_numbers r o h;

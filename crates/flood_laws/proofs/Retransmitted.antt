@@ -368,7 +368,7 @@ case_kept Case.NothingToFlush moment number lsa o h = sending_kept moment (sends
 case_kept Case.TooSoon moment number lsa o h = h
 case_kept Case.Newer moment number lsa o h = install_kept moment number lsa o h
 case_kept Case.BadRequest moment number lsa o h =
-    one_kept moment number (adjacencies.mismatched moment) o (mismatched_kept (OfIt o.area.database) (its_kept o.area.database) moment) h
+    one_kept moment number (adjacencies.mismatch_step moment) o (mismatched_kept (OfIt o.area.database) (its_kept o.area.database) moment) h
 case_kept Case.ImpliedAcknowledgment moment number lsa o h =
     one_kept moment number (λ n. no_sends (remove_retransmission (lsa_key lsa) n)) o
     (λ n at. released_kept (OfIt o.area.database) (its_kept o.area.database) (lsa_key lsa) n at) h
@@ -470,7 +470,7 @@ parts_keep = record {
       (begun moment o.area.database)) h;
   requested = λ moment number keys o h. sending_kept moment (sends_at number (map Content.Updates (requested_lsas moment o.area.database keys))) o h;
   mismatch = λ moment number o h.
-      one_kept moment number (adjacencies.mismatched moment) o (mismatched_kept (OfIt o.area.database) (its_kept o.area.database) moment) h;
+      one_kept moment number (adjacencies.mismatch_step moment) o (mismatched_kept (OfIt o.area.database) (its_kept o.area.database) moment) h;
   acknowledgment = λ moment number headers o h.
       one_kept moment number (λ n. no_sends (after_acknowledgment moment headers n)) o
       (acknowledgment_kept (OfIt o.area.database) (its_kept o.area.database) moment headers) h;

@@ -165,7 +165,7 @@ module _ (t : Telling) (id : ℕ) (news : (key : Key) (copy : Option DatabaseCop
         let lsas : List Lsa = requested_lsas moment o.area.database keys in
         sending_told t moment (sends_at number (map Content.Updates lsas)) o
         (numbered_told t number (map Content.Updates lsas) (updates_told t lsas (copies_told t moment o.area.database h.copies keys))) h;
-    mismatch = λ moment number o h. one_neighbor_told t moment number (adjacencies.mismatched moment) (mismatched_told t moment) o h;
+    mismatch = λ moment number o h. one_neighbor_told t moment number (adjacencies.mismatch_step moment) (mismatched_told t moment) o h;
     acknowledgment = λ moment number headers o h.
         one_neighbor_told t moment number (λ n. no_sends (after_acknowledgment moment headers n))
         (λ n at. quiet_told t (after_acknowledgment moment headers n) (acknowledgment_told t moment headers n at)) o h;
