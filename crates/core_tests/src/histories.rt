@@ -5,9 +5,9 @@
 //! That databases are the same then isn't promised: see `networks`, a flushed LSA that comes back.
 ghost use Rattle.std.specs.Prelude.{◌<◌};
 
-use crate::announced::announcements;
-use crate::network::{Act, CALM, Fate, Network};
+use crate::network::{Act, CALM, DESTINATIONS, Fate, Network};
 use flood::Event;
+use simulated_networks::announcements;
 use std::alloc::Global;
 use std::sync::Wait;
 use std::test::Fail;
@@ -42,7 +42,7 @@ impl Random {
 
     // A destination comes, or goes.
     fn destination(&mut self) -> Act {
-        let (place, number) = (self.place(), self.below(4));
+        let (place, number) = (self.place(), self.below(DESTINATIONS));
         if self.below(2) == 0 {
             Act::Announce(place, number as usize)
         } else {
@@ -113,7 +113,7 @@ fn play_histories(alloc: Global, events: &[Event], first: u64) -> Result<(), Fai
 }
 
 fn play_from<R: Wait + Drop + Copy>(alloc: Global, rt: R, first: u64) -> Result<(), Fail> {
-    let events = announcements(alloc, rt)?;
+    let events = announcements(alloc, rt, DESTINATIONS)?;
     play_histories(alloc, &events, first)
 }
 

@@ -4,8 +4,6 @@
 #![tactic(auto)]
 
 #[cfg(test)]
-mod announced;
-#[cfg(test)]
 mod destinations;
 #[cfg(test)]
 mod exchanges;
@@ -35,6 +33,8 @@ mod networks;
 mod operator;
 #[cfg(test)]
 mod packets;
+#[cfg(test)]
+mod plans;
 #[cfg(test)]
 mod refusals;
 #[cfg(test)]

@@ -12,12 +12,12 @@
 //! sent: so that all senders know what they tell is what "acknowledged was received" rests on. What
 //! was flooded to a neighbor that is Full ever since shows besides what its list holds: at a Tick
 //! it comes again once RxmtInterval has passed, unless the neighbor has acknowledged it.
-use crate::announced::prefix;
 use crate::member::{Member, begun, router_at};
 use flood::{Core, Event, Out, State};
+use simulated_networks::{holds_the_same, prefix};
 use std::alloc::Global;
 use std::mem::replace;
-use words::Second;
+use words::{Prefix, Route, Second};
 
 /// What becomes of the next packet that is under way; nothing, where there is none.
 #[derive(Clone, Copy)]
@@ -58,7 +58,12 @@ pub enum Act {
     Same,
     /// The database of the router at the place holds so many LSAs.
     Holds(usize, usize),
+    /// The router at the place has a route to the destination of a number that leaves by this interface.
+    Leads(usize, u16, u32),
 }
+
+/// How many destinations there are.
+pub const DESTINATIONS: u32 = 4;
 
 /// Packets come one after the other.
 pub const CALM: &[Fate] = &[Fate::Comes];
@@ -100,21 +105,14 @@ fn other_end(place: usize, interface: u16) -> Option<(usize, u16)> {
     }
 }
 
-// Both hold LSAs of the same keys with the same lengths, sequence numbers and checksums.
-fn holds_the_same(one: &Core, other: &Core) -> bool {
-    if one.database().len() != other.database().len() {
-        return false;
-    }
-    for key in one.database().keys() {
-        let (Some(a), Some(b)) = (one.database().get(&key), other.database().get(&key)) else {
-            return false;
-        };
-        let (a, b) = (a.lsa.header(), b.lsa.header());
-        if a.sequence != b.sequence || a.checksum != b.checksum || a.length != b.length {
-            return false;
+// Some route to the prefix leaves by the interface.
+fn some_leads(routes: &[Route], prefix: Prefix, interface: u16) -> bool {
+    for route in routes {
+        if route.prefix == prefix && interface < 64 && route.hops.bits() >> interface & 1 == 1 {
+            return true;
         }
     }
-    true
+    false
 }
 
 // What the router at a place sends; None where it isn't there or doesn't take the event.
@@ -348,12 +346,23 @@ impl Network {
         }
     }
 
+    fn leads(&self, place: usize, interface: u16, number: u32) -> bool {
+        let (Some(member), Some(prefix)) = (self.members.get(place), prefix(number)) else {
+            return false;
+        };
+        match member.core.candidates() {
+            Ok(routes) => some_leads(&routes, prefix, interface),
+            Err(_) => false,
+        }
+    }
+
     fn shows(&self, act: Act) -> bool {
         match act {
             Act::Full => self.all_see(Some(State::Full)),
             Act::Apart => self.all_see(None),
             Act::Same => self.are_the_same(),
             Act::Holds(place, count) => self.holds(place, count),
+            Act::Leads(place, interface, number) => self.leads(place, interface, number),
             _ => false,
         }
     }

@@ -1,8 +1,8 @@
 //! Two and three routers in a row: they become Full, and their databases the same, whatever is
 //! lost, comes twice or in another order.
-use crate::announced::announcements;
-use crate::network::{Act, CALM, Fate, Network};
+use crate::network::{Act, CALM, DESTINATIONS, Fate, Network};
 use flood::Event;
+use simulated_networks::announcements;
 use std::alloc::Global;
 use std::sync::Wait;
 use std::test::Fail;
@@ -23,7 +23,7 @@ fn play<R: Wait + Drop + Copy>(
     routers: usize,
     acts: &[Act],
 ) -> Result<(), Fail> {
-    let events = announcements(alloc, rt)?;
+    let events = announcements(alloc, rt, DESTINATIONS)?;
     let mut network = Network::new(alloc, routers).ok_or("no network")?;
     let played = play_at(&mut network, &events, acts);
     network.close();
@@ -146,6 +146,55 @@ const A_FLUSHED_LSA_COMES_BACK: &[Act] = &[
     Act::Holds(2, 4),
 ];
 
+// A flushed LSA comes back though no packet is lost, late or repeated. The link from the second router to the first goes down as the last
+// one withdraws. In the second after, the flush comes to the second router, which forgets it, since it is at no neighbor any more; the first
+// router tells of the LSA as both exchange their databases anew, so that it is back. The last router flushes it again; that instance comes
+// within MinLSArrival and is passed over; and the delayed acknowledgment of the first flush takes it off the last router's list.
+const BACK_IN_SIX_ACTS: &[Act] = &[
+    Act::Seconds(9, CALM),
+    Act::Announce(2, 1),
+    Act::Seconds(1, CALM),
+    Act::LinkDown(1, 1),
+    Act::Withdraw(2, 1),
+    Act::Passes(1),
+    Act::Seconds(60, CALM),
+    Act::Full,
+    Act::Holds(0, 4),
+    Act::Holds(1, 4),
+    Act::Holds(2, 3),
+];
+
+// The same, where the first router announces the destination, too: the second one takes the last one for an announcer still, which sends
+// what comes for the destination back.
+const A_LOOP_IN_SEVEN_ACTS: &[Act] = &[
+    Act::Seconds(9, CALM),
+    Act::Announce(2, 1),
+    Act::Seconds(1, CALM),
+    Act::LinkDown(1, 1),
+    Act::Announce(0, 1),
+    Act::Withdraw(2, 1),
+    Act::Passes(1),
+    Act::Seconds(60, CALM),
+    Act::Full,
+    Act::Leads(1, 2, 1),
+    Act::Leads(2, 1, 1),
+];
+
+// It ends as the LSA that came back is at MaxAge.
+const THE_LOOP_ENDS: &[Act] = &[
+    Act::Seconds(9, CALM),
+    Act::Announce(2, 1),
+    Act::Seconds(1, CALM),
+    Act::LinkDown(1, 1),
+    Act::Announce(0, 1),
+    Act::Withdraw(2, 1),
+    Act::Passes(1),
+    Act::Seconds(3_700, CALM),
+    Act::Full,
+    Act::Same,
+    Act::Holds(0, 4),
+];
+
 #[test]
 fn two_routers_become_full(rt: HostRuntime) -> Result<(), Fail> {
     play(rt.alloc(), &rt, 2, TWO)
@@ -189,4 +238,19 @@ fn a_link_goes_down_and_up_again(rt: HostRuntime) -> Result<(), Fail> {
 #[test]
 fn a_flushed_lsa_comes_back_to_stay(rt: HostRuntime) -> Result<(), Fail> {
     play(rt.alloc(), &rt, 3, A_FLUSHED_LSA_COMES_BACK)
+}
+
+#[test]
+fn a_flushed_lsa_comes_back_without_any_loss(rt: HostRuntime) -> Result<(), Fail> {
+    play(rt.alloc(), &rt, 3, BACK_IN_SIX_ACTS)
+}
+
+#[test]
+fn two_announcers_make_a_loop_of_a_flushed_lsa(rt: HostRuntime) -> Result<(), Fail> {
+    play(rt.alloc(), &rt, 3, A_LOOP_IN_SEVEN_ACTS)
+}
+
+#[test]
+fn the_loop_of_a_flushed_lsa_ends_within_the_hour(rt: HostRuntime) -> Result<(), Fail> {
+    play(rt.alloc(), &rt, 3, THE_LOOP_ENDS)
 }

@@ -1,0 +1,86 @@
+//! Single acts, and those that numbers choose.
+use simulated_networks::{Faults, Random};
+
+/// What is done with a network. Routers and destinations go by their places and numbers.
+#[derive(Clone, Copy)]
+pub enum Act {
+    /// The next packet that is under way comes; it is lost; it comes twice; or it comes after the
+    /// one behind it.
+    Comes,
+    Lost,
+    Twice,
+    Exchanged,
+    /// A packet comes that was sent before so many others, early or once more.
+    Again(u32),
+    /// A Tick at a router.
+    Tick(u32),
+    /// A second passes, with a Tick at each router.
+    Passes,
+    /// A router announces a destination, or withdraws it.
+    Announce(u32, u32),
+    Withdraw(u32, u32),
+    /// A router's interface of this number goes down.
+    LinkDown(u32, u32),
+    /// A router begins anew.
+    Restart(u32),
+    /// So many seconds pass, and in each all comes.
+    Calm(u32),
+}
+
+impl Act {
+    /// A simpler act that may do as well, if there is one.
+    pub fn simpler(self) -> Option<Act> {
+        match self {
+            Act::Twice | Act::Exchanged | Act::Lost | Act::Again(_) => Some(Act::Comes),
+            Act::Tick(_) => Some(Act::Passes),
+            Act::Comes | Act::Passes => Some(Act::Calm(1)),
+            Act::Calm(seconds) if seconds > 1 => Some(Act::Calm(seconds.saturating_sub(1))),
+            _ => None,
+        }
+    }
+}
+
+// Where the one isn't asked for, a packet comes.
+fn if_asked(asked: bool, act: Act) -> Act {
+    if asked { act } else { Act::Comes }
+}
+
+fn chosen_destination(random: &mut Random, place: u32, externals: u32) -> Act {
+    let number = random.below(externals);
+    if random.below(2) == 0 {
+        Act::Announce(place, number)
+    } else {
+        Act::Withdraw(place, number)
+    }
+}
+
+fn chosen_rarely(random: &mut Random, place: u32, faults: &Faults, restarts: bool) -> Act {
+    match random.below(8) {
+        0 => Act::LinkDown(place, random.below(2).saturating_add(1)),
+        1 => if_asked(restarts && random.below(4) == 0, Act::Restart(place)),
+        2 => if_asked(faults.late > 0, Act::Exchanged),
+        _ => Act::Comes,
+    }
+}
+
+/// The next act among so many routers and destinations. Packets are lost, late and repeated, and
+/// routers begin anew, where that is asked for.
+pub fn chosen(
+    random: &mut Random,
+    routers: u32,
+    externals: u32,
+    faults: &Faults,
+    restarts: bool,
+) -> Act {
+    let place = random.below(routers);
+    match random.below(16) {
+        0 => if_asked(faults.loss > 0, Act::Lost),
+        1 => if_asked(faults.late > 0, Act::Again(random.below(32))),
+        2 => if_asked(faults.twice > 0, Act::Twice),
+        3 => Act::Tick(place),
+        4 | 5 => Act::Passes,
+        6 => chosen_destination(random, place, externals),
+        7 => chosen_rarely(random, place, faults, restarts),
+        _ => Act::Comes,
+    }
+}

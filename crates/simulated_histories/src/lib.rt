@@ -1,0 +1,18 @@
+//! Histories of simulated networks: scenarios from a start over a change to rest, and lists of
+//! single acts after which Full neighbors' databases differ, made shorter until none can be left
+//! out.
+#![tactic(auto)]
+
+mod acts;
+mod phase;
+mod plan;
+mod play;
+mod run;
+mod search;
+
+pub use acts::{Act, chosen};
+pub use phase::{Look, Phase, Sum};
+pub use plan::{Plan, Scenario};
+pub use play::Play;
+pub use run::{Outcome, play_scenario};
+pub use search::{Search, Sought, Stage};

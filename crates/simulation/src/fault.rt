@@ -1,0 +1,99 @@
+//! Why the program didn't do what it was asked, and the statuses.
+ghost use Rattle.std.specs.Prelude.{◌≡◌, ◌≤◌};
+ghost use Rattle.simulation.specs.Statuses.{fault_of_network, fault_of_words, status_of};
+ghost use Rattle.simulation.specs.declared.fault.Fault.TheVariants.{Memory, Output};
+
+use clap::error::ErrorKind;
+use std::alloc::{AllocError, AllocFailed};
+use std::io;
+use thiserror::Error;
+
+/// All is at rest at the end, or nothing was found.
+pub const DONE: u8 = 0;
+/// Not all is at rest at the end, or a history was found.
+pub const FOUND: u8 = 1;
+/// The words of the command line are wrong.
+pub const USAGE: u8 = 2;
+/// The output can't be written.
+pub const OUTSIDE: u8 = 3;
+/// Memory was refused.
+pub const MEMORY: u8 = 4;
+
+/// Why the program didn't do what it was asked. The text is the line that is printed.
+#[derive(Debug, Drop, Error)]
+pub enum Fault {
+    /// The words of the command line are wrong, or ask for help: the text says which.
+    #[error("{0}")]
+    Usage(clap::Error),
+    /// The times of the interfaces aren't allowed.
+    #[error("the times of the interfaces are outside of their ranges")]
+    Times,
+    /// The output can't be written.
+    #[error("cannot write the output")]
+    Output,
+    /// An allocation was refused.
+    #[error("out of memory")]
+    Memory,
+}
+
+impl From<AllocError> for Fault {
+    ghost from_gives = { λ _ fault. fault ≡ Memory };
+
+    fn from(_error: AllocError) -> Fault {
+        Fault::Memory
+    }
+}
+
+impl<T: Drop> From<AllocFailed<T>> for Fault {
+    ghost from_gives = { λ _ fault. fault ≡ Memory };
+
+    fn from(_error: AllocFailed<T>) -> Fault {
+        Fault::Memory
+    }
+}
+
+impl From<io::Error> for Fault {
+    ghost from_gives = { λ _ fault. fault ≡ Output };
+
+    fn from(_error: io::Error) -> Fault {
+        Fault::Output
+    }
+}
+
+impl From<simulated_networks::Fault> for Fault {
+    ghost from_gives = { λ error fault. fault ≡ fault_of_network error };
+
+    fn from(fault: simulated_networks::Fault) -> Fault {
+        match fault {
+            simulated_networks::Fault::Configuration => Fault::Times,
+            _ => Fault::Memory,
+        }
+    }
+}
+
+impl From<clap::Error> for Fault {
+    ghost from_gives = { λ error fault. fault ≡ fault_of_words error };
+
+    fn from(error: clap::Error) -> Fault {
+        match error.kind() {
+            ErrorKind::OutOfMemory => Fault::Memory,
+            _ => Fault::Usage(error),
+        }
+    }
+}
+
+impl Fault {
+    /// The status that the program ends with.
+    pub fn status(&self) -> u8
+        ensures value { result ≡ status_of self.now }
+        ensures within { result ≤ 4 }
+    {
+        match self {
+            Fault::Usage(error) if error.use_stderr() => USAGE,
+            Fault::Usage(_) => DONE,
+            Fault::Times => USAGE,
+            Fault::Output => OUTSIDE,
+            Fault::Memory => MEMORY,
+        }
+    }
+}

@@ -1,0 +1,72 @@
+//! The whole program, over writers that are handed in.
+ghost use Rattle.std.specs.Prelude.{◌≡◌, ◌⊎◌, ◌≤◌, IfOk};
+ghost use Rattle.std.specs.IoError.{error_kind};
+ghost use Rattle.simulation.specs.Endings.{Ends, IsVerdict, Tells};
+
+use crate::arguments;
+use crate::fault::Fault;
+use crate::work::carry_out;
+use std::alloc::Global;
+use std::io::{self, ErrorKind, Write};
+use std::sync::Wait;
+
+// The text of a fault goes to the second writer where it is clap's, and else to the first.
+fn tell<O: Write, E: Write>(fault: &Fault, output: &mut O, errors: &mut E) -> u8
+    ensures told { Tells fault.now (O.contents output.old) (O.contents output.new)
+        (E.contents errors.old) (E.contents errors.new) result }
+    ensures within { result ≤ 4 }
+{
+    let written = match fault {
+        Fault::Usage(error) => write!(errors, "{error}"),
+        _ => writeln!(output, "{fault}"),
+    };
+    match written {
+        Ok(()) => fault.status(),
+        Err(_) => Fault::Output.status(),
+    }
+}
+
+// Answers the status of what was played, or tells what its fault is.
+fn end<O: Write, E: Write>(outcome: Result<u8, Fault>, output: &mut O, errors: &mut E) -> u8
+    requires { IfOk outcome IsVerdict }
+    ensures ended { Ends outcome (O.contents output.old) (O.contents output.new)
+        (E.contents errors.old) (E.contents errors.new) result }
+    ensures within { result ≤ 4 }
+{
+    match outcome {
+        Ok(status) => status,
+        Err(fault) => tell(&fault, output, errors),
+    }
+}
+
+/// Tells that the words can't be read, and answers the status: 4 where memory was refused, 2 where
+/// a word isn't UTF-8, and 3 where that can't be told.
+pub fn end_without_words<O: Write, E: Write>(
+    alloc: Global,
+    error: &io::Error,
+    output: &mut O,
+    errors: &mut E,
+) -> u8
+    ensures memory { error_kind error.now ≡ ErrorKind.OutOfMemory → (result ≡ 3) ⊎ (result ≡ 4) }
+    ensures told { (result ≡ 2) ⊎ (result ≡ 3) ⊎ (result ≡ 4) }
+{
+    let fault = Fault::from(arguments::unread(alloc, error));
+    tell(&fault, output, errors)
+}
+
+/// Carries out what the words ask for (the first is the program's name), and answers the status: 0
+/// all is at rest or nothing was found, 1 not so, 2 usage, 3 the output failed, 4 memory was
+/// refused.
+///
+/// What is played is told to `output`; the texts about usage go to `errors`.
+pub fn program<R: Wait + Drop + Copy, O: Write, E: Write>(
+    alloc: Global,
+    rt: R,
+    words: &[&str],
+    output: &mut O,
+    errors: &mut E,
+) -> u8
+    ensures { result ≤ 4 }
+{
+    end(carry_out(alloc, rt, words, output), output, errors)
+}

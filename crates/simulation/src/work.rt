@@ -1,0 +1,120 @@
+//! Requests, carried out.
+ghost use Rattle.std.specs.Prelude.{IfOk};
+ghost use Rattle.simulation.specs.Endings.{IsVerdict};
+
+use crate::fault::{DONE, FOUND, Fault};
+use crate::json::write_run;
+use crate::requests::{Request, parse};
+use crate::telling::{tell_history, tell_run};
+use flood::Event;
+use simulated_histories::{Plan, Search, Stage, play_scenario};
+use simulated_networks::{Kind, Random, Topology, announcements};
+use std::alloc::Global;
+use std::io::Write;
+use std::sync::Wait;
+
+// Plays the plan once, and tells whether all is at rest at the end.
+fn play_one<O: Write>(
+    alloc: Global,
+    plan: &Plan,
+    events: &[Event],
+    json: bool,
+    output: &mut O,
+) -> Result<bool, Fault> {
+    let outcome = play_scenario(alloc, plan, events)?;
+    if json {
+        write_run(output, plan, &outcome)?;
+    } else {
+        tell_run(output, plan, &outcome)?;
+    }
+    Ok(outcome.is_at_rest())
+}
+
+// Plays the plan for so many seeds from its own on.
+fn play_all<O: Write>(
+    alloc: Global,
+    first: Plan,
+    seeds: u64,
+    json: bool,
+    events: &[Event],
+    output: &mut O,
+) -> Result<u8, Fault>
+    ensures { IfOk result IsVerdict }
+{
+    let mut plan = first;
+    let mut well = 0_u64;
+    for turn in 0..seeds {
+        plan.seed = first.seed.saturating_add(turn);
+        if play_one(alloc, &plan, events, json, output)? {
+            well = well.saturating_add(1);
+        }
+    }
+    if !json {
+        writeln!(output, "{well} of {seeds} at rest")?;
+    }
+    Ok(if well == seeds { DONE } else { FOUND })
+}
+
+// Searches among so many seeds from the first one on.
+fn search_all<O: Write>(
+    search: &Search,
+    stage: Stage<'_>,
+    seeds: (u64, u64),
+    output: &mut O,
+) -> Result<u8, Fault>
+    ensures { IfOk result IsVerdict }
+{
+    let (first, count) = seeds;
+    let mut found = 0_u64;
+    for turn in 0..count {
+        let seed = first.saturating_add(turn);
+        if let Some(acts) = search.found(stage, seed)? {
+            tell_history(output, seed, &acts)?;
+            found = found.saturating_add(1);
+        }
+    }
+    writeln!(output, "{found} of {count} found")?;
+    Ok(if found == 0 { DONE } else { FOUND })
+}
+
+fn topology_of(alloc: Global, kind: Kind, routers: u32, spread: u32) -> Result<Topology, Fault> {
+    let mut random = Random::new(1);
+    let topology = Topology::new(alloc, &mut random, kind, routers as usize, spread)?;
+    Ok(topology)
+}
+
+/// Carries out what the words ask for (the first is the program's name), and answers the status.
+///
+/// # Errors
+/// Where the words are wrong, the output can't be written, or memory is refused.
+pub fn carry_out<R: Wait + Drop + Copy, O: Write>(
+    alloc: Global,
+    rt: R,
+    words: &[&str],
+    output: &mut O,
+) -> Result<u8, Fault>
+    ensures { IfOk result IsVerdict }
+{
+    match parse(alloc, words)? {
+        Request::Run { plan, seeds, json } => {
+            let events = announcements(alloc, rt, plan.externals)?;
+            play_all(alloc, plan, seeds, json, &events, output)
+        }
+        Request::Search {
+            search,
+            topology,
+            spread,
+            seed,
+            seeds,
+        } => {
+            let events = announcements(alloc, rt, search.externals)?;
+            let made = topology_of(alloc, topology, search.routers, spread)?;
+            let stage = Stage {
+                alloc,
+                topology: &made,
+                events: &events,
+            };
+            search_all(&search, stage, (seed, seeds), output)
+        }
+    }
+}
