@@ -1,4 +1,4 @@
-use Rattle.std.proofs.Common.{◌≡◌, Some, length, slice_get, arith, refl, ap, ◌∙◌}
+use Rattle.std.proofs.Common.{Some, length, refl, ap, ◌∙◌}
 use Rattle.std.proofs.lemmas.Option.{slice_get_read}
 use Rattle.routes.specs.declared.node.Node.{Node}
 use Rattle.area_graph.specs.Graphs.{StandsAt}
