@@ -1,30 +1,27 @@
--- The keys of a database give its nodes, in order.
-use Rattle.std.proofs.Common.{◌≡◌, ℕ, ◌+◌, ◌<◌, ◌≤◌, ◌++◌, get_or, slice_get, Bool, true, false, ◌&&◌, ◌==◌, cond, T, List, [], ◌∷◌, length, map, take, Option, None, Some, is_some, inl, inr, refl, sym, ◌∙◌, ap, subst, arith, eqb-true, eq-eqb, Ordering}
+-- What the LSAs of a database say gives its nodes, in order.
+use Rattle.std.proofs.Common.{◌≡◌, ℕ, zero, suc, ◌+◌, ◌<◌, ◌≤◌, ◌++◌, get_or, slice_get, Bool, true, false, ◌&&◌, ◌==◌, cond, List, [], ◌∷◌, length, take, Option, None, Some, inl, inr, refl, sym, ◌∙◌, ap, subst, arith, eqb-true, eq-eqb, Ordering}
 use Rattle.std.proofs.lemmas.Bool.{cases_lt, false≢true}
-use Rattle.std.proofs.lemmas.List.{length-map, take_all, take_more}
+use Rattle.std.proofs.lemmas.List.{take_all, take_more}
 use Rattle.std.proofs.lemmas.List.Elements.{filter_map-append}
-use Rattle.std.proofs.lemmas.Map.Views.{Contains-from_any}
 use Rattle.std.proofs.lemmas.Option.{get_or_from_slice_get, none-some, same_Some, slice_get_within}
 use Rattle.std.specs.List.{Contains, cons_option, filter_map}
-use Rattle.std.specs.FinMap as finite
-use Rattle.std.specs.FinMap.Entries.{below_all, is_sorted}
-use Rattle.std.specs.Ordering.{eq_by_cmp, is_eq, is_lt, nat_cmp, ordering_then}
+use Rattle.std.specs.Ordering.{is_lt, nat_cmp, ordering_then}
 use Rattle.std.specs.declared.cmp.Ordering.TheVariants.{Equal, Greater, Less}
 use Rattle.words.specs.declared.key.Key.{Key}
 use Rattle.lsa.specs.declared.body.Body.{Body}
 use Rattle.lsa.specs.declared.body.Body.TheVariants as body
 use Rattle.lsa.specs.declared.body.NetworkLsa.{NetworkLsa}
 use Rattle.lsa.specs.declared.body.RouterLsa.{RouterLsa}
-use Rattle.lsdb.specs.Copies.{Database, DatabaseCopy}
+use Rattle.lsdb.specs.Bodies.{AreBodies, InOrder}
 use Rattle.lsdb.specs.Keys.{key_cmp}
-use Rattle.lsdb.proofs.Keys.{keys_exact, keys_total}
+use Rattle.lsdb.proofs.Keys.{keys_total}
 use Rattle.routes.specs.Links.{network_key, router_key}
-use Rattle.routes.specs.Said.{Said, said_at, said_by}
+use Rattle.routes.specs.Said.{Said}
 use Rattle.routes.specs.declared.node.Node.{Node}
 use Rattle.routes.specs.declared.node.Node.TheVariants.{ANetwork, ARouter}
-use Rattle.area_graph.specs.Nodes.{AreNodes, Ascend, HasLsa, if_network, if_router, network_in, network_lsa, node_at, node_cmp, router_in, router_lsa}
+use Rattle.area_graph.specs.Nodes.{AreNodes, Ascend, HasLsa, if_network, if_router, network_in, node_cmp, node_of, router_in}
 use Rattle.area_graph.proofs.Lists.{filtered_few, filtered_in, filtered_out, more_pairs, none_pairs}
-use Rattle.routes.proofs.Lists.{of_cons, of_empty}
+use Rattle.routes.proofs.Lists.{first_is, later_is}
 
 -- the key of the node's LSA
 abbrev pub key_of : Node → Key
@@ -60,44 +57,57 @@ two : (a b : Bool) → a && b ≡ true → (a ≡ true) × (b ≡ true)
 two true b e = (refl, e)
 two false b e = absurd (false≢true e)
 
-of_router : (said : Said) (key : Key) (node : Node) → key.ls_type ≡ 1 → key.link_state_id ≡ key.advertising_router → if_router key.advertising_router (router_lsa said key.advertising_router) ≡ Some node → IsNodeOf said key node
-of_router said key node one both e =
-    elim (router_lsa said key.advertising_router) as (λ o. router_lsa said key.advertising_router ≡ o → if_router key.advertising_router o ≡ Some node → IsNodeOf said key node) [
+of_router : (said : Said) (one : Key × Body) (node : Node) → said one.0 ≡ Some one.1 → one.0.ls_type ≡ 1 → one.0.link_state_id ≡ one.0.advertising_router → if_router one.0.advertising_router (router_in (Some one.1)) ≡ Some node → IsNodeOf said one.0 node
+of_router said one node says first both e =
+    let router = one.0.advertising_router in
+    let key : one.0 ≡ router_key router = λ i. record { ls_type = first i; link_state_id = both i; advertising_router = router } in
+    elim (router_in (Some one.1)) as (λ o. router_in (Some one.1) ≡ o → if_router router o ≡ Some node → IsNodeOf said one.0 node) [
       | None ↦ λ is p. absurd (none-some node p)
       | Some lsa ↦ λ is p.
-          let P : Node → Type 0 = λ n. IsNodeOf said key n in
-          subst P (same_Some (ARouter key.advertising_router) node p) (record { same = λ i. record { ls_type = one i; link_state_id = both i; advertising_router = key.advertising_router }; has = (lsa, router_said _ lsa is) })
+          let P : Node → Type 0 = λ n. IsNodeOf said one.0 n in
+          subst P (same_Some (ARouter router) node p) (record { same = key; has = (lsa, sym (ap said key) ∙ says ∙ router_said (Some one.1) lsa is) })
     ] refl e
 
-of_network : (said : Said) (key : Key) (node : Node) → key.ls_type ≡ 2 → if_network key.link_state_id key.advertising_router (network_lsa said key.link_state_id key.advertising_router) ≡ Some node → IsNodeOf said key node
-of_network said key node is_two e =
-    elim (network_lsa said key.link_state_id key.advertising_router) as (λ o. network_lsa said key.link_state_id key.advertising_router ≡ o → if_network key.link_state_id key.advertising_router o ≡ Some node → IsNodeOf said key node) [
+of_network : (said : Said) (one : Key × Body) (node : Node) → said one.0 ≡ Some one.1 → one.0.ls_type ≡ 2 → if_network one.0.link_state_id one.0.advertising_router (network_in (Some one.1)) ≡ Some node → IsNodeOf said one.0 node
+of_network said one node says is_two e =
+    let id = one.0.link_state_id in
+    let router = one.0.advertising_router in
+    let key : one.0 ≡ network_key id router = λ i. record { ls_type = is_two i; link_state_id = id; advertising_router = router } in
+    elim (network_in (Some one.1)) as (λ o. network_in (Some one.1) ≡ o → if_network id router o ≡ Some node → IsNodeOf said one.0 node) [
       | None ↦ λ is p. absurd (none-some node p)
       | Some lsa ↦ λ is p.
-          let P : Node → Type 0 = λ n. IsNodeOf said key n in
-          subst P (same_Some (ANetwork key.link_state_id key.advertising_router) node p) (record { same = λ i. record { ls_type = is_two i; link_state_id = key.link_state_id; advertising_router = key.advertising_router }; has = (lsa, network_said _ lsa is) })
+          let P : Node → Type 0 = λ n. IsNodeOf said one.0 n in
+          subst P (same_Some (ANetwork id router) node p) (record { same = key; has = (lsa, sym (ap said key) ∙ says ∙ network_said (Some one.1) lsa is) })
     ] refl e
 
-is_node : (said : Said) (key : Key) (node : Node) → node_at said key ≡ Some node → IsNodeOf said key node
-is_node said key node e =
-    let r = if_router key.advertising_router (router_lsa said key.advertising_router) in
-    let n = if_network key.link_state_id key.advertising_router (network_lsa said key.link_state_id key.advertising_router) in
+is_node : (said : Said) (one : Key × Body) (node : Node) → said one.0 ≡ Some one.1 → node_of one ≡ Some node → IsNodeOf said one.0 node
+is_node said one node says e =
+    let key = one.0 in
+    let r = if_router key.advertising_router (router_in (Some one.1)) in
+    let n = if_network key.link_state_id key.advertising_router (network_in (Some one.1)) in
     elim ((key.ls_type == 1) && (key.link_state_id == key.advertising_router)) as (λ b. (key.ls_type == 1) && (key.link_state_id == key.advertising_router) ≡ b → cond b r (cond (key.ls_type == 2) n None) ≡ Some node → IsNodeOf said key node) [
       | true ↦ λ is p.
           let tests = two (key.ls_type == 1) (key.link_state_id == key.advertising_router) is in
-          of_router said key node (eqb-true key.ls_type 1 tests.0) (eqb-true key.link_state_id key.advertising_router tests.1) p
+          of_router said one node says (eqb-true key.ls_type 1 tests.0) (eqb-true key.link_state_id key.advertising_router tests.1) p
       | false ↦ λ _ p.
           elim (key.ls_type == 2) as (λ b. key.ls_type == 2 ≡ b → cond b n None ≡ Some node → IsNodeOf said key node) [
-            | true ↦ λ is q. of_network said key node (eqb-true key.ls_type 2 is) q
+            | true ↦ λ is q. of_network said one node says (eqb-true key.ls_type 2 is) q
             | false ↦ λ _ q. absurd (none-some node q)
           ] refl p
     ] refl e
 
-at_key : (said : Said) (node : Node) → HasLsa said node → node_at said (key_of node) ≡ Some node
+-- what the node's LSA says, of which it is made
+record IsSaidOf (said : Said) (node : Node) : Type 0 where
+  says : Body
+  its : said (key_of node) ≡ Some says
+  low : (key_of node).ls_type ≤ 2
+  made : node_of (key_of node, says) ≡ Some node
+
+at_key : (said : Said) (node : Node) → HasLsa said node → IsSaidOf said node
 at_key said (ARouter router) has =
     let same : router == router ≡ true = eq-eqb router router refl in
-    ap (λ b. cond (true && b) (if_router router (router_lsa said router)) None) same ∙ ap (λ o. if_router router (router_in o)) has.1
-at_key said (ANetwork id by) has = ap (λ o. if_network id by (network_in o)) has.1
+    record { says = body.Router has.0; its = has.1; low = omega arith; made = ap (λ b. cond (true && b) (if_router router (Some has.0)) None) same }
+at_key said (ANetwork id by) has = record { says = body.Network has.0; its = has.1; low = omega arith; made = refl }
 
 -- nodes are in the order of their keys
 twice : (r : Ordering) → ordering_then r r ≡ Less → r ≡ Less
@@ -158,98 +168,60 @@ go_down nodes ascend node middle m here never k other there high below =
           never (subst Q (sym (same_Some middle other (sym here ∙ subst P e there))) below)
     ]
 
--- ---- the nodes of entries in order
+-- ---- the nodes of what LSAs say
 
-first : (a b : Bool) → T (a && b) → T a
-first true b p = tt
-first false b p = p
+abbrev AllSaid : Said → List (Key × Body) → Type 0
+AllSaid said es = (one : Key × Body) → Contains es one → said one.0 ≡ Some one.1
 
-second : (a b : Bool) → T (a && b) → T b
-second true b p = p
-second false b p = absurd p
+first_before : (e : Key × Body) (es : List (Key × Body)) → InOrder (e ∷ es) → (one : Key × Body) → Contains es one → key_cmp e.0 one.0 ≡ Less
+first_before e es order one (k, within, is) =
+    let P : Key × Body → Type 0 = λ x. key_cmp e.0 x.0 ≡ Less in
+    subst P is (order zero (suc k) one (omega arith) (omega (arith, within)))
 
-less : (r : Ordering) → T (is_lt r) → r ≡ Less
-less Less p = refl
-less Equal p = absurd p
-less Greater p = absurd p
+rest_in_order : (e : Key × Body) (es : List (Key × Body)) → InOrder (e ∷ es) → InOrder es
+rest_in_order e es order = λ i j d before within. order (suc i) (suc j) d (omega (arith, before)) (omega (arith, within))
 
-abbrev Entries : Type 0
-Entries = List (Key × DatabaseCopy)
-
-abbrev keys_of : Entries → List Key
-keys_of es = map (λ e. e.0) es
-
-below : (key : Key) (es : Entries) (other : Key) → T (below_all key_cmp key es) → Contains (keys_of es) other → key_cmp key other ≡ Less
-below key [] other all among = absurd (of_empty other among)
-below key (e ∷ es) other all among =
-    elim (of_cons e.0 (keys_of es) other among) [
-      | inl here ↦ let P : Key → Type 0 = λ k. key_cmp key k ≡ Less in subst P here (less _ (first _ _ all))
-      | inr later ↦ below key es other (second _ _ all) later
-    ]
-
-ascend : (said : Said) (es : Entries) → T (is_sorted key_cmp es) → Ascend (filter_map (node_at said) (keys_of es))
-ascend said [] sorted = none_pairs (λ (a : Node) (b : Node). node_cmp a b ≡ Less)
-ascend said (e ∷ es) sorted =
-    let rest = ascend said es (second _ _ sorted) in
-    let these = filter_map (node_at said) (keys_of es) in
-    elim (node_at said e.0) as (λ o. node_at said e.0 ≡ o → Ascend (cons_option o these)) [
+ascend : (said : Said) (es : List (Key × Body)) → AllSaid said es → InOrder es → Ascend (filter_map node_of es)
+ascend said [] says order = none_pairs (λ (a : Node) (b : Node). node_cmp a b ≡ Less)
+ascend said (e ∷ es) says order =
+    let later : (one : Key × Body) → Contains es one → said one.0 ≡ Some one.1 = λ one among. says one (later_is e es one among) in
+    let rest = ascend said es later (rest_in_order e es order) in
+    let these = filter_map node_of es in
+    elim (node_of e) as (λ o. node_of e ≡ o → Ascend (cons_option o these)) [
       | None ↦ λ _. rest
       | Some node ↦ λ is.
           more_pairs (λ (a : Node) (b : Node). node_cmp a b ≡ Less) node these
           (λ other among.
-          let source = filtered_out (node_at said) (keys_of es) other among in
-          let lower = is_node said e.0 node is in
-          let upper = is_node said source.from other source.gives in
+          let source = filtered_out node_of es other among in
+          let lower = is_node said e node (says e (first_is e es)) is in
+          let upper = is_node said source.from other (later source.from source.among) source.gives in
           let P : Key → Type 0 = λ k. key_cmp k (key_of other) ≡ Less in
           let Q : Key → Type 0 = λ k. key_cmp e.0 k ≡ Less in
-          in_order node other (subst P lower.same (subst Q upper.same (below e.0 es source.from (first _ _ sorted) source.among))))
+          in_order node other (subst P lower.same (subst Q upper.same (first_before e es order source.from source.among))))
           rest
     ] refl
 
--- ---- the nodes of a database
-
--- what says something is there
-there : (moment : ℕ) (o : Option DatabaseCopy) (b : Body) → said_by moment o ≡ Some b → is_some o ≡ true
-there moment None b e = absurd (none-some b e)
-there moment (Some copy) b e = refl
-
-equal : (r : Ordering) → is_eq r ≡ true → r ≡ Equal
-equal Less p = absurd (false≢true p)
-equal Equal p = refl
-equal Greater p = absurd (false≢true p)
-
-has_key : (moment : ℕ) (db : Database) (key : Key) (b : Body) → said_at moment db key ≡ Some b → Contains (finite.keys db) key
-has_key moment db key b e =
-    Contains-from_any {eq = eq_by_cmp key_cmp} (λ x y same. keys_exact x y (equal _ same)) key (finite.keys db) (sym (finite.contains_key-keys db key) ∙ there moment (finite.get db key) b e)
-
-key_among : (moment : ℕ) (db : Database) (node : Node) → HasLsa (said_at moment db) node → Contains (finite.keys db) (key_of node)
-key_among moment db (ARouter router) has = has_key moment db (router_key router) (body.Router has.0) has.1
-key_among moment db (ANetwork id by) has = has_key moment db (network_key id by) (body.Network has.0) has.1
-
-pub are_nodes : (moment : ℕ) (db : Database) → AreNodes (said_at moment db) (filter_map (node_at (said_at moment db)) (finite.keys db))
-are_nodes moment db =
-    let said = said_at moment db in
+pub are_nodes : (said : Said) (es : List (Key × Body)) → AreBodies (Some 2) said es → AreNodes said (filter_map node_of es)
+are_nodes said es told =
+    let says : (one : Key × Body) → Contains es one → said one.0 ≡ Some one.1 = λ one among. ((told.each one.0 one.1).0 among).1 in
     record {
       each = λ node. (
-        (λ among. let source = filtered_out (node_at said) (finite.keys db) node among in (is_node said source.from node source.gives).has),
-        (λ has. filtered_in (node_at said) (finite.keys db) (key_of node) node (key_among moment db node has) (at_key said node has)),
+        (λ among. let source = filtered_out node_of es node among in (is_node said source.from node (says source.from source.among) source.gives).has),
+        (λ has. let at = at_key said node has in filtered_in node_of es (key_of node, at.says) node ((told.each (key_of node) at.says).1 (at.low, at.its)) at.made),
       );
-      ascend = ascend said (finite.entries db) (finite.entries_sorted db);
+      ascend = ascend said es says told.ascend;
     }
 
-pub few : (moment : ℕ) (db : Database) → length (filter_map (node_at (said_at moment db)) (finite.keys db)) ≤ finite.len db
-few moment db = omega (arith, filtered_few (node_at (said_at moment db)) (finite.keys db), length-map (finite.entries db) (λ (e : Key × DatabaseCopy). e.0), finite.len-entries db)
+pub few : (es : List (Key × Body)) (n : ℕ) → length es ≤ n → length (filter_map node_of es) ≤ n
+few es n count = omega (arith, filtered_few node_of es, count)
 
--- ---- the loop over the keys
+-- ---- the loop over them
 
-pub kept_more : (said : Said) (keys : List Key) (i : ℕ) (key : Key) → i < length keys → key ≡ get_or keys i key → filter_map (node_at said) (take (i + 1) keys) ≡ filter_map (node_at said) (take i keys) ++ cons_option (node_at said key) []
-kept_more said keys i key lt is =
-    let h = node_at said in
-    ap (filter_map h) (take_more keys i key lt)
-    ∙ filter_map-append h (take i keys) (get_or keys i key ∷ [])
-    ∙ ap (λ (k : Key). filter_map h (take i keys) ++ cons_option (h k) []) (sym is)
+pub kept_more : (es : List (Key × Body)) (i : ℕ) (one : Key × Body) → i < length es → one ≡ get_or es i one → filter_map node_of (take (i + 1) es) ≡ filter_map node_of (take i es) ++ cons_option (node_of one) []
+kept_more es i one lt is =
+    ap (filter_map node_of) (take_more es i one lt)
+    ∙ filter_map-append node_of (take i es) (get_or es i one ∷ [])
+    ∙ ap (λ (e : Key × Body). filter_map node_of (take i es) ++ cons_option (node_of e) []) (sym is)
 
-pub all_keys : (said : Said) (db : Database) (nodes : List Node) (seen keys : List Key) (n k : ℕ) → n ≡ finite.len db → keys ≡ take n (finite.keys db) → seen ≡ keys → length seen ≤ k → nodes ≡ filter_map (node_at said) (take k seen) → nodes ≡ filter_map (node_at said) (finite.keys db)
-all_keys said db nodes seen keys n k count is same done e =
-    let size : length (finite.keys db) ≤ n = omega (arith, count, length-map (finite.entries db) (λ (e : Key × DatabaseCopy). e.0), finite.len-entries db) in
-    e ∙ ap (filter_map (node_at said)) (take_all k seen done ∙ same ∙ is ∙ take_all n (finite.keys db) size)
+pub all_bodies : (nodes : List Node) (seen es : List (Key × Body)) (k : ℕ) → seen ≡ es → length seen ≤ k → nodes ≡ filter_map node_of (take k seen) → nodes ≡ filter_map node_of es
+all_bodies nodes seen es k same done e = e ∙ ap (filter_map node_of) (take_all k seen done ∙ same)

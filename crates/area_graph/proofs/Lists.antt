@@ -1,5 +1,5 @@
 -- Lists that keep what passes, and lists in a strict order.
-use Rattle.std.proofs.Common.{◌≡◌, ℕ, zero, suc, ◌+◌, ◌<◌, ◌≤◌, ◌⊎◌, inl, inr, List, [], ◌∷◌, ◌++◌, length, take, get_or, Option, None, Some, refl, sym, ◌∙◌, ap, subst, arith}
+use Rattle.std.proofs.Common.{◌≡◌, ℕ, zero, suc, ◌+◌, ◌<◌, ◌≤◌, ◌⊎◌, ◌↔◌, inl, inr, List, [], ◌∷◌, ◌++◌, length, take, get_or, Option, None, Some, refl, sym, ◌∙◌, ap, subst, arith}
 use Rattle.std.proofs.lemmas.List.Elements.{All-contains, Contains-append_left, Contains-get_or, Contains-push, Contains-push_cases}
 use Rattle.std.proofs.lemmas.List.{take_all, take_more}
 use Rattle.std.specs.List.{All, AllPairs, Contains, cons_option, filter_map}
@@ -78,6 +78,10 @@ module _ {X : Type 0} where
     ]),
   )
 
+  -- the list afterwards in another order
+  pub adds_reordered : (P : X → Type 0) (xs ys zs : List X) → ((x : X) → Contains zs x ↔ Contains ys x) → Adds P xs ys → Adds P xs zs
+  adds_reordered P xs ys zs same a x = ((λ among. (a x).0 ((same x).0 among)), (λ s. (same x).1 ((a x).1 s)))
+
   pub adds_one : (P : X → Type 0) (xs : List X) (y : X) → P y → ((x : X) → P x → x ≡ y) → Adds P xs (xs ++ y ∷ [])
   adds_one P xs y is only x = (
     (λ among. elim (Contains-push_cases xs y x among) [ inl old ↦ inl old | inr e ↦ inr (subst P e is) ]),
@@ -92,6 +96,13 @@ module _ {X : Type 0} where
     (λ among. elim ((a x).0 among) [ inl old ↦ inl old | inr new ↦ inr (p x new) ]),
     (λ s. elim s [ inl old ↦ (a x).1 (inl old) | inr new ↦ (a x).1 (inr (q x new)) ]),
   )
+
+  -- they were added to an empty list first, and then from that one
+  pub adds_moved : (P : X → Type 0) (own xs ys : List X) → Adds P [] own → Adds (λ x. Contains own x) xs ys → Adds P xs ys
+  adds_moved P own xs ys first a =
+      adds_same (λ x. Contains own x) P xs ys
+      (λ x among. elim ((first x).0 among) [ inl none ↦ absurd (of_empty x none) | inr p ↦ p ])
+      (λ x p. (first x).1 (inr p)) a
 
   -- what holds of all old ones and of the added ones holds of all
   pub adds_all : (P Q : X → Type 0) (xs ys : List X) → Adds P xs ys → ((x : X) → P x → Q x) → All Q xs → All Q ys

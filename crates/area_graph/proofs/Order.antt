@@ -1,5 +1,5 @@
 -- The order of entries is a total one, and entries of one router, kind and ID stand together.
-use Rattle.std.proofs.Common.{◌≡◌, ℕ, zero, suc, ◌<◌, ◌≤◌, ◌⊎◌, inl, inr, true, false, List, length, get_or, None, Some, slice_get, Ordering, refl, sym, ◌∙◌, ap, subst, arith}
+use Rattle.std.proofs.Common.{◌≡◌, ℕ, zero, suc, ◌+◌, ◌<◌, ◌≤◌, ◌⊎◌, inl, inr, true, false, List, length, get_or, None, Some, slice_get, Ordering, refl, sym, ◌∙◌, ap, subst, arith}
 use Rattle.std.proofs.lemmas.Bool.{cases_lt, false≢true}
 use Rattle.std.proofs.lemmas.Cmp.{on_total, ranked, then_total}
 use Rattle.std.proofs.lemmas.List.Sorted.{ranks_by, searchable_from_sorted, sorted_far}
@@ -10,7 +10,7 @@ use Rattle.std.specs.List.{Contains}
 use Rattle.std.specs.List.Sorted.{IsPartitionPoint, IsPartitionedBy, IsSorted}
 use Rattle.std.specs.Ordering.{is_lt, nat_cmp, ordering_index, ordering_then}
 use Rattle.std.specs.declared.cmp.Ordering.TheVariants.{Equal, Greater, Less}
-use Rattle.area_graph.specs.Entries.{HasMetric, IsBeside, IsLeastMetric, entry_cmp, rank}
+use Rattle.area_graph.specs.Entries.{HasEntry, HasMetric, IsBeside, IsLeastMetric, entry_cmp, rank}
 use Rattle.area_graph.specs.declared.entry.Entry.{Entry}
 use Rattle.area_graph.specs.declared.entry.EntryKind.{EntryKind}
 use Rattle.area_graph.specs.declared.entry.EntryKind.TheVariants.{Attached, PointToPoint, Transit}
@@ -60,6 +60,32 @@ pub beyond : (entries : List Entry) (entry : Entry) (at : ℕ) → IsPoint entri
 beyond entries entry at point k other here high =
     let P : Entry → Type 0 = λ y. is_lt (entry_cmp y entry) ≡ false in
     lt_false (entry_cmp other entry) (subst P (get_or_from_slice_get entries k other other here) (point.1 k other high (slice_get_within entries k other here)))
+
+-- ---- a place that is looked at first
+
+before_at : (entries : List Entry) (entry : Entry) → IsSorted entry_cmp entries → (i j : ℕ) (a b : Entry) → slice_get entries i ≡ Some a → slice_get entries j ≡ Some b → i ≤ j → entry_cmp b entry ≡ Less → entry_cmp a entry ≡ Less
+before_at entries entry sorted i j a b here there le less =
+    let P : Entry → Type 0 = λ x. is_lt (entry_cmp x entry) ≡ true in
+    let later = subst P (sym (get_or_from_slice_get entries j b a there)) (ap is_lt less) in
+    lt_true (entry_cmp a entry) (subst P (get_or_from_slice_get entries i a a here) (parted entries entry sorted i j a le (slice_get_within entries j b there) later))
+
+-- all below a place are before the entry if the last of them is
+pub lower_ones : (entries : List Entry) (entry : Entry) → IsSorted entry_cmp entries → (at : ℕ) (last : Entry) → slice_get entries at ≡ Some last → entry_cmp last entry ≡ Less
+    → (k : ℕ) (other : Entry) → slice_get entries k ≡ Some other → k < at + 1 → entry_cmp other entry ≡ Less
+lower_ones entries entry sorted at last there less k other here low = before_at entries entry sorted k at other last here there (omega (arith, low)) less
+
+-- none from a place on is before the entry if the first of them isn't
+pub higher_ones : (entries : List Entry) (entry : Entry) → IsSorted entry_cmp entries → (at : ℕ) (first : Entry) → slice_get entries at ≡ Some first → (entry_cmp first entry ≡ Less → ⊥)
+    → (k : ℕ) (other : Entry) → slice_get entries k ≡ Some other → at ≤ k → entry_cmp other entry ≡ Less → ⊥
+higher_ones entries entry sorted at first here never k other there le less = never (before_at entries entry sorted at k first other here there le less)
+
+-- an entry at some place is one of its router, kind and ID
+pub has_found : (entries : List Entry) (at : ℕ) (found : Entry) (router : ℕ) (kind : EntryKind) (id : ℕ) → slice_get entries at ≡ Some found → found.router ≡ router → found.kind ≡ kind → found.id ≡ id → HasEntry entries router kind id
+has_found entries at found router kind id here same_router same_kind same_id =
+    let P : Entry → Type 0 = λ e. Contains entries e in
+    let same : found ≡ record { router = router; kind = kind; id = id; metric = found.metric; place = found.place } =
+    λ i. record { router = same_router i; kind = same_kind i; id = same_id i; metric = found.metric; place = found.place } in
+    (found.metric, (found.place, subst P same (contained entries at found here)))
 
 -- ---- what is between entries of one router, kind and ID
 

@@ -17,7 +17,7 @@ use Rattle.routes.specs.declared.graph.Vertex.{Vertex}
 use Rattle.routes.specs.declared.node.Node.{Node}
 use Rattle.routes.specs.declared.node.Node.TheVariants.{ANetwork, ARouter}
 use Rattle.routes.specs.declared.root.Root.{Root}
-use Rattle.area_graph.specs.Graphs.{CostFits, IsVertexOf, StandsAt, kind_of}
+use Rattle.area_graph.specs.Graphs.{AreVertices, CostFits, IsVertexOf, StandsAt, kind_of}
 use Rattle.area_graph.specs.Nodes.{AreNodes, Ascend, node_cmp}
 use Rattle.area_graph.proofs.KeyNodes.{in_places}
 use Rattle.area_graph.proofs.Leads.{far_end}
@@ -38,7 +38,7 @@ element (x ∷ xs) (suc k) lt = element xs k (omega (arith, lt))
 itself : (n : ℕ) → nat_cmp n n ≡ Equal
 itself n = tied_itself nat_cmp_total n
 
-never_before : (a : Node) → node_cmp a a ≡ Less → ⊥
+pub never_before : (a : Node) → node_cmp a a ≡ Less → ⊥
 never_before (ARouter a) e = let f : Equal ≡ Less = sym (itself a) ∙ e in cc
 never_before (ANetwork id by) e =
     let f : Equal ≡ Less = sym (ap (λ r. ordering_then r (nat_cmp by by)) (itself id) ∙ itself by) ∙ e in cc
@@ -100,10 +100,6 @@ one_more said root nodes g i node vertex count here each is at other its stands 
           subst N (same_Some node other (sym here ∙ subst P e stands)) (subst V new.1 is)
     ]
 
-pub record Stand (said : Said) (root : Root) (nodes : List Node) (g : Graph) : Type 0 where
-  pub count : length g ≡ length nodes
-  pub each : (at : ℕ) (node : Node) (vertex : Vertex) → StandsAt nodes node at → slice_get g at ≡ Some vertex → IsVertexOf said root nodes node vertex
-
 -- by whatever interface the root sends, it is one of its own
 counted_exit : (root : Root) (router address exit : ℕ) → length root.addresses ≤ 63 → (router ≡ root.router → (n : ℕ) × (exit ≡ n + 1) × (slice_get root.addresses n ≡ Some address)) → (¬ (router ≡ root.router) → exit ≡ 0) → exit < 64
 counted_exit root router address exit few own elsewhere =
@@ -112,7 +108,7 @@ counted_exit root router address exit few own elsewhere =
       | inr off ↦ omega (arith, elsewhere off)
     ]
 
-module _ (said : Said) (root : Root) (nodes : List Node) (g : Graph) (are : AreNodes said nodes) (s : Stand said root nodes g) where
+module _ (said : Said) (root : Root) (nodes : List Node) (g : Graph) (are : AreNodes said nodes) (s : AreVertices said root nodes g) where
   forth : (v : Node) (at : ℕ) (step : Step Node) → StandsAt nodes v at → Leads said root v step → (link : Link) × HasLink g at link × IsNoDearer (StandsAt nodes) step link
   forth v at step here l =
       let to = placed nodes step.target ((are.each step.target).1 (far_end said root v step.target step.price step.exit l)) in

@@ -1,6 +1,7 @@
 -- The vertices that stand for the nodes of a database, at the places of the nodes.
-use Rattle.std.specs.Prelude.{◌≡◌, ℕ, ◌<◌, ◌≤◌, ◌^◌, List, Some, slice_get, ◌↔◌, ◌⊎◌}
+use Rattle.std.specs.Prelude.{◌≡◌, ℕ, ◌<◌, ◌≤◌, ◌^◌, List, Some, length, slice_get, ◌↔◌, ◌⊎◌}
 use Rattle.std.specs.List.{All, Contains}
+use Rattle.routes.specs.Graphs.{Graph}
 use Rattle.routes.specs.Links.{LeadsTo}
 use Rattle.routes.specs.Said.{Said}
 use Rattle.routes.specs.declared.graph.Kind.{Kind}
@@ -56,3 +57,10 @@ pub record IsVertexOf (said : Said) (root : Root) (nodes : List Node) (node : No
   pub kind : vertex.kind ≡ kind_of node
   pub links : AreLinksFrom said root nodes node vertex.links.items
   pub fits : All CostFits vertex.links.items
+
+-- at the place of each node its vertex
+pub record AreVertices (said : Said) (root : Root) (nodes : List Node)
+    (graph : Graph) : Type 0 where
+  pub count : length graph ≡ length nodes
+  pub each : (at : ℕ) (node : Node) (vertex : Vertex) → StandsAt nodes node at
+      → slice_get graph at ≡ Some vertex → IsVertexOf said root nodes node vertex

@@ -68,12 +68,11 @@ abbrev pub if_network : ℕ → ℕ → Option NetworkLsa → Option Node
 if_network id by None = None
 if_network id by (Some lsa) = Some (ANetwork id by)
 
--- the node whose LSA has this key, if that is there
-abbrev pub node_at : Said → Key → Option Node
-node_at said key =
-    if (key.ls_type == 1) && (key.link_state_id == key.advertising_router)
-    then if_router key.advertising_router (router_lsa said key.advertising_router)
-    else (if key.ls_type == 2
-    then if_network key.link_state_id key.advertising_router
-    (network_lsa said key.link_state_id key.advertising_router)
+-- the node whose LSA has this key and says this, if there is one
+abbrev pub node_of : Key × Body → Option Node
+node_of one =
+    if (one.0.ls_type == 1) && (one.0.link_state_id == one.0.advertising_router)
+    then if_router one.0.advertising_router (router_in (Some one.1))
+    else (if one.0.ls_type == 2
+    then if_network one.0.link_state_id one.0.advertising_router (network_in (Some one.1))
     else None)

@@ -1,44 +1,91 @@
-//! What the LSAs of a database say at a moment, looked up by what they describe.
-ghost use Rattle.std.specs.Prelude.{◌≡◌, option_copied};
+//! What the LSAs of routers and transit networks say at a moment.
+ghost use Rattle.std.specs.Prelude.{◌≡◌, ◌↔◌, IsTrue, Some, option_copied};
+ghost use Rattle.lsdb.specs.Bodies.{AreBodies};
 ghost use Rattle.routes.specs.Said.{said_at};
 ghost use Rattle.area_graph.specs.Nodes.{network_lsa, router_lsa};
 
+use crate::lookups::few_from;
 use lsa::{Body, NetworkLsa, RouterLsa};
-use lsdb::Lsdb;
+use lsdb::{KeyedBody, Lsdb};
 use words::{Key, LinkStateId, RouterId, Second};
 
-// What the LSA of this key says, unless it is at MaxAge.
-fn body_of<'a>(db: &'a Lsdb, moment: Second, key: &Key) -> Option<&'a Body>
-    ensures { option_copied result ≡ said_at moment db.now.present key.now }
-{
-    db.body_at(moment, key)
+/// The type of network-LSAs: router-LSAs and these make nodes (RFC 2328, section A.4.1).
+pub const NETWORK_LSA: u32 = 2;
+
+/// A database at a moment, with what its router-LSAs and network-LSAs say then, in the order of
+/// their keys: that of the nodes, so that each is found at the place of its node, or a little beyond
+/// it.
+#[derive(Drop)]
+pub struct Advertised<'a> {
+    pub db: &'a Lsdb,
+    pub moment: Second,
+    pub bodies: &'a [KeyedBody<'a>],
 }
 
-/// The router-LSA of a router.
-pub fn router_lsa(db: &Lsdb, moment: Second, router: RouterId) -> Option<&RouterLsa>
-    ensures { option_copied result ≡ router_lsa (said_at moment db.now.present) router }
+// What the LSA of this key says, unless it is at MaxAge. It is looked for at the place first.
+fn body_near<'a>(told: &Advertised<'a>, place: usize, key: &Key) -> Option<&'a Body>
+    requires { AreBodies (Some 2) (said_at told.now.moment told.now.db.now.present)
+        told.now.bodies.now }
+    ensures { option_copied result ≡ said_at told.now.moment told.now.db.now.present key.now }
+{
+    let bodies = told.bodies;
+    let end = few_from(place, bodies.len());
+    for at in place..end {
+        let one = &bodies[at];
+        if is_same_key(one.key(), key) {
+            return Some(one.body());
+        }
+    }
+    told.db.body_at(told.moment, key)
+}
+
+fn is_same_key(a: &Key, b: &Key) -> bool
+    ensures { IsTrue result ↔ (a.now ≡ b.now) }
+{
+    *a == *b
+}
+
+/// The router-LSA of a router, whose node is expected at the place.
+pub fn router_lsa<'a>(
+    told: &Advertised<'a>,
+    place: usize,
+    router: RouterId,
+) -> Option<&'a RouterLsa>
+    requires { AreBodies (Some 2) (said_at told.now.moment told.now.db.now.present)
+        told.now.bodies.now }
+    ensures { option_copied result
+        ≡ router_lsa (said_at told.now.moment told.now.db.now.present) router }
 {
     let key = Key {
         ls_type: 1,
         link_state_id: LinkStateId::new(router.number()),
         advertising_router: router,
     };
-    match body_of(db, moment, &key) {
+    match body_near(told, place, &key) {
         Some(Body::Router(lsa)) => Some(lsa),
         _ => None,
     }
 }
 
-/// The network-LSA of this Link State ID and Advertising Router.
-pub fn network_lsa(db: &Lsdb, moment: Second, id: LinkStateId, by: RouterId) -> Option<&NetworkLsa>
-    ensures { option_copied result ≡ network_lsa (said_at moment db.now.present) id by }
+/// The network-LSA of this Link State ID and Advertising Router, whose node is expected at the
+/// place.
+pub fn network_lsa<'a>(
+    told: &Advertised<'a>,
+    place: usize,
+    id: LinkStateId,
+    by: RouterId,
+) -> Option<&'a NetworkLsa>
+    requires { AreBodies (Some 2) (said_at told.now.moment told.now.db.now.present)
+        told.now.bodies.now }
+    ensures { option_copied result
+        ≡ network_lsa (said_at told.now.moment told.now.db.now.present) id by }
 {
     let key = Key {
         ls_type: 2,
         link_state_id: id,
         advertising_router: by,
     };
-    match body_of(db, moment, &key) {
+    match body_near(told, place, &key) {
         Some(Body::Network(lsa)) => Some(lsa),
         _ => None,
     }

@@ -4,6 +4,7 @@ ghost use Rattle.std.specs.Prelude.{◌≡◌, ◌↔◌, ℕ, IfOk, OnOk, Some}
 ghost use Rattle.std.specs.List.{Contains};
 ghost use Rattle.std.specs.List.Sorted.{IsSorted};
 ghost use Rattle.lsa.specs.declared.body.Link.{Link as LinkValue};
+ghost use Rattle.lsdb.specs.Bodies.{AreBodies};
 ghost use Rattle.routes.specs.Said.{said_at};
 ghost use Rattle.area_graph.specs.Entries.{AreEntries, TellsOf, attached_entry, entry_cmp};
 ghost use Rattle.area_graph.specs.Entries.{entry_of};
@@ -11,13 +12,12 @@ ghost use Rattle.area_graph.specs.Graphs.{Adds, OfEach};
 ghost use Rattle.area_graph.specs.Nodes.{AreNodes};
 ghost use Rattle.area_graph.specs.declared.entry.Entry.{Entry as EntryValue};
 
-use crate::advertised::{network_lsa, router_lsa};
+use crate::advertised::{Advertised, network_lsa, router_lsa};
 use crate::entry::{Entry, compare, of_link, of_list};
 use lsa::{NetworkLsa, RouterLsa};
-use lsdb::Lsdb;
 use routes::Node;
 use std::alloc::{AllocError, Global};
-use words::{LinkStateId, RouterId, Second};
+use words::{LinkStateId, RouterId};
 
 /// What the LSAs of the nodes tell of each router, in order: an entry for each point-to-point and
 /// transit link of a router-LSA, and for each router that a network-LSA lists.
@@ -26,39 +26,63 @@ use words::{LinkStateId, RouterId, Second};
 /// Where memory for them is refused.
 pub fn entries_of(
     alloc: Global,
-    db: &Lsdb,
-    moment: Second,
+    told: &Advertised<'_>,
     nodes: &[Node],
 ) -> Result<Vec<Entry>, AllocError>
-    requires { AreNodes (said_at moment db.now.present) nodes.now }
-    ensures { IfOk result (λ entries. AreEntries (said_at moment db.now.present) nodes.now
-        entries.items) }
+    requires bodies { AreBodies (Some 2)
+        (said_at told.now.moment told.now.db.now.present) told.now.bodies.now }
+    requires nodes { AreNodes (said_at told.now.moment told.now.db.now.present) nodes.now }
+    ensures { IfOk result (λ entries. AreEntries
+        (said_at told.now.moment told.now.db.now.present) nodes.now entries.items) }
 {
+    let mut own = Vec::new(alloc);
     let mut entries = Vec::new(alloc);
     for at in 0..nodes.len() {
-        add_node(db, moment, &nodes[at], at, &mut entries)?;
+        add_in_order(told, &nodes[at], at, &mut own, &mut entries)?;
     }
-    sort(&mut entries);
+    sort(&mut entries)?;
     Ok(entries)
+}
+
+// Adds what the LSA of the node at the place tells, in order, so that the whole is in order but for
+// the lists of networks. What was in the list beside the entries goes.
+fn add_in_order(
+    told: &Advertised<'_>,
+    node: &Node,
+    place: usize,
+    own: &mut Vec<Entry>,
+    entries: &mut Vec<Entry>,
+) -> Result<(), AllocError>
+    requires { AreBodies (Some 2)
+        (said_at told.now.moment told.now.db.now.present) told.now.bodies.now }
+    ensures { OnOk result (Adds (TellsOf (said_at told.now.moment told.now.db.now.present)
+        node.now place) entries.old.items entries.new.items) }
+{
+    own.clear();
+    add_node(told, node, place, own)?;
+    sort_own(own);
+    push_all(own, entries)?;
+    Ok(())
 }
 
 // Adds what the LSA of the node at the place tells.
 fn add_node(
-    db: &Lsdb,
-    moment: Second,
+    told: &Advertised<'_>,
     node: &Node,
     place: usize,
     entries: &mut Vec<Entry>,
 ) -> Result<(), AllocError>
-    ensures { OnOk result (Adds (TellsOf (said_at moment db.now.present) node.now place)
-        entries.old.items entries.new.items) }
+    requires { AreBodies (Some 2)
+        (said_at told.now.moment told.now.db.now.present) told.now.bodies.now }
+    ensures { OnOk result (Adds (TellsOf (said_at told.now.moment told.now.db.now.present)
+        node.now place) entries.old.items entries.new.items) }
 {
     match node {
-        Node::ARouter(router) => match router_lsa(db, moment, *router) {
+        Node::ARouter(router) => match router_lsa(told, place, *router) {
             None => Ok(()),
             Some(lsa) => add_links(*router, lsa, entries),
         },
-        Node::ANetwork(id, by) => match network_lsa(db, moment, *id, *by) {
+        Node::ANetwork(id, by) => match network_lsa(told, place, *id, *by) {
             None => Ok(()),
             Some(lsa) => add_list(*id, place, lsa, entries),
         },
@@ -94,10 +118,29 @@ fn add_list(
     Ok(())
 }
 
-fn sort(entries: &mut Vec<Entry>)
-    ensures sorted { IsSorted entry_cmp entries.new.items }
-    ensures same { (entry : EntryValue) → Contains entries.new.items entry
-        ↔ Contains entries.old.items entry }
+// Adds all of them.
+fn push_all(own: &[Entry], entries: &mut Vec<Entry>) -> Result<(), AllocError>
+    ensures { OnOk result (Adds (λ (entry : EntryValue). Contains own.now entry)
+        entries.old.items entries.new.items) }
 {
-    entries.sort_unstable_by(|a, b| compare(a, b));
+    for entry in own {
+        entries.push(*entry)?;
+    }
+    Ok(())
+}
+
+fn sort_own(own: &mut Vec<Entry>)
+    ensures { (entry : EntryValue) → Contains own.new.items entry ↔ Contains own.old.items entry }
+{
+    own.sort_unstable_by(|a, b| compare(a, b));
+}
+
+// Merges the runs that are in order.
+fn sort(entries: &mut Vec<Entry>) -> Result<(), AllocError>
+    ensures sorted { OnOk result (IsSorted entry_cmp entries.new.items) }
+    ensures same { OnOk result ((entry : EntryValue) → Contains entries.new.items entry
+        ↔ Contains entries.old.items entry) }
+{
+    entries.sort_by(|a, b| compare(a, b))?;
+    Ok(())
 }

@@ -1,5 +1,6 @@
 //! What one link or one list tells of a router, and the order in which such entries are looked up.
 ghost use Rattle.std.specs.Prelude.{◌≡◌, ◌↔◌, IsTrue, Some};
+ghost use Rattle.std.specs.Ordering.{is_lt};
 ghost use Rattle.area_graph.specs.Entries.{IsBeside, attached_entry, entry_cmp, entry_of, rank};
 ghost use Rattle.area_graph.specs.Entries.{with_kind};
 
@@ -54,6 +55,13 @@ pub fn compare(a: &Entry, b: &Entry) -> Ordering
         .then(a.place.cmp(&b.place))
 }
 
+/// Tells whether the first comes before the other in that order.
+pub fn is_before(a: &Entry, b: &Entry) -> bool
+    ensures { result ≡ is_lt (entry_cmp a.now b.now) }
+{
+    compare(a, b) == Ordering::Less
+}
+
 /// Tells whether both are of one router, kind and ID.
 pub fn is_beside(entry: &Entry, other: &Entry) -> bool
     ensures { IsTrue result ↔ IsBeside entry.now other.now }
@@ -61,6 +69,14 @@ pub fn is_beside(entry: &Entry, other: &Entry) -> bool
     entry.router.number() == other.router.number()
         && entry.kind == other.kind
         && entry.id == other.id
+}
+
+/// Tells whether the entry is of this router, kind and ID.
+pub fn is_of(entry: &Entry, router: RouterId, kind: EntryKind, id: u32) -> bool
+    ensures { IsTrue result ↔ ((entry.now.id ≡ id) × (entry.now.router ≡ router)
+        × (entry.now.kind ≡ kind)) }
+{
+    entry.id == id && entry.router.number() == router.number() && entry.kind == kind
 }
 
 /// The entry of a link of the router's LSA; links to stub networks and virtual links have none.

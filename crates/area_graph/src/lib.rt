@@ -8,7 +8,10 @@ mod entry;
 mod links;
 mod lookups;
 mod nodes;
+mod slots;
+mod starts;
 mod vertices;
 
-pub use nodes::{is_before, nodes_of, place_of};
+pub use nodes::{is_before, nodes_of};
+pub use slots::Slots;
 pub use vertices::graph_of;

@@ -2,6 +2,7 @@
 ghost use Rattle.std.specs.Prelude.{◌≡◌, ◌<◌, ◌≤◌, ◌↔◌, length, IfOk, IsTrue, OnOk};
 ghost use Rattle.std.specs.List.{All};
 ghost use Rattle.std.specs.List.Sorted.{IsSorted};
+ghost use Rattle.lsdb.specs.Bodies.{AreBodies};
 ghost use Rattle.routes.specs.Said.{said_at};
 ghost use Rattle.area_graph.specs.Entries.{AreEntries, AreOrdered, entry_cmp, rank};
 ghost use Rattle.area_graph.specs.Graphs.{Adds, AreLinksFrom, CostFits, OfEach};
@@ -9,45 +10,66 @@ ghost use Rattle.area_graph.specs.Links.{IsCheapest, IsExitTo, IsNeighborAt, IsO
 ghost use Rattle.area_graph.specs.Links.{IsToListed, IsToNetwork, IsToRouter, IsToSomeNetwork};
 ghost use Rattle.area_graph.specs.Nodes.{AreNodes};
 
-use crate::advertised::{network_lsa, router_lsa};
+use crate::advertised::{Advertised, network_lsa, router_lsa};
 use crate::entry::{Entry, EntryKind, of_list};
-use crate::lookups::{first_at, has_entry, least_metric};
-use crate::nodes::place_of;
+use crate::lookups::{first_at_near, has_entry_near, least_metric};
+use crate::slots::Slots;
+use crate::starts::{Start, start_at};
 use lsa::{Link as ToldLink, LinkKind, NetworkLsa, RouterLsa};
-use lsdb::Lsdb;
 use routes::{Link, Node, Root};
 use std::alloc::{AllocError, Global};
-use words::{LinkStateId, RouterId, Second};
+use words::{LinkStateId, RouterId};
+
+/// The nodes of an area, with their slots, what LSAs tell of its routers, and where that begins for
+/// each of these.
+#[derive(Drop)]
+pub struct Area<'a> {
+    pub nodes: &'a [Node],
+    pub entries: &'a [Entry],
+    pub slots: &'a Slots,
+    pub starts: &'a [Start],
+}
 
 /// The links of the graph from a node, to the places of the nodes in their list. Of a router's
 /// links to one network only a cheapest is among them, but of the root's one for each interface.
 pub fn links_from(
     alloc: Global,
-    db: &Lsdb,
+    told: &Advertised<'_>,
     root: &Root,
-    moment: Second,
-    nodes: &[Node],
-    entries: &[Entry],
+    area: &Area<'_>,
     from: &Node,
+    place: usize,
 ) -> Result<Vec<Link>, AllocError>
-    requires nodes { AreNodes (said_at moment db.now.present) nodes.now }
-    requires entries { AreEntries (said_at moment db.now.present) nodes.now entries.now }
+    requires bodies { AreBodies (Some 2)
+        (said_at told.now.moment told.now.db.now.present) told.now.bodies.now }
+    requires nodes { AreNodes (said_at told.now.moment told.now.db.now.present)
+        area.now.nodes.now }
+    requires entries { AreEntries (said_at told.now.moment told.now.db.now.present)
+        area.now.nodes.now area.now.entries.now }
     requires interfaces { length root.now.addresses ≤ 63 }
-    ensures links { IfOk result (λ links. AreLinksFrom (said_at moment db.now.present) root.now
-        nodes.now from.now links.items) }
+    ensures links { IfOk result (λ links. AreLinksFrom
+        (said_at told.now.moment told.now.db.now.present) root.now area.now.nodes.now from.now
+        links.items) }
     ensures fits { IfOk result (λ links. All CostFits links.items) }
 {
     let mut links = Vec::new(alloc);
     match from {
         Node::ARouter(router) => {
-            if let Some(lsa) = router_lsa(db, moment, *router) {
-                add_routers(root, nodes, entries, *router, lsa, &mut links)?;
-                add_networks(root, entries, *router, lsa, &mut links)?;
+            if let Some(lsa) = router_lsa(told, place, *router) {
+                add_routers(root, area, *router, lsa, &mut links)?;
+                add_networks(
+                    root,
+                    area.entries,
+                    start_at(area.starts, place).lists,
+                    *router,
+                    lsa,
+                    &mut links,
+                )?;
             }
         }
         Node::ANetwork(id, by) => {
-            if let Some(lsa) = network_lsa(db, moment, *id, *by) {
-                add_listed(nodes, entries, *id, lsa, &mut links)?;
+            if let Some(lsa) = network_lsa(told, place, *id, *by) {
+                add_listed(area, *id, lsa, &mut links)?;
             }
         }
     }
@@ -59,21 +81,20 @@ pub fn links_from(
 // Adds the links to the routers at the far ends of point-to-point links.
 fn add_routers(
     root: &Root,
-    nodes: &[Node],
-    entries: &[Entry],
+    area: &Area<'_>,
     router: RouterId,
     lsa: &RouterLsa,
     links: &mut Vec<Link>,
 ) -> Result<(), AllocError>
-    requires ordered { AreOrdered nodes.now entries.now }
+    requires ordered { AreOrdered area.now.nodes.now area.now.entries.now }
     requires interfaces { length root.now.addresses ≤ 63 }
-    ensures adds { OnOk result (Adds (OfEach (IsToRouter root.now nodes.now entries.now router)
+    ensures adds { OnOk result (Adds (OfEach (IsToRouter root.now area.now.nodes.now area.now.entries.now router)
         lsa.now.links) links.old.items links.new.items) }
     ensures fits { OnOk result (All CostFits links.old.items → All CostFits links.new.items) }
 {
     for told in lsa.links.as_slice() {
         if is_to_router(told) {
-            add_router(root, nodes, entries, router, told, links)?;
+            add_router(root, area, router, told, links)?;
         }
     }
     Ok(())
@@ -89,47 +110,36 @@ fn is_to_router(told: &ToldLink) -> bool
 // Adds the links to the router at the far end of one, if that has a link back.
 fn add_router(
     root: &Root,
-    nodes: &[Node],
-    entries: &[Entry],
+    area: &Area<'_>,
     router: RouterId,
     told: &ToldLink,
     links: &mut Vec<Link>,
 ) -> Result<(), AllocError>
-    requires ordered { AreOrdered nodes.now entries.now }
+    requires ordered { AreOrdered area.now.nodes.now area.now.entries.now }
     requires interfaces { length root.now.addresses ≤ 63 }
     requires is_kind { told.now.kind ≡ LinkKind.PointToPoint }
     requires counts { 0 < told.now.metric }
-    ensures adds { OnOk result (Adds (IsToRouter root.now nodes.now entries.now router told.now)
+    ensures adds { OnOk result (Adds (IsToRouter root.now area.now.nodes.now area.now.entries.now router told.now)
         links.old.items links.new.items) }
     ensures fits { OnOk result (All CostFits links.old.items → All CostFits links.new.items) }
 {
     let far = RouterId::new(told.link_id);
-    match neighbor_at(
-        nodes,
-        entries,
-        far,
-        EntryKind::PointToPoint,
-        router.number(),
-    ) {
+    match neighbor_at(area, far, EntryKind::PointToPoint, router.number()) {
         None => Ok(()),
         Some(to) => add_exits(root, router, told.link_data, told.metric, to, links),
     }
 }
 
 // The place of a router, if its LSA has a link of this kind to this ID.
-fn neighbor_at(
-    nodes: &[Node],
-    entries: &[Entry],
-    router: RouterId,
-    kind: EntryKind,
-    id: u32,
-) -> Option<usize>
-    requires ordered { AreOrdered nodes.now entries.now }
+fn neighbor_at(area: &Area<'_>, router: RouterId, kind: EntryKind, id: u32) -> Option<usize>
+    requires ordered { AreOrdered area.now.nodes.now area.now.entries.now }
     requires of_link { rank kind < 2 }
-    ensures { IsNeighborAt nodes.now entries.now router kind id result }
+    ensures { IsNeighborAt area.now.nodes.now area.now.entries.now router kind id result }
 {
-    if has_entry(entries, router, kind, id) {
-        Some(place_of(nodes, &Node::ARouter(router)))
+    let place = area.slots.place_of(area.nodes, &Node::ARouter(router));
+    let start = start_at(area.starts, place).links;
+    if has_entry_near(area.entries, start, router, kind, id) {
+        Some(place)
     } else {
         None
     }
@@ -194,10 +204,12 @@ fn add_own(
 
 // ---- to networks
 
-// Adds the links to the networks that list the router.
+// Adds the links to the networks that list the router. The entries of their lists are expected at
+// the place.
 fn add_networks(
     root: &Root,
     entries: &[Entry],
+    start: usize,
     router: RouterId,
     lsa: &RouterLsa,
     links: &mut Vec<Link>,
@@ -209,7 +221,7 @@ fn add_networks(
     ensures fits { OnOk result (All CostFits links.old.items → All CostFits links.new.items) }
 {
     let least = of_list(LinkStateId::new(0), 0, router);
-    let first = first_at(entries, &least);
+    let first = first_at_near(entries, start, &least);
     for at in first..entries.len() {
         let entry = &entries[at];
         if !is_listed(entry, router) {
@@ -306,19 +318,18 @@ fn add_cheapest(
 // Adds the links of the network of this Link State ID to the routers that its LSA lists and that
 // have a link back.
 fn add_listed(
-    nodes: &[Node],
-    entries: &[Entry],
+    area: &Area<'_>,
     id: LinkStateId,
     lsa: &NetworkLsa,
     links: &mut Vec<Link>,
 ) -> Result<(), AllocError>
-    requires { AreOrdered nodes.now entries.now }
-    ensures adds { OnOk result (Adds (OfEach (IsToListed nodes.now entries.now id) lsa.now.attached)
+    requires { AreOrdered area.now.nodes.now area.now.entries.now }
+    ensures adds { OnOk result (Adds (OfEach (IsToListed area.now.nodes.now area.now.entries.now id) lsa.now.attached)
         links.old.items links.new.items) }
     ensures fits { OnOk result (All CostFits links.old.items → All CostFits links.new.items) }
 {
     for router in lsa.attached.as_slice() {
-        if let Some(to) = neighbor_at(nodes, entries, *router, EntryKind::Transit, id.number()) {
+        if let Some(to) = neighbor_at(area, *router, EntryKind::Transit, id.number()) {
             links.push(Link {
                 to,
                 cost: 0,

@@ -5,8 +5,22 @@ ghost use Rattle.std.specs.declared.cmp.Ordering.TheVariants.{Less};
 ghost use Rattle.area_graph.specs.Entries.{HasEntry, IsLeastMetric, entry_cmp};
 ghost use Rattle.area_graph.specs.declared.entry.Entry.{Entry as EntryValue};
 
-use crate::entry::{Entry, EntryKind, compare, is_beside};
+use crate::entry::{Entry, EntryKind, compare, is_before, is_beside, is_of};
 use words::RouterId;
+
+// At so many places something is looked for before it is looked up.
+const FEW: usize = 8;
+
+/// Where the few places from this one on end, in a list of this length.
+pub fn few_from(place: usize, length: usize) -> usize
+    ensures { result ≤ length }
+{
+    let end = place.saturating_add(FEW);
+    if end < length {
+        return end;
+    }
+    length
+}
 
 /// The first place of an entry that isn't before this one, or their count where all are.
 pub fn first_at(entries: &[Entry], entry: &Entry) -> usize
@@ -18,6 +32,68 @@ pub fn first_at(entries: &[Entry], entry: &Entry) -> usize
         → result ≤ k → entry_cmp other entry.now ≡ Less → ⊥ }
 {
     entries.partition_point(|other| compare(other, entry).is_lt())
+}
+
+/// The same, where it is mostly this place.
+pub fn first_at_near(entries: &[Entry], place: usize, entry: &Entry) -> usize
+    requires { IsSorted entry_cmp entries.now }
+    ensures within { result ≤ length entries.now }
+    ensures before { (k : ℕ) (other : EntryValue) → slice_get entries.now k ≡ Some other
+        → k < result → entry_cmp other entry.now ≡ Less }
+    ensures beyond { (k : ℕ) (other : EntryValue) → slice_get entries.now k ≡ Some other
+        → result ≤ k → entry_cmp other entry.now ≡ Less → ⊥ }
+{
+    if place <= entries.len() && is_first(entries, place, entry) {
+        return place;
+    }
+    first_at(entries, entry)
+}
+
+// Tells that the entries below the place are before this one, and no others are.
+fn is_first(entries: &[Entry], place: usize, entry: &Entry) -> bool
+    requires sorted { IsSorted entry_cmp entries.now }
+    requires within { place ≤ length entries.now }
+    ensures before { IsTrue result → (k : ℕ) (other : EntryValue)
+        → slice_get entries.now k ≡ Some other → k < place → entry_cmp other entry.now ≡ Less }
+    ensures beyond { IsTrue result → (k : ℕ) (other : EntryValue)
+        → slice_get entries.now k ≡ Some other → place ≤ k → entry_cmp other entry.now ≡ Less
+        → ⊥ }
+{
+    if are_before(entries, place, entry) {
+        return are_not_before(entries, place, entry);
+    }
+    false
+}
+
+// Tells that the entries below the place are before this one.
+fn are_before(entries: &[Entry], place: usize, entry: &Entry) -> bool
+    requires sorted { IsSorted entry_cmp entries.now }
+    requires within { place ≤ length entries.now }
+    ensures { IsTrue result → (k : ℕ) (other : EntryValue)
+        → slice_get entries.now k ≡ Some other → k < place → entry_cmp other entry.now ≡ Less }
+{
+    if place > 0 {
+        let last = place - 1;
+        return is_before(&entries[last], entry);
+    }
+    true
+}
+
+// Tells that none from the place on is before this one.
+fn are_not_before(entries: &[Entry], place: usize, entry: &Entry) -> bool
+    requires sorted { IsSorted entry_cmp entries.now }
+    requires within { place ≤ length entries.now }
+    ensures { IsTrue result → (k : ℕ) (other : EntryValue)
+        → slice_get entries.now k ≡ Some other → place ≤ k → entry_cmp other entry.now ≡ Less
+        → ⊥ }
+{
+    if place == entries.len() {
+        return true;
+    }
+    if is_before(&entries[place], entry) {
+        return false;
+    }
+    true
 }
 
 /// The least metric, not below `from`, of the entries of a router with this kind and ID.
@@ -50,8 +126,29 @@ pub fn least_metric(
     }
 }
 
-/// Tells whether a router has an entry of this kind and ID.
-pub fn has_entry(entries: &[Entry], router: RouterId, kind: EntryKind, id: u32) -> bool
+/// Tells whether a router has an entry of this kind and ID. It is looked for first at the place
+/// where its entries begin, if this is that place, and a little beyond it.
+pub fn has_entry_near(
+    entries: &[Entry],
+    place: usize,
+    router: RouterId,
+    kind: EntryKind,
+    id: u32,
+) -> bool
+    requires { IsSorted entry_cmp entries.now }
+    ensures { IsTrue result ↔ HasEntry entries.now router kind id }
+{
+    let end = few_from(place, entries.len());
+    for at in place..end {
+        if is_of(&entries[at], router, kind, id) {
+            return true;
+        }
+    }
+    has_entry(entries, router, kind, id)
+}
+
+// Tells whether a router has an entry of this kind and ID.
+fn has_entry(entries: &[Entry], router: RouterId, kind: EntryKind, id: u32) -> bool
     requires { IsSorted entry_cmp entries.now }
     ensures { IsTrue result ↔ HasEntry entries.now router kind id }
 {

@@ -1,13 +1,14 @@
 //! The nodes of the graph, each at its place.
-ghost use Rattle.std.specs.Prelude.{◌≡◌, ◌<◌, ◌≤◌, ℕ, length, IfOk, Some, slice_get};
+ghost use Rattle.std.specs.Prelude.{◌≡◌, ◌<◌, ◌≤◌, ◌↔◌, ℕ, length, IfOk, IsTrue, Some, slice_get};
 ghost use Rattle.std.specs.FinMap as finite;
 ghost use Rattle.std.specs.Ordering.{is_lt};
 ghost use Rattle.routes.specs.Said.{said_at};
-ghost use Rattle.area_graph.specs.Nodes.{AreNodes, Ascend, node_at, node_cmp};
+ghost use Rattle.area_graph.specs.Nodes.{AreNodes, Ascend, node_cmp, node_of};
 ghost use Rattle.routes.specs.declared.node.Node.{Node};
 ghost use Rattle.std.specs.declared.cmp.Ordering.TheVariants.{Less};
 
-use crate::advertised::{network_lsa, router_lsa};
+use crate::advertised::NETWORK_LSA;
+use lsa::Body;
 use lsdb::Lsdb;
 use routes::Node;
 use std::alloc::{AllocError, Global};
@@ -18,36 +19,36 @@ use words::{Key, Second};
 /// first, by their numbers: the order of the keys (RFC 2328, section 16.1).
 ///
 /// # Errors
-/// Where memory for them or for the keys is refused.
+/// Where memory for them or for what LSAs say is refused.
 pub fn nodes_of(alloc: Global, db: &Lsdb, moment: Second) -> Result<Vec<Node>, AllocError>
     ensures nodes { IfOk result (λ nodes. AreNodes (said_at moment db.now.present) nodes.items) }
     ensures few { IfOk result (λ nodes. length nodes.items ≤ finite.len db.now.present) }
 {
-    let keys = db.first(alloc, db.len())?;
+    let bodies = db.bodies_at(alloc, Some(NETWORK_LSA), moment)?;
     let mut nodes = Vec::new(alloc);
-    for key in &keys {
-        if let Some(node) = node_at(db, moment, key) {
+    for one in &bodies {
+        if let Some(node) = node_of(one.key(), one.body()) {
             nodes.push(node)?;
         }
     }
     Ok(nodes)
 }
 
-// The node whose LSA has this key, if that says something.
-fn node_at(db: &Lsdb, moment: Second, key: &Key) -> Option<Node>
-    ensures { result ≡ node_at (said_at moment db.now.present) key.now }
+// The node whose LSA has this key and says this, if there is one.
+fn node_of(key: &Key, body: &Body) -> Option<Node>
+    ensures { result ≡ node_of (key.now, body.now) }
 {
     let router = key.advertising_router;
     if key.ls_type == 1 && key.link_state_id.number() == router.number() {
-        return match router_lsa(db, moment, router) {
-            None => None,
-            Some(_) => Some(Node::ARouter(router)),
+        return match body {
+            Body::Router(_) => Some(Node::ARouter(router)),
+            _ => None,
         };
     }
-    if key.ls_type == 2 {
-        return match network_lsa(db, moment, key.link_state_id, router) {
-            None => None,
-            Some(_) => Some(Node::ANetwork(key.link_state_id, router)),
+    if key.ls_type == NETWORK_LSA {
+        return match body {
+            Body::Network(_) => Some(Node::ANetwork(key.link_state_id, router)),
+            _ => None,
         };
     }
     None
@@ -73,6 +74,27 @@ pub fn place_of(nodes: &[Node], node: &Node) -> usize
         }
     }
     low
+}
+
+/// The same, where it is mostly this place.
+pub fn place_near(nodes: &[Node], place: usize, node: &Node) -> usize
+    requires { Ascend nodes.now }
+    ensures within { result ≤ length nodes.now }
+    ensures before { (k : ℕ) (other : Node) → slice_get nodes.now k ≡ Some other → k < result
+        → node_cmp other node.now ≡ Less }
+    ensures beyond { (k : ℕ) (other : Node) → slice_get nodes.now k ≡ Some other → result ≤ k
+        → node_cmp other node.now ≡ Less → ⊥ }
+{
+    if place < nodes.len() && is_same(&nodes[place], node) {
+        return place;
+    }
+    place_of(nodes, node)
+}
+
+fn is_same(a: &Node, b: &Node) -> bool
+    ensures { IsTrue result ↔ (a.now ≡ b.now) }
+{
+    *a == *b
 }
 
 fn compare(a: &Node, b: &Node) -> Ordering

@@ -2,14 +2,17 @@
 ghost use Rattle.std.specs.Prelude.{◌≡◌, ◌≤◌, ℕ, length, IfOk};
 ghost use Rattle.routes.specs.Graphs.{IsGraph, IsGraphOf};
 ghost use Rattle.routes.specs.Links.{Leads};
+ghost use Rattle.lsdb.specs.Bodies.{AreBodies};
 ghost use Rattle.routes.specs.Said.{said_at};
 ghost use Rattle.area_graph.specs.Entries.{AreEntries};
-ghost use Rattle.area_graph.specs.Graphs.{IsVertexOf, StandsAt, kind_of};
+ghost use Rattle.area_graph.specs.Graphs.{AreVertices, IsVertexOf, StandsAt, kind_of};
 ghost use Rattle.area_graph.specs.Nodes.{AreNodes};
 
+use crate::advertised::{Advertised, NETWORK_LSA};
 use crate::entries::entries_of;
-use crate::entry::Entry;
-use crate::links::links_from;
+use crate::links::{Area, links_from};
+use crate::slots::Slots;
+use crate::starts::starts_of;
 use lsdb::Lsdb;
 use routes::{Kind, Node, Root, Vertex};
 use std::alloc::{AllocError, Global};
@@ -18,10 +21,11 @@ use words::Second;
 /// The graph of the database: each of its links is one that counts (RFC 2328, section 16.1), for
 /// each that counts there is one to the same node by the same interface that is no dearer, and each
 /// node stands at its place in the list. The nodes are those of `nodes_of` at that moment; the root
-/// has at most 63 interfaces.
+/// has at most 63 interfaces. The slots are those of the nodes, so that each is soon found.
 ///
-/// The time is that of sorting the links of router-LSAs and the routers in network-LSAs, and for
-/// the root one step more for each of its links at each network that lists it.
+/// The time is that of one walk over the LSAs of routers and networks, of a look-up for each link,
+/// and of sorting the lists of networks; for the root it is one step more for each of its links at
+/// each network that lists it.
 ///
 /// # Errors
 /// Where memory for the graph is refused.
@@ -31,6 +35,7 @@ pub fn graph_of(
     root: &Root,
     moment: Second,
     nodes: &[Node],
+    slots: &Slots,
 ) -> Result<Vec<Vertex>, AllocError>
     requires nodes { AreNodes (said_at moment db.now.present) nodes.now }
     requires interfaces { length root.now.addresses ≤ 63 }
@@ -39,33 +44,71 @@ pub fn graph_of(
         root.now) (StandsAt nodes.now) graph.items) }
     ensures lawful { IfOk result (λ graph. IsGraph graph.items) }
 {
-    let entries = entries_of(alloc, db, moment, nodes)?;
+    let bodies = db.bodies_at(alloc, Some(NETWORK_LSA), moment)?;
+    let told = Advertised {
+        db,
+        moment,
+        bodies: &bodies,
+    };
+    let entries = entries_of(alloc, &told, nodes)?;
+    let starts = starts_of(alloc, nodes, &entries)?;
+    let area = Area {
+        nodes,
+        entries: &entries,
+        slots,
+        starts: &starts,
+    };
+    let graph = vertices_of(alloc, &told, root, &area)?;
+    Ok(graph)
+}
+
+// The vertices that stand for all nodes, each at the place of its node.
+fn vertices_of(
+    alloc: Global,
+    told: &Advertised<'_>,
+    root: &Root,
+    area: &Area<'_>,
+) -> Result<Vec<Vertex>, AllocError>
+    requires bodies { AreBodies (Some 2)
+        (said_at told.now.moment told.now.db.now.present) told.now.bodies.now }
+    requires nodes { AreNodes (said_at told.now.moment told.now.db.now.present)
+        area.now.nodes.now }
+    requires entries { AreEntries (said_at told.now.moment told.now.db.now.present)
+        area.now.nodes.now area.now.entries.now }
+    requires interfaces { length root.now.addresses ≤ 63 }
+    ensures { IfOk result (λ graph. AreVertices (said_at told.now.moment told.now.db.now.present)
+        root.now area.now.nodes.now graph.items) }
+{
+    let nodes = area.nodes;
     let mut graph = Vec::new(alloc);
-    for node in nodes {
-        let vertex = vertex_of(alloc, db, root, moment, nodes, &entries, node)?;
+    for at in 0..nodes.len() {
+        let vertex = vertex_of(alloc, told, root, area, &nodes[at], at)?;
         graph.push(vertex)?;
     }
     Ok(graph)
 }
 
-// The vertex that stands for a node.
+// The vertex that stands for the node at the place.
 fn vertex_of(
     alloc: Global,
-    db: &Lsdb,
+    told: &Advertised<'_>,
     root: &Root,
-    moment: Second,
-    nodes: &[Node],
-    entries: &[Entry],
+    area: &Area<'_>,
     node: &Node,
+    place: usize,
 ) -> Result<Vertex, AllocError>
-    requires nodes { AreNodes (said_at moment db.now.present) nodes.now }
-    requires entries { AreEntries (said_at moment db.now.present) nodes.now entries.now }
+    requires bodies { AreBodies (Some 2)
+        (said_at told.now.moment told.now.db.now.present) told.now.bodies.now }
+    requires nodes { AreNodes (said_at told.now.moment told.now.db.now.present)
+        area.now.nodes.now }
+    requires entries { AreEntries (said_at told.now.moment told.now.db.now.present)
+        area.now.nodes.now area.now.entries.now }
     requires interfaces { length root.now.addresses ≤ 63 }
-    ensures { IfOk result (λ vertex. IsVertexOf (said_at moment db.now.present) root.now nodes.now
-        node.now vertex) }
+    ensures { IfOk result (λ vertex. IsVertexOf (said_at told.now.moment told.now.db.now.present)
+        root.now area.now.nodes.now node.now vertex) }
 {
     let kind = kind_of(node);
-    let links = links_from(alloc, db, root, moment, nodes, entries, node)?;
+    let links = links_from(alloc, told, root, area, node, place)?;
     Ok(Vertex { kind, links })
 }
 

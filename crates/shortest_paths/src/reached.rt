@@ -3,7 +3,7 @@ ghost use Rattle.std.specs.Prelude.{◌≡◌, ℕ, ◌<◌, length, IfOk, IfSom
 ghost use Rattle.area_graph.specs.Nodes.{Ascend};
 ghost use Rattle.shortest_paths.specs.Reached.{alone, way_in};
 
-use area_graph::{is_before, place_of};
+use area_graph::{Slots, is_before};
 use offers::Ways;
 use routes::{Node, Root, Way};
 use std::alloc::{AllocError, Global};
@@ -15,6 +15,7 @@ use std::marker::Model;
 #[derive(Debug, Drop)]
 pub struct Reached {
     nodes: Vec<Node>,
+    slots: Slots,
     // the way to the node at the same place
     ways: Vec<Option<Way>>,
 }
@@ -30,13 +31,13 @@ impl Model for Reached {
 }
 
 impl Reached {
-    // The nodes with the ways that stand beside them.
-    pub(crate) fn new(nodes: Vec<Node>, ways: Vec<Option<Way>>) -> Self
+    // The nodes with their slots and the ways that stand beside them.
+    pub(crate) fn new(nodes: Vec<Node>, slots: Slots, ways: Vec<Option<Way>>) -> Self
         requires ascend { Ascend nodes.items }
         requires count { length ways.items ≡ length nodes.items }
         ensures { result ≡ record { nodes = nodes.items; ways = ways.items } }
     {
-        Reached { nodes, ways }
+        Reached { nodes, slots, ways }
     }
 }
 
@@ -44,19 +45,19 @@ impl Ways for Reached {
     ghost ways = { λ a node. way_in a node };
 
     fn way_to(&self, node: &Node) -> Option<Way> {
-        let at = find(&self.nodes, node)?;
+        let at = find(&self.nodes, &self.slots, node)?;
         self.ways[at]
     }
 }
 
-/// The place of a node, found by halving.
-pub fn find(nodes: &[Node], node: &Node) -> Option<usize>
+/// The place of a node, found where it is expected or by halving.
+pub fn find(nodes: &[Node], slots: &Slots, node: &Node) -> Option<usize>
     requires { Ascend nodes.now }
     ensures within { IfSome result (λ at. at < length nodes.now) }
     ensures found { IfSome result (λ at. slice_get nodes.now at ≡ Some node.now) }
     ensures missing { IfNone result ((at : ℕ) → slice_get nodes.now at ≡ Some node.now → ⊥) }
 {
-    let at = place_of(nodes, node);
+    let at = slots.place_of(nodes, node);
     if at == nodes.len() || is_before(node, &nodes[at]) {
         return None;
     }
@@ -74,5 +75,6 @@ pub fn root_alone(alloc: Global, root: &Root) -> Result<Reached, AllocError>
         distance: 0,
         hops: 0,
     }))?;
-    Ok(Reached::new(nodes, ways))
+    let slots = Slots::none(alloc);
+    Ok(Reached::new(nodes, slots, ways))
 }

@@ -6,7 +6,7 @@ ghost use Rattle.offers.specs.Ways.{AreNear, AreWays};
 ghost use Rattle.shortest_paths.specs.Reached.{way_in};
 
 use crate::reached::{Reached, find, root_alone};
-use area_graph::{graph_of, nodes_of};
+use area_graph::{Slots, graph_of, nodes_of};
 use lsdb::Lsdb;
 use routes::{Node, Root, least_ways};
 use std::alloc::{AllocError, Global};
@@ -16,8 +16,9 @@ use words::Second;
 /// and exactly the interfaces of the first links of all least walks (RFC 2328, section 16.1). Where
 /// the root's router-LSA isn't there or is at MaxAge, the root alone is reached.
 ///
-/// The database has at most 16,384 LSAs, the root at most 63 interfaces. The time is that of a
-/// look-up for each LSA, a look-up for each link and the search for least walks.
+/// The database has at most 16,384 LSAs, the root at most 63 interfaces. The time is that of two
+/// walks over the LSAs of routers and networks, a look-up for each link and the search for least
+/// walks.
 ///
 /// # Errors
 /// Where memory for the nodes, the graph or the ways is refused.
@@ -29,15 +30,16 @@ pub fn walk(alloc: Global, db: &Lsdb, root: &Root, moment: Second) -> Result<Rea
     ensures near { IfOk result (λ reached. AreNear (way_in reached)) }
 {
     let nodes = nodes_of(alloc, db, moment)?;
-    match find(&nodes, &Node::ARouter(root.router)) {
+    let slots = Slots::of_nodes(alloc, nodes.as_slice())?;
+    match find(&nodes, &slots, &Node::ARouter(root.router)) {
         None => {
             let reached = root_alone(alloc, root)?;
             Ok(reached)
         }
         Some(at) => {
-            let graph = graph_of(alloc, db, root, moment, &nodes)?;
+            let graph = graph_of(alloc, db, root, moment, &nodes, &slots)?;
             let ways = least_ways(alloc, &graph, at)?;
-            Ok(Reached::new(nodes, ways))
+            Ok(Reached::new(nodes, slots, ways))
         }
     }
 }

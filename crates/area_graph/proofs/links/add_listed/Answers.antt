@@ -9,12 +9,12 @@ use Rattle.area_graph.proofs.links.add_listed.Goals as goal
 use Rattle.area_graph.proofs.links.add_listed.Goals.{in-Some+in_ok-push, in_default}
 
 pub loop-router-init : goal.loop-router-init
-loop-router-init c = record { adds = each_none (IsToListed c.args.nodes.now c.args.entries.now c.args.id) c.as_slice-router-items.result.now c.args.links.now.items; fits = λ all. all }
+loop-router-init c = record { adds = each_none (IsToListed c.args.area.now.nodes.now c.args.area.now.entries.now c.args.id) c.as_slice-router-items.result.now c.args.links.now.items; fits = λ all. all }
 
 pub loop-router-preserved : goal.loop-router-preserved
 loop-router-preserved c =
-    let nodes = c.args.nodes.now in
-    let entries = c.args.entries.now in
+    let nodes = c.args.area.now.nodes.now in
+    let entries = c.args.area.now.entries.now in
     let router = c.router-item.result in
     let Q : ℕ → Link → Type 0 = IsToListed nodes entries c.args.id in
     let items = c.as_slice-router-items.result.now in
@@ -41,6 +41,6 @@ loop-router-preserved c =
 
 pub returns-clause-adds : goal.returns-clause-adds
 returns-clause-adds c =
-    let Q : ℕ → Link → Type 0 = IsToListed c.args.nodes.now c.args.entries.now c.args.id in
+    let Q : ℕ → Link → Type 0 = IsToListed c.args.area.now.nodes.now c.args.area.now.entries.now c.args.id in
     let P : List ℕ → Type 0 = λ routers. Adds (OfEach Q routers) c.args.links.now.items c.loop-router.links.items in
     subst P c.as_slice-router-items.ensures (each_all Q c.as_slice-router-items.result.now c.loop-router.router-index c.args.links.now.items c.loop-router.links.items c.loop-router-test.false c.loop-router.invariant.adds)

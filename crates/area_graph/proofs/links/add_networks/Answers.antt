@@ -10,10 +10,10 @@ use Rattle.area_graph.proofs.links.add_networks.Goals as goal
 
 pub loop-at-init : goal.loop-at-init
 loop-at-init c =
-    let P : Entry → Type 0 = λ least. (k : ℕ) (other : Entry) → slice_get c.args.entries.now k ≡ Some other → k < c.first_at-first.result → entry_cmp other least ≡ Less in
+    let P : Entry → Type 0 = λ least. (k : ℕ) (other : Entry) → slice_get c.args.entries.now k ≡ Some other → k < c.first_at_near-first.result → entry_cmp other least ≡ Less in
     record {
       low = omega arith;
-      adds = walk_none c.args.root.now c.args.entries.now c.args.router c.args.lsa.now.links c.first_at-first.result c.args.links.now.items (subst P (c.of_list-least.ensures ∙ ap (λ (n : ℕ). attached_entry n 0 c.args.router) c.new.ensures) c.first_at-first.ensures.before);
+      adds = walk_none c.args.root.now c.args.entries.now c.args.router c.args.lsa.now.links c.first_at_near-first.result c.args.links.now.items (subst P (c.of_list-least.ensures ∙ ap (λ (n : ℕ). attached_entry n 0 c.args.router) c.new.ensures) c.first_at_near-first.ensures.before);
       fits = λ all. all;
     }
 
@@ -38,7 +38,7 @@ returns-then-not-is_listed-clause-adds c =
     let entries = c.args.entries.now in
     let here : slice_get entries c.loop-at.at ≡ Some c.index-entries-at.result = slice_get_read entries (length entries) c.loop-at.at c.index-entries-at.result refl (omega arith) c.index-entries-at.is in
     let away : c.is_listed.result ≡ false = grind (arith, common_steps) in
-    let P : Entry → Type 0 = λ least. (k : ℕ) (other : Entry) → slice_get entries k ≡ Some other → c.first_at-first.result ≤ k → entry_cmp other least ≡ Less → ⊥ in
-    walk_stop c.args.root.now entries c.args.router c.args.lsa.now.links c.first_at-first.result c.loop-at.at c.index-entries-at.result c.args.links.now.items c.loop-at.links.items
-    c.requires.sorted (subst P (c.of_list-least.ensures ∙ ap (λ (n : ℕ). attached_entry n 0 c.args.router) c.new.ensures) c.first_at-first.ensures.beyond) c.loop-at.invariant.low here
+    let P : Entry → Type 0 = λ least. (k : ℕ) (other : Entry) → slice_get entries k ≡ Some other → c.first_at_near-first.result ≤ k → entry_cmp other least ≡ Less → ⊥ in
+    walk_stop c.args.root.now entries c.args.router c.args.lsa.now.links c.first_at_near-first.result c.loop-at.at c.index-entries-at.result c.args.links.now.items c.loop-at.links.items
+    c.requires.sorted (subst P (c.of_list-least.ensures ∙ ap (λ (n : ℕ). attached_entry n 0 c.args.router) c.new.ensures) c.first_at_near-first.ensures.beyond) c.loop-at.invariant.low here
     (λ router kind. false≢true (sym away ∙ c.is_listed.ensures.1 (router, kind))) c.loop-at.invariant.adds

@@ -7,8 +7,8 @@ use Rattle.area_graph.proofs.links.add_router.Goals as goal
 
 pub returns-in-None-clause-adds : goal.returns-in-None-clause-adds
 returns-in-None-clause-adds c =
-    let nodes = c.args.nodes.now in
-    let entries = c.args.entries.now in
+    let nodes = c.args.area.now.nodes.now in
+    let entries = c.args.area.now.entries.now in
     let told = c.args.told.now in
     let none : IsNeighborAt nodes entries told.link_id PointToPoint c.args.router None =
     same_neighbor nodes entries PointToPoint c.new-far.result told.link_id c.number.result c.args.router c.neighbor_at.result None c.new-far.ensures c.number.ensures c.in-None.is c.neighbor_at.ensures in
@@ -17,8 +17,8 @@ returns-in-None-clause-adds c =
 pub returns-in-Some-clause-adds : goal.returns-in-Some-clause-adds
 returns-in-Some-clause-adds c =
     let root = c.args.root.now in
-    let nodes = c.args.nodes.now in
-    let entries = c.args.entries.now in
+    let nodes = c.args.area.now.nodes.now in
+    let entries = c.args.area.now.entries.now in
     let router = c.args.router in
     let told = c.args.told.now in
     let to = c.in-Some.to in

@@ -9,11 +9,11 @@ use Rattle.area_graph.proofs.links.add_routers.Goals as goal
 use Rattle.area_graph.proofs.links.add_routers.Goals.{then-is_to_router+in_ok-add_router, else-is_to_router}
 
 pub loop-told-init : goal.loop-told-init
-loop-told-init c = record { adds = each_none (IsToRouter c.args.root.now c.args.nodes.now c.args.entries.now c.args.router) c.as_slice-told-items.result.now c.args.links.now.items; fits = λ all. all }
+loop-told-init c = record { adds = each_none (IsToRouter c.args.root.now c.args.area.now.nodes.now c.args.area.now.entries.now c.args.router) c.as_slice-told-items.result.now c.args.links.now.items; fits = λ all. all }
 
 pub loop-told-preserved : goal.loop-told-preserved
 loop-told-preserved c =
-    let Q : Told → Link → Type 0 = IsToRouter c.args.root.now c.args.nodes.now c.args.entries.now c.args.router in
+    let Q : Told → Link → Type 0 = IsToRouter c.args.root.now c.args.area.now.nodes.now c.args.area.now.entries.now c.args.router in
     let items = c.as_slice-told-items.result.now in
     let i = c.loop-told.told-index in
     let told = c.told-item.result in
@@ -35,6 +35,6 @@ loop-told-preserved c =
 
 pub returns-clause-adds : goal.returns-clause-adds
 returns-clause-adds c =
-    let Q : Told → Link → Type 0 = IsToRouter c.args.root.now c.args.nodes.now c.args.entries.now c.args.router in
+    let Q : Told → Link → Type 0 = IsToRouter c.args.root.now c.args.area.now.nodes.now c.args.area.now.entries.now c.args.router in
     let P : List Told → Type 0 = λ told_links. Adds (OfEach Q told_links) c.args.links.now.items c.loop-told.links.items in
     subst P c.as_slice-told-items.ensures (each_all Q c.as_slice-told-items.result.now c.loop-told.told-index c.args.links.now.items c.loop-told.links.items c.loop-told-test.false c.loop-told.invariant.adds)

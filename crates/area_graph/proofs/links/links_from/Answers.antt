@@ -13,10 +13,10 @@ use Rattle.area_graph.proofs.links.links_from.Goals.{in-ARouter+in-Some+in_ok-ad
 
 pub returns-clause-links : goal.returns-clause-links
 returns-clause-links c =
-    let said = said_at c.args.moment c.args.db.now.present in
+    let said = said_at c.args.told.now.moment c.args.told.now.db.now.present in
     let root = c.args.root.now in
-    let nodes = c.args.nodes.now in
-    let entries = c.args.entries.now in
+    let nodes = c.args.area.now.nodes.now in
+    let entries = c.args.area.now.entries.now in
     let told = c.requires.entries in
     let first = c.new-links.result.items in
     elim c.match-from.branch [
@@ -54,7 +54,7 @@ returns-clause-links c =
     ]
 
 pub add_routers-requires-clause-ordered : goal.add_routers-requires-clause-ordered
-add_routers-requires-clause-ordered c = ordered (said_at c.args.moment c.args.db.now.present) c.args.nodes.now c.args.entries.now c.requires.entries c.requires.nodes
+add_routers-requires-clause-ordered c = ordered (said_at c.args.told.now.moment c.args.told.now.db.now.present) c.args.area.now.nodes.now c.args.area.now.entries.now c.requires.entries c.requires.nodes
 
 pub add_listed-requires : goal.add_listed-requires
-add_listed-requires c = ordered (said_at c.args.moment c.args.db.now.present) c.args.nodes.now c.args.entries.now c.requires.entries c.requires.nodes
+add_listed-requires c = ordered (said_at c.args.told.now.moment c.args.told.now.db.now.present) c.args.area.now.nodes.now c.args.area.now.entries.now c.requires.entries c.requires.nodes

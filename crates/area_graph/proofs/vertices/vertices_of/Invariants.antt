@@ -1,0 +1,14 @@
+use Rattle.std.proofs.Common.{◌≡◌, ◌≤◌, ℕ, Some, slice_get}
+use Rattle.routes.specs.Said.{said_at}
+use Rattle.routes.specs.declared.graph.Vertex.{Vertex}
+use Rattle.routes.specs.declared.node.Node.{Node}
+use Rattle.area_graph.specs.Graphs.{IsVertexOf, StandsAt}
+use Rattle.std.specs.Prelude.{length}
+use Rattle.area_graph.proofs.vertices.vertices_of.Given as goal
+
+abbrev pub invariant-loop-at : goal.invariant-loop-at
+invariant-loop-at l = record {
+  within : l.at ≤ length l.area.nodes.now;
+  count : length l.graph.items ≡ l.at;
+  each : (at : ℕ) (node : Node) (vertex : Vertex) → StandsAt l.area.nodes.now node at → slice_get l.graph.items at ≡ Some vertex → IsVertexOf (said_at l.told.moment l.told.db.now.present) l.root l.area.nodes.now node vertex;
+}

@@ -1,0 +1,83 @@
+//! Where the routers among the nodes are expected.
+ghost use Rattle.std.specs.Prelude.{◌≡◌, ◌<◌, ◌≤◌, ℕ, Some, length, slice_get};
+ghost use Rattle.std.specs.declared.cmp.Ordering.TheVariants.{Less};
+ghost use Rattle.area_graph.specs.Nodes.{Ascend, node_cmp};
+ghost use Rattle.routes.specs.declared.node.Node.{Node as NodeValue};
+
+use crate::nodes::place_near;
+use routes::Node;
+use std::alloc::{AllocError, Global};
+use words::RouterId;
+
+/// Where the routers among some nodes are, each in a slot that its Router ID gives. Of two routers
+/// in one slot the later one is expected. Only the time that a look-up takes rests on the slots:
+/// those of other nodes serve as well, but seldom tell the place.
+#[derive(Debug, Drop)]
+pub struct Slots {
+    places: Vec<u16>,
+}
+
+impl Slots {
+    /// Those of these nodes.
+    ///
+    /// # Errors
+    /// Where memory for them is refused.
+    pub fn of_nodes(alloc: Global, nodes: &[Node]) -> Result<Self, AllocError> {
+        let places = places_of(alloc, nodes)?;
+        Ok(Slots { places })
+    }
+
+    /// None, where each node is expected at the first place. They want no memory.
+    pub fn none(alloc: Global) -> Self {
+        let places = Vec::new(alloc);
+        Slots { places }
+    }
+
+    /// The first place of a node that isn't before this one, or their count where all are. It is
+    /// looked for where the node is expected, and then by halving.
+    pub fn place_of(&self, nodes: &[Node], node: &Node) -> usize
+        requires { Ascend nodes.now }
+        ensures within { result ≤ length nodes.now }
+        ensures before { (k : ℕ) (other : NodeValue) → slice_get nodes.now k ≡ Some other
+            → k < result → node_cmp other node.now ≡ Less }
+        ensures beyond { (k : ℕ) (other : NodeValue) → slice_get nodes.now k ≡ Some other
+            → result ≤ k → node_cmp other node.now ≡ Less → ⊥ }
+    {
+        place_near(nodes, expected_at(&self.places, node), node)
+    }
+}
+
+fn expected_at(places: &[u16], node: &Node) -> usize {
+    match node {
+        Node::ANetwork(..) => 0,
+        Node::ARouter(router) => match places.get(slot_of(*router, places.len())) {
+            None => 0,
+            Some(place) => usize::from(*place),
+        },
+    }
+}
+
+// 2^32 divided by the golden ratio: the products of numbers that follow one another with it lie far
+// apart, so that few routers share a slot.
+const SPREAD: u32 = 2_654_435_769;
+
+// The slot of a router among so many.
+fn slot_of(router: RouterId, slots: usize) -> usize {
+    let mixed = router.number().wrapping_mul(SPREAD) as usize;
+    mixed.wrapping_mul(slots) / 4_294_967_296
+}
+
+// The places of the routers, in four slots for each node.
+fn places_of(alloc: Global, nodes: &[Node]) -> Result<Vec<u16>, AllocError> {
+    let mut places = Vec::new(alloc);
+    places.resize(nodes.len().saturating_mul(4), 0)?;
+    for at in 0..nodes.len() {
+        if let Node::ARouter(router) = &nodes[at] {
+            let slot = slot_of(*router, places.len());
+            if let Some(place) = places.get_mut(slot) {
+                *place = u16::try_from(at).unwrap_or(0);
+            }
+        }
+    }
+    Ok(places)
+}
