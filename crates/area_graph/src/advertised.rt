@@ -13,8 +13,8 @@ use words::{Key, LinkStateId, RouterId, Second};
 pub const NETWORK_LSA: u32 = 2;
 
 /// A database at a moment, with what its router-LSAs and network-LSAs say then, in the order of
-/// their keys: that of the nodes, so that each is found at the place of its node, or a little beyond
-/// it.
+/// their keys: that of the nodes, so that each is found at the place of its node, or a little
+/// beyond it.
 #[derive(Drop)]
 pub struct Advertised<'a> {
     pub db: &'a Lsdb,

@@ -88,7 +88,8 @@ fn add_routers(
 ) -> Result<(), AllocError>
     requires ordered { AreOrdered area.now.nodes.now area.now.entries.now }
     requires interfaces { length root.now.addresses ≤ 63 }
-    ensures adds { OnOk result (Adds (OfEach (IsToRouter root.now area.now.nodes.now area.now.entries.now router)
+    ensures adds { OnOk result
+        (Adds (OfEach (IsToRouter root.now area.now.nodes.now area.now.entries.now router)
         lsa.now.links) links.old.items links.new.items) }
     ensures fits { OnOk result (All CostFits links.old.items → All CostFits links.new.items) }
 {
@@ -119,7 +120,8 @@ fn add_router(
     requires interfaces { length root.now.addresses ≤ 63 }
     requires is_kind { told.now.kind ≡ LinkKind.PointToPoint }
     requires counts { 0 < told.now.metric }
-    ensures adds { OnOk result (Adds (IsToRouter root.now area.now.nodes.now area.now.entries.now router told.now)
+    ensures adds { OnOk result (Adds (IsToRouter root.now area.now.nodes.now area.now.entries.now
+        router told.now)
         links.old.items links.new.items) }
     ensures fits { OnOk result (All CostFits links.old.items → All CostFits links.new.items) }
 {
@@ -324,7 +326,8 @@ fn add_listed(
     links: &mut Vec<Link>,
 ) -> Result<(), AllocError>
     requires { AreOrdered area.now.nodes.now area.now.entries.now }
-    ensures adds { OnOk result (Adds (OfEach (IsToListed area.now.nodes.now area.now.entries.now id) lsa.now.attached)
+    ensures adds { OnOk result (Adds (OfEach (IsToListed area.now.nodes.now area.now.entries.now id)
+        lsa.now.attached)
         links.old.items links.new.items) }
     ensures fits { OnOk result (All CostFits links.old.items → All CostFits links.new.items) }
 {

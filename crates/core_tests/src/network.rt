@@ -58,7 +58,8 @@ pub enum Act {
     Same,
     /// The database of the router at the place holds so many LSAs.
     Holds(usize, usize),
-    /// The router at the place has a route to the destination of a number that leaves by this interface.
+    /// The router at the place has a route to the destination of a number that leaves by this
+    /// interface.
     Leads(usize, u16, u32),
 }
 

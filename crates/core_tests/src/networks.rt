@@ -146,10 +146,12 @@ const A_FLUSHED_LSA_COMES_BACK: &[Act] = &[
     Act::Holds(2, 4),
 ];
 
-// A flushed LSA comes back though no packet is lost, late or repeated. The link from the second router to the first goes down as the last
-// one withdraws. In the second after, the flush comes to the second router, which forgets it, since it is at no neighbor any more; the first
-// router tells of the LSA as both exchange their databases anew, so that it is back. The last router flushes it again; that instance comes
-// within MinLSArrival and is passed over; and the delayed acknowledgment of the first flush takes it off the last router's list.
+// A flushed LSA comes back though no packet is lost, late or repeated. The link from the second
+// router to the first goes down as the last one withdraws. In the second after, the flush comes to
+// the second router, which forgets it, since it is at no neighbor any more; the first router tells
+// of the LSA as both exchange their databases anew, so that it is back. The last router flushes it
+// again; that instance comes within MinLSArrival and is passed over; and the delayed acknowledgment
+// of the first flush takes it off the last router's list.
 const BACK_IN_SIX_ACTS: &[Act] = &[
     Act::Seconds(9, CALM),
     Act::Announce(2, 1),
@@ -164,8 +166,8 @@ const BACK_IN_SIX_ACTS: &[Act] = &[
     Act::Holds(2, 3),
 ];
 
-// The same, where the first router announces the destination, too: the second one takes the last one for an announcer still, which sends
-// what comes for the destination back.
+// The same, where the first router announces the destination, too: the second one takes the last
+// one for an announcer still, which sends what comes for the destination back.
 const A_LOOP_IN_SEVEN_ACTS: &[Act] = &[
     Act::Seconds(9, CALM),
     Act::Announce(2, 1),

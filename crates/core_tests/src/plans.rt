@@ -32,8 +32,8 @@ fn plan(topology: Kind, routers: u32, scenario: Scenario) -> Plan {
     }
 }
 
-// All neighbors are Full a HelloInterval after the start, and in the end the databases are the same,
-// and no packet goes round or into nothing.
+// All neighbors are Full a HelloInterval after the start, and in the end the databases are the
+// same, and no packet goes round or into nothing.
 fn check(outcome: &Outcome, routers: usize) -> Result<(), Fail> {
     if outcome.routers != routers || outcome.start.full != 10 {
         return Err("the start".into());

@@ -1,6 +1,6 @@
 //! `simulation`: networks of many routers in memory. It plays scenarios and tells how long they
-//! take to settle and how often packets go round meanwhile, and searches for histories that end with
-//! Full neighbors whose databases differ.
+//! take to settle and how often packets go round meanwhile, and searches for histories that end
+//! with Full neighbors whose databases differ.
 #![tactic(auto)]
 
 mod arguments;
