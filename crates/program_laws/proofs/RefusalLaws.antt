@@ -273,8 +273,11 @@ later_dont_count = record {
 
 -- ---- a slot that breaks each of the four rules
 
+leads_astray : JumpsNowhere astray_code 1
+leads_astray = record { instruction = test_by 7; at = refl; to = 9; jumps = refl; nowhere = λ begins. none_is_some begins.1 }
+
 astray : IsBadTarget astray_code [] 1
-astray = inl (record { instruction = test_by 7; at = refl; to = 9; jumps = refl; nowhere = λ begins. none_is_some begins.1 })
+astray = inl leads_astray
 
 falls : FallsOff open_code 0
 falls = record { instruction = seven; at = refl; last = refl; on = refl }
@@ -292,6 +295,7 @@ in_their_order = record {
   astray_unreached = λ first. first.here.0 astray;
   astray_unstated = λ first. first.here.0 astray;
   astray_kind = λ first. first.here.target astray;
+  stated_kind = λ first. first.here.target (inl leads_astray);
   open_unreached = λ first. first.here.1 falls;
   open_unstated = λ first. first.here.1 falls;
   open_kind = λ first. first.here.ends falls;

@@ -80,6 +80,10 @@ pub record LaterRulesDontCount : Type 0 where
 abbrev pub astray_code : List Slot
 astray_code = Start seven ∷ Start (test_by 7) ∷ Start Exit ∷ []
 
+-- and something is stated there
+abbrev pub astray_statements : List StatementParts
+astray_statements = says 9 any_number 0 ∷ []
+
 -- `r0 = 7`, behind which there is nothing
 abbrev pub open_code : List Slot
 open_code = Start seven ∷ []
@@ -97,6 +101,8 @@ pub record RulesCountInTheirOrder : Type 0 where
   pub astray_unreached : IsFirst astray_code [] 1 rules.Unreached → ⊥
   pub astray_unstated : IsFirst astray_code [] 1 rules.Unstated → ⊥
   pub astray_kind : IsFirst astray_code [] 1 rules.Kind → ⊥
+  -- and where the rule on targets alone is broken
+  pub stated_kind : IsFirst astray_code astray_statements 1 rules.Kind → ⊥
   pub open_unreached : IsFirst open_code [] 0 rules.Unreached → ⊥
   pub open_unstated : IsFirst open_code [] 0 rules.Unstated → ⊥
   pub open_kind : IsFirst open_code [] 0 rules.Kind → ⊥
