@@ -10,9 +10,17 @@ use words::{Address, RouterId};
 const FIRST: &str = "router 1.1.1.1\n\
         interface 1 10.0.1.1/24 cost 10 hello 10 dead 40 rxmt 5 delay 1 port 7001 peer 7002\n";
 
+// What the text says. An allocation may be refused once: then it is read once more.
+fn read(alloc: Global, text: &str) -> Result<Configured, ConfigurationError> {
+    match read_configuration(alloc, text) {
+        Err(ConfigurationError::Memory) => read_configuration(alloc, text),
+        answer => answer,
+    }
+}
+
 // The line at which the text is refused, or 0.
 fn refused_at(alloc: Global, text: &str) -> u64 {
-    match read_configuration(alloc, text) {
+    match read(alloc, text) {
         Err(ConfigurationError::Line(line)) => line,
         _ => 0,
     }
