@@ -1,15 +1,17 @@
 -- What is known of kept routes after an event.
 use Rattle.std.proofs.Common.{◌≡◌, false, sym, subst, ◌∙◌}
 use mathlib.Core.Bool.{false≢true}
-use Rattle.std.specs.Prelude.{List}
+use Rattle.std.specs.Prelude.{List, Some}
 use Rattle.words.specs.declared.route.Route.{Route}
 use Rattle.kept_routes.specs.Kept.{IsWalkOf}
 use Rattle.routes.specs.Candidates.{AreCandidates}
 use Rattle.routes.specs.Said.{Said}
 use Rattle.routes.specs.Tables.{Answers, IsStale}
 use Rattle.routes.specs.declared.root.Root.{Root}
-use Rattle.area_routes.specs.Kept.{KeptRoutes, KnowsAnswered, KnowsCandidates, KnowsWalk}
-use Rattle.area_routes.proofs.Candidates.{carried}
+use Rattle.area_routes.specs.Kept.{KeptRoutes, KnowsAnswered, KnowsCandidates, KnowsInner, KnowsWalk}
+use Rattle.area_routes.proofs.Candidates.{carried, inner_carried}
+use Rattle.external_updates.specs.Laws.{InnerRoutesAreKept}
+use Rattle.kept_routes.specs.Sameness.{SayTheSame}
 
 -- nothing is known of answers where none are known to be there
 pub unanswered : (said : Said) (root : Root) (answers : Answers) (kept : KeptRoutes) → kept.answered ≡ false → KnowsAnswered said root answers kept
@@ -29,6 +31,11 @@ module _ (old new : Said) (was is : Root) (kept : KeptRoutes) (serves : kept.beh
   still_offers goes_on knows =
       subst (λ root. KnowsCandidates new root kept) same_root
       (carried (λ routes. AreCandidates old was routes) (λ routes. AreCandidates new was routes) goes_on kept.candidates knows)
+
+  -- what the LSAs of types 1 to 4 give, where they say the same
+  pub still_inner : InnerRoutesAreKept → SayTheSame (Some 4) old new → KnowsInner old was kept → KnowsInner new is kept
+  still_inner law same knows =
+      subst (λ root. KnowsInner new root kept) same_root (inner_carried law old new was kept.walk same kept.inner knows)
 
   -- answers that still are
   pub still_answered : (answers : Answers) → (IsStale new was answers → IsStale old was answers) → KnowsAnswered old was answers kept

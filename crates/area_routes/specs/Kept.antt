@@ -5,6 +5,8 @@ use Rattle.words.specs.Numbers.{Moment, RouterNumber}
 use Rattle.words.specs.declared.route.Route.{Route}
 use Rattle.received.specs.Links.{Area}
 use Rattle.area_routes.specs.Offers.{root_by}
+use Rattle.candidates.specs.Inner.{AreInner, AreSearchable}
+use Rattle.candidates.specs.declared.inner.InnerRoutes.{InnerRoutes}
 use Rattle.kept_routes.specs.Externals.{LeaveCandidates}
 use Rattle.kept_routes.specs.Kept.{IsWalkOf, KeptWalk}
 use Rattle.kept_routes.specs.Sameness.{AreLeft}
@@ -12,6 +14,7 @@ use Rattle.routes.specs.Candidates.{AreCandidates}
 use Rattle.routes.specs.Said.{Said, said_at}
 use Rattle.routes.specs.Tables.{Answers, IsStale}
 use Rattle.routes.specs.declared.root.Root.{Root}
+use Rattle.shortest_paths.specs.Reached.{way_in}
 
 pub record KeptRoutes : Type 0 where
   -- the walk
@@ -20,6 +23,9 @@ pub record KeptRoutes : Type 0 where
   pub behind : Bool
   -- the candidates, where they were calculated since an LSA that they rest on said something else
   pub candidates : Option (Vec Route)
+  -- what the LSAs of types 1 to 4 give, where candidates were calculated since one of them said
+  -- something else
+  pub inner : Option InnerRoutes
   -- whether each candidate is known to stand among the answers
   pub answered : Bool
 
@@ -32,6 +38,16 @@ pub record KnowsWalk (said : Said) (start : Root) (kept : KeptRoutes) : Type 0 w
 abbrev pub KnowsCandidates : Said → Root → KeptRoutes → Type 0
 KnowsCandidates said root kept =
     IfSome kept.candidates (λ candidates. AreCandidates said root candidates.items)
+
+-- it is what the LSAs of types 1 to 4 give by this walk, and can be searched
+pub record AreInnerBy (said : Said) (root : Root) (walk : KeptWalk) (inner : InnerRoutes) : Type 0
+  where
+    pub are_inner : AreInner said root (way_in walk.reached) inner
+    pub searchable : AreSearchable inner
+
+-- where it is kept, it is that of what the LSAs say
+abbrev pub KnowsInner : Said → Root → KeptRoutes → Type 0
+KnowsInner said root kept = IfSome kept.inner (AreInnerBy said root kept.walk)
 
 -- where each candidate is known to stand among the answers, each does
 abbrev pub KnowsAnswered : Said → Root → Answers → KeptRoutes → Type 0
@@ -63,11 +79,12 @@ pub record ServesOnlyThen (before : Moment) (moment : Moment) (router : RouterNu
   pub falls : (HasStayed (Some 2) before moment router old new kept.walk → ⊥) → next.behind ≡ true
   pub lags : kept.behind ≡ true → next.behind ≡ true
 
--- walk and candidates are the router's at the moment
+-- walk, candidates and what these rest on are the router's at the moment
 pub record AreRoutesOf (router : RouterNumber) (area : Area) (moment : Moment)
     (kept : KeptRoutes) : Type 0 where
   pub walk : KnowsWalk (said_at moment area.database) (root_by router area.links) kept
   pub candidates : KnowsCandidates (said_at moment area.database) (root_by router area.links) kept
+  pub inner : KnowsInner (said_at moment area.database) (root_by router area.links) kept
 
 -- and so is what is known of the answers
 pub record AreKept (router : RouterNumber) (area : Area) (moment : Moment) (answers : Answers)

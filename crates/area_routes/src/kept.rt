@@ -1,18 +1,23 @@
 //! The routes of a router, kept from one event to the next.
-ghost use Rattle.std.specs.Prelude.{◌≡◌, ◌+◌, ◌≤◌, ◌↔◌, None, false, length, min, IfOk, IsSome};
-ghost use Rattle.std.specs.Prelude.{IsTrue, OnErr, OnOk, true};
+ghost use Rattle.std.specs.Prelude.{◌≡◌, ◌+◌, ◌≤◌, ◌↔◌, None, Some, false, length, min, IfOk};
+ghost use Rattle.std.specs.Prelude.{IfSome, IsSome, IsTrue, OnErr, OnOk, true};
 ghost use Rattle.std.specs.FinMap as finite;
 ghost use Rattle.area_routes.specs.Kept.{AreKept, AreRoutesOf, HaveStayed, KnowsAnswered};
-ghost use Rattle.area_routes.specs.Kept.{KnowsCandidates, KnowsWalk, ServesOnlyThen};
+ghost use Rattle.area_routes.specs.Kept.{KnowsCandidates, KnowsInner, KnowsWalk, ServesOnlyThen};
+ghost use Rattle.area_routes.specs.Kept.{AreInnerBy};
 ghost use Rattle.area_routes.specs.Offers.{AreCandidatesOf, AreOffered, IsStaleOf, IsTableOf};
 ghost use Rattle.area_routes.specs.Offers.{root_by};
 ghost use Rattle.kept_routes.specs.Externals.{LeaveCandidates, OfferTheSame};
 ghost use Rattle.kept_routes.specs.Kept.{IsWalkOf};
 ghost use Rattle.kept_routes.specs.Sameness.{AreLeft, SayTheSame};
+ghost use Rattle.routes.specs.Candidates.{AreCandidates};
 ghost use Rattle.routes.specs.Said.{said_at};
 ghost use Rattle.routes.specs.Tables.{Answers};
 
 use crate::root::{is_root_of, root_of};
+use candidates::{Calculated, InnerRoutes};
+use external_updates::follow_externals;
+use external_updates::laws::inner_routes_are_kept;
 use flooding::Area;
 use kept_routes::laws::{candidates_are_kept, walks_are_kept};
 use kept_routes::{Routes, leave_candidates, say_the_same};
@@ -31,8 +36,10 @@ pub struct Offered {
 /// The routes of a router from one event to the next. The walk of its database stays for as long as
 /// the LSAs of types 1 and 2 say the same (RFC 2328, section 16.1); candidates that were looked at,
 /// and that all of them stand among the answers, for as long as all LSAs do, or others don't than
-/// AS-external-LSAs that offer nothing (section 16.4). An event makes no walk: where it leaves none
-/// that serves, one is made once candidates are asked for.
+/// AS-external-LSAs that offer nothing (section 16.4). Where other AS-external-LSAs alone say
+/// something else, and few of them, those candidates alone are calculated anew of whose
+/// destinations these tell (section 16.6). An event makes no walk: where it leaves none that serves,
+/// one is made once candidates are asked for.
 ///
 /// Links, database and answers aren't part of it. Each call is handed them, and a clause says of
 /// which moment they are.
@@ -43,6 +50,8 @@ pub struct AreaRoutes {
     behind: bool,
     // the candidates, where they were looked at since an LSA that they rest on said something else
     candidates: Option<Vec<Route>>,
+    // what the LSAs of types 1 to 4 give, where it was calculated since one said something else
+    inner: Option<InnerRoutes>,
     // each candidate stands among the answers
     answered: bool,
 }
@@ -56,6 +65,7 @@ impl Model for AreaRoutes {
       walk = a.walk;
       behind = a.behind;
       candidates = a.candidates;
+      inner = a.inner;
       answered = a.answered;
     } };
 }
@@ -101,6 +111,92 @@ fn says_the_same(
     Ok(same)
 }
 
+// The candidates of this moment, from those before an event over which AS-external-LSAs alone say
+// something else; None where these are many, or memory is refused.
+fn follow_from(
+    alloc: Global,
+    area: &Area,
+    walk: &Routes,
+    before: Second,
+    moment: Second,
+    inner: &InnerRoutes,
+    routes: Vec<Route>,
+) -> Option<Vec<Route>>
+    requires order { before ≤ moment }
+    requires same { SayTheSame (Some 4) (said_at before area.now.settled.database)
+        (said_at moment area.now.present.database) }
+    requires walk { IsWalkOf (said_at moment area.now.present.database) walk.now }
+    requires inner { AreInnerBy (said_at moment area.now.present.database) walk.now.root walk.now
+        inner.now }
+    requires routes { AreCandidates (said_at before area.now.settled.database) walk.now.root
+        routes.items }
+    ensures { IfSome result (λ now. AreCandidates (said_at moment area.now.present.database)
+        walk.now.root now.items) }
+{
+    let mut next = routes;
+    let db = area.database();
+    if let Ok(all) = follow_externals(alloc, db, walk.root(), before, moment, inner, &mut next) {
+        if all {
+            return Some(next);
+        }
+    }
+    None
+}
+
+// The same where there may be none.
+fn follow_some(
+    alloc: Global,
+    area: &Area,
+    walk: &Routes,
+    before: Second,
+    moment: Second,
+    inner: &InnerRoutes,
+    kept: Option<Vec<Route>>,
+) -> Option<Vec<Route>>
+    requires order { before ≤ moment }
+    requires same { SayTheSame (Some 4) (said_at before area.now.settled.database)
+        (said_at moment area.now.present.database) }
+    requires walk { IsWalkOf (said_at moment area.now.present.database) walk.now }
+    requires inner { AreInnerBy (said_at moment area.now.present.database) walk.now.root walk.now
+        inner.now }
+    requires routes { IfSome kept (λ routes. AreCandidates
+        (said_at before area.now.settled.database) walk.now.root routes.items) }
+    ensures { IfSome result (λ now. AreCandidates (said_at moment area.now.present.database)
+        walk.now.root now.items) }
+{
+    match kept {
+        None => None,
+        Some(routes) => follow_from(alloc, area, walk, before, moment, inner, routes),
+    }
+}
+
+// The same where it may not be known what the LSAs of types 1 to 4 give.
+fn followed(
+    alloc: Global,
+    area: &Area,
+    walk: &Routes,
+    before: Second,
+    moment: Second,
+    inner: &Option<InnerRoutes>,
+    kept: Option<Vec<Route>>,
+) -> Option<Vec<Route>>
+    requires order { before ≤ moment }
+    requires same { SayTheSame (Some 4) (said_at before area.now.settled.database)
+        (said_at moment area.now.present.database) }
+    requires walk { IsWalkOf (said_at moment area.now.present.database) walk.now }
+    requires inner { IfSome inner.now (AreInnerBy (said_at moment area.now.present.database)
+        walk.now.root walk.now) }
+    requires routes { IfSome kept (λ routes. AreCandidates
+        (said_at before area.now.settled.database) walk.now.root routes.items) }
+    ensures { IfSome result (λ now. AreCandidates (said_at moment area.now.present.database)
+        walk.now.root now.items) }
+{
+    match inner {
+        None => None,
+        Some(known) => follow_some(alloc, area, walk, before, moment, known, kept),
+    }
+}
+
 impl AreaRoutes {
     /// The first walk of a router, at a moment. There are at most 63 links and 16,384 LSAs.
     ///
@@ -118,6 +214,7 @@ impl AreaRoutes {
         ensures walks { IfOk result (λ made. made.walk.walks ≡ 1) }
         ensures behind { IfOk result (λ made. made.behind ≡ false) }
         ensures candidates { IfOk result (λ made. made.candidates ≡ None) }
+        ensures inner { IfOk result (λ made. made.inner ≡ None) }
         ensures answered { IfOk result (λ made. made.answered ≡ false) }
     {
         let root = root_of(alloc, router, area)?;
@@ -127,6 +224,7 @@ impl AreaRoutes {
             walk,
             behind: false,
             candidates: None,
+            inner: None,
             answered: false,
         })
     }
@@ -168,8 +266,10 @@ impl AreaRoutes {
     {
         walks_are_kept();
         candidates_are_kept();
+        inner_routes_are_kept();
         if self.behind {
             self.candidates = None;
+            self.inner = None;
             self.answered = false;
             return Ok(());
         }
@@ -178,15 +278,68 @@ impl AreaRoutes {
                 if leaves_candidates(alloc, area, &self.walk, before, moment)? {
                     return Ok(());
                 }
-                self.candidates = None;
-                self.answered = false;
+                self.follow_offers(alloc, area, before, moment);
                 return Ok(());
             }
         }
         self.behind = true;
         self.candidates = None;
+        self.inner = None;
         self.answered = false;
         Ok(())
+    }
+
+    // Follows what LSAs of types 3 to 5 say over an event over which the walk serves on. Where
+    // AS-external-LSAs alone say something else, candidates that are kept follow these, if those
+    // that changed are few. Where it is refused memory, nothing more is known of candidates.
+    fn follow_offers(&mut self, alloc: Global, area: &Area, before: Second, moment: Second)
+        requires order { before ≤ moment }
+        requires walk { IsWalkOf (said_at moment area.now.present.database) self.old.walk }
+        requires candidates { KnowsCandidates (said_at before area.now.settled.database)
+            self.old.walk.root self.old }
+        requires inner { KnowsInner (said_at before area.now.settled.database)
+            self.old.walk.root self.old }
+        ensures walk { self.new.walk ≡ self.old.walk }
+        ensures behind { self.new.behind ≡ self.old.behind }
+        ensures candidates { KnowsCandidates (said_at moment area.now.present.database)
+            self.old.walk.root self.new }
+        ensures inner { KnowsInner (said_at moment area.now.present.database)
+            self.old.walk.root self.new }
+        ensures answered { self.new.answered ≡ false }
+    {
+        inner_routes_are_kept();
+        if let Ok(same) = says_the_same(alloc, area, Some(4), before, moment) {
+            if same {
+                self.follow_externals(alloc, area, before, moment);
+                return;
+            }
+        }
+        self.candidates = None;
+        self.inner = None;
+        self.answered = false;
+    }
+
+    // The same where AS-external-LSAs alone say something else.
+    fn follow_externals(&mut self, alloc: Global, area: &Area, before: Second, moment: Second)
+        requires order { before ≤ moment }
+        requires same { SayTheSame (Some 4) (said_at before area.now.settled.database)
+            (said_at moment area.now.present.database) }
+        requires walk { IsWalkOf (said_at moment area.now.present.database) self.old.walk }
+        requires candidates { KnowsCandidates (said_at before area.now.settled.database)
+            self.old.walk.root self.old }
+        requires inner { KnowsInner (said_at moment area.now.present.database)
+            self.old.walk.root self.old }
+        ensures walk { self.new.walk ≡ self.old.walk }
+        ensures behind { self.new.behind ≡ self.old.behind }
+        ensures candidates { KnowsCandidates (said_at moment area.now.present.database)
+            self.old.walk.root self.new }
+        ensures inner { KnowsInner (said_at moment area.now.present.database)
+            self.old.walk.root self.new }
+        ensures answered { self.new.answered ≡ false }
+    {
+        let kept = self.candidates.take();
+        self.candidates = followed(alloc, area, &self.walk, before, moment, &self.inner, kept);
+        self.answered = false;
     }
 
     // Makes the walk that serves now, where the one that is kept doesn't.
@@ -201,7 +354,11 @@ impl AreaRoutes {
         requires size { finite.len area.now.present.database ≤ 16384 }
         requires walk { KnowsWalk (said_at moment area.now.present.database)
             (root_by router area.now.present.links) self.old }
+        requires inner { KnowsInner (said_at moment area.now.present.database)
+            (root_by router area.now.present.links) self.old }
         ensures walk { KnowsWalk (said_at moment area.now.present.database)
+            (root_by router area.now.present.links) self.new }
+        ensures inner { KnowsInner (said_at moment area.now.present.database)
             (root_by router area.now.present.links) self.new }
         ensures behind { OnOk result (self.new.behind ≡ false) }
         ensures stays { self.old.behind ≡ false → self.new.walk ≡ self.old.walk }
@@ -215,6 +372,7 @@ impl AreaRoutes {
             let root = root_of(alloc, router, area)?;
             let db = area.database();
             self.walk.walk(alloc, db, &root, moment)?;
+            self.inner = None;
             self.behind = false;
         }
         Ok(())
@@ -346,6 +504,8 @@ impl AreaRoutes {
         ensures behind { self.new.behind ≡ self.old.behind }
         ensures candidates { KnowsCandidates (said_at moment area.now.present.database)
             (root_by router area.now.present.links) self.new }
+        ensures inner { KnowsInner (said_at moment area.now.present.database)
+            (root_by router area.now.present.links) self.new }
         ensures kept { OnOk result (IsSome self.new.candidates) }
         ensures answered { self.new.answered ≡ self.old.answered }
         ensures err { OnErr result (self.new ≡ self.old) }
@@ -355,9 +515,11 @@ impl AreaRoutes {
             return Ok(lacks);
         }
         let db = area.database();
-        let candidates = self.walk.candidates(alloc, db, moment)?;
-        let lacks = is_stale(alloc, &candidates, answers)?;
-        self.candidates = Some(candidates);
+        let made = self.walk.calculate(alloc, db, moment)?;
+        let lacks = is_stale(alloc, &made.routes, answers)?;
+        let Calculated { inner, routes } = made;
+        self.inner = Some(inner);
+        self.candidates = Some(routes);
         Ok(lacks)
     }
 

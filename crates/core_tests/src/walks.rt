@@ -50,6 +50,19 @@ const ANSWERS: &[Step] = &[
     Step::Offers(2, 0),
 ];
 
+/// Candidates that were looked at follow one external LSA that comes in, and three more, and 100, which
+/// are too many to be followed one by one.
+const FOLLOWED: &[Step] = &[
+    Step::Stale(true),
+    Step::Sends(10, What::Lsas(1, 0, 1), &[]),
+    Step::Candidates(2),
+    Step::Stale(true),
+    Step::Sends(11, What::Lsas(1, 1, 3), &[]),
+    Step::Candidates(5),
+    Step::Sends(12, What::Lsas(1, 4, 100), &[]),
+    Step::Candidates(105),
+];
+
 /// Instances that say the same, the neighbor's router-LSA, which is acknowledged, and 100 external
 /// LSAs, which are newer by their ages: nothing is walked, and the answers last.
 const RENEWED: &[Step] = &[
@@ -73,6 +86,11 @@ const LOOKED: &[Step] = &[Step::CountWalks];
 #[test]
 fn external_destinations_leave_the_walk(rt: HostRuntime) -> Result<(), Fail> {
     play(rt.alloc(), &rt, 1, &[LOADING, FULL, LOOKED, EXTERNALS])
+}
+
+#[test]
+fn candidates_follow_external_destinations(rt: HostRuntime) -> Result<(), Fail> {
+    play(rt.alloc(), &rt, 1, &[LOADING, FULL, FOLLOWED])
 }
 
 #[test]

@@ -7,10 +7,11 @@ ghost use Rattle.routes.specs.Candidates.{AreCandidates, Offers};
 ghost use Rattle.routes.specs.Said.{said_at};
 ghost use Rattle.routes.specs.declared.offer.Offer.{Offer};
 ghost use Rattle.shortest_paths.specs.Reached.{way_in};
+ghost use Rattle.candidates.specs.Inner.{AreInner, AreSearchable};
 ghost use Rattle.kept_routes.specs.Kept.{IsWalkOf};
 
 use candidate_laws::every_offer_has_a_candidate;
-use candidates::routes_of;
+use candidates::{Calculated, calculate, routes_of};
 use lsdb::Lsdb;
 use offers::Ways;
 use routes::{Node, Root, Way};
@@ -118,6 +119,28 @@ impl Routes {
         let routes = routes_of(alloc, db, &self.root, moment, &self.reached)?;
         every_offer_has_a_candidate();
         Ok(routes)
+    }
+
+    /// The candidates as `candidates` gives them, with what those to external destinations rest on
+    /// (RFC 2328, sections 16.1 to 16.4).
+    ///
+    /// # Errors
+    /// Where memory for the offers or the routes is refused.
+    pub fn calculate(
+        &self,
+        alloc: Global,
+        db: &Lsdb,
+        moment: Second,
+    ) -> Result<Calculated, AllocError>
+        requires { IsWalkOf (said_at moment db.now.present) self.now }
+        ensures routes { IfOk result (λ made. AreCandidates (said_at moment db.now.present)
+            self.now.root made.routes.items) }
+        ensures inner { IfOk result (λ made. AreInner (said_at moment db.now.present) self.now.root
+            (way_in self.now.reached) made.inner) }
+        ensures searchable { IfOk result (λ made. AreSearchable made.inner) }
+    {
+        let made = calculate(alloc, db, &self.root, moment, &self.reached)?;
+        Ok(made)
     }
 
     /// How many walks were made; it stays at its greatest value.

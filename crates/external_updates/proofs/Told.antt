@@ -1,0 +1,13 @@
+-- What an AS-external-LSA tells of.
+use Rattle.std.proofs.Common.{◌≡◌, Option, None, Some, ap, sym}
+use Rattle.lsa.specs.declared.body.Body.{Body}
+use Rattle.lsa.specs.declared.body.Body.TheVariants as body
+use Rattle.lsa.specs.declared.body.ExternalLsa.{ExternalLsa}
+use Rattle.offers.specs.Gathering.{IsJust}
+
+pub just_is : {X : Type 0} (P : X → Type 0) (o : Option X) (x : X) → IsJust P o → P x → o ≡ Some x
+just_is P None x none p = absurd (none x p)
+just_is {X} P (Some it) x just p = ap (λ (y : X). Some y) (sym ((just x).0 p))
+
+pub same_body : (a b : ExternalLsa) → ◌≡◌ {A = Option Body} (Some (body.External a)) (Some (body.External b)) → a ≡ b
+same_body a b e = cc

@@ -1,0 +1,21 @@
+use Rattle.std.proofs.Common.{List, subst, sym}
+use Rattle.words.specs.Prefixes.{Network}
+use Rattle.words.specs.declared.key.Key.{Key}
+use Rattle.routes.specs.Said.{said_at}
+use Rattle.external_updates.specs.Changes.{AreAllTold, OthersSayTheSame}
+use Rattle.external_updates.proofs.Halfway.{all_done}
+use Rattle.external_updates.proofs.follow.follow_externals.Goals as goal
+
+pub renew_all-requires-clause-ascend : goal.renew_all-requires-clause-ascend
+renew_all-requires-clause-ascend c = c.requires.routes.ascending
+
+pub returns : goal.returns
+returns c t =
+    let old = said_at c.args.before c.args.db.now.settled in
+    let new = said_at c.args.moment c.args.db.now.present in
+    let root = c.args.root.now in
+    let keys = c.deref.result.now in
+    let prefixes = c.deref-2.result.now in
+    let others = subst (λ (ks : List Key). OthersSayTheSame ks old new) (sym c.deref.ensures.value) c.in_ok-keys.ensures in
+    let told = subst (λ (ps : List Network). AreAllTold old new keys ps) (sym c.deref-2.ensures.value) c.in_ok-prefixes.ensures in
+    all_done old new root c.requires.same keys prefixes others told c.renew_all.new.routes.items (c.in_ok-done.ensures t old c.requires.routes)

@@ -1,0 +1,29 @@
+-- Which destinations the AS-external-LSAs tell of that say something else (RFC 2328, section 16.6).
+use Rattle.std.specs.Prelude.{◌≡◌, ◌⊎◌, List, Some}
+use Rattle.std.specs.List.{Contains}
+use Rattle.lsa.specs.declared.body.Body.TheVariants as body
+use Rattle.lsa.specs.declared.body.ExternalLsa.{ExternalLsa}
+use Rattle.routes.specs.Offers.{IsPrefix}
+use Rattle.routes.specs.Said.{Said}
+use Rattle.words.specs.Prefixes.{Network}
+use Rattle.words.specs.declared.key.Key.{Key}
+
+-- the LSAs of all other keys say what they said
+abbrev pub OthersSayTheSame : List Key → Said → Said → Type 0
+OthersSayTheSame keys old new = (key : Key) → (Contains keys key → ⊥) → old key ≡ new key
+
+-- the AS-external-LSA of the key told of this network, or it tells of it
+pub record TellsOf (old : Said) (new : Said) (key : Key) (prefix : Network) : Type 0 where
+  pub lsa : ExternalLsa
+  pub says : (old key ≡ Some (body.External lsa)) ⊎ (new key ≡ Some (body.External lsa))
+  pub is_prefix : IsPrefix key.link_state_id lsa.mask prefix
+
+-- the networks that those of these keys tell or told of are among these
+abbrev pub AreAllTold : (old : Said) → (new : Said) → List Key → List Network → Type 0
+AreAllTold old new keys prefixes =
+    (key : Key) (prefix : Network) → Contains keys key → TellsOf old new key prefix
+    → Contains prefixes prefix
+
+-- what each that tells or told of the network says is what it said
+abbrev pub IsUntouched : (old : Said) → (new : Said) → Network → Type 0
+IsUntouched old new prefix = (key : Key) → TellsOf old new key prefix → old key ≡ new key

@@ -1,0 +1,24 @@
+-- What stays where AS-external-LSAs alone say something else (RFC 2328, section 16.6).
+use Rattle.std.specs.Prelude.{◌≡◌, Some, ◌↔◌}
+use Rattle.candidates.specs.Inner.{AreInner}
+use Rattle.candidates.specs.declared.inner.InnerRoutes.{InnerRoutes}
+use Rattle.external_updates.specs.Changes.{IsUntouched}
+use Rattle.kept_routes.specs.Sameness.{SayTheSame}
+use Rattle.offers.specs.Ways.{Ways}
+use Rattle.routes.specs.Candidates.{IsCandidate}
+use Rattle.routes.specs.Said.{Said}
+use Rattle.routes.specs.declared.root.Root.{Root}
+use Rattle.words.specs.declared.route.Route.{Route}
+
+-- what the LSAs of types 1 to 4 give stays for as long as these say the same
+abbrev pub InnerRoutesAreKept : Type 0
+InnerRoutesAreKept =
+    (old new : Said) (root : Root) (ways : Ways) (inner : InnerRoutes)
+    → SayTheSame (Some 4) old new → AreInner old root ways inner → AreInner new root ways inner
+
+-- and so does the candidate for each destination of which each AS-external-LSA tells that told of
+-- it, and says what it said
+abbrev pub UntouchedCandidatesAreKept : Type 0
+UntouchedCandidatesAreKept =
+    (old new : Said) (root : Root) (r : Route) → SayTheSame (Some 4) old new
+    → IsUntouched old new r.prefix → IsCandidate old root r ↔ IsCandidate new root r

@@ -1,0 +1,4 @@
+pub mod Changes
+pub mod Destinations
+pub mod Placing
+pub mod Laws

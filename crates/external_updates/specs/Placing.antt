@@ -1,0 +1,49 @@
+-- Routes in the order of their prefixes, of which one takes another one's place.
+use Rattle.std.specs.Prelude.{◌≡◌, ◌↔◌, ◌⊎◌, ℕ, ◌<◌, ◌≤◌, List, Option, Some, length}
+use Rattle.std.specs.Prelude.{slice_index_or}
+use Rattle.std.specs.List.{Contains}
+use Rattle.offers.specs.Borders.{Ascend}
+use Rattle.routes.specs.Candidates.{IsCandidate}
+use Rattle.routes.specs.Routes.{IsBefore}
+use Rattle.routes.specs.Said.{Said}
+use Rattle.routes.specs.declared.root.Root.{Root}
+use Rattle.words.specs.Prefixes.{Network}
+use Rattle.words.specs.declared.route.Route.{Route}
+
+-- the route at this place is for the prefix
+pub record IsThere (routes : List Route) (prefix : Network) (at : ℕ) : Type 0 where
+  pub within : at < length routes
+  pub is_for : (d : Route) → (slice_index_or routes at d).prefix ≡ prefix
+
+-- those in front of this place are for prefixes before it, and the others for prefixes behind it
+pub record IsGap (routes : List Route) (prefix : Network) (at : ℕ) : Type 0 where
+  pub within : at ≤ length routes
+  pub before : (k : ℕ) (d : Route) → k < at → IsBefore (slice_index_or routes k d).prefix prefix
+  pub behind : (k : ℕ) (d : Route) → at ≤ k → k < length routes
+      → IsBefore prefix (slice_index_or routes k d).prefix
+
+-- the route that there was for the prefix is out, and this one is in, if there is one
+pub record IsPlaced (old : List Route) (new : List Route) (prefix : Network)
+    (best : Option Route) : Type 0 where
+  pub each : (r : Route) → Contains new r
+      ↔ ((Contains old r × (r.prefix ≡ prefix → ⊥)) ⊎ (best ≡ Some r))
+  pub ascending : Ascend new
+
+-- the route that there was for the prefix is out, and the candidate for it is in
+pub record IsRenewed (said : Said) (root : Root) (prefix : Network) (old : List Route)
+    (new : List Route) : Type 0 where
+  pub each : (r : Route) → Contains new r
+      ↔ ((Contains old r × (r.prefix ≡ prefix → ⊥)) ⊎ (IsCandidate said root r × (r.prefix ≡ prefix)))
+  pub ascending : Ascend new
+
+-- to these destinations now, to the others before
+abbrev pub IsEither : (old : Said) → (new : Said) → Root → (done : List Network) → Route → Type 0
+IsEither old new root done r =
+    (Contains done r.prefix × IsCandidate new root r)
+    ⊎ ((Contains done r.prefix → ⊥) × IsCandidate old root r)
+
+-- the candidates of before, but for those to these destinations, which are those of now
+pub record AreHalfway (old : Said) (new : Said) (root : Root) (done : List Network)
+    (routes : List Route) : Type 0 where
+  pub each : (r : Route) → Contains routes r ↔ IsEither old new root done r
+  pub ascending : Ascend routes

@@ -1,0 +1,129 @@
+//! Which LSAs may say something else after an event, and of which networks they tell.
+ghost use Rattle.std.specs.Prelude.{◌≡◌, ◌↔◌, ◌≤◌, IfOk, IsTrue, MatchOption, OnOk, Some};
+ghost use Rattle.std.specs.Prelude.{option_copied};
+ghost use Rattle.std.specs.List.{Contains};
+ghost use Rattle.external_updates.specs.Changes.{AreAllTold, OthersSayTheSame};
+ghost use Rattle.lsa.specs.declared.body.Body.TheVariants as body;
+ghost use Rattle.lsa.specs.declared.body.ExternalLsa.{ExternalLsa as ExternalValue};
+ghost use Rattle.routes.specs.Offers.{IsPrefix};
+ghost use Rattle.routes.specs.Said.{said_at};
+ghost use Rattle.words.specs.Prefixes.{Network};
+
+use lsa::{Body, ExternalLsa};
+use lsdb::Lsdb;
+use offers::network_of;
+use std::alloc::{AllocError, Global};
+use words::{Key, Prefix, Second};
+
+/// The keys whose LSAs may say something else at the moment than those of the settled database did
+/// at the moment before: those that changed since, and those of the copies that have MaxAge. One may
+/// stand there more than once.
+///
+/// # Errors
+/// Where memory for the keys, or to compare texts, is refused.
+pub fn changed_keys(
+    alloc: Global,
+    db: &Lsdb,
+    before: Second,
+    moment: Second,
+) -> Result<Vec<Key>, AllocError>
+    requires { before ≤ moment }
+    ensures { IfOk result (λ keys. OthersSayTheSame keys.items
+        (said_at before db.now.settled) (said_at moment db.now.present)) }
+{
+    let mut keys = db.changed_keys(alloc, moment)?;
+    // Within one moment nothing comes of age.
+    if before.count() == moment.count() {
+        return Ok(keys);
+    }
+    let aged = db.aged_keys(alloc, moment)?;
+    keys.extend_from_slice(&aged)?;
+    Ok(keys)
+}
+
+fn is_among(prefixes: &[Prefix], prefix: Prefix) -> bool
+    ensures { IsTrue result ↔ Contains prefixes.now prefix }
+{
+    for other in prefixes {
+        if *other == prefix {
+            return true;
+        }
+    }
+    false
+}
+
+// The AS-external-LSA's body, if it is one.
+fn external_of(says: Option<&Body>) -> Option<&ExternalLsa>
+    ensures { MatchOption result ((lsa : ExternalValue)
+        → option_copied says.entry ≡ Some (body.External lsa) → ⊥) (λ lsa.
+        option_copied says.entry ≡ Some (body.External lsa.now)) }
+{
+    match says? {
+        Body::External(lsa) => Some(lsa),
+        _ => None,
+    }
+}
+
+// Notes the network, if there is one and it isn't noted yet.
+fn note(prefixes: &mut Vec<Prefix>, told: Option<Prefix>) -> Result<(), AllocError>
+    ensures kept { OnOk result ((prefix : Network) → Contains prefixes.old.items prefix
+        → Contains prefixes.new.items prefix) }
+    ensures noted { OnOk result ((prefix : Network) → told ≡ Some prefix
+        → Contains prefixes.new.items prefix) }
+{
+    match told {
+        None => Ok(()),
+        Some(prefix) => {
+            if is_among(prefixes.as_slice(), prefix) {
+                return Ok(());
+            }
+            prefixes.push(prefix)?;
+            Ok(())
+        }
+    }
+}
+
+// Notes the network that this body of the key's AS-external-LSA tells of, if there is one.
+fn note_network(
+    prefixes: &mut Vec<Prefix>,
+    key: &Key,
+    says: Option<&Body>,
+) -> Result<(), AllocError>
+    ensures kept { OnOk result ((prefix : Network) → Contains prefixes.old.items prefix
+        → Contains prefixes.new.items prefix) }
+    ensures noted { OnOk result ((lsa : ExternalValue) (prefix : Network)
+        → option_copied says.entry ≡ Some (body.External lsa)
+        → IsPrefix key.now.link_state_id lsa.mask prefix
+        → Contains prefixes.new.items prefix) }
+{
+    match external_of(says) {
+        None => Ok(()),
+        Some(lsa) => {
+            note(prefixes, network_of(key, lsa.mask))?;
+            Ok(())
+        }
+    }
+}
+
+/// The networks of which the AS-external-LSAs of these keys told before the event, or tell now.
+///
+/// # Errors
+/// Where memory for them is refused.
+pub fn networks_told(
+    alloc: Global,
+    db: &Lsdb,
+    before: Second,
+    moment: Second,
+    keys: &[Key],
+) -> Result<Vec<Prefix>, AllocError>
+    ensures { IfOk result (λ prefixes. AreAllTold
+        (said_at before db.now.settled) (said_at moment db.now.present)
+        keys.now prefixes.items) }
+{
+    let mut prefixes = Vec::new(alloc);
+    for key in keys {
+        note_network(&mut prefixes, key, db.settled_body_at(before, key))?;
+        note_network(&mut prefixes, key, db.body_at(moment, key))?;
+    }
+    Ok(prefixes)
+}

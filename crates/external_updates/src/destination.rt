@@ -1,0 +1,136 @@
+//! The best route to one destination.
+ghost use Rattle.std.specs.Prelude.{◌≡◌, IfOk, OnOk, slice_get};
+ghost use Rattle.candidates.specs.Inner.{AreSearchable};
+ghost use Rattle.external_updates.specs.Destinations.{HaveAllUnder, IsBestTo, IsTo, Knows};
+ghost use Rattle.external_updates.specs.Destinations.{OffersTo, SaysTo};
+ghost use Rattle.offers.specs.Gathering.{Adds, IsJust, OfEach};
+ghost use Rattle.routes.specs.Said.{said_at};
+
+use crate::keys::lies_under;
+use candidates::InnerRoutes;
+use lsa::Body;
+use lsdb::Lsdb;
+use offers::{Inner, external_offer, push_offer, routes_of_offers};
+use routes::{Offer, Root};
+use std::alloc::{AllocError, Global};
+use words::{Key, Prefix, Route, Second};
+
+// The offer, if it is to the destination.
+fn to(prefix: Prefix, offer: &Offer) -> Option<Offer>
+    ensures { IsJust (IsTo prefix offer.now) result }
+{
+    if offer.prefix == prefix {
+        return Some(*offer);
+    }
+    None
+}
+
+// Adds those of these offers that are to the destination.
+fn push_inner_to(inner: &[Offer], prefix: Prefix, offers: &mut Vec<Offer>) -> Result<(), AllocError>
+    ensures { OnOk result (Adds offers.old.items offers.new.items
+        (OfEach (IsTo prefix) inner.now)) }
+{
+    for offer in inner {
+        push_offer(offers, to(prefix, offer))?;
+    }
+    Ok(())
+}
+
+// What the AS-external-LSA of this key offers to the destination, where it says this.
+fn offer_to(
+    root: &Root,
+    inner: &InnerRoutes,
+    prefix: Prefix,
+    key: &Key,
+    says: &Body,
+) -> Option<Offer>
+    requires { AreSearchable inner.now }
+    ensures { IsJust (SaysTo root.now inner.now prefix (key.now, says.now)) result }
+{
+    let by = Inner {
+        routers: &inner.told,
+        flagged: &inner.flagged,
+        networks: &inner.networks,
+        lengths: &inner.lengths,
+    };
+    match external_offer(root, &by, key, says) {
+        None => None,
+        Some(offer) => to(prefix, &offer),
+    }
+}
+
+// What the AS-external-LSA of this key offers to the destination.
+fn external_to(
+    db: &Lsdb,
+    root: &Root,
+    moment: Second,
+    inner: &InnerRoutes,
+    prefix: Prefix,
+    key: &Key,
+) -> Option<Offer>
+    requires { AreSearchable inner.now }
+    ensures { IsJust (OffersTo (said_at moment db.now.present) root.now inner.now prefix key.now)
+        result }
+{
+    if !lies_under(prefix, key) {
+        return None;
+    }
+    match db.body_at(moment, key) {
+        None => None,
+        Some(says) => offer_to(root, inner, prefix, key, says),
+    }
+}
+
+// Adds what the AS-external-LSAs of these keys offer to the destination.
+fn push_externals_to(
+    db: &Lsdb,
+    root: &Root,
+    moment: Second,
+    inner: &InnerRoutes,
+    prefix: Prefix,
+    keys: &[Key],
+    offers: &mut Vec<Offer>,
+) -> Result<(), AllocError>
+    requires { AreSearchable inner.now }
+    ensures { OnOk result (Adds offers.old.items offers.new.items
+        (OfEach (OffersTo (said_at moment db.now.present) root.now inner.now prefix) keys.now)) }
+{
+    for key in keys {
+        push_offer(offers, external_to(db, root, moment, inner, prefix, key))?;
+    }
+    Ok(())
+}
+
+/// The candidate for a destination, where the keys of all AS-external-LSAs are among these whose Link
+/// State IDs lie in it.
+///
+/// # Errors
+/// Where memory for the offers is refused.
+pub fn best_to(
+    alloc: Global,
+    db: &Lsdb,
+    root: &Root,
+    moment: Second,
+    inner: &InnerRoutes,
+    prefix: Prefix,
+    keys: &[Key],
+) -> Result<Option<Route>, AllocError>
+    requires inner { Knows (said_at moment db.now.present) root.now inner.now }
+    requires keys { HaveAllUnder db.now.present prefix keys.now }
+    ensures { IfOk result (λ best. IsBestTo (said_at moment db.now.present) root.now prefix best) }
+{
+    let mut offers = Vec::new(alloc);
+    push_inner_to(&inner.offers, prefix, &mut offers)?;
+    push_externals_to(db, root, moment, inner, prefix, keys, &mut offers)?;
+    let routes = routes_of_offers(alloc, &mut offers)?;
+    Ok(first_of(&routes))
+}
+
+fn first_of(routes: &[Route]) -> Option<Route>
+    ensures { result ≡ slice_get routes.now 0 }
+{
+    match routes.get(0) {
+        None => None,
+        Some(route) => Some(*route),
+    }
+}

@@ -1,0 +1,124 @@
+//! All candidates after an event.
+ghost use Rattle.std.specs.Prelude.{◌≤◌, IfOk, IsTrue, OnOk, Some};
+ghost use Rattle.external_updates.specs.Destinations.{HaveAllUnder, Knows};
+ghost use Rattle.external_updates.specs.Placing.{AreHalfway, IsRenewed};
+ghost use Rattle.kept_routes.specs.Sameness.{SayTheSame};
+ghost use Rattle.offers.specs.Borders.{Ascend};
+ghost use Rattle.routes.specs.Candidates.{AreCandidates};
+ghost use Rattle.routes.specs.Said.{Said, said_at};
+
+use crate::changes::{changed_keys, networks_told};
+use crate::destination::best_to;
+use crate::keys::{MOST, keys_under};
+use crate::placing::place;
+use candidates::InnerRoutes;
+use lsdb::Lsdb;
+use routes::Root;
+use std::alloc::{AllocError, Global};
+use words::{Key, Prefix, Route, Second};
+
+// Calculates the route to one destination anew, where these are the keys of the AS-external-LSAs
+// that may tell of it.
+fn renew_by(
+    alloc: Global,
+    db: &Lsdb,
+    root: &Root,
+    moment: Second,
+    inner: &InnerRoutes,
+    prefix: Prefix,
+    keys: &[Key],
+    routes: &mut Vec<Route>,
+) -> Result<(), AllocError>
+    requires inner { Knows (said_at moment db.now.present) root.now inner.now }
+    requires keys { HaveAllUnder db.now.present prefix keys.now }
+    requires ascend { Ascend routes.old.items }
+    ensures { OnOk result (IsRenewed (said_at moment db.now.present) root.now prefix
+        routes.old.items routes.new.items) }
+{
+    let best = best_to(alloc, db, root, moment, inner, prefix, keys)?;
+    place(routes, prefix, best)?;
+    Ok(())
+}
+
+// The same where the keys have to be found. False where they may be too many.
+fn renew(
+    alloc: Global,
+    db: &Lsdb,
+    root: &Root,
+    moment: Second,
+    inner: &InnerRoutes,
+    prefix: Prefix,
+    routes: &mut Vec<Route>,
+) -> Result<bool, AllocError>
+    requires inner { Knows (said_at moment db.now.present) root.now inner.now }
+    requires ascend { Ascend routes.old.items }
+    ensures { IfOk result (λ done. IsTrue done → IsRenewed (said_at moment db.now.present) root.now
+        prefix routes.old.items routes.new.items) }
+{
+    let found = keys_under(alloc, db, prefix)?;
+    match found {
+        None => Ok(false),
+        Some(keys) => {
+            renew_by(alloc, db, root, moment, inner, prefix, &keys, routes)?;
+            Ok(true)
+        }
+    }
+}
+
+// The same for each of these destinations.
+fn renew_all(
+    alloc: Global,
+    db: &Lsdb,
+    root: &Root,
+    moment: Second,
+    inner: &InnerRoutes,
+    prefixes: &[Prefix],
+    routes: &mut Vec<Route>,
+) -> Result<bool, AllocError>
+    requires inner { Knows (said_at moment db.now.present) root.now inner.now }
+    requires ascend { Ascend routes.old.items }
+    ensures { IfOk result (λ done. IsTrue done → (old : Said)
+        → AreCandidates old root.now routes.old.items
+        → AreHalfway old (said_at moment db.now.present) root.now prefixes.now routes.new.items) }
+{
+    for prefix in prefixes {
+        if !renew(alloc, db, root, moment, inner, *prefix, routes)? {
+            return Ok(false);
+        }
+    }
+    Ok(true)
+}
+
+/// Follows an event in which no LSA of types 1 to 4 came, left, came to MaxAge or says something
+/// else: the candidates of the settled database at the moment before become those of the database
+/// at this moment (RFC 2328, section 16.6). Just the destinations are calculated anew of which the
+/// AS-external-LSAs tell or told that changed. False where too many of them did, or too many may tell
+/// of one destination: then, and where it is refused memory, the routes are of no more use.
+///
+/// # Errors
+/// Where memory for keys, networks, offers or a route is refused.
+pub fn follow_externals(
+    alloc: Global,
+    db: &Lsdb,
+    root: &Root,
+    before: Second,
+    moment: Second,
+    inner: &InnerRoutes,
+    routes: &mut Vec<Route>,
+) -> Result<bool, AllocError>
+    requires order { before ≤ moment }
+    requires same { SayTheSame (Some 4)
+        (said_at before db.now.settled) (said_at moment db.now.present) }
+    requires inner { Knows (said_at moment db.now.present) root.now inner.now }
+    requires routes { AreCandidates (said_at before db.now.settled) root.now routes.old.items }
+    ensures { IfOk result (λ done. IsTrue done
+        → AreCandidates (said_at moment db.now.present) root.now routes.new.items) }
+{
+    let keys = changed_keys(alloc, db, before, moment)?;
+    if keys.len() > MOST {
+        return Ok(false);
+    }
+    let prefixes = networks_told(alloc, db, before, moment, &keys)?;
+    let done = renew_all(alloc, db, root, moment, inner, &prefixes, routes)?;
+    Ok(done)
+}
