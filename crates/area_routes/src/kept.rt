@@ -38,8 +38,8 @@ pub struct Offered {
 /// and that all of them stand among the answers, for as long as all LSAs do, or others don't than
 /// AS-external-LSAs that offer nothing (section 16.4). Where other AS-external-LSAs alone say
 /// something else, and few of them, those candidates alone are calculated anew of whose
-/// destinations these tell (section 16.6). An event makes no walk: where it leaves none that serves,
-/// one is made once candidates are asked for.
+/// destinations these tell (section 16.6). An event makes no walk: where it leaves none that
+/// serves, one is made once candidates are asked for.
 ///
 /// Links, database and answers aren't part of it. Each call is handed them, and a clause says of
 /// which moment they are.

@@ -33,7 +33,8 @@ pub record IsPlaced (old : List Route) (new : List Route) (prefix : Network)
 pub record IsRenewed (said : Said) (root : Root) (prefix : Network) (old : List Route)
     (new : List Route) : Type 0 where
   pub each : (r : Route) → Contains new r
-      ↔ ((Contains old r × (r.prefix ≡ prefix → ⊥)) ⊎ (IsCandidate said root r × (r.prefix ≡ prefix)))
+      ↔ ((Contains old r × (r.prefix ≡ prefix → ⊥)) ⊎ (IsCandidate said root r
+      × (r.prefix ≡ prefix)))
   pub ascending : Ascend new
 
 -- to these destinations now, to the others before

@@ -16,8 +16,8 @@ use std::alloc::{AllocError, Global};
 use words::{Key, Prefix, Second};
 
 /// The keys whose LSAs may say something else at the moment than those of the settled database did
-/// at the moment before: those that changed since, and those of the copies that have MaxAge. One may
-/// stand there more than once.
+/// at the moment before: those that changed since, and those of the copies that have MaxAge. One
+/// may stand there more than once.
 ///
 /// # Errors
 /// Where memory for the keys, or to compare texts, is refused.

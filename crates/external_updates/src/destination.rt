@@ -101,8 +101,8 @@ fn push_externals_to(
     Ok(())
 }
 
-/// The candidate for a destination, where the keys of all AS-external-LSAs are among these whose Link
-/// State IDs lie in it.
+/// The candidate for a destination, where the keys of all AS-external-LSAs are among these whose
+/// Link State IDs lie in it.
 ///
 /// # Errors
 /// Where memory for the offers is refused.

@@ -92,8 +92,8 @@ fn renew_all(
 /// Follows an event in which no LSA of types 1 to 4 came, left, came to MaxAge or says something
 /// else: the candidates of the settled database at the moment before become those of the database
 /// at this moment (RFC 2328, section 16.6). Just the destinations are calculated anew of which the
-/// AS-external-LSAs tell or told that changed. False where too many of them did, or too many may tell
-/// of one destination: then, and where it is refused memory, the routes are of no more use.
+/// AS-external-LSAs tell or told that changed. False where too many of them did, or too many may
+/// tell of one destination: then, and where it is refused memory, the routes are of no more use.
 ///
 /// # Errors
 /// Where memory for keys, networks, offers or a route is refused.

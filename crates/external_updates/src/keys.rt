@@ -41,8 +41,8 @@ fn may_lack(keys: &[Key], prefix: Prefix) -> bool
     }
 }
 
-/// The keys of all AS-external-LSAs whose Link State IDs lie in the network, with others among them,
-/// or None where there may be more than a few of them.
+/// The keys of all AS-external-LSAs whose Link State IDs lie in the network, with others among
+/// them, or None where there may be more than a few of them.
 ///
 /// # Errors
 /// Where memory for the keys is refused.
