@@ -82,14 +82,17 @@ follow_offers-requires-clause-inner c =
 
 pub returns-then-branch-clause-routes : goal.returns-then-branch-clause-routes
 returns-then-branch-clause-routes c =
+    let old = said_at c.args.before c.args.area.now.settled.database in
     let new = said_at c.args.moment c.args.area.now.present.database in
     let is = root_by c.args.router c.args.area.now.present.links in
+    let on = ap (λ (k : KeptRoutes). k.behind) (sym c.self.view_is) ∙ c.if-self.false in
+    let walks = c.walks_are_kept.ensures old new c.args.self.now.walk (c.in_ok-says_the_same.ensures.same c.if-branch.true) (c.requires.routes.walk.walk on) in
     let next = c.follow_offers.new.self in
     let same : next.walk ≡ c.args.self.now.walk = c.follow_offers.ensures.walk in
     let begins : c.args.self.now.walk.root ≡ is = ap (λ (k : KeptRoutes). k.walk.root) (sym c.self.view_is) ∙ sym c.root.ensures ∙ c.is_root_of.ensures.0 c.if-is_root_of.true in
     record {
       walk = record {
-        walk = λ off. subst (IsWalkOf new) (sym same) (follow_offers-requires-clause-walk c);
+        walk = λ off. subst (IsWalkOf new) (sym same) walks;
         root = λ off. ap (λ (w : KeptWalk). w.root) same ∙ begins;
       };
       candidates = subst (λ (r : Root). KnowsCandidates new r next) begins c.follow_offers.ensures.candidates;
