@@ -5,9 +5,9 @@ ghost use Rattle.annotations.specs.Annotated.{CountsLoops, IsCodeAnnotation};
 ghost use Rattle.annotations.specs.Verdict.{IsCountedAttempt, IsNoVerdict, IsTurnsShortfall};
 
 use crate::attempt::{Attempt, try_both};
+use crate::counted_code::counted;
 use crate::shortfall::Shortfall;
 use crate::verdict::Annotated;
-use counted_loops::counted;
 use isa::{Code, Hook, decode, encode};
 use object::{Kind, Statement};
 use ranking_functions::Unranked;

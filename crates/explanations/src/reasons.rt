@@ -3,9 +3,9 @@ ghost use Rattle.std.specs.Prelude.{◌<◌};
 
 use crate::phrases::{Value, push_kind, push_place};
 use absdom::Domain;
+use inference::liveness::{has, reads};
 use isa::{Hook, Instruction, Operation, Register, Width};
 use kinds::{Entry, Kind, Place, State, kind_at};
-use liveness::{has, reads};
 use machine::Helper;
 use segments::places::jump_of;
 use std::alloc::AllocError;

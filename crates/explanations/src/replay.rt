@@ -1,8 +1,8 @@
 //! What is known at a slot, in words.
 
 use crate::phrases::{Value, push_fact, push_kind, push_rank, push_stack};
+use inference::liveness::{Registers, has};
 use kinds::{Entry, Fact, Kind, Place, State, Target};
-use liveness::{Registers, has};
 use object::{Kind as Stated, Rank, StackBytes, Statement};
 use std::alloc::{AllocError, Global};
 

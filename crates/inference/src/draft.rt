@@ -2,9 +2,9 @@
 
 use crate::edges::{Edge, registers_of};
 use crate::joining::{Growth, Value, first_statement, joined_statement};
+use crate::liveness::Registers;
 use crate::widening::Widening;
 use kinds::{State, put};
-use liveness::Registers;
 use object::Statement;
 use std::alloc::{AllocError, Global};
 

@@ -3,10 +3,10 @@
 use crate::draft::{Draft, Purpose};
 use crate::edges::Edge;
 use crate::flow::Program;
+use crate::liveness::live_registers;
 use crate::sites::{Sites, sites_of};
 use crate::widening::limits_of;
 use isa::{Code, Hook};
-use liveness::live_registers;
 use object::Statement;
 use std::alloc::{AllocError, Global};
 

@@ -2,12 +2,12 @@
 ghost use Rattle.std.specs.Prelude.{◌≡◌, ◌==◌, ◌+◌, ◌*◌, ◌<◌, ◌≤◌, ◌++◌, IfOk, OnOk, length};
 ghost use Rattle.std.specs.Prelude.{position};
 ghost use Rattle.isa.specs.Flow.{jump_target};
-ghost use Rattle.counted_loops.specs.CountedCode.{IsCounted, detour, detour_at, detours};
-ghost use Rattle.counted_loops.specs.CountedCode.{distance_between, distance_of, place_of};
-ghost use Rattle.counted_loops.specs.CountedCode.{redirected, redirected_from, slots_at};
-ghost use Rattle.counted_loops.specs.CountedCode.{with_distance, with_number};
+ghost use Rattle.annotations.specs.CountedCode.{IsCounted, detour, detour_at, detours};
+ghost use Rattle.annotations.specs.CountedCode.{distance_between, distance_of, place_of};
+ghost use Rattle.annotations.specs.CountedCode.{redirected, redirected_from, slots_at};
+ghost use Rattle.annotations.specs.CountedCode.{with_distance, with_number};
 
-use crate::error::CountError;
+use crate::count_error::CountError;
 use crate::registers::unnamed;
 use isa::{Code, CodeBuilder, Instruction, Operation, Register, Slot, Source, Test, Width};
 use segments::places::jump_of;

@@ -1,6 +1,6 @@
 use Rattle.std.proofs.Common.{◌≡◌, ◌+◌, ◌*◌, ◌++◌, take}
-use Rattle.counted_loops.specs.CountedCode.{detours}
-use Rattle.counted_loops.proofs.counting.push_detours.Given as goal
+use Rattle.annotations.specs.CountedCode.{detours}
+use Rattle.annotations.proofs.counted_code.push_detours.Given as goal
 
 abbrev pub invariant-loop-head : goal.invariant-loop-head
 invariant-loop-head l = record {

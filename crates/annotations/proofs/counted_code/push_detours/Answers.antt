@@ -1,6 +1,6 @@
 use Rattle.std.proofs.Common.{◌+◌, arith}
-use Rattle.counted_loops.proofs.Pushed.{one_more_detour}
-use Rattle.counted_loops.proofs.counting.push_detours.Goals as goal
+use Rattle.annotations.proofs.Pushed.{one_more_detour}
+use Rattle.annotations.proofs.counted_code.push_detours.Goals as goal
 
 pub loop-head-preserved : goal.loop-head-preserved
 loop-head-preserved c = record {

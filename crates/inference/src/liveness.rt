@@ -1,5 +1,4 @@
 //! Which registers may still be read.
-#![tactic(auto)]
 
 ghost use Rattle.std.specs.Prelude.{◌<◌};
 

@@ -1,6 +1,6 @@
 //! Which registers a program names.
 ghost use Rattle.std.specs.Prelude.{◌≡◌, ◌≤◌, IfSome, false};
-ghost use Rattle.counted_loops.specs.CountedCode.{IsUnnamed, is_operand, names};
+ghost use Rattle.annotations.specs.CountedCode.{IsUnnamed, is_operand, names};
 
 use isa::{Code, Instruction, Register, Slot, Source};
 

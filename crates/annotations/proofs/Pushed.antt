@@ -2,7 +2,7 @@
 use Rattle.std.proofs.Common.{◌≡◌, ℕ, ◌+◌, ◌*◌, ◌<◌, ◌≤◌, zero-add, List, [], ◌∷◌, ◌++◌, length, get_or, take, refl, sym, ap, ◌∙◌, append_assoc, arith}
 use Rattle.std.proofs.lemmas.List.{take_more, length-take-le}
 use Rattle.isa.specs.declared.code.Slot.{Slot}
-use Rattle.counted_loops.specs.CountedCode.{slots_at, redirected_from, detour, detours}
+use Rattle.annotations.specs.CountedCode.{slots_at, redirected_from, detour, detours}
 
 -- one slot more behind the code
 pub redirected-append : (slots : ℕ) (heads : List ℕ) (slot : ℕ) (xs : List Slot) (s : Slot)

@@ -1,6 +1,6 @@
 use Rattle.std.proofs.Common.{sym}
-use Rattle.counted_loops.proofs.Pushed.{one_more_slot}
-use Rattle.counted_loops.proofs.counting.push_code.Goals as goal
+use Rattle.annotations.proofs.Pushed.{one_more_slot}
+use Rattle.annotations.proofs.counted_code.push_code.Goals as goal
 
 pub loop-slot-preserved : goal.loop-slot-preserved
 loop-slot-preserved c =
