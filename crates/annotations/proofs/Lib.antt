@@ -1,2 +1,3 @@
 mod Faults
 mod Attempts
+mod Pushed

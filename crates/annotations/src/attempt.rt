@@ -101,10 +101,27 @@ fn outcome(
     }
 }
 
+/// Finds ranks for these statements, and has the verifier judge them.
+fn try_found(
+    alloc: Global,
+    hook: Hook,
+    bytes: &[u8],
+    code: &Code,
+    found: &Inference,
+    given: &[Statement],
+    are_kept: bool,
+) -> Result<Attempt, Shortfall>
+    ensures attempt { IfOk result (IsAttempt hook bytes.now) }
+    ensures fault { IfErr result IsNoVerdict }
+{
+    let ranking = rank_statements(alloc, found, given, are_kept, most_for(code))?;
+    outcome(alloc, hook, bytes, found, ranking)
+}
+
 /// Finds statements and ranks for the code at the hook, and has the verifier judge them. The
 /// statements that are given stay as they are, or they lend their slots, their numbers and their
 /// ranks' registers.
-pub fn try_statements(
+fn try_statements(
     alloc: Global,
     hook: Hook,
     bytes: &[u8],
@@ -116,11 +133,21 @@ pub fn try_statements(
 {
     let code = decode(alloc, bytes)?;
     let found = infer_statements(alloc, &code, hook, given, are_kept)?;
-    let ranking = rank_statements(alloc, &found, given, are_kept, most_for(&code))?;
-    let attempt = outcome(alloc, hook, bytes, &found, ranking)?;
-    if are_kept {
-        return Ok(attempt);
-    }
+    try_found(alloc, hook, bytes, &code, &found, given, are_kept)
+}
+
+/// The same without the statements that are given, and without the known bits that the verifier does
+/// without.
+fn try_anew(
+    alloc: Global,
+    hook: Hook,
+    bytes: &[u8],
+    given: &[Statement],
+) -> Result<Attempt, Shortfall>
+    ensures attempt { IfOk result (IsAttempt hook bytes.now) }
+    ensures fault { IfErr result IsNoVerdict }
+{
+    let attempt = try_statements(alloc, hook, bytes, given, false)?;
     match attempt {
         Attempt::Accepted(annotated) => {
             let trimmed = without_idle_bits(alloc, hook, bytes, annotated)?;
@@ -146,5 +173,5 @@ pub fn try_both(
             return Ok(Attempt::Accepted(annotated));
         }
     }
-    try_statements(alloc, hook, bytes, given, false)
+    try_anew(alloc, hook, bytes, given)
 }

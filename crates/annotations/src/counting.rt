@@ -5,9 +5,9 @@ ghost use Rattle.annotations.specs.Annotated.{CountsLoops, IsCodeAnnotation};
 ghost use Rattle.annotations.specs.Verdict.{IsCountedAttempt, IsNoVerdict, IsTurnsShortfall};
 
 use crate::attempt::{Attempt, try_both};
+use crate::counted_code::counted;
 use crate::shortfall::Shortfall;
 use crate::verdict::Annotated;
-use counted_loops::counted;
 use isa::{Code, Hook, decode, encode};
 use object::{Kind, Statement};
 use ranking_functions::Unranked;
@@ -150,6 +150,38 @@ fn try_heads(
     }
 }
 
+/// Finds statements and ranks for the code, in which the turns of loops without a rank are counted.
+#[tactic(auto, using(crate::proofs::Faults::no_verdict_with_turns))]
+fn annotate_loops(
+    alloc: Global,
+    hook: Hook,
+    bytes: &[u8],
+    code: &Code,
+    given: &[Statement],
+    turns: u32,
+) -> Result<Annotated, Shortfall>
+    requires { Spells bytes.now code.now }
+    ensures accepted { IfOk result (λ a. IsCodeAnnotation hook (Some turns) bytes.now a.object
+        a.bytes.items a.accepted) }
+    ensures refused { IfErr result (IsTurnsShortfall hook (Some turns) bytes.now) }
+{
+    let mut heads = Vec::new(alloc);
+    for _ in 0..MOST_ROUNDS {
+        match try_heads(alloc, hook, bytes, code, given, &heads, turns)? {
+            Attempt::Accepted(annotated) => return Ok(annotated),
+            Attempt::Refused(failure) => {
+                if failure.endless.is_none() || !add(alloc, &mut heads, &failure.unranked)? {
+                    return Err(Shortfall::Refused(failure.rejected, failure.endless));
+                }
+            }
+        }
+    }
+    match try_heads(alloc, hook, bytes, code, given, &heads, turns)? {
+        Attempt::Accepted(annotated) => Ok(annotated),
+        Attempt::Refused(failure) => Err(Shortfall::Refused(failure.rejected, failure.endless)),
+    }
+}
+
 /// Finds statements and ranks as `annotate` does. Where a loop has no rank, its turns are counted:
 /// the object has other code, which answers 0 instead of more than `turns` turns in all. Loops that
 /// have a rank stay as they are.
@@ -166,19 +198,5 @@ pub fn annotate_counted(
     ensures refused { IfErr result (IsTurnsShortfall hook (Some turns) bytes.now) }
 {
     let code = decode(alloc, bytes)?;
-    let mut heads = Vec::new(alloc);
-    for _ in 0..MOST_ROUNDS {
-        match try_heads(alloc, hook, bytes, &code, given, &heads, turns)? {
-            Attempt::Accepted(annotated) => return Ok(annotated),
-            Attempt::Refused(failure) => {
-                if failure.endless.is_none() || !add(alloc, &mut heads, &failure.unranked)? {
-                    return Err(Shortfall::Refused(failure.rejected, failure.endless));
-                }
-            }
-        }
-    }
-    match try_heads(alloc, hook, bytes, &code, given, &heads, turns)? {
-        Attempt::Accepted(annotated) => Ok(annotated),
-        Attempt::Refused(failure) => Err(Shortfall::Refused(failure.rejected, failure.endless)),
-    }
+    annotate_loops(alloc, hook, bytes, &code, given, turns)
 }

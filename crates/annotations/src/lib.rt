@@ -4,14 +4,18 @@
 
 mod annotating;
 mod attempt;
+mod count_error;
+mod counted_code;
 mod counting;
 mod file;
+mod registers;
 mod shortfall;
 mod trimming;
 mod verdict;
 
 pub use annotating::annotate;
-pub use counted_loops::CountError;
+pub use count_error::CountError;
+pub use counted_code::counted;
 pub use counting::annotate_counted;
 pub use file::annotate_file;
 pub use ranking_functions::{Endless, Trouble};

@@ -1,7 +1,7 @@
 //! Why there is no object that the verifier accepts.
 
+use crate::count_error::CountError;
 use crate::verdict::Rejected;
-use counted_loops::CountError;
 use isa::{DecodeError, Hook};
 use object::ReadError;
 use ranking_functions::Endless;

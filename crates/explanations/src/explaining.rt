@@ -5,14 +5,15 @@ ghost use Rattle.object_verdicts.specs.Verdicts.{Accepts, Refuses};
 
 use crate::edges::push_start;
 use crate::lines::instruction_lines;
-use crate::page::Page;
+use crate::page::{Page, Texts};
 use crate::phrases::Value;
 use crate::replay::{entry_kinds, entry_statement, start};
 use crate::rules::{rule_hint, rule_name};
+use crate::text::Text;
 use crate::walk::{Program, push_pass};
+use inference::liveness::{Registers, live_registers};
 use isa::{Code, DecodeError, decode};
 use kinds::Target;
-use liveness::live_registers;
 use object::{Object, ReadError, Statement};
 use object_verdicts::{VerifyError, verify_object};
 use segments::target::targets_of;
@@ -65,14 +66,15 @@ impl From<DecodeError> for ExplainError {
 }
 
 /// What the bound is made of, where that is too great.
-fn push_budget(out: &mut String, object: &Object) -> Result<(), AllocError> {
+fn push_budget(out: &mut Text, object: &Object) {
     let rank = object.entry_rank();
     let slots = object.slots();
     let bound = u64::from(rank)
         .saturating_add(1)
         .saturating_mul(slots as u64);
-    writeln!(out, "  ({rank} + 1) * {slots} is {bound}")?;
-    out.push_str("  allowed: up to 1000000\n")
+    out.numbered("  (", u64::from(rank), " + 1) * ");
+    out.number(slots as u64);
+    out.numbered(" is ", bound, "\n  allowed: up to 1000000\n");
 }
 
 /// The line for a program that is accepted with this bound.
@@ -98,17 +100,19 @@ fn refusal_words(
     rule: Rule,
     reasons: &str,
 ) -> Result<String, AllocError> {
-    let mut out = String::new(alloc);
-    let name = rule_name(rule);
-    writeln!(out, " {name}")?;
+    let mut out = Text::new(alloc);
+    out.push(" ");
+    out.push(rule_name(rule));
+    out.push("\n");
     if rule == Rule::Budget {
-        push_budget(&mut out, object)?;
+        push_budget(&mut out, object);
     } else {
-        out.push_str(reasons)?;
+        out.push(reasons);
     }
-    let hint = rule_hint(rule);
-    writeln!(out, "  hint: {hint}")?;
-    Ok(out)
+    out.push("  hint: ");
+    out.push(rule_hint(rule));
+    out.push("\n");
+    out.finish()
 }
 
 /// The refusal in words: where and by which rule, and then these.
@@ -169,10 +173,12 @@ fn push_known_by<'a>(
         kinds: entry_kinds(alloc)?,
     };
     let first = start(alloc)?;
-    if push_start(&mut page.reasons, targets, &entry, &first)? {
-        return page.turn(0, program.lines);
+    if push_start(&mut page.reasons, targets, &entry, &first) {
+        page.turn(0, program.lines);
+    } else {
+        push_pass(page, program, targets, &entry, first);
     }
-    push_pass(page, program, targets, &entry, first)
+    Ok(())
 }
 
 /// The same of an object's program.
@@ -192,29 +198,67 @@ fn push_object(
     push_known_by(alloc, page, program, &targets, &statement)
 }
 
-/// What the verifier knows at each slot, up to the one that it refuses.
-fn page_of(
+/// What the verifier knows where a run begins, and at each slot, told by these lines of the
+/// instructions.
+fn texts_by(
     alloc: Global,
     object: &Object,
     code: &Code,
     refusal: Option<Refusal>,
-) -> Result<Page, ExplainError> {
-    let live = live_registers(alloc, code, object.hook())?;
-    let listed = instruction_lines(alloc, object)?;
-    let lines: Vec<&str> = listed.as_str().lines().collect(alloc)?;
+    live: &[Registers],
+    listed: &str,
+) -> Result<Texts, AllocError> {
+    let lines: Vec<&str> = listed.lines().collect(alloc)?;
     let program = Program {
         code,
         hook: object.hook(),
-        live: &live,
+        live,
         lines: &lines,
         refusal,
     };
     let mut page = Page::new(alloc);
-    let hook = object.hook().name();
-    let rank = object.entry_rank();
-    writeln!(page.here, "hook {hook}, rank {rank} at the entry")?;
+    page.here.push("hook ");
+    page.here.push(object.hook().name());
+    page.here.numbered(", rank ", u64::from(object.entry_rank()), " at the entry\n");
     push_object(alloc, &mut page, &program, object)?;
-    Ok(page)
+    page.finish()
+}
+
+/// The same, up to the slot that it refuses.
+fn texts_of(
+    alloc: Global,
+    object: &Object,
+    code: &Code,
+    refusal: Option<Refusal>,
+) -> Result<Texts, ExplainError> {
+    let live = live_registers(alloc, code, object.hook())?;
+    let listed = instruction_lines(alloc, object)?;
+    let texts = texts_by(alloc, object, code, refusal, &live, listed.as_str())?;
+    Ok(texts)
+}
+
+/// The texts on the object's program, and the verdict on these bytes.
+fn explained(
+    alloc: Global,
+    bytes: &[u8],
+    object: &Object,
+    code: &Code,
+) -> Result<Explanation, ExplainError>
+    ensures accepts { IfOk result (λ explanation. IfOk explanation.verdict (Accepts bytes.now)) }
+    ensures refuses { IfOk result (λ explanation. IfErr explanation.verdict (Refuses bytes.now)) }
+    ensures told { IfOk result (λ explanation. TellsVerdict explanation.verdict
+        (string_bytes explanation.told)) }
+{
+    let verdict = verify_object(alloc, bytes);
+    let texts = texts_of(alloc, object, code, refusal_in(&verdict))?;
+    let told = verdict_told(alloc, object, &verdict, texts.reasons.as_str())?;
+    let Texts { before, here, .. } = texts;
+    Ok(Explanation {
+        before,
+        last: here,
+        told,
+        verdict,
+    })
 }
 
 /// What the verifier knows at each slot of the object's program, up to the one that it refuses, and
@@ -227,18 +271,5 @@ pub fn explain(alloc: Global, bytes: &[u8]) -> Result<Explanation, ExplainError>
 {
     let object = object::read(alloc, bytes)?;
     let code = decode(alloc, object.code())?;
-    let verdict = verify_object(alloc, bytes);
-    let Page {
-        before,
-        here,
-        reasons,
-        ..
-    } = page_of(alloc, &object, &code, refusal_in(&verdict))?;
-    let told = verdict_told(alloc, &object, &verdict, reasons.as_str())?;
-    Ok(Explanation {
-        before,
-        last: here,
-        told,
-        verdict,
-    })
+    explained(alloc, bytes, &object, &code)
 }

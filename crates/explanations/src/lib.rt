@@ -9,6 +9,7 @@ mod phrases;
 mod reasons;
 mod replay;
 mod rules;
+mod text;
 mod walk;
 
 pub use explaining::{ExplainError, Explanation, explain};

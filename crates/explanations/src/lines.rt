@@ -1,26 +1,39 @@
 //! The instructions of a program in assembly.
 
 use crate::explaining::ExplainError;
+use crate::text::Text;
 use asm::listing;
 use isa::{Code, Slot};
 use object::{Object, Statement};
-use std::alloc::Global;
+use std::alloc::{AllocError, Global};
 
-/// The instructions of the object's code in assembly, a line for each.
-pub fn instruction_lines(alloc: Global, object: &Object) -> Result<String, ExplainError> {
+/// The listing of the object's code, without its statements.
+fn bare_listing(alloc: Global, object: &Object) -> Result<String, ExplainError> {
     let code = Vec::from_slice(alloc, object.code())?;
     let none: Vec<Statement> = Vec::new(alloc);
     let Some(bare) = Object::new(object.hook(), object.entry_rank(), code, none) else {
         return Err(ExplainError::Memory);
     };
-    let Ok(text) = listing(alloc, &bare) else {
-        return Err(ExplainError::Memory);
-    };
-    let mut lines = String::new(alloc);
-    for line in text.as_str().lines().skip(2) {
-        writeln!(lines, "{line}")?;
+    match listing(alloc, &bare) {
+        Ok(text) => Ok(text),
+        Err(_) => Err(ExplainError::Memory),
     }
-    Ok(lines)
+}
+
+/// The lines of a listing behind its first two, which tell the hook and the rank.
+fn lines_behind(alloc: Global, text: &str) -> Result<String, AllocError> {
+    let mut lines = Text::new(alloc);
+    for line in text.lines().skip(2) {
+        lines.push(line);
+        lines.push("\n");
+    }
+    lines.finish()
+}
+
+/// The instructions of the object's code in assembly, a line for each.
+pub fn instruction_lines(alloc: Global, object: &Object) -> Result<String, ExplainError> {
+    let text = bare_listing(alloc, object)?;
+    Ok(lines_behind(alloc, text.as_str())?)
 }
 
 /// The line of the instruction that begins at the slot, of these lines.

@@ -2,13 +2,13 @@
 ghost use Rattle.std.specs.Prelude.{◌<◌};
 
 use crate::phrases::{Value, push_kind, push_place};
+use crate::text::Text;
 use absdom::Domain;
+use inference::liveness::{has, reads};
 use isa::{Hook, Instruction, Operation, Register, Width};
 use kinds::{Entry, Kind, Place, State, kind_at};
-use liveness::{has, reads};
 use machine::Helper;
 use segments::places::jump_of;
-use std::alloc::AllocError;
 use transfer::load::{load_length, map_length};
 use transfer::place::reached;
 use transfer::store::store_length;
@@ -52,13 +52,13 @@ fn place_of(state: &State<Value>, access: &Access) -> Option<Place<Value>> {
     reached(kind_at(state, access.base), access.offset).ok()
 }
 
-fn push_register(out: &mut String, state: &State<Value>, number: u8) -> Result<(), AllocError> {
+fn push_register(out: &mut Text, state: &State<Value>, number: u8) {
     let Some(register) = Register::new(number) else {
-        return Ok(());
+        return;
     };
-    write!(out, "  r{number}: ")?;
-    push_kind(out, kind_at(state, register))?;
-    out.push_str("\n")
+    out.numbered("  r", u64::from(number), ": ");
+    push_kind(out, kind_at(state, register));
+    out.push("\n")
 }
 
 /// Whether the register of this number may be empty.
@@ -71,19 +71,18 @@ fn is_empty(state: &State<Value>, number: u8) -> bool {
 
 /// A line for each register that the instruction reads, or only for those that may be empty.
 fn push_read(
-    out: &mut String,
+    out: &mut Text,
     hook: Hook,
     state: &State<Value>,
     instruction: &Instruction,
     is_all: bool,
-) -> Result<(), AllocError> {
+) {
     let read = reads(hook, instruction);
     for number in 0..10u8 {
         if has(read, usize::from(number)) && (is_all || is_empty(state, number)) {
-            push_register(out, state, number)?;
+            push_register(out, state, number);
         }
     }
-    Ok(())
 }
 
 /// The first byte from the place on that isn't known to be a byte.
@@ -97,21 +96,16 @@ fn first_unknown(state: &State<Value>, start: u64, length: u64) -> Option<u64> {
     None
 }
 
-fn push_empty(
-    out: &mut String,
-    hook: Hook,
-    state: &State<Value>,
-    instruction: &Instruction,
-) -> Result<(), AllocError> {
-    push_read(out, hook, state, instruction, false)?;
+fn push_empty(out: &mut Text, hook: Hook, state: &State<Value>, instruction: &Instruction) {
+    push_read(out, hook, state, instruction, false);
     if let Some(access) = access_of(instruction) {
         if let Some(Place::Stack(at)) = place_of(state, &access) {
             if let Some(byte) = first_unknown(state, at, access.length) {
-                writeln!(out, "  stack {byte}: may be empty, or a part of a pointer")?;
+                out.numbered("  stack ", byte, ": may be empty, or a part of a pointer\n");
             }
         }
     }
-    out.push_str(
+    out.push(
         "  allowed: what is filled on each way that leads here, and is stated where a statement is \
             on the way\n",
     )
@@ -139,15 +133,12 @@ fn allowed_kinds(instruction: &Instruction) -> &'static str {
     }
 }
 
-fn push_kinds(
-    out: &mut String,
-    hook: Hook,
-    state: &State<Value>,
-    instruction: &Instruction,
-) -> Result<(), AllocError> {
-    push_read(out, hook, state, instruction, true)?;
+fn push_kinds(out: &mut Text, hook: Hook, state: &State<Value>, instruction: &Instruction) {
+    push_read(out, hook, state, instruction, true);
     let allowed = allowed_kinds(instruction);
-    writeln!(out, "  allowed: {allowed}")
+    out.push("  allowed: ");
+    out.push(allowed);
+    out.push("\n");
 }
 
 fn length_of(place: Place<Value>) -> u64 {
@@ -159,42 +150,37 @@ fn length_of(place: Place<Value>) -> u64 {
 }
 
 /// The bytes of an access, as `8 bytes at r6 + 4: map 1, offset 4`.
-fn push_access(out: &mut String, state: &State<Value>, access: &Access) -> Result<(), AllocError> {
+fn push_access(out: &mut Text, state: &State<Value>, access: &Access) {
     let length = access.length;
     let base = access.base.index();
     let offset = access.offset;
-    write!(out, "  {length} bytes at r{base} + {offset}: ")?;
+    out.numbered("  ", length, " bytes at r");
+    out.number(base as u64);
+    out.push(" + ");
+    out.signed(i64::from(offset));
+    out.push(": ");
     if let Some(place) = place_of(state, access) {
-        push_place(out, place)?;
+        push_place(out, place);
     }
-    out.push_str("\n")
+    out.push("\n")
 }
 
-fn push_bounds(
-    out: &mut String,
-    state: &State<Value>,
-    instruction: &Instruction,
-) -> Result<(), AllocError> {
+fn push_bounds(out: &mut Text, state: &State<Value>, instruction: &Instruction) {
     let Some(access) = access_of(instruction) else {
-        return Ok(());
+        return;
     };
-    push_access(out, state, &access)?;
+    push_access(out, state, &access);
     if let Some(place) = place_of(state, &access) {
         let most = length_of(place).saturating_sub(access.length);
-        writeln!(out, "  allowed: 0..{most}")?;
+        out.numbered("  allowed: 0..", most, "\n");
     }
-    Ok(())
 }
 
-fn push_align(
-    out: &mut String,
-    state: &State<Value>,
-    instruction: &Instruction,
-) -> Result<(), AllocError> {
+fn push_align(out: &mut Text, state: &State<Value>, instruction: &Instruction) {
     if let Some(access) = access_of(instruction) {
-        push_access(out, state, &access)?;
+        push_access(out, state, &access);
     }
-    out.push_str("  allowed: in a map 8 bytes at a multiple of 8\n")
+    out.push("  allowed: in a map 8 bytes at a multiple of 8\n")
 }
 
 /// Whether the number that a register is known to hold may be above this.
@@ -210,52 +196,51 @@ fn is_above(state: &State<Value>, number: u8, most: u64) -> bool {
 
 const MOST_ADDED: u64 = 16_777_215;
 
-fn push_argument(
-    out: &mut String,
-    hook: Hook,
-    state: &State<Value>,
-    instruction: &Instruction,
-) -> Result<(), AllocError> {
+fn push_argument(out: &mut Text, hook: Hook, state: &State<Value>, instruction: &Instruction) {
     if is_above(state, 1, 255) {
-        push_register(out, state, 1)?;
-        out.push_str("  allowed: r1, the counter, 0..255\n")?;
+        push_register(out, state, 1);
+        out.push("  allowed: r1, the counter, 0..255\n");
     }
     let Instruction::Call { helper } = *instruction else {
-        return Ok(());
+        return;
     };
     if matches!(Helper::at(hook, helper), Some(Helper::CounterAdd))
         && is_above(state, 2, MOST_ADDED)
     {
-        push_register(out, state, 2)?;
-        writeln!(
-            out,
-            "  allowed: r2, the amount that is added, 0..{MOST_ADDED}"
-        )?;
+        push_register(out, state, 2);
+        out.numbered(
+            "  allowed: r2, the amount that is added, 0..",
+            MOST_ADDED,
+            "\n",
+        );
     }
-    Ok(())
 }
 
-fn push_helper(out: &mut String, hook: Hook, instruction: &Instruction) -> Result<(), AllocError> {
+fn push_helper(out: &mut Text, hook: Hook, instruction: &Instruction) {
     let name = hook.name();
     if let Instruction::Call { helper } = *instruction {
-        writeln!(out, "  the hook {name} has no helper {helper}")?;
+        out.push("  the hook ");
+        out.push(name);
+        out.push(" has no helper ");
+        out.signed(i64::from(helper));
+        out.push("\n");
     }
     match hook {
-        Hook::Count => out.push_str("  allowed: 1 add, 2 read, 3 packet byte\n"),
+        Hook::Count => out.push("  allowed: 1 add, 2 read, 3 packet byte\n"),
         Hook::Tag | Hook::Price | Hook::Veto => {
-            out.push_str("  allowed: 1 add, 2 read, 4 table cost\n")
+            out.push("  allowed: 1 add, 2 read, 4 table cost\n")
         }
     }
 }
 
 /// What breaks the rule at the instruction.
 pub(crate) fn push_reason(
-    out: &mut String,
+    out: &mut Text,
     hook: Hook,
     state: &State<Value>,
     instruction: &Instruction,
     rule: Rule,
-) -> Result<(), AllocError> {
+) {
     match rule {
         Rule::Empty => push_empty(out, hook, state, instruction),
         Rule::Kind => push_kinds(out, hook, state, instruction),
@@ -264,52 +249,57 @@ pub(crate) fn push_reason(
         Rule::Helper => push_helper(out, hook, instruction),
         Rule::Argument => push_argument(out, hook, state, instruction),
         Rule::ExitKind => {
-            push_register(out, state, 0)?;
-            out.push_str("  allowed: r0 a number\n")
+            push_register(out, state, 0);
+            out.push("  allowed: r0 a number\n")
         }
-        Rule::Frame => out.push_str(
+        Rule::Frame => out.push(
             "  r10, the end of the stack, is written\n  allowed: a copy of it\n",
         ),
-        _ => Ok(()),
+        _ => {}
     }
 }
 
 /// What is wrong with the slots that may come after the instruction.
-pub(crate) fn push_misplaced(
-    out: &mut String,
-    slot: usize,
-    instruction: &Instruction,
-    rule: Rule,
-) -> Result<(), AllocError>
+pub(crate) fn push_misplaced(out: &mut Text, slot: usize, instruction: &Instruction, rule: Rule)
     requires { slot < 4096 }
 {
     match (rule, jump_of(slot, instruction)) {
-        (Rule::Target, Some(to)) => writeln!(
-            out,
-            "  it jumps to slot {to}, \
-                where no instruction begins\n  allowed: a slot of the code where one begins"
-        ),
-        (Rule::Unstated, Some(to)) => writeln!(
-            out,
-            "  it jumps to slot {to}, which has no statement\n  allowed: a slot that is stated"
-        ),
-        (Rule::FallsOff, _) => out.push_str(
+        (Rule::Target, Some(to)) => {
+            out.numbered(
+                "  it jumps to slot ",
+                to as u64,
+                ", \
+                where no instruction begins\n  allowed: a slot of the code where one begins\n",
+            );
+        }
+        (Rule::Unstated, Some(to)) => {
+            out.numbered(
+                "  it jumps to slot ",
+                to as u64,
+                ", which has no statement\n  allowed: a slot that is stated\n",
+            );
+        }
+        (Rule::FallsOff, _) => out.push(
             "  behind it the code ends\n  allowed: an exit or a goto as the last instruction\n",
         ),
-        _ => writeln!(
-            out,
-            "  slot {slot} has no statement, \
-                and nothing comes from the slot before\n  allowed: a slot that is stated"
-        ),
+        _ => {
+            out.numbered(
+                "  slot ",
+                slot as u64,
+                " has no statement, \
+                and nothing comes from the slot before\n  allowed: a slot that is stated\n",
+            );
+        }
     }
 }
 
 /// What is wrong with a statement where no instruction begins.
-pub(crate) fn push_stray(out: &mut String, slot: usize) -> Result<(), AllocError> {
-    writeln!(
-        out,
-        "  slot {slot} is stated, \
+pub(crate) fn push_stray(out: &mut Text, slot: usize) {
+    out.numbered(
+        "  slot ",
+        slot as u64,
+        " is stated, \
             and is the second half of a wide instruction\n  allowed: a slot where an instruction \
-            begins"
-    )
+            begins\n",
+    );
 }

@@ -1,8 +1,9 @@
 //! What is known at a slot, in words.
 
 use crate::phrases::{Value, push_fact, push_kind, push_rank, push_stack};
+use crate::text::Text;
+use inference::liveness::{Registers, has};
 use kinds::{Entry, Fact, Kind, Place, State, Target};
-use liveness::{Registers, has};
 use object::{Kind as Stated, Rank, StackBytes, Statement};
 use std::alloc::{AllocError, Global};
 
@@ -36,31 +37,28 @@ fn has_moved(register: usize, fact: Fact) -> bool {
 
 /// A line for each live register, and for what is known of the stack.
 pub(crate) fn push_known(
-    out: &mut String,
+    out: &mut Text,
     live: Registers,
     begun: Option<usize>,
     state: &State<Value>,
-) -> Result<(), AllocError> {
+) {
     for (register, kind) in state.kinds.iter().enumerate() {
         if has(live, register) {
-            write!(out, "    r{register}: ")?;
-            push_kind(out, *kind)?;
+            out.numbered("    r", register as u64, ": ");
+            push_kind(out, *kind);
             if let (Some(begun), Some(Some(fact))) = (begun, state.facts.get(register)) {
                 if has_moved(register, *fact) {
-                    push_fact(out, *fact, begun)?;
+                    push_fact(out, *fact, begun);
                 }
             }
-            out.push_str("\n")?;
+            out.push("\n");
         }
     }
     push_stack(out, &state.entries)
 }
 
-pub(crate) fn push_statement(
-    out: &mut String,
-    target: &Target<'_, Value>,
-) -> Result<(), AllocError> {
-    out.push_str("    stated, rank ")?;
-    push_rank(out, &target.statement.rank())?;
-    out.push_str("\n")
+pub(crate) fn push_statement(out: &mut Text, target: &Target<'_, Value>) {
+    out.push("    stated, rank ");
+    push_rank(out, &target.statement.rank());
+    out.push("\n")
 }

@@ -7,14 +7,14 @@ use crate::page::Page;
 use crate::phrases::Value;
 use crate::reasons::{push_misplaced, push_reason, push_stray};
 use crate::replay::{push_known, push_statement};
+use crate::text::Text;
+use inference::liveness::Registers;
 use isa::{Code, Hook, Instruction, Slot};
 use kinds::{State, Target, reset};
-use liveness::Registers;
 use segments::follow::follow;
 use segments::known::Known;
 use segments::places::check_places;
 use segments::target::stated_at;
-use std::alloc::AllocError;
 use transfer::straight::straight;
 use verifier::{Refusal, Rule};
 
@@ -73,16 +73,16 @@ fn push_slot<'a>(
     targets: &[Option<Target<'a, Value>>],
     here: &Here,
     slot: usize,
-) -> Result<(), AllocError> {
-    page.turn(slot, program.lines)?;
+) {
+    page.turn(slot, program.lines);
     if let Some(target) = stated_at(targets, slot) {
-        push_statement(&mut page.here, target)?;
+        push_statement(&mut page.here, target);
     }
     if here.known.is_live {
         let live = program.live_at(slot);
         push_known(&mut page.here, live, here.begun, &here.known.state)
     } else {
-        page.here.push_str("    no run comes here\n")
+        page.here.push("    no run comes here\n")
     }
 }
 
@@ -143,14 +143,14 @@ fn is_jump(instruction: &Instruction) -> bool {
 
 /// What is wrong on the ways from an instruction.
 fn push_edges<'a>(
-    out: &mut String,
+    out: &mut Text,
     hook: Hook,
     targets: &[Option<Target<'a, Value>>],
     segment: &Target<'a, Value>,
     before: State<Value>,
     slot: usize,
     instruction: &Instruction,
-) -> Result<(), AllocError>
+)
     requires { slot < 4096 }
 {
     if is_jump(instruction) {
@@ -158,20 +158,20 @@ fn push_edges<'a>(
     }
     match straight(before, hook, *instruction) {
         Ok(after) => push_ways(out, targets, segment, slot, instruction, after),
-        Err(_) => Ok(()),
+        Err(_) => {}
     }
 }
 
 /// The same, in the segment that begins at the entry or at a statement.
 fn push_edges_in<'a>(
-    out: &mut String,
+    out: &mut Text,
     hook: Hook,
     targets: &[Option<Target<'a, Value>>],
     entry: &Target<'a, Value>,
     here: Here,
     slot: usize,
     instruction: &Instruction,
-) -> Result<(), AllocError>
+)
     requires { slot < 4096 }
 {
     let Here { begun, known } = here;
@@ -187,7 +187,7 @@ fn push_edges_in<'a>(
 
 /// What is wrong at the instruction that the verifier refuses by this rule.
 fn push_fault<'a>(
-    out: &mut String,
+    out: &mut Text,
     hook: Hook,
     targets: &[Option<Target<'a, Value>>],
     entry: &Target<'a, Value>,
@@ -195,7 +195,7 @@ fn push_fault<'a>(
     slot: usize,
     rule: Rule,
     instruction: &Instruction,
-) -> Result<(), AllocError>
+)
     requires { slot < 4096 }
 {
     match rule {
@@ -217,7 +217,7 @@ pub(crate) fn push_pass<'a>(
     targets: &[Option<Target<'a, Value>>],
     entry: &Target<'a, Value>,
     first: State<Value>,
-) -> Result<(), AllocError> {
+) {
     let mut here = Here {
         begun: None,
         known: Known {
@@ -230,18 +230,17 @@ pub(crate) fn push_pass<'a>(
     for slot in 0..code.len() {
         if let Some(Slot::Start(instruction)) = code.at(slot as u64) {
             here = arrived(targets, slot, here);
-            push_slot(page, program, targets, &here, slot)?;
+            push_slot(page, program, targets, &here, slot);
             if let Some(rule) = program.rule_at(slot) {
                 let out = &mut page.reasons;
                 return push_fault(out, hook, targets, entry, here, slot, rule, &instruction);
             }
             match followed_in(code, hook, targets, entry, here, slot, instruction) {
                 Some(next) => here = next,
-                None => return Ok(()),
+                None => return,
             }
         } else if program.rule_at(slot).is_some() {
             return push_stray(&mut page.reasons, slot);
         }
     }
-    Ok(())
 }

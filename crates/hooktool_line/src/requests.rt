@@ -19,9 +19,9 @@ use crate::rows::rows_in;
 use crate::values::{kind_in, number_of, prefix_in, type_in, word_of};
 use address_texts::read_within;
 use clap::{ArgMatches, Error};
-use hook_questions::Asked;
 use isa::Hook;
 use std::alloc::{AllocError, Global};
+use trial_runs::Asked;
 use words::{Hops, Second, TableRow};
 
 /// The packet of a question: its bytes, or the path of the file that has them.

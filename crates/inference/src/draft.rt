@@ -2,9 +2,9 @@
 
 use crate::edges::{Edge, registers_of};
 use crate::joining::{Growth, Value, first_statement, joined_statement};
+use crate::liveness::Registers;
 use crate::widening::Widening;
 use kinds::{State, put};
-use liveness::Registers;
 use object::Statement;
 use std::alloc::{AllocError, Global};
 
@@ -19,6 +19,23 @@ pub enum Purpose {
     Gather,
 }
 
+/// What is noted of a site.
+#[derive(Clone, Copy)]
+struct Mark {
+    /// Whether its segment is still to be passed over, since its statement has changed.
+    is_waiting: bool,
+    /// How often its statement has changed.
+    changes: u32,
+    /// Whether its statement stays as it is.
+    is_kept: bool,
+}
+
+const UNMARKED: Mark = Mark {
+    is_waiting: false,
+    changes: 0,
+    is_kept: false,
+};
+
 /// The statements so far, a place for each site.
 #[derive(Drop)]
 pub struct Draft {
@@ -28,14 +45,12 @@ pub struct Draft {
     pub has_changed: bool,
     /// Whether the segment that begins at the entry is still to be passed over.
     pub is_new: bool,
-    /// Which segments are still to be passed over, since their statements have changed.
-    waiting: Vec<bool>,
-    /// How often the statements have changed.
-    changes: Vec<u32>,
-    /// Which statements stay as they are.
-    kept: Vec<bool>,
+    /// Whether memory was refused for a part of the pass.
+    pub is_short: bool,
+    marks: Vec<Mark>,
     pub stated: Vec<Option<Statement>>,
-    pub found: Vec<Option<Statement>>,
+    /// What a falling pass finds.
+    found: Vec<Option<Statement>>,
     pub edges: Vec<Edge>,
 }
 
@@ -89,18 +104,33 @@ fn widening_after(changes: u32) -> Widening {
 
 impl Draft {
     pub fn new(alloc: Global, size: usize) -> Result<Draft, AllocError> {
+        let marks = vec![in alloc; UNMARKED; size]?;
+        let stated = unstated(alloc, size)?;
         Ok(Draft {
             purpose: Purpose::Rise,
             is_lenient: false,
             has_changed: false,
             is_new: true,
-            waiting: vec![in alloc; false; size]?,
-            changes: vec![in alloc; 0; size]?,
-            kept: vec![in alloc; false; size]?,
-            stated: unstated(alloc, size)?,
-            found: unstated(alloc, size)?,
+            is_short: false,
+            marks,
+            stated,
+            found: Vec::new(alloc),
             edges: Vec::new(alloc),
         })
+    }
+
+    /// Whether memory was refused for no part of the pass.
+    pub fn all(&self) -> Result<(), AllocError> {
+        if self.is_short {
+            Err(AllocError)
+        } else {
+            Ok(())
+        }
+    }
+
+    /// What is noted of the site.
+    fn mark(&self, site: usize) -> Mark {
+        self.marks.get(site).copied().unwrap_or(UNMARKED)
     }
 
     /// What is stated at the site so far.
@@ -134,8 +164,12 @@ impl Draft {
     /// Has all segments passed over again.
     pub fn renew(&mut self) {
         self.is_new = true;
-        for site in 0..self.waiting.len() {
-            self.waiting[site] = true;
+        for site in 0..self.marks.len() {
+            let mark = self.mark(site);
+            self.marks[site] = Mark {
+                is_waiting: true,
+                ..mark
+            };
         }
     }
 
@@ -144,36 +178,54 @@ impl Draft {
         if !matches!(self.purpose, Purpose::Rise) {
             return true;
         }
-        let is_waiting = self.waiting.get(site).copied().unwrap_or(false);
-        put(&mut self.waiting, site, false);
-        is_waiting
+        let mark = self.mark(site);
+        put(
+            &mut self.marks,
+            site,
+            Mark {
+                is_waiting: false,
+                ..mark
+            },
+        );
+        mark.is_waiting
     }
 
     /// States this at the site.
     pub fn assume(&mut self, site: usize, statement: Statement) {
         put_statement(&mut self.stated, site, statement);
-        put(&mut self.waiting, site, true);
-        let changes = self.changes.get(site).copied().unwrap_or(0);
-        put(&mut self.changes, site, changes.saturating_add(1));
+        let mark = self.mark(site);
+        let after = Mark {
+            is_waiting: true,
+            changes: mark.changes.saturating_add(1),
+            is_kept: mark.is_kept,
+        };
+        put(&mut self.marks, site, after);
         self.has_changed = true;
     }
 
     /// Keeps this at the site, whatever comes there.
     pub fn keep(&mut self, site: usize, statement: Statement) {
         self.assume(site, statement);
-        put(&mut self.kept, site, true);
+        let mark = self.mark(site);
+        put(
+            &mut self.marks,
+            site,
+            Mark {
+                is_kept: true,
+                ..mark
+            },
+        );
     }
 
     /// Whether what is stated at the site stays as it is.
     fn is_kept(&self, site: usize) -> bool {
-        self.kept.get(site).copied().unwrap_or(false)
+        self.mark(site).is_kept
     }
 
     /// How the bounds at the site grow.
     fn growth_at<'a>(&self, arrival: &Arrival<'a>) -> Growth<'a> {
-        let changes = self.changes.get(arrival.site).copied().unwrap_or(0);
         let widening = if arrival.is_head {
-            widening_after(changes)
+            widening_after(self.mark(arrival.site).changes)
         } else {
             Widening::None
         };
@@ -243,12 +295,18 @@ impl Draft {
         from: Option<usize>,
         is_back: bool,
         state: &State<Value>,
-    ) -> Result<(), AllocError> {
+    ) {
         match self.purpose {
             Purpose::Rise => self.rise(arrival, state),
             Purpose::Fall => self.fall(arrival, state),
-            Purpose::Gather => self.gather(alloc, from, arrival.site, is_back, state)?,
+            Purpose::Gather => {
+                if self
+                    .gather(alloc, from, arrival.site, is_back, state)
+                    .is_err()
+                {
+                    self.is_short = true;
+                }
+            }
         }
-        Ok(())
     }
 }

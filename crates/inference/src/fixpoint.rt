@@ -3,10 +3,10 @@
 use crate::draft::{Draft, Purpose};
 use crate::edges::Edge;
 use crate::flow::Program;
+use crate::liveness::live_registers;
 use crate::sites::{Sites, sites_of};
 use crate::widening::limits_of;
 use isa::{Code, Hook};
-use liveness::live_registers;
 use object::Statement;
 use std::alloc::{AllocError, Global};
 
@@ -56,8 +56,27 @@ fn fall(program: &Program<'_>, draft: &mut Draft) -> Result<(), AllocError> {
     Ok(())
 }
 
-/// The statements of the program without ranks, and the edges between them. Those that are kept
-/// stay as they are.
+/// Widens the statements, also for edges that no run takes if that is so, and narrows them.
+fn widen_and_narrow(
+    program: &Program<'_>,
+    draft: &mut Draft,
+    is_lenient: bool,
+) -> Result<(), AllocError> {
+    draft.is_lenient = is_lenient;
+    rise(program, draft)?;
+    draft.is_lenient = false;
+    fall(program, draft)
+}
+
+/// Finds the statements of the program without ranks, and the edges between them.
+fn find(program: &Program<'_>, draft: &mut Draft) -> Result<(), AllocError> {
+    widen_and_narrow(program, draft, false)?;
+    widen_and_narrow(program, draft, true)?;
+    draft.begin(program.alloc, Purpose::Gather)?;
+    program.pass(draft)
+}
+
+/// What is found for the program. Those that are kept stay as they are.
 fn drafted(program: &Program<'_>, kept: &[Statement]) -> Result<Draft, AllocError> {
     let mut draft = Draft::new(program.alloc, program.sites.len())?;
     for statement in kept {
@@ -65,15 +84,31 @@ fn drafted(program: &Program<'_>, kept: &[Statement]) -> Result<Draft, AllocErro
             draft.keep(site, *statement);
         }
     }
-    rise(program, &mut draft)?;
-    fall(program, &mut draft)?;
-    draft.is_lenient = true;
-    rise(program, &mut draft)?;
-    draft.is_lenient = false;
-    fall(program, &mut draft)?;
-    draft.begin(program.alloc, Purpose::Gather)?;
-    program.pass(&mut draft)?;
+    find(program, &mut draft)?;
     Ok(draft)
+}
+
+/// The same for code with these sites.
+fn draft_of(
+    alloc: Global,
+    code: &Code,
+    hook: Hook,
+    given: &[Statement],
+    are_kept: bool,
+    sites: &Sites,
+) -> Result<Draft, AllocError> {
+    let live = live_registers(alloc, code, hook)?;
+    let limits = limits_of(alloc, code, given)?;
+    let program = Program {
+        alloc,
+        code,
+        hook,
+        sites,
+        live: &live,
+        limits: &limits,
+    };
+    let kept = if are_kept { given } else { &[] };
+    drafted(&program, kept)
 }
 
 /// Finds statements for the code at the hook: at each slot that a jump goes to, and behind each
@@ -87,19 +122,7 @@ pub fn infer_statements(
     are_kept: bool,
 ) -> Result<Inference, AllocError> {
     let sites = sites_of(alloc, code, given)?;
-    let live = live_registers(alloc, code, hook)?;
-    let limits = limits_of(alloc, code, given)?;
-    let program = Program {
-        alloc,
-        code,
-        hook,
-        sites: &sites,
-        live: &live,
-        limits: &limits,
-    };
-    let kept = if are_kept { given } else { &[] };
-    let draft = drafted(&program, kept)?;
-    let Draft { stated, edges, .. } = draft;
+    let Draft { stated, edges, .. } = draft_of(alloc, code, hook, given, are_kept, &sites)?;
     Ok(Inference {
         sites,
         stated,

@@ -5,11 +5,11 @@ ghost use Rattle.std.specs.Prelude.{◌<◌};
 use crate::draft::{Arrival, Draft, Purpose};
 use crate::edges::copy_of;
 use crate::joining::{Value, idle_statement};
+use crate::liveness::Registers;
 use crate::sites::Sites;
 use absdom::Domain;
 use isa::{Code, Hook, Instruction, Register, Slot, Source, Test, Width};
-use kinds::{Entry, Kind, Place, State, put, reset, target_of};
-use liveness::Registers;
+use kinds::{Entry, Kind, Place, State, Target, put, reset, target_of};
 use segments::places::{jumped, jumped_near, slots_of};
 use std::alloc::{AllocError, Global};
 use transfer::branch::{Edges, refined, tested};
@@ -115,14 +115,7 @@ impl<'a> Program<'a> {
     }
 
     /// Takes the edge to the site at the slot.
-    fn enter_site(
-        &self,
-        draft: &mut Draft,
-        here: &Here,
-        slot: usize,
-        site: usize,
-        is_back: bool,
-    ) -> Result<(), AllocError> {
+    fn enter_site(&self, draft: &mut Draft, here: &Here, slot: usize, site: usize, is_back: bool) {
         let arrival = Arrival {
             slot,
             site,
@@ -130,62 +123,39 @@ impl<'a> Program<'a> {
             live: self.live_at(slot),
             limits: self.limits,
         };
-        draft.take(self.alloc, &arrival, here.begun, is_back, &here.state)
+        draft.take(self.alloc, &arrival, here.begun, is_back, &here.state);
     }
 
     /// Takes the edge from a slot to another one, if that has a statement. Whether it has.
-    fn enter(
-        &self,
-        draft: &mut Draft,
-        here: &Here,
-        slot: usize,
-        to: usize,
-    ) -> Result<bool, AllocError> {
+    fn enter(&self, draft: &mut Draft, here: &Here, slot: usize, to: usize) -> bool {
         match self.sites.at(to) {
             Some(site) => {
                 if !here.is_idle || draft.statement(site).is_none() {
-                    self.enter_site(draft, here, to, site, to <= slot)?;
+                    self.enter_site(draft, here, to, site, to <= slot);
                 }
-                Ok(true)
+                true
             }
-            None => Ok(false),
+            None => false,
         }
     }
 
     /// Goes on to the next slot. Where that has a statement, it is entered, and begins with that.
-    fn go_on(
-        &self,
-        draft: &mut Draft,
-        here: Here,
-        slot: usize,
-        next: usize,
-    ) -> Result<Here, AllocError> {
-        if self.enter(draft, &here, slot, next)? {
-            return Ok(ended(here));
+    fn go_on(&self, draft: &mut Draft, here: Here, slot: usize, next: usize) -> Here {
+        if self.enter(draft, &here, slot, next) {
+            ended(here)
+        } else {
+            here
         }
-        Ok(here)
     }
 
     /// Goes to the target of a jump.
-    fn leave(
-        &self,
-        draft: &mut Draft,
-        here: Here,
-        slot: usize,
-        to: usize,
-    ) -> Result<Here, AllocError> {
-        let _is_entered = self.enter(draft, &here, slot, to)?;
-        Ok(ended(here))
+    fn leave(&self, draft: &mut Draft, here: Here, slot: usize, to: usize) -> Here {
+        let _is_entered = self.enter(draft, &here, slot, to);
+        ended(here)
     }
 
     /// Goes both ways from a conditional jump.
-    fn branch(
-        &self,
-        draft: &mut Draft,
-        here: Here,
-        slot: usize,
-        branch: &Branch,
-    ) -> Result<Here, AllocError>
+    fn branch(&self, draft: &mut Draft, here: Here, slot: usize, branch: &Branch) -> Here
         requires { slot < 4096 }
     {
         match tested(
@@ -198,7 +168,7 @@ impl<'a> Program<'a> {
             Ok(edges) => self.part(draft, here, slot, branch, edges),
             // The verifier refuses it: both ways go on with what is known.
             Err(_) => {
-                let _is_entered = self.enter(draft, &here, slot, branch.to)?;
+                let _is_entered = self.enter(draft, &here, slot, branch.to);
                 self.go_on(draft, here, slot, slot + 1)
             }
         }
@@ -212,7 +182,7 @@ impl<'a> Program<'a> {
         slot: usize,
         branch: &Branch,
         edges: Edges<Value>,
-    ) -> Result<Here, AllocError>
+    ) -> Here
         requires { slot < 4096 }
     {
         let was_idle = here.is_idle;
@@ -221,7 +191,7 @@ impl<'a> Program<'a> {
             was_idle || edges.taken.is_none(),
         );
         if edges.taken.is_some() || draft.is_lenient {
-            let _is_entered = self.enter(draft, &there, slot, branch.to)?;
+            let _is_entered = self.enter(draft, &there, slot, branch.to);
         }
         let next = idled(
             narrowed(there, branch, edges.passed),
@@ -230,38 +200,25 @@ impl<'a> Program<'a> {
         if edges.passed.is_some() || draft.is_lenient {
             self.go_on(draft, next, slot, slot + 1)
         } else {
-            Ok(ended(next))
+            ended(next)
         }
     }
 
-    fn straight(
-        &self,
-        draft: &mut Draft,
-        here: Here,
-        slot: usize,
-        instruction: Instruction,
-    ) -> Result<Here, AllocError>
+    /// Goes on behind an instruction that is no jump.
+    fn straight(&self, draft: &mut Draft, here: Here, slot: usize, instruction: Instruction) -> Here
         requires { slot < 4096 }
     {
         let next = slot + slots_of(&instruction);
-        let Here {
-            begun,
-            state,
-            is_idle,
-            ..
-        } = here;
-        let before = copy_of(self.alloc, &state)?;
-        let state = match straight(state, self.hook, instruction) {
-            Ok(state) => state,
-            Err(_) => excused(before, &instruction),
-        };
-        let after = Here {
-            begun,
-            state,
-            is_live: true,
-            is_idle,
-        };
-        self.go_on(draft, after, slot, next)
+        match copy_of(self.alloc, &here.state) {
+            Ok(before) => {
+                let after = followed(here, before, self.hook, instruction);
+                self.go_on(draft, after, slot, next)
+            }
+            Err(_) => {
+                draft.is_short = true;
+                ended(here)
+            }
+        }
     }
 
     /// States a site that nothing came to, so that the verifier has something to say of it.
@@ -274,35 +231,28 @@ impl<'a> Program<'a> {
     }
 
     /// What is known at the slot. A statement there begins a segment.
-    fn arrive(&self, draft: &mut Draft, here: Here, slot: usize) -> Result<Here, AllocError> {
+    fn arrive(&self, draft: &mut Draft, here: Here, slot: usize) -> Here {
         let Some(site) = self.sites.at(slot) else {
-            return Ok(here);
+            return here;
         };
         self.fill(draft, site, slot);
         if !draft.is_due(site) {
-            return Ok(ended(here));
+            return ended(here);
         }
-        let Some(statement) = draft.statement(site) else {
-            return Ok(ended(here));
+        let Some(statement) = draft.statement(site).copied() else {
+            return ended(here);
         };
-        let target = target_of(self.alloc, statement)?;
-        let Here { state, .. } = here;
-        Ok(Here {
-            begun: Some(site),
-            state: reset(state, &target),
-            is_live: true,
-            is_idle: false,
-        })
+        match target_of(self.alloc, &statement) {
+            Ok(target) => begun_at(here, site, &target),
+            Err(_) => {
+                draft.is_short = true;
+                ended(here)
+            }
+        }
     }
 
     /// Goes on by the instruction at the slot.
-    fn step(
-        &self,
-        draft: &mut Draft,
-        here: Here,
-        slot: usize,
-        instruction: Instruction,
-    ) -> Result<Here, AllocError>
+    fn step(&self, draft: &mut Draft, here: Here, slot: usize, instruction: Instruction) -> Here
         requires { slot < 4096 }
     {
         match instruction {
@@ -328,7 +278,7 @@ impl<'a> Program<'a> {
                 };
                 self.branch(draft, here, slot, &branch)
             }
-            Instruction::Exit => Ok(ended(here)),
+            Instruction::Exit => ended(here),
             _ => self.straight(draft, here, slot, instruction),
         }
     }
@@ -344,7 +294,7 @@ impl<'a> Program<'a> {
         draft.is_new = false;
         // It is no jump back: it comes from before the first slot.
         if let Some(site) = self.sites.at(0) {
-            self.enter_site(draft, &here, 0, site, false)?;
+            self.enter_site(draft, &here, 0, site, false);
         }
         Ok(here)
     }
@@ -354,13 +304,44 @@ impl<'a> Program<'a> {
         let mut here = self.enter_start(draft)?;
         for slot in 0..self.code.len() {
             if let Some(Slot::Start(instruction)) = self.code.at(slot as u64) {
-                here = self.arrive(draft, here, slot)?;
+                here = self.arrive(draft, here, slot);
                 if here.is_live {
-                    here = self.step(draft, here, slot, instruction)?;
+                    here = self.step(draft, here, slot, instruction);
                 }
             }
         }
-        Ok(())
+        draft.all()
+    }
+}
+
+/// What is known at a site that begins with this.
+fn begun_at(here: Here, site: usize, target: &Target<'_, Value>) -> Here {
+    let Here { state, .. } = here;
+    Here {
+        begun: Some(site),
+        state: reset(state, target),
+        is_live: true,
+        is_idle: false,
+    }
+}
+
+/// What is known behind the instruction, of which the same was known before.
+fn followed(here: Here, before: State<Value>, hook: Hook, instruction: Instruction) -> Here {
+    let Here {
+        begun,
+        state,
+        is_idle,
+        ..
+    } = here;
+    let state = match straight(state, hook, instruction) {
+        Ok(state) => state,
+        Err(_) => excused(before, &instruction),
+    };
+    Here {
+        begun,
+        state,
+        is_live: true,
+        is_idle,
     }
 }
 

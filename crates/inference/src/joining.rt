@@ -1,13 +1,13 @@
 //! Statements that admit what two others admit.
 ghost use Rattle.std.specs.Prelude.{◌<◌};
 
+use crate::liveness::{Registers, has};
 use crate::widening::{Widening, above, below};
 use absdom::{Domain, Pair};
 use interval::Interval;
 use isa::Map;
 use kinds::{Entry, Kind as Known, Place, State};
 use knownbits::KnownBits;
-use liveness::{Registers, has};
 use object::{ContextOffset, Kind, Rank, StackBytes, StackOffset, StatedNumber, Statement};
 
 /// The values that the verifier of object files works with.

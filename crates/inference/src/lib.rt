@@ -7,6 +7,7 @@ mod edges;
 mod fixpoint;
 mod flow;
 mod joining;
+pub mod liveness;
 mod sites;
 mod widening;
 

@@ -12,6 +12,8 @@ pub struct Graph<'a> {
     pub alloc: Global,
     pub sites: &'a Sites,
     pub edges: &'a [Edge],
+    /// Which of the edges a loop may take: each one.
+    pub all: &'a [bool],
     /// A place for each site, and the last one for the entry.
     pub bounds: &'a [Bounds],
     /// The greatest constant that leaves the program within its budget.

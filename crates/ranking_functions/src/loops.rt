@@ -77,11 +77,12 @@ pub fn loop_through(
     nodes: usize,
     head: usize,
 ) -> Result<Option<Vec<bool>>, AllocError> {
-    let ahead = reached(alloc, edges, kept, true, nodes, head)?;
+    let mut members = reached(alloc, edges, kept, true, nodes, head)?;
     let behind = reached(alloc, edges, kept, false, nodes, head)?;
-    let mut members = Vec::new(alloc);
     for node in 0..nodes {
-        members.push(is_marked(&ahead, node) && is_marked(&behind, node))?;
+        if !is_marked(&behind, node) {
+            put(&mut members, node, false);
+        }
     }
     if is_marked(&members, head) {
         Ok(Some(members))

@@ -17,10 +17,17 @@ pub enum Term {
 pub struct Plan {
     firsts: Vec<Option<RankTerm>>,
     seconds: Vec<Option<RankTerm>>,
-    constants: Vec<u64>,
-    /// What the constants begin with when they are raised.
-    least: Vec<u64>,
+    constants: Vec<Constant>,
 }
+
+/// A constant, and what it begins with when it is raised.
+#[derive(Clone, Copy)]
+struct Constant {
+    now: u64,
+    least: u64,
+}
+
+const NO_CONSTANT: Constant = Constant { now: 0, least: 0 };
 
 /// Ranks; where a loop has none, which one and why.
 #[derive(Drop)]
@@ -42,11 +49,13 @@ pub enum Unranked {
 impl Plan {
     /// Ranks that are 0.
     pub fn new(alloc: Global, nodes: usize) -> Result<Plan, AllocError> {
+        let constants = vec![in alloc; NO_CONSTANT; nodes]?;
+        let firsts = vec![in alloc; None; nodes]?;
+        let seconds = vec![in alloc; None; nodes]?;
         Ok(Plan {
-            firsts: vec![in alloc; None; nodes]?,
-            seconds: vec![in alloc; None; nodes]?,
-            constants: vec![in alloc; 0; nodes]?,
-            least: vec![in alloc; 0; nodes]?,
+            firsts,
+            seconds,
+            constants,
         })
     }
 
@@ -60,8 +69,14 @@ impl Plan {
         self.seconds.get(node).copied().unwrap_or(None)
     }
 
+    /// The constant and what it begins with.
+    fn constants_at(&self, node: usize) -> Constant {
+        self.constants.get(node).copied().unwrap_or(NO_CONSTANT)
+    }
+
+    /// The constant.
     pub fn constant_at(&self, node: usize) -> u64 {
-        self.constants.get(node).copied().unwrap_or(0)
+        self.constants_at(node).now
     }
 
     /// The rank without its constant.
@@ -98,18 +113,29 @@ impl Plan {
 
     /// Makes a constant this one.
     pub fn set_constant(&mut self, node: usize, constant: u64) {
-        put(&mut self.constants, node, constant);
+        let least = self.constants_at(node).least;
+        let after = Constant {
+            now: constant,
+            least,
+        };
+        put(&mut self.constants, node, after);
     }
 
     /// Has the constant be raised from this one.
     pub fn set_least(&mut self, node: usize, constant: u64) {
-        put(&mut self.least, node, constant);
+        let now = self.constants_at(node).now;
+        let after = Constant {
+            now,
+            least: constant,
+        };
+        put(&mut self.constants, node, after);
     }
 
     /// Makes all constants what they begin with.
     pub fn flatten(&mut self) {
         for node in 0..self.constants.len() {
-            self.constants[node] = self.least.get(node).copied().unwrap_or(0);
+            let least = self.constants_at(node).least;
+            self.constants[node] = Constant { now: least, least };
         }
     }
 }

@@ -23,10 +23,9 @@ fn given_ranks(graph: &Graph<'_>, given: &[Statement]) -> Result<Plan, AllocErro
 }
 
 /// Whether the plan's terms do for all of the program: then it has the constants that they need.
-fn is_settled(graph: &Graph<'_>, plan: &mut Plan) -> Result<bool, AllocError> {
-    let all = vec![in graph.alloc; true; graph.edges.len()]?;
-    let ending = settle(plan, graph.bounds, graph.edges, &all, graph.most);
-    Ok(matches!(ending, Ending::Settled))
+fn is_settled(graph: &Graph<'_>, plan: &mut Plan) -> bool {
+    let ending = settle(plan, graph.bounds, graph.edges, graph.all, graph.most);
+    matches!(ending, Ending::Settled)
 }
 
 /// The plan, which does for all of the program.
@@ -42,29 +41,50 @@ fn settled(alloc: Global, plan: Plan) -> Ranking {
 fn unsettled(graph: &Graph<'_>, plan: Plan, failed: Option<usize>) -> Result<Ranking, AllocError> {
     let mut plan = plan;
     plan.flatten();
+    let endless = unranked_loop(graph, failed)?;
     let unranked = graph.unranked_loops(&mut plan, failed)?;
     Ok(Ranking {
         plan,
-        endless: unranked_loop(graph, failed)?,
+        endless,
         unranked,
     })
+}
+
+/// Terms by the program's loops, and the head of the first loop that has none.
+fn by_loops(graph: &Graph<'_>) -> Result<(Plan, Option<usize>), AllocError> {
+    let mut plan = Plan::new(graph.alloc, graph.nodes())?;
+    let failed = graph.rank_loops(&mut plan)?;
+    Ok((plan, failed))
+}
+
+/// Ranks by one of the two plans, or what is wrong with the one by loops. The hints were tried
+/// before if they are kept.
+fn chosen(
+    graph: &Graph<'_>,
+    hints: Plan,
+    are_kept: bool,
+    plan: Plan,
+    failed: Option<usize>,
+) -> Result<Ranking, AllocError> {
+    let mut hints = hints;
+    let mut plan = plan;
+    if is_settled(graph, &mut plan) {
+        return Ok(settled(graph.alloc, plan));
+    }
+    if !are_kept && is_settled(graph, &mut hints) {
+        return Ok(settled(graph.alloc, hints));
+    }
+    unsettled(graph, plan, failed)
 }
 
 /// Ranks for the program, by the terms that are given or by its loops.
 fn planned(graph: &Graph<'_>, given: &[Statement], are_kept: bool) -> Result<Ranking, AllocError> {
     let mut hints = given_ranks(graph, given)?;
-    if are_kept && is_settled(graph, &mut hints)? {
+    if are_kept && is_settled(graph, &mut hints) {
         return Ok(settled(graph.alloc, hints));
     }
-    let mut plan = Plan::new(graph.alloc, graph.nodes())?;
-    let failed = graph.rank_loops(&mut plan)?;
-    if is_settled(graph, &mut plan)? {
-        return Ok(settled(graph.alloc, plan));
-    }
-    if !are_kept && is_settled(graph, &mut hints)? {
-        return Ok(settled(graph.alloc, hints));
-    }
-    unsettled(graph, plan, failed)
+    let (plan, failed) = by_loops(graph)?;
+    chosen(graph, hints, are_kept, plan, failed)
 }
 
 /// Finds ranks for the statements. The ranks of those that are given come first where they are
@@ -78,10 +98,12 @@ pub fn rank_statements(
     most: u64,
 ) -> Result<Ranking, AllocError> {
     let bounds = bounds_of(alloc, &found.stated)?;
+    let all = vec![in alloc; true; found.edges.len()]?;
     let graph = Graph {
         alloc,
         sites: &found.sites,
         edges: &found.edges,
+        all: &all,
         bounds: &bounds,
         most,
     };

@@ -1,6 +1,6 @@
 //! Why a loop has no rank.
 
-use crate::circles::{Circle, Graph};
+use crate::circles::{Carried, Circle, Graph};
 use std::alloc::AllocError;
 
 /// Why a loop has no rank.
@@ -33,12 +33,20 @@ fn rising(graph: &Graph<'_>, circle: &Circle, head: usize) -> Result<Option<u8>,
     Ok(None)
 }
 
+/// Whether the number falls with each turn of the loop.
+fn falls(graph: &Graph<'_>, circle: &Circle, carried: &Carried) -> Result<bool, AllocError> {
+    if carried.has_rise {
+        return Ok(false);
+    }
+    let rest = graph.rest(circle, carried)?;
+    graph.is_straight(circle, &rest)
+}
+
 /// A register that falls with each turn of the loop, though it doesn't do.
 fn falling(graph: &Graph<'_>, circle: &Circle, head: usize) -> Result<Option<u8>, AllocError> {
     for register in 0..10u8 {
         if let Some(carried) = graph.carried(circle, head, register)? {
-            let rest = graph.rest(circle, &carried)?;
-            if !carried.has_rise && graph.is_straight(circle, &rest)? {
+            if falls(graph, circle, &carried)? {
                 return Ok(Some(register));
             }
         }
@@ -59,8 +67,7 @@ fn trouble_at(graph: &Graph<'_>, circle: &Circle, head: usize) -> Result<Trouble
 
 /// What is wrong with the loop through the site, if there is one.
 fn endless_at(graph: &Graph<'_>, head: usize) -> Result<Option<Endless>, AllocError> {
-    let all = vec![in graph.alloc; true; graph.edges.len()]?;
-    match graph.circle(&all, head)? {
+    match graph.circle(graph.all, head)? {
         Some(circle) => Ok(Some(Endless {
             slot: graph.sites.slot(head),
             trouble: trouble_at(graph, &circle, head)?,

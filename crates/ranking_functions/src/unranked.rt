@@ -49,21 +49,16 @@ impl<'a> Graph<'a> {
 
     /// The sites of the loop through this one, of all sites where there is none.
     fn together(&self, failed: Option<usize>) -> Result<Vec<bool>, AllocError> {
-        let all = vec![in self.alloc; true; self.edges.len()]?;
         if let Some(head) = failed {
-            if let Some(circle) = self.circle(&all, head)? {
+            if let Some(circle) = self.circle(self.all, head)? {
                 return Ok(circle.members);
             }
         }
         vec![in self.alloc; true; self.nodes()]
     }
 
-    /// At which slots the loops begin that lack a rank.
-    pub fn unranked_loops(
-        &self,
-        plan: &mut Plan,
-        failed: Option<usize>,
-    ) -> Result<Unranked, AllocError> {
+    /// The heads of loops that have no rank on their own, though those within them have one.
+    fn unranked(&self, plan: &mut Plan) -> Result<Vec<bool>, AllocError> {
         let mut unranked = vec![in self.alloc; false; self.nodes()]?;
         let count = self.sites.len();
         for passed in 0..count {
@@ -72,11 +67,28 @@ impl<'a> Graph<'a> {
                 put(&mut unranked, head, true);
             }
         }
-        let slots = self.slots_of(&unranked)?;
-        if !slots.is_empty() {
-            return Ok(Unranked::Alone(slots));
-        }
+        Ok(unranked)
+    }
+
+    /// The same where each loop has a rank on its own: those that have none together.
+    fn unranked_together(&self, failed: Option<usize>) -> Result<Unranked, AllocError> {
         let members = self.together(failed)?;
-        Ok(Unranked::Together(self.slots_of(&members)?))
+        let slots = self.slots_of(&members)?;
+        Ok(Unranked::Together(slots))
+    }
+
+    /// At which slots the loops begin that lack a rank.
+    pub fn unranked_loops(
+        &self,
+        plan: &mut Plan,
+        failed: Option<usize>,
+    ) -> Result<Unranked, AllocError> {
+        let unranked = self.unranked(plan)?;
+        let slots = self.slots_of(&unranked)?;
+        if slots.is_empty() {
+            self.unranked_together(failed)
+        } else {
+            Ok(Unranked::Alone(slots))
+        }
     }
 }

@@ -91,12 +91,12 @@ fn gap_of(lefts: [u64; 10], rights: [u64; 10], bounds: &Bounds) -> Option<Gap> {
     for register in 0..10usize {
         let (left, right) = (lefts[register], rights[register]);
         if left <= right {
-            let less = u128::from(right - left).checked_mul(u128::from(bounds.lows[register]))?;
-            saved = saved.checked_add(less)?;
+            let less = u128::from(right - left).saturating_mul(u128::from(bounds.lows[register]));
+            saved = saved.saturating_add(less);
         } else {
             let high = bounds.highs[register]?;
-            let more = u128::from(left - right).checked_mul(u128::from(high))?;
-            needed = needed.checked_add(more)?;
+            let more = u128::from(left - right).saturating_mul(u128::from(high));
+            needed = needed.saturating_add(more);
         }
     }
     Some(Gap { saved, needed })
@@ -111,10 +111,10 @@ fn demand(plan: &Plan, bounds: &[Bounds], edge: &Edge) -> Option<u128> {
     let constant = u128::from(plan.constant_at(edge.to));
     let step = if edge.is_back { 1 } else { 0 };
     let more = constant
-        .checked_add(line.constant)?
-        .checked_add(gap.needed)?
-        .checked_add(step)?;
-    let less = line.down.checked_add(gap.saved)?;
+        .saturating_add(line.constant)
+        .saturating_add(gap.needed)
+        .saturating_add(step);
+    let less = line.down.saturating_add(gap.saved);
     Some(more.saturating_sub(less))
 }
 

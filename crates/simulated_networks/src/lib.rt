@@ -11,8 +11,8 @@ mod network;
 mod pairs;
 mod random;
 mod routers;
+mod routing_tables;
 mod seen;
-mod tables;
 mod topology;
 mod wires;
 
@@ -22,6 +22,6 @@ pub use fault::Fault;
 pub use network::Network;
 pub use random::{Faults, Random};
 pub use routers::{Routers, Times, holds_the_same, sees_full};
+pub use routing_tables::{NOBODY, Tables};
 pub use seen::Seen;
-pub use tables::{NOBODY, Tables};
 pub use topology::{End, Kind, Topology};

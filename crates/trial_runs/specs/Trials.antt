@@ -9,8 +9,8 @@ use Rattle.object.specs.Spelling.{Spells}
 use Rattle.object_runs.specs.ObjectRuns.{HaltsObject, Refuses, RunsObject}
 use Rattle.object_runs.specs.declared.limit.Limit.TheVariants.{Own}
 use Rattle.words.specs.declared.route.TableRow.{TableRow}
-use Rattle.hook_questions.specs.Questions.{asked_context}
-use Rattle.hook_questions.specs.declared.asked.Asked.{Asked}
+use Rattle.trial_runs.specs.Questions.{asked_context}
+use Rattle.trial_runs.specs.declared.asked.Asked.{Asked}
 use Rattle.trial_runs.specs.declared.error.TrialError.{TrialError}
 use Rattle.trial_runs.specs.declared.error.TrialError.TheVariants as errors
 use Rattle.trial_runs.specs.declared.runs.Ending.{Ending}

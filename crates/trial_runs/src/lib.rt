@@ -2,11 +2,13 @@
 //! same counters and cells.
 #![tactic(auto)]
 
+mod asked;
 mod error;
 mod left;
 mod runs;
 mod trial;
 
+pub use asked::{Asked, context_of};
 pub use error::TrialError;
 pub use runs::Ending;
 pub use trial::{Trial, try_object};

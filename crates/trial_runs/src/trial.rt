@@ -2,10 +2,10 @@
 ghost use Rattle.std.specs.Prelude.{IfOk, IfErr};
 ghost use Rattle.trial_runs.specs.Trials.{IsRefusal, IsTrialOn};
 
+use crate::asked::{Asked, context_of};
 use crate::error::TrialError;
 use crate::left::cells_of;
 use crate::runs::{Ending, run_in_a_row};
-use hook_questions::{Asked, context_of};
 use machine::Input;
 use maps::Shared;
 use std::alloc::Global;

@@ -1,7 +1,7 @@
 use Rattle.std.proofs.Common.{◌≡◌, ◌∙◌, ◌++◌, ◌∷◌, [], List, ap, arith, get_or, lit<, refl, sym}
 use Rattle.std.specs.List.{sum_by}
 use Rattle.std.proofs.lemmas.List.FromFn.{get_or-map-range_with_len}
-use Rattle.hook_questions.specs.Questions.{asked_context}
+use Rattle.trial_runs.specs.Questions.{asked_context}
 use Rattle.isa.specs.declared.hook.Hook.{Hook}
 use Rattle.maps.specs.Access.{adds_to}
 use Rattle.maps.specs.Words.{SeatView, fresh}

@@ -1,0 +1,257 @@
+//! Counted code.
+ghost use Rattle.std.specs.Prelude.{◌≡◌, ◌==◌, ◌+◌, ◌*◌, ◌<◌, ◌≤◌, ◌++◌, IfOk, OnOk, length};
+ghost use Rattle.std.specs.Prelude.{position};
+ghost use Rattle.isa.specs.Flow.{jump_target};
+ghost use Rattle.annotations.specs.CountedCode.{IsCounted, detour, detour_at, detours};
+ghost use Rattle.annotations.specs.CountedCode.{distance_between, distance_of, place_of};
+ghost use Rattle.annotations.specs.CountedCode.{redirected, redirected_from, slots_at};
+ghost use Rattle.annotations.specs.CountedCode.{with_distance, with_number};
+
+use crate::count_error::CountError;
+use crate::registers::unnamed;
+use isa::{Code, CodeBuilder, Instruction, Operation, Register, Slot, Source, Test, Width};
+use segments::places::jump_of;
+use std::alloc::Global;
+
+/// So many turns no program may take.
+const MOST_TURNS: u32 = 1_000_000;
+
+/// The register becomes the number, or that much more.
+fn with_number(operation: Operation, target: Register, number: i32) -> Instruction
+    ensures { result ≡ with_number operation target number }
+{
+    Instruction::Arithmetic {
+        width: Width::Bits64,
+        operation,
+        target,
+        source: Source::Immediate(number),
+    }
+}
+
+/// The distance of a jump from one slot to another.
+fn distance_between(from: usize, to: usize) -> Result<i16, CountError>
+    requires from { from < 100000 }
+    requires to { to < 100000 }
+    ensures { IfOk result (λ distance. distance ≡ distance_between from to) }
+{
+    match i16::try_from(to as i64 - (from as i64 + 1)) {
+        Ok(distance) => Ok(distance),
+        Err(_) => Err(CountError::TooLong),
+    }
+}
+
+/// The jump, to elsewhere.
+fn with_distance(instruction: Instruction, distance: i16) -> Instruction
+    ensures { result ≡ with_distance instruction distance }
+{
+    match instruction {
+        Instruction::Jump { .. } | Instruction::LongJump { .. } => Instruction::Jump { distance },
+        Instruction::Branch {
+            width,
+            test,
+            left,
+            right,
+            ..
+        } => Instruction::Branch {
+            width,
+            test,
+            left,
+            right,
+            distance,
+        },
+        other => other,
+    }
+}
+
+/// The place of this one among the heads.
+fn place_among(heads: &[usize], to: usize) -> Option<usize>
+    ensures { result ≡ position (λ head. head == to) heads.now }
+{
+    heads.iter().position(|head| *head == to)
+}
+
+/// The place among the heads of the one that a jump at this slot goes back to.
+fn place_of(heads: &[usize], slot: usize, target: Option<usize>) -> Option<usize>
+    ensures { result ≡ place_of heads.now slot target }
+{
+    match target {
+        Some(to) => {
+            if to <= slot {
+                place_among(heads, to)
+            } else {
+                None
+            }
+        }
+        None => None,
+    }
+}
+
+/// Where the turns of the loop in this place are counted: four slots for each, behind the code.
+fn detour_at(slots: usize, place: usize) -> usize
+    requires slots { slots ≤ 4096 }
+    requires place { place ≤ 4096 }
+    ensures { result ≡ detour_at slots place }
+{
+    slots + 1 + 4 * place
+}
+
+/// How far the jump of an instruction at the slot goes to the detour of its head, if it jumps back
+/// to one.
+fn distance_of(
+    slots: usize,
+    heads: &[usize],
+    slot: usize,
+    instruction: &Instruction,
+) -> Result<Option<i16>, CountError>
+    requires slots { slots ≤ 4096 }
+    requires slot { slot < 4096 }
+    requires few { length heads.now ≤ 4096 }
+    ensures { IfOk result (λ d. d ≡ distance_of slots slot (place_of heads.now slot
+        (jump_target slot instruction.now))) }
+{
+    match place_of(heads, slot, jump_of(slot, instruction)) {
+        Some(place) => Ok(Some(distance_between(slot + 1, detour_at(slots, place))?)),
+        None => Ok(None),
+    }
+}
+
+/// The instruction, to this distance if there is one.
+fn redirected(instruction: &Instruction, distance: Option<i16>) -> Instruction
+    ensures { result ≡ redirected instruction.now distance }
+{
+    match distance {
+        Some(distance) => with_distance(*instruction, distance),
+        None => *instruction,
+    }
+}
+
+/// Adds the instruction, which goes to the detour of its head instead, if it jumps back to one.
+fn push_redirected(
+    builder: &mut CodeBuilder,
+    slots: usize,
+    heads: &[usize],
+    slot: usize,
+    instruction: &Instruction,
+) -> Result<(), CountError>
+    requires slots { slots ≤ 4096 }
+    requires slot { slot < 4096 }
+    requires few { length heads.now ≤ 4096 }
+    ensures { OnOk result (builder.new ≡ builder.old
+        ++ slots_at slots heads.now slot (Slot.Start instruction.now)) }
+{
+    let distance = distance_of(slots, heads, slot, instruction)?;
+    builder.push(redirected(instruction, distance))?;
+    Ok(())
+}
+
+/// Adds the instruction that begins at the slot, if one does.
+fn push_slot(
+    builder: &mut CodeBuilder,
+    slots: usize,
+    heads: &[usize],
+    slot: usize,
+    place: &Slot,
+) -> Result<(), CountError>
+    requires slots { slots ≤ 4096 }
+    requires slot { slot < 4096 }
+    requires few { length heads.now ≤ 4096 }
+    ensures { OnOk result (builder.new ≡ builder.old ++ slots_at slots heads.now slot place.now) }
+{
+    match place {
+        Slot::Start(instruction) => push_redirected(builder, slots, heads, slot, instruction),
+        Slot::SecondHalf => Ok(()),
+    }
+}
+
+/// Adds the code, in which the jumps back to the heads go to their detours.
+fn push_code(builder: &mut CodeBuilder, code: &Code, heads: &[usize]) -> Result<(), CountError>
+    requires { length heads.now ≤ 4096 }
+    ensures { OnOk result (builder.new ≡ builder.old ++ redirected_from (length code.now) heads.now
+        0 code.now) }
+{
+    let slots = code.len();
+    for (slot, place) in code.slots().iter().enumerate() {
+        push_slot(builder, slots, heads, slot, place)?;
+    }
+    Ok(())
+}
+
+/// Adds what counts a turn: it goes on at the loop's head, or answers 0 where that was the last
+/// one.
+fn push_detour(
+    builder: &mut CodeBuilder,
+    counter: Register,
+    at: usize,
+    head: usize,
+) -> Result<(), CountError>
+    requires at { at < 90000 }
+    requires head { head < 4096 }
+    ensures { OnOk result (builder.new ≡ builder.old ++ detour counter at head) }
+{
+    let Some(answer) = Register::new(0) else {
+        unreachable!()
+    };
+    builder.push(with_number(Operation::Add, counter, -1))?;
+    builder.push(Instruction::Branch {
+        width: Width::Bits64,
+        test: Test::NotEqual,
+        left: counter,
+        right: Source::Immediate(0),
+        distance: distance_between(at + 1, head + 1)?,
+    })?;
+    builder.push(with_number(Operation::Move, answer, 0))?;
+    builder.push(Instruction::Exit)?;
+    Ok(())
+}
+
+/// Adds what counts the turns of each loop.
+fn push_detours(
+    builder: &mut CodeBuilder,
+    counter: Register,
+    slots: usize,
+    heads: &[usize],
+) -> Result<(), CountError>
+    requires slots { slots ≤ 4096 }
+    requires few { length heads.now ≤ 4096 }
+    ensures { OnOk result (builder.new ≡ builder.old ++ detours counter (slots + 1) heads.now) }
+{
+    let mut at = slots + 1;
+    for head in heads {
+        if *head >= 4096 {
+            return Err(CountError::TooLong);
+        }
+        push_detour(builder, counter, at, *head)?;
+        at += 4;
+    }
+    Ok(())
+}
+
+/// The code that counts each jump back to one of these heads, and answers 0 instead of going back
+/// more often than `turns` times in all. Each slot of the code stands one slot later in it.
+///
+/// # Errors
+///
+/// Where the code names each of r6 to r9; where `turns` isn't below 1,000,000, which no program may
+/// take; where the code would be longer than 4096 slots, or a jump go farther than its distance can
+/// say; and where memory is refused.
+pub fn counted(alloc: Global, code: &Code, heads: &[usize], turns: u32) -> Result<Code, CountError>
+    ensures { IfOk result (λ counted. IsCounted turns heads.now code.now counted) }
+{
+    let Some(counter) = unnamed(code) else {
+        return Err(CountError::NoRegister);
+    };
+    if turns >= MOST_TURNS {
+        return Err(CountError::TooMany);
+    }
+    if heads.len() > code.len() {
+        return Err(CountError::TooLong);
+    }
+    let mut builder = CodeBuilder::new(alloc);
+    builder.push(with_number(Operation::Move, counter, turns as i32 + 1))?;
+    push_code(&mut builder, code, heads)?;
+    push_detours(&mut builder, counter, code.len(), heads)?;
+    match builder.finish() {
+        Some(code) => Ok(code),
+        None => Err(CountError::TooLong),
+    }
+}

@@ -1,9 +1,0 @@
-use Rattle.std.proofs.Common.{◌≡◌, ℕ, ◌<◌, false, slice_get, Some}
-use Rattle.isa.specs.declared.instruction.Instruction.{Instruction}
-use Rattle.isa.specs.declared.code.Slot.TheVariants.{Start}
-use Rattle.counted_loops.specs.CountedCode.{names}
-use Rattle.counted_loops.proofs.registers.is_named.Given as goal
-
-abbrev pub invariant-loop-slot : goal.invariant-loop-slot
-invariant-loop-slot l = (k : ℕ) (i : Instruction) → k < l.slot-index → slice_get l.slot-items k ≡ Some (Start i)
-    → names l.register i ≡ false

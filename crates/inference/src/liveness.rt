@@ -1,0 +1,127 @@
+//! Which registers may still be read.
+
+ghost use Rattle.std.specs.Prelude.{◌<◌};
+
+use isa::{Code, Hook, Instruction, Operation, Register, Slot, Source};
+use kinds::put;
+use machine::Helper;
+use segments::places::{falls_through, jump_of, slots_of};
+use std::alloc::{AllocError, Global};
+
+/// Registers, r0 in bit 0.
+pub type Registers = u16;
+
+fn bit(register: Register) -> Registers {
+    1 << register.index()
+}
+
+fn bit_of(source: Source) -> Registers {
+    match source {
+        Source::Immediate(_) => 0,
+        Source::Register(register) => bit(register),
+    }
+}
+
+/// The arguments that a call reads.
+fn arguments(hook: Hook, number: i32) -> Registers {
+    match Helper::at(hook, number) {
+        Some(Helper::CounterAdd | Helper::TableCost) => 0b110,
+        Some(Helper::CounterRead | Helper::PacketByte) => 0b10,
+        None => 0,
+    }
+}
+
+/// The registers that the instruction reads, but r10.
+pub fn reads(hook: Hook, instruction: &Instruction) -> Registers {
+    match *instruction {
+        Instruction::Arithmetic {
+            operation: Operation::Move,
+            source,
+            ..
+        } => bit_of(source),
+        Instruction::Arithmetic { target, source, .. } => bit(target) | bit_of(source),
+        Instruction::Negate { target, .. } | Instruction::Reorder { target, .. } => bit(target),
+        Instruction::SignExtend { source, .. } => bit(source),
+        Instruction::Branch { left, right, .. } => bit(left) | bit_of(right),
+        Instruction::Call { helper } => arguments(hook, helper),
+        Instruction::Exit => 1,
+        Instruction::Load { base, .. } => bit(base),
+        Instruction::Store { base, source, .. } => bit(base) | bit_of(source),
+        _ => 0,
+    }
+}
+
+/// The registers that the instruction writes.
+pub fn writes(instruction: &Instruction) -> Registers {
+    match *instruction {
+        Instruction::Arithmetic { target, .. }
+        | Instruction::Negate { target, .. }
+        | Instruction::Reorder { target, .. }
+        | Instruction::SignExtend { target, .. }
+        | Instruction::Load { target, .. }
+        | Instruction::LoadNumber { target, .. }
+        | Instruction::LoadMap { target, .. } => bit(target),
+        Instruction::Call { .. } => 0b11_1111,
+        _ => 0,
+    }
+}
+
+fn live_at(live: &[Registers], slot: usize) -> Registers {
+    live.get(slot).copied().unwrap_or(0)
+}
+
+/// What may be read from the instruction on.
+fn live_before(live: &[Registers], hook: Hook, slot: usize, instruction: &Instruction) -> Registers
+    requires { slot < 4096 }
+{
+    let mut after = 0;
+    if falls_through(instruction) {
+        after |= live_at(live, slot + slots_of(instruction));
+    }
+    if let Some(to) = jump_of(slot, instruction) {
+        after |= live_at(live, to);
+    }
+    after & !writes(instruction) | reads(hook, instruction)
+}
+
+/// What may be read from the slot on. What it was before where no instruction begins there.
+fn live_from(code: &Code, hook: Hook, live: &[Registers], slot: usize) -> Registers {
+    match code.at(slot as u64) {
+        Some(Slot::Start(instruction)) => live_before(live, hook, slot, &instruction),
+        Some(Slot::SecondHalf) | None => live_at(live, slot),
+    }
+}
+
+/// One pass over the code, last slot first. Whether anything changed.
+fn refine(code: &Code, hook: Hook, live: &mut Vec<Registers>) -> bool {
+    let mut has_changed = false;
+    for passed in 0..code.len() {
+        let slot = code.len() - 1 - passed;
+        let before = live_from(code, hook, live, slot);
+        if before != live_at(live, slot) {
+            put(live, slot, before);
+            has_changed = true;
+        }
+    }
+    has_changed
+}
+
+/// For each slot the registers that may be read from there on before they are written.
+pub fn live_registers(
+    alloc: Global,
+    code: &Code,
+    hook: Hook,
+) -> Result<Vec<Registers>, AllocError> {
+    let mut live = vec![in alloc; 0; code.len()]?;
+    for _ in 0..code.len() {
+        if !refine(code, hook, &mut live) {
+            return Ok(live);
+        }
+    }
+    Ok(live)
+}
+
+/// Whether the register of this number is among them.
+pub fn has(registers: Registers, number: usize) -> bool {
+    number < 16 && registers >> number & 1 == 1
+}
