@@ -66,16 +66,18 @@ leaf {E} command start rules shape (Ok a) adds is local top = record {
 }
 
 -- a command with one more subcommand
-pub adds_subcommand : {E : Type 0} (before : Result Command E) (command sub : Command) (after : Result Command E) → before ≡ Ok command
-    → IfOk after (AddsSubcommand command sub) → AddsCommand before sub after
-adds_subcommand {E} before command sub (Err error) is adds = record { added = tt }
-adds_subcommand {E} before command sub (Ok a) is adds = record {
+pub adds_subcommand : {E : Type 0} (before sub : Result Command E) (b s : Command) (after : Result Command E) → before ≡ Ok b → sub ≡ Ok s
+    → IfOk after (AddsSubcommand b s) → AddsCommand before sub after
+adds_subcommand {E} before sub b s (Err error) one two adds = record { added = tt }
+adds_subcommand {E} before sub b s (Ok a) one two adds = record {
   added =
-      subst (λ (x : Result Command E). IsOkAnd x (λ b. IsLocal sub → app_of a ≡ with_subcommand (app_of b) (shape_of sub))) (sym is) adds.shape;
+      subst (λ (x : Result Command E). IsOkAnd x (λ b. IsOkAnd sub (λ s. IsLocal s → app_of a ≡ with_subcommand (app_of b) (shape_of s)))) (sym one)
+      (subst (λ (x : Result Command E). IsOkAnd x (λ s. IsLocal s → app_of a ≡ with_subcommand (app_of b) (shape_of s))) (sym two) adds.shape);
 }
 
-pub commanded : {E : Type 0} (before : Result Command E) (sub : Command) (after : Result Command E) (app : App) (shape : Shape)
-    → AddsCommand before sub after → IfOk before (λ b. app_of b ≡ app) → IsLeaf shape sub → IfOk after (λ a. app_of a ≡ with_subcommand app shape)
+pub commanded : {E : Type 0} (before sub after : Result Command E) (app : App) (shape : Shape) → AddsCommand before sub after
+    → IfOk before (λ b. app_of b ≡ app) → IfOk sub (IsLeaf shape) → IfOk after (λ a. app_of a ≡ with_subcommand app shape)
 commanded {E} before sub (Err error) app shape adds is leaf = tt
 commanded {E} (Err error) sub (Ok a) app shape adds is leaf = absurd adds.added
-commanded {E} (Ok b) sub (Ok a) app shape adds is leaf = adds.added leaf.local ∙ ap₂ with_subcommand is leaf.shape
+commanded {E} (Ok b) (Err error) (Ok a) app shape adds is leaf = absurd adds.added
+commanded {E} (Ok b) (Ok s) (Ok a) app shape adds is leaf = adds.added leaf.local ∙ ap₂ with_subcommand is leaf.shape

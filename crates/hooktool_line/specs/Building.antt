@@ -20,10 +20,9 @@ pub record Adds {E : Type 0} (before : Result Command E) (rules : List Rule)
   pub added : IfOk after (λ a. IsOkAnd before (λ b. ExtendsBy b rules a))
 
 -- and with one more subcommand
-pub record AddsCommand {E : Type 0} (before : Result Command E) (sub : Command)
-    (after : Result Command E) : Type 0 where
-  pub added : IfOk after (λ a. IsOkAnd before (λ b.
-      IsLocal sub → app_of a ≡ with_subcommand (app_of b) (shape_of sub)))
+pub record AddsCommand {E : Type 0} (before sub after : Result Command E) : Type 0 where
+  pub added : IfOk after (λ a. IsOkAnd before (λ b. IsOkAnd sub (λ s.
+      IsLocal s → app_of a ≡ with_subcommand (app_of b) (shape_of s))))
 
 -- a command of this shape
 pub record IsLeaf (wanted : Shape) (c : Command) : Type 0 where

@@ -1,7 +1,7 @@
 //! The commands, the words that each may have, and their help.
 
 ghost use Rattle.std.specs.Prelude.{◌≡◌, ◌⊎◌, ◌∷◌, [], false, IfOk};
-ghost use Rattle.clap.specs.Simple.{app_of, new_app, with_subcommand};
+ghost use Rattle.clap.specs.Simple.{app_of, new_app};
 ghost use Rattle.clap.specs.Values.{kind_of};
 ghost use Rattle.clap.specs.Walk.{rule_of};
 ghost use Rattle.clap.specs.declared.builder.command.Command.TheViews.{out-Command as fields_of};
@@ -267,44 +267,21 @@ fn bare<'a>(alloc: Global) -> Command<'a>
 }
 
 // The command line with one more command.
-fn with_command<'a>(command: Building<'a>, sub: Command<'a>) -> Building<'a>
+fn with_command<'a>(command: Building<'a>, sub: Building<'a>) -> Building<'a>
     ensures { AddsCommand command.entry sub.entry result }
 {
-    match command {
-        Ok(command) => command.subcommand(sub),
-        Err(error) => Err(error),
-    }
-}
-
-// The command line with its first command.
-fn with_annotate<'a>(alloc: Global) -> Building<'a>
-    ensures { IfOk result (λ c. app_of c ≡ with_subcommand line.bare line.annotate) }
-{
-    match annotate(alloc) {
-        Ok(sub) => with_command(Ok(bare(alloc)), sub),
-        Err(error) => Err(error),
-    }
-}
-
-// The command line with its first two commands.
-fn with_explain<'a>(alloc: Global) -> Building<'a>
-    ensures { IfOk result (λ c. app_of c ≡ with_subcommand (with_subcommand line.bare line.annotate)
-        line.explain) }
-{
-    match explain(alloc) {
-        Ok(sub) => with_command(with_annotate(alloc), sub),
-        Err(error) => Err(error),
-    }
+    let command = command?;
+    let sub = sub?;
+    command.subcommand(sub)
 }
 
 /// The whole command line.
 pub(crate) fn whole<'a>(alloc: Global) -> Building<'a>
     ensures { IfOk result (λ c. app_of c ≡ line.line) }
 {
-    match try_command(alloc) {
-        Ok(sub) => with_command(with_explain(alloc), sub),
-        Err(error) => Err(error),
-    }
+    let annotated = with_command(Ok(bare(alloc)), annotate(alloc));
+    let explained = with_command(annotated, explain(alloc));
+    with_command(explained, try_command(alloc))
 }
 
 /// An error about the words of a command line.
