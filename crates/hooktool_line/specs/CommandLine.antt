@@ -47,15 +47,6 @@ abbrev pub try : Shape
 try =
     command (codes "try") (required (codes "OBJECT") ∷ route_options ++ other_options)
 
--- the command line without its commands
-abbrev pub bare : App
-bare = record {
-  top =
-      record (new_shape (codes "hooktool"))
-      { subcommand_required = true; arg_required_else_help = true };
-  subs = [];
-}
-
 -- One of these commands has to be named, and without any word the answer is help.
 abbrev pub line : App
 line = record {

@@ -1,11 +1,11 @@
 //! The commands, the words that each may have, and their help.
 
-ghost use Rattle.std.specs.Prelude.{◌≡◌, ◌⊎◌, ◌∷◌, [], false, IfOk};
+ghost use Rattle.std.specs.Prelude.{◌≡◌, ◌⊎◌, false, IfOk};
 ghost use Rattle.clap.specs.Simple.{app_of, new_app};
 ghost use Rattle.clap.specs.Values.{kind_of};
 ghost use Rattle.clap.specs.Walk.{rule_of};
 ghost use Rattle.clap.specs.declared.builder.command.Command.TheViews.{out-Command as fields_of};
-ghost use Rattle.hooktool_line.specs.Building.{Adds, AddsCommand, IsLeaf};
+ghost use Rattle.hooktool_line.specs.Building.{Extends, ExtendsBy, IsLeaf};
 ghost use Rattle.hooktool_line.specs.CommandLine as line;
 
 use clap::error::ErrorKind;
@@ -91,13 +91,7 @@ const HOOK: &str = "The hook that the code is for: count, tag, price or veto";
 
 const CODE: &str = "Bare code, or an object whose statements lack";
 
-const TAG: &str = "The configured tag, or the route's";
-
 const TYPE: &str = "The type of the external destination";
-
-const DISTANCE: &str = "The distance of a type 2 route";
-
-const KIND: &str = "The route's kind: intra, inter, ext1 or ext2";
 
 const FUEL: &str = "How many turns each loop without a rank may take, 1 to 999999";
 
@@ -148,54 +142,42 @@ fn repeated<'a>(alloc: Global, name: &'a str, value: &'a str, help: &'a str) -> 
         .action(ArgAction::Append)
 }
 
-// A command that is being built. Want of memory at one of its words goes on to its end.
-type Building<'a> = Result<Command<'a>, AllocError>;
-
 // The command with one more word that has to be there.
 fn with_required<'a>(
     alloc: Global,
-    command: Building<'a>,
+    command: Command<'a>,
     name: &'a str,
     help: &'a str,
-) -> Building<'a>
-    ensures { Adds command.entry (line.required name.entry.now ∷ []) result }
+) -> Result<Command<'a>, AllocError>
+    ensures { IfOk result (Extends command.entry (line.required name.entry.now)) }
 {
-    match command {
-        Ok(command) => command.arg(required(alloc, name, help)),
-        Err(error) => Err(error),
-    }
+    command.arg(required(alloc, name, help))
 }
 
 // The command with one more option.
 fn with_option<'a>(
     alloc: Global,
-    command: Building<'a>,
+    command: Command<'a>,
     name: &'a str,
     value: &'a str,
     help: &'a str,
-) -> Building<'a>
-    ensures { Adds command.entry (line.option name.entry.now ∷ []) result }
+) -> Result<Command<'a>, AllocError>
+    ensures { IfOk result (Extends command.entry (line.option name.entry.now)) }
 {
-    match command {
-        Ok(command) => command.arg(option(alloc, name, value, help)),
-        Err(error) => Err(error),
-    }
+    command.arg(option(alloc, name, value, help))
 }
 
 // The command with one more option that may be given several times.
 fn with_repeated<'a>(
     alloc: Global,
-    command: Building<'a>,
+    command: Command<'a>,
     name: &'a str,
     value: &'a str,
     help: &'a str,
-) -> Building<'a>
-    ensures { Adds command.entry (line.repeated name.entry.now ∷ []) result }
+) -> Result<Command<'a>, AllocError>
+    ensures { IfOk result (Extends command.entry (line.repeated name.entry.now)) }
 {
-    match command {
-        Ok(command) => command.arg(repeated(alloc, name, value, help)),
-        Err(error) => Err(error),
-    }
+    command.arg(repeated(alloc, name, value, help))
 }
 
 fn named<'a>(alloc: Global, name: &'a str, about: &'a str, more: &'a str) -> Command<'a>
@@ -205,83 +187,86 @@ fn named<'a>(alloc: Global, name: &'a str, about: &'a str, more: &'a str) -> Com
     Command::new(alloc, name).about(about).after_help(more)
 }
 
-fn annotate<'a>(alloc: Global) -> Building<'a>
+fn annotate<'a>(alloc: Global) -> Result<Command<'a>, AllocError>
     ensures { IfOk result (IsLeaf line.annotate) }
 {
     let command = named(alloc, "annotate", ANNOTATE, ANNOTATE_MORE);
-    let hooked = with_required(alloc, Ok(command), "HOOK", HOOK);
-    let coded = with_required(alloc, hooked, "CODE", CODE);
-    let written = with_required(alloc, coded, "OBJECT", "The object file that is written");
+    let hooked = with_required(alloc, command, "HOOK", HOOK)?;
+    let coded = with_required(alloc, hooked, "CODE", CODE)?;
+    let written = with_required(alloc, coded, "OBJECT", "The object file that is written")?;
     with_option(alloc, written, "fuel", "N", FUEL)
 }
 
-fn explain<'a>(alloc: Global) -> Building<'a>
+fn explain<'a>(alloc: Global) -> Result<Command<'a>, AllocError>
     ensures { IfOk result (IsLeaf line.explain) }
 {
     let command = named(alloc, "explain", EXPLAIN, EXPLAIN_MORE);
-    with_required(alloc, Ok(command), "OBJECT", "The object file")
+    with_required(alloc, command, "OBJECT", "The object file")
 }
 
 // The options that name a destination and a route.
-fn with_route<'a>(alloc: Global, command: Building<'a>) -> Building<'a>
-    ensures { Adds command.entry line.route_options result }
+fn with_route<'a>(alloc: Global, command: Command<'a>) -> Result<Command<'a>, AllocError>
+    ensures { IfOk result (ExtendsBy command.entry line.route_options) }
 {
-    let placed = with_option(alloc, command, "prefix", "A.B.C.D/L", "The destination");
-    let measured = with_option(alloc, placed, "metric", "N", "The configured metric");
-    let tagged = with_option(alloc, measured, "tag", "N", TAG);
-    let typed = with_option(alloc, tagged, "type", "1|2", TYPE);
-    let paid = with_option(alloc, typed, "cost", "N", "The route's cost");
-    let far = with_option(alloc, paid, "distance", "N", DISTANCE);
-    with_option(alloc, far, "kind", "KIND", KIND)
+    let placed = with_option(alloc, command, "prefix", "A.B.C.D/L", "The destination")?;
+    let measured = with_option(alloc, placed, "metric", "N", "The configured metric")?;
+    let tagged = with_option(
+        alloc,
+        measured,
+        "tag",
+        "N",
+        "The configured tag, or the route's",
+    )?;
+    let typed = with_option(alloc, tagged, "type", "1|2", TYPE)?;
+    let paid = with_option(alloc, typed, "cost", "N", "The route's cost")?;
+    let far = with_option(
+        alloc,
+        paid,
+        "distance",
+        "N",
+        "The distance of a type 2 route",
+    )?;
+    with_option(
+        alloc,
+        far,
+        "kind",
+        "KIND",
+        "The route's kind: intra, inter, ext1 or ext2",
+    )
 }
 
 // The options on when and what a program is run on.
-fn with_surroundings<'a>(alloc: Global, command: Building<'a>) -> Building<'a>
-    ensures { Adds command.entry line.other_options result }
+fn with_surroundings<'a>(alloc: Global, command: Command<'a>) -> Result<Command<'a>, AllocError>
+    ensures { IfOk result (ExtendsBy command.entry line.other_options) }
 {
-    let timed = with_option(alloc, command, "moment", "N", "The moment in seconds");
-    let placed = with_option(alloc, timed, "interface", "N", INTERFACE);
-    let sent = with_option(alloc, placed, "packet", "HEX|@FILE", "The packet");
-    let routed = with_repeated(alloc, sent, "row", "A.B.C.D/L=COST", ROW);
+    let timed = with_option(alloc, command, "moment", "N", "The moment in seconds")?;
+    let placed = with_option(alloc, timed, "interface", "N", INTERFACE)?;
+    let sent = with_option(alloc, placed, "packet", "HEX|@FILE", "The packet")?;
+    let routed = with_repeated(alloc, sent, "row", "A.B.C.D/L=COST", ROW)?;
     with_option(alloc, routed, "times", "N", TIMES)
 }
 
-fn try_command<'a>(alloc: Global) -> Building<'a>
+fn try_command<'a>(alloc: Global) -> Result<Command<'a>, AllocError>
     ensures { IfOk result (IsLeaf line.try) }
 {
     let command = named(alloc, "try", TRY, TRY_MORE);
-    let objected = with_required(alloc, Ok(command), "OBJECT", "The object file");
-    let routed = with_route(alloc, objected);
+    let objected = with_required(alloc, command, "OBJECT", "The object file")?;
+    let routed = with_route(alloc, objected)?;
     with_surroundings(alloc, routed)
 }
 
-// The command line without its commands.
-fn bare<'a>(alloc: Global) -> Command<'a>
-    ensures { app_of result ≡ line.bare }
+/// The whole command line.
+pub(crate) fn whole<'a>(alloc: Global) -> Result<Command<'a>, AllocError>
+    ensures { IfOk result (λ c. app_of c ≡ line.line) }
 {
     Command::new(alloc, "hooktool")
         .about(ABOUT)
         .after_help(WORKED)
         .subcommand_required(true)
         .arg_required_else_help(true)
-}
-
-// The command line with one more command.
-fn with_command<'a>(command: Building<'a>, sub: Building<'a>) -> Building<'a>
-    ensures { AddsCommand command.entry sub.entry result }
-{
-    let command = command?;
-    let sub = sub?;
-    command.subcommand(sub)
-}
-
-/// The whole command line.
-pub(crate) fn whole<'a>(alloc: Global) -> Building<'a>
-    ensures { IfOk result (λ c. app_of c ≡ line.line) }
-{
-    let annotated = with_command(Ok(bare(alloc)), annotate(alloc));
-    let explained = with_command(annotated, explain(alloc));
-    with_command(explained, try_command(alloc))
+        .subcommand(annotate(alloc)?)?
+        .subcommand(explain(alloc)?)?
+        .subcommand(try_command(alloc)?)
 }
 
 /// An error about the words of a command line.

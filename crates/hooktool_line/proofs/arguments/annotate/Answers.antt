@@ -1,8 +1,12 @@
 use Rattle.std.proofs.Common.{refl}
-use Rattle.hooktool_line.proofs.Building.{leaf, then_more}
+use Rattle.std.proofs.lemmas.Result.{IfOk-weaker}
+use Rattle.hooktool_line.proofs.Building.{extended, leaf}
 use Rattle.hooktool_line.proofs.arguments.annotate.Goals as goal
 
 pub returns : goal.returns
 returns c =
-    leaf _ _ _ _ _ (then_more _ _ _ _ _ c.with_required-hooked.ensures (then_more _ _ _ _ _ c.with_required-coded.ensures (then_more _ _ _ _ _ c.with_required-written.ensures c.with_option.ensures)))
-    c.named-command.ensures.app c.named-command.ensures.local refl
+    let one = extended _ _ _ _ c.named-command.ensures.app c.in_ok-hooked.ensures in
+    let two = extended _ _ _ _ one c.in_ok-coded.ensures in
+    let three = extended _ _ _ _ two c.in_ok-written.ensures in
+    let local = c.in_ok-written.ensures.local (c.in_ok-coded.ensures.local (c.in_ok-hooked.ensures.local c.named-command.ensures.local)) in
+    IfOk-weaker c.with_option.result _ _ (λ r more. leaf r _ _ (extended _ _ _ _ three more) refl (more.local local)) c.with_option.ensures

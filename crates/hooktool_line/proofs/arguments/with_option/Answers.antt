@@ -1,8 +1,6 @@
-use Rattle.hooktool_line.proofs.Building.{adds_arg}
+use Rattle.std.proofs.lemmas.Result.{IfOk-weaker}
+use Rattle.hooktool_line.proofs.Building.{extends}
 use Rattle.hooktool_line.proofs.arguments.with_option.Goals as goal
 
-pub returns-in-Ok : goal.returns-in-Ok
-returns-in-Ok c = adds_arg _ c.in-Ok.command _ _ _ c.in-Ok.is c.option.ensures.local c.option.ensures.rule c.arg.ensures
-
-pub returns-in-Err : goal.returns-in-Err
-returns-in-Err c = record { added = tt }
+pub returns : goal.returns
+returns c = IfOk-weaker c.arg.result _ _ (λ r adds. extends _ _ _ _ c.option.ensures.local c.option.ensures.rule adds) c.arg.ensures
