@@ -136,8 +136,8 @@ fn try_statements(
     try_found(alloc, hook, bytes, &code, &found, given, are_kept)
 }
 
-/// The same without the statements that are given, and without the known bits that the verifier does
-/// without.
+/// The same without the statements that are given, and without the known bits that the verifier
+/// does without.
 fn try_anew(
     alloc: Global,
     hook: Hook,
