@@ -1,7 +1,8 @@
 //! A neighbor by its calls: conversations as tables of what comes and what is seen of it. A refusal
 //! is taken back, and the event played again.
 ghost use Rattle.std.specs.Prelude.{◌≤◌, ◌≢◌};
-ghost use Rattle.lsa.specs.Text.{max_age, reserved_sequence};
+ghost use Rattle.lsa.specs.Text.{reserved_sequence};
+ghost use Rattle.words.specs.Constants.{max_age};
 
 mod descriptions;
 mod hellos;
