@@ -4,7 +4,6 @@ ghost use Rattle.hooks.specs.Known.{IsNew, history_of};
 ghost use Rattle.worker.specs.Opening.{IsSetUpFor};
 
 use crate::failing_links::serve;
-use crate::operated::operate;
 use crate::samples::{destination, first};
 use crate::side_by_side::{Holds, hold, tick};
 use crate::stage::{Stage, Step};
@@ -40,8 +39,6 @@ pub enum Scene<'a> {
     Held(Holds, u64),
     /// A datagram at interface 1 is counted before its turn passes the gate.
     Watched,
-    /// An operator detaches a program while a Tick's turn passes the gate.
-    Operated,
 }
 
 /// What is seen in the end.
@@ -89,7 +86,7 @@ fn act<L: Site + Send + Sync, R: Threads + Wait + Clock + Abort + Sync, Q: Wait 
         Scene::Tries(moments) => Ok((try_again(rt, alloc, hub, &mut stage.first, moments)?, 0)),
         Scene::Clock(moments) => Ok(follow(rt, alloc, hub, &mut stage.first, moments)?),
         Scene::Held(held, until) => Ok((hold(rt, alloc, hub, stage, held, until)?, 0)),
-        Scene::Watched | Scene::Operated => Ok((0, 0)),
+        Scene::Watched => Ok((0, 0)),
     }
 }
 
@@ -137,9 +134,6 @@ fn play_on<L: Site + Send + Sync, R: Threads + Wait + Clock + Abort + Sync, Q: W
     if let Scene::Watched = scene {
         return Ok((watch(rt, alloc, hub, first, second, loader)?, 0));
     }
-    if let Scene::Operated = scene {
-        return Ok((operate(rt, alloc, hub, console, first, loader)?, 0));
-    }
     let mut stage = Stage {
         console,
         first,
@@ -159,8 +153,8 @@ fn closed<L: Site>(hub: Hub<L, Book<L>>) -> (usize, u64) {
     (journal, book.close())
 }
 
-/// What workers start with. An allocation may be refused once.
-pub fn set_up<R: Wait + Drop + Copy>(alloc: Global, rt: R) -> Result<(Loader<R>, Setup), HookError>
+// What workers start with. An allocation may be refused once.
+fn set_up<R: Wait + Drop + Copy>(alloc: Global, rt: R) -> Result<(Loader<R>, Setup), HookError>
     ensures { IfOk result (λ r. All (IsNew (history_of r.0)) r.1.askers.items) }
 {
     match Setup::new(alloc, rt, 3) {
