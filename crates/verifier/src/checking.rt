@@ -49,10 +49,11 @@ fn bound_of_runs(rank: u32, size: usize) -> Result<u64, Refusal>
 /// A refusal names the first slot that breaks a rule, and of the rules broken there the one that
 /// is tried first: those on jumps, statements and the code's end are named only where they are
 /// broken and none of them is broken before, those on helpers, on the bound and on r10 only where
-/// they are broken, and want of memory at slot 0 only where memory ran out. A plain program, one
-/// that works on numbers in registers alone and states no more than that they are numbers, is
-/// refused where memory ran out alone, whatever the domain. The statements are in the order of
-/// their slots, each slot once, as an object holds them.
+/// they are broken, and want of memory at slot 0 alone. That memory ran out then is what the
+/// code does, and no clause says it. A plain program, one that works on numbers in registers
+/// alone and states no more than that they are numbers, is refused for want of memory or not at
+/// all, whatever the domain. The statements are in the order of their slots, each slot once, as
+/// an object holds them.
 pub fn verify<D: Domain>(
     alloc: Global,
     hook: Hook,
