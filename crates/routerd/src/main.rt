@@ -1,19 +1,8 @@
 //! `routerd`: runs a router, and assembles, lists, verifies and runs its programs. What it does
-//! stands in `commands` and `daemon`. Its tests are of routers that run.
+//! stands in `commands` and `daemon`. Routers that run are tested in `command_tests`.
 #![tactic(auto)]
 
 ghost use Rattle.std.specs.Prelude.{◌≤◌};
-
-#[cfg(test)]
-mod failing_sockets;
-#[cfg(test)]
-mod networks;
-#[cfg(test)]
-mod refusals;
-#[cfg(test)]
-mod refused_sends;
-#[cfg(test)]
-mod sessions;
 
 use commands::{Routing, program};
 use daemon::RouteError;
