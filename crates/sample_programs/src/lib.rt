@@ -2,7 +2,8 @@
 //! says of them and what their runs come to. Each is a text of assembly on few lines: a semicolon
 //! ends a line of it, a label's colon too, and `any` stands for the set of all numbers. The
 //! programs of examples/ too: each is assembled, verified and run. Their texts are copies that
-//! tools/example-texts writes. `intervals` and `known_bits` are tests of the abstract domains.
+//! tools/example-texts writes. `intervals` and `known_bits` are tests of the abstract domains, and
+//! `questions` those of programs at hooks.
 #![tactic(auto)]
 
 #[cfg(test)]
@@ -27,6 +28,8 @@ mod orders;
 mod pointers;
 #[cfg(test)]
 mod programs;
+#[cfg(test)]
+mod questions;
 #[cfg(test)]
 mod rooms;
 #[cfg(test)]

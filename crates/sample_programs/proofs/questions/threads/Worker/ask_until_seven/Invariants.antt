@@ -1,6 +1,6 @@
 use Rattle.std.proofs.Common.{◌≡◌}
 use Rattle.hooks.specs.Known.{asks_of}
-use Rattle.hook_tests.proofs.threads.Worker.ask_a_thousand.Given as goal
+use Rattle.sample_programs.proofs.questions.threads.Worker.ask_until_seven.Given as goal
 
 -- the asker's history and the seat's table stay
 abbrev pub invariant-loop-turn : goal.invariant-loop-turn

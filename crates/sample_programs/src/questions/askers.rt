@@ -1,6 +1,6 @@
 //! Who asks, and what it knows.
-use crate::samples::{SEVEN, external, moment};
-use crate::trial::{Trial, loader_and_askers};
+use crate::questions::samples::{SEVEN, external, moment};
+use crate::questions::trial::{Trial, loader_and_askers};
 use hooks::{HookError, programs};
 use std::alloc::Global;
 use std::process::Abort;

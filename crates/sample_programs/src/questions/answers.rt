@@ -1,8 +1,9 @@
 //! What questions are answered.
 ghost use Rattle.maps.specs.Words.{IsOf};
 
-use crate::samples::{SEVEN, accepted, external, moment, route, table};
-use crate::trial::{Trial, loader_and_asker};
+use crate::questions::samples::{SEVEN, accepted, external, moment, route};
+use crate::questions::trial::{Trial, loader_and_asker};
+use crate::trials::table;
 use hooks::Asker;
 use machine::Hook;
 use maps::{Seat, Shared};

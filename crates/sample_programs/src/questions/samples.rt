@@ -1,10 +1,5 @@
 //! What the tests ask with.
-ghost use Rattle.std.specs.Prelude.{◌≡◌, [], IfOk, length, map};
-ghost use Rattle.std.specs.List.{range_with_len};
-ghost use Rattle.maps.specs.Words.{IsOf, fresh};
-
 use asm::assemble;
-use maps::{MapsError, Seat, Shared};
 use object_verdicts::verify_object;
 use std::alloc::Global;
 use std::test::Fail;
@@ -30,16 +25,6 @@ fn verified(alloc: Global, text: &str) -> Option<Accepted> {
 pub fn accepted(alloc: Global, text: &str) -> Option<Accepted> {
     match verified(alloc, text) {
         None => verified(alloc, text),
-        made => made,
-    }
-}
-
-/// A table of so many seats. One allocation may be refused.
-pub fn table(alloc: Global, count: usize) -> Result<(Shared, Vec<Seat>), MapsError>
-    ensures { IfOk result (λ r. r.1.items ≡ map (fresh r.0.table) (range_with_len 0 count)) }
-{
-    match Shared::new(alloc, count) {
-        Err(MapsError::Memory) => Shared::new(alloc, count),
         made => made,
     }
 }

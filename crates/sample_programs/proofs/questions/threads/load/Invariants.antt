@@ -1,6 +1,6 @@
 use Rattle.std.proofs.Common.{◌≡◌}
 use Rattle.hooks.specs.Known.{history_of}
-use Rattle.hook_tests.proofs.threads.load.Given as goal
+use Rattle.sample_programs.proofs.questions.threads.load.Given as goal
 
 -- the loader's history stays
 abbrev pub invariant-loop-turn : goal.invariant-loop-turn

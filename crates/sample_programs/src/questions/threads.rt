@@ -3,8 +3,8 @@ ghost use Rattle.std.specs.Prelude.{◌≡◌};
 ghost use Rattle.maps.specs.Words.{IsOf};
 ghost use Rattle.hooks.specs.Known.{asks_of, history_of};
 
-use crate::samples::{SEVEN, accepted, external, moment};
-use crate::trial::Trial;
+use crate::questions::samples::{SEVEN, accepted, external, moment};
+use crate::questions::trial::Trial;
 use hooks::{Asker, Loader};
 use machine::Hook;
 use maps::{Seat, Shared};

@@ -3,7 +3,8 @@ ghost use Rattle.std.specs.Prelude.{◌≡◌, All, IfOk};
 ghost use Rattle.maps.specs.Words.{IsOf};
 ghost use Rattle.hooks.specs.Known.{IsNew, asks_of, history_of};
 
-use crate::samples::{accepted, external, moment, route, row, table};
+use crate::questions::samples::{accepted, external, moment, route, row};
+use crate::trials::one_seat;
 use hooks::{Asker, HookError, Loader, PriceAnswer, TagAnswer, VetoAnswer, programs};
 use machine::{Hook, TableRow};
 use maps::{Seat, Shared};
@@ -55,8 +56,7 @@ impl<R: Wait + Drop + Copy> Trial<R> {
     /// Nothing is attached.
     pub fn new(alloc: Global, rt: R) -> Result<Trial<R>, Fail> {
         let (loader, asker) = loader_and_asker(alloc, rt)?;
-        let (shared, mut seats) = table(alloc, 1)?;
-        let seat = seats.pop().ok_or("no seat")?;
+        let (shared, seat) = one_seat(alloc)?;
         Ok(Trial {
             loader,
             asker,

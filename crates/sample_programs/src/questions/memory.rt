@@ -1,6 +1,6 @@
 //! Where memory is refused: once in a run of the tests, at any allocation.
-use crate::samples::{SEVEN, accepted};
-use crate::trial::loader_and_askers;
+use crate::questions::samples::{SEVEN, accepted};
+use crate::questions::trial::loader_and_askers;
 use hooks::Loader;
 use machine::Hook;
 use std::alloc::Global;
