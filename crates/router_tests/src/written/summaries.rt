@@ -2,7 +2,7 @@
 ghost use Rattle.std.specs.Prelude.{◌≡◌, ◌≢◌};
 ghost use Rattle.lsa.specs.Text.{reserved_sequence};
 
-use crate::lsas::{are_refused, are_written_again, is_refused};
+use crate::written::lsas::{are_refused, are_written_again, is_refused};
 use lsa::{Body, Header, Lsa, SummaryLsa, SummaryTos, read, write};
 use std::alloc::{AllocError, Global};
 use std::process::Abort;
