@@ -12,7 +12,7 @@ use std::time::Instant;
 pub const MEASUREMENTS: usize = 11;
 
 /// The shortest measurement of a figure and the middle one, in nanoseconds.
-#[derive(Clone, Copy, PartialEq, Eq, Debug)]
+#[derive(Clone, Copy)]
 pub struct Times {
     pub least: u64,
     pub median: u64,
@@ -73,7 +73,7 @@ fn measure<R: Clock, W: Round>(rt: &R, rounds: u64, work: &mut W) -> Result<Time
 }
 
 /// A time or a difference of times, in hundredths of a nanosecond.
-#[derive(Clone, Copy, PartialEq, Eq, Debug)]
+#[derive(Clone, Copy)]
 pub struct Hundredths {
     amount: u128,
     is_below_zero: bool,
@@ -114,7 +114,7 @@ impl fmt::Display for Hundredths {
 }
 
 /// What is printed: the least time and the median, of one thing among those that were measured.
-#[derive(Clone, Copy, PartialEq, Eq, Debug)]
+#[derive(Clone, Copy)]
 pub struct Figure {
     least: Hundredths,
     median: Hundredths,
