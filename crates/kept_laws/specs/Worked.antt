@@ -1,0 +1,111 @@
+-- What is left as it was from moment 100 to moment 110, worked on copies of one LSA and on LSAs of
+-- several types (RFC 2328, sections 13.2 and 16).
+use Rattle.std.specs.Prelude.{◌≡◌, ◌≢◌, ◌==◌, ℕ, ℤ, pos, Option, None, Some, if◌then◌else◌}
+use Rattle.std.specs.FinMap as finite
+use Rattle.words.specs.Numbers.{Moment, Seconds}
+use Rattle.words.specs.declared.key.Key.{Key}
+use Rattle.lsa.specs.declared.body.Body.{Body}
+use Rattle.lsdb.specs.Copies.{Database, DatabaseCopy}
+use Rattle.kept_routes.specs.Sameness.{AreLeft, IsLeft, SayTheSame}
+use Rattle.routes.specs.Said.{Said}
+
+-- ---- one LSA
+
+-- a copy of an instance of this number that says this, which had this age at this moment
+abbrev pub copy : Body → ℤ → Seconds → Moment → DatabaseCopy
+copy says number age stored = record {
+  lsa = record {
+    header = record {
+      age = age;
+      options = 2;
+      ls_type = 1;
+      link_state_id = 1;
+      advertising_router = 1;
+      sequence = number;
+      checksum = 0;
+      length = 0;
+    };
+    body = says;
+  };
+  stored = stored;
+  installed = Some stored;
+  sent = None;
+}
+
+abbrev pub IsLeftThen : Option DatabaseCopy → Option DatabaseCopy → Type 0
+IsLeftThen old new = IsLeft 100 110 old new
+
+pub record WorkedCopies : Type 0 where
+  -- there is none, or it stays
+  pub none : IsLeftThen None None
+  pub stays : (b : Body) → IsLeftThen (Some (copy b (pos 4) 10 90)) (Some (copy b (pos 4) 10 90))
+  -- it was sent
+  pub was_sent : (b : Body) → IsLeftThen (Some (copy b (pos 4) 10 90))
+      (Some (record (copy b (pos 4) 10 90) { sent = Some 105 }))
+  -- it is refreshed: a new instance says the same, also where the old one had come near to MaxAge
+  pub refreshed : (b : Body)
+      → IsLeftThen (Some (copy b (pos 4) 1800 90)) (Some (copy b (pos 5) 0 105))
+  pub refreshed_late : (b : Body)
+      → IsLeftThen (Some (copy b (pos 4) 3579 90)) (Some (copy b (pos 5) 0 105))
+  -- it had come to MaxAge before, at moment 100 at the latest
+  pub was_aged : (b : Body) → IsLeftThen (Some (copy b (pos 4) 3600 90)) (Some (copy b (pos 4) 3600 90))
+  pub just_aged : (b : Body) → IsLeftThen (Some (copy b (pos 4) 3590 90)) (Some (copy b (pos 4) 3590 90))
+  -- it comes or leaves, at MaxAge too
+  pub comes : (b : Body) → IsLeftThen None (Some (copy b (pos 4) 10 105)) → ⊥
+  pub comes_aged : (b : Body) → IsLeftThen None (Some (copy b (pos 4) 3600 105)) → ⊥
+  pub leaves : (b : Body) → IsLeftThen (Some (copy b (pos 4) 10 90)) None → ⊥
+  pub leaves_aged : (b : Body) → IsLeftThen (Some (copy b (pos 4) 3600 90)) None → ⊥
+  -- it says something else, at MaxAge too
+  pub changes : (b c : Body) → b ≢ c
+      → IsLeftThen (Some (copy b (pos 4) 10 90)) (Some (copy c (pos 5) 0 105)) → ⊥
+  pub changes_aged : (b c : Body) → b ≢ c
+      → IsLeftThen (Some (copy b (pos 4) 3600 90)) (Some (copy c (pos 4) 3600 90)) → ⊥
+  -- it comes to MaxAge, at moment 101 or 110, and is flushed
+  pub ages : (b : Body) → IsLeftThen (Some (copy b (pos 4) 3589 90)) (Some (copy b (pos 4) 3589 90)) → ⊥
+  pub ages_now : (b : Body) → IsLeftThen (Some (copy b (pos 4) 3580 90)) (Some (copy b (pos 4) 3580 90)) → ⊥
+  pub is_flushed : (b : Body)
+      → IsLeftThen (Some (copy b (pos 4) 10 90)) (Some (copy b (pos 4) 3600 105)) → ⊥
+  -- it had MaxAge and another instance is there, young or at MaxAge
+  pub is_back : (b : Body)
+      → IsLeftThen (Some (copy b (pos 4) 3600 90)) (Some (copy b (pos 5) 0 105)) → ⊥
+  pub is_flushed_again : (b : Body)
+      → IsLeftThen (Some (copy b (pos 4) 3600 90)) (Some (copy b (pos 5) 3600 105)) → ⊥
+
+-- ---- types
+
+-- the LSAs of a type say this, and no others say anything
+abbrev pub saying : ℕ → Body → Said
+saying ls_type says key = if key.ls_type == ls_type then Some says else None
+
+abbrev pub silent : Said
+silent key = None
+
+abbrev pub key : ℕ → Key
+key ls_type = record { ls_type = ls_type; link_state_id = 1; advertising_router = 1 }
+
+-- there was no LSA, and now there is this one alone
+pub record Comes (key : Key) (copy : DatabaseCopy) (old new : Database) : Type 0 where
+  pub before : (k : Key) → finite.get old k ≡ None
+  pub here : finite.get new key ≡ Some copy
+  pub elsewhere : (k : Key) → k ≢ key → finite.get new k ≡ None
+
+pub record WorkedTypes : Type 0 where
+  -- those of the last type count and of types before it, and of later types none
+  pub before : (b : Body) → SayTheSame (Some 2) silent (saying 1 b) → ⊥
+  pub last : (b : Body) → SayTheSame (Some 2) silent (saying 2 b) → ⊥
+  pub behind : (b : Body) → SayTheSame (Some 2) silent (saying 3 b)
+  -- where there is no last one all count
+  pub every : (b : Body) → SayTheSame None silent (saying 5 b) → ⊥
+  -- what they say counts, and that one leaves
+  pub other : (b c : Body) → b ≢ c → SayTheSame (Some 2) (saying 2 b) (saying 2 c) → ⊥
+  pub leaves : (b : Body) → SayTheSame (Some 2) (saying 2 b) silent → ⊥
+  pub same : (b : Body) → SayTheSame (Some 2) (saying 2 b) (saying 2 b)
+  -- so it is with copies, of which one comes from moment 100 to moment 110
+  pub comes_before : (b : Body) (old new : Database) → Comes (key 1) (copy b (pos 4) 10 105) old new
+      → AreLeft (Some 2) 100 110 old new → ⊥
+  pub comes_last : (b : Body) (old new : Database) → Comes (key 2) (copy b (pos 4) 10 105) old new
+      → AreLeft (Some 2) 100 110 old new → ⊥
+  pub comes_behind : (b : Body) (old new : Database) → Comes (key 3) (copy b (pos 4) 10 105) old new
+      → AreLeft (Some 2) 100 110 old new
+  pub comes_anywhere : (b : Body) (old new : Database)
+      → Comes (key 5) (copy b (pos 4) 10 105) old new → AreLeft None 100 110 old new → ⊥
