@@ -117,11 +117,14 @@ fn print_size<R: Clock + Print + AllocGlobal>(rt: &R, size: u32) -> Result<()> {
     let times = least_times(rt, Scale { size, edits })?;
     let edits = u64::from(edits).max(1);
     println!(rt; "a database of {size} LSAs, nanoseconds a call, the least of {MEASUREMENTS}")?;
-    println!(rt; "insert {}", times.insert / edits)?;
-    println!(rt; "get {}", times.get / u64::from(size).max(1))?;
-    println!(rt; "remove {}", times.remove / edits)?;
-    println!(rt; "mark as sent {}", times.mark / edits)?;
-    println!(rt; "roll an insertion back {}", times.roll_back / edits)?;
+    println!(rt;
+        "insert {}\nget {}\nremove {}\nmark as sent {}\nroll an insertion back {}",
+        times.insert / edits,
+        times.get / u64::from(size).max(1),
+        times.remove / edits,
+        times.mark / edits,
+        times.roll_back / edits
+    )?;
     Ok(())
 }
 

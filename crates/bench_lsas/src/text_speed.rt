@@ -26,14 +26,13 @@ fn put_link(out: &mut Vec<u8>, number: u16, is_last: bool) -> Result<(), AllocEr
     Ok(())
 }
 
+// The header of a router-LSA of 1.1.1.1 up to its length, without a checksum.
+const FRONT: [u8; 18] = [0, 1, 2, 1, 1, 1, 1, 1, 1, 1, 1, 1, 0x80, 0, 0, 1, 0, 0];
+
 fn put_unsealed(out: &mut Vec<u8>, links: u16) -> Result<(), AllocError>
     requires { links < 5000 }
 {
-    put_u32(out, 0x0001_0201)?;
-    put_u32(out, 0x0101_0101)?;
-    put_u32(out, 0x0101_0101)?;
-    put_u32(out, 0x8000_0001)?;
-    put_u16(out, 0)?;
+    out.extend_from_slice(&FRONT)?;
     put_u16(out, 28 + 12 * links)?;
     put_u16(out, 0x0200)?;
     put_u16(out, links)?;

@@ -15,15 +15,51 @@ use words::Route;
 /// How many measurements each figure is the least of.
 const MEASUREMENTS: u32 = 11;
 
-fn shape(name: &'static str, routers: u32, steps: [u32; 2], externals: u32) -> Shape {
+/// What is walked over.
+const SHAPES: [Shape; 6] = [
     Shape {
-        name,
-        routers,
-        steps,
-        externals,
+        name: "ring",
+        routers: 4_000,
+        steps: [1, 0],
+        externals: 12_384,
         forwards: false,
-    }
-}
+    },
+    Shape {
+        name: "grid",
+        routers: 4_000,
+        steps: [1, 63],
+        externals: 12_384,
+        forwards: false,
+    },
+    Shape {
+        name: "circle",
+        routers: 4_000,
+        steps: [1, 1_483],
+        externals: 12_384,
+        forwards: false,
+    },
+    Shape {
+        name: "grid",
+        routers: 1_000,
+        steps: [1, 32],
+        externals: 15_000,
+        forwards: false,
+    },
+    Shape {
+        name: "grid",
+        routers: 1_000,
+        steps: [1, 32],
+        externals: 15_000,
+        forwards: true,
+    },
+    Shape {
+        name: "grid",
+        routers: 16_384,
+        steps: [1, 128],
+        externals: 0,
+        forwards: false,
+    },
+];
 
 fn since<R: Clock>(rt: &R, start: Instant) -> Result<u64> {
     Ok(nanoseconds_since(rt, start)? / 1_000)
@@ -95,10 +131,19 @@ fn measure<R: Clock + AllocGlobal>(rt: &R, db: &Lsdb, root: &Root) -> Result<Tim
     let start = Instant::now(rt)?;
     let reached = walk(rt.alloc(), db, root, now)?;
     let walk = since(rt, start)?;
-    let start = Instant::now(rt)?;
     let routes = routes_of(rt.alloc(), db, root, now, &reached)?;
-    let taken = since(rt, start)?;
-    let (table, stale) = measure_table(rt, &routes)?;
+    let both = since(rt, start)?;
+    times_of(rt, &routes, walk, both.saturating_sub(walk))
+}
+
+// What is known of these routes, which took so long behind a walk that took so long.
+fn times_of<R: Clock + AllocGlobal>(
+    rt: &R,
+    routes: &[Route],
+    walk: u64,
+    taken: u64,
+) -> Result<Times> {
+    let (table, stale) = measure_table(rt, routes)?;
     Ok(Times {
         walk,
         routes: taken,
@@ -151,44 +196,32 @@ fn print_times<R: Print>(rt: &R, shape: Shape, times: Times) -> Result<()> {
     Ok(())
 }
 
-fn print_shape<R: Clock + Print + AllocGlobal>(rt: &R, shape: Shape) -> Result<()> {
+fn times_at<R: Clock + AllocGlobal>(rt: &R, shape: Shape) -> Result<Times> {
     let db = database(rt.alloc(), shape)?;
-    print_times(rt, shape, measure_at(rt, &db)?)
+    measure_at(rt, &db)
 }
 
-// What a walk beside the crowd takes, in microseconds.
-fn measure_crowd<R: Clock + AllocGlobal>(rt: &R, db: &Lsdb, root: &Root) -> Result<u64> {
-    ensure!(db.len() <= 16384, "{} LSAs", db.len());
-    ensure!(root.addresses.as_slice().len() <= 63, "too many interfaces");
-    let now = moment();
-    let start = Instant::now(rt)?;
-    let reached = walk(rt.alloc(), db, root, now)?;
-    let taken = since(rt, start)?;
-    let routes = routes_of(rt.alloc(), db, root, now, &reached)?;
-    ensure!(routes.len() == 1, "{} routes and not 1", routes.len());
-    Ok(taken)
+fn print_shape<R: Clock + Print + AllocGlobal>(rt: &R, shape: Shape) -> Result<()> {
+    print_times(rt, shape, times_at(rt, shape)?)
 }
 
-// The least of all measurements.
-fn least_crowd<R: Clock + AllocGlobal>(rt: &R, db: &Lsdb, root: &Root) -> Result<u64> {
-    let mut least = u64::MAX;
-    for _measurement in 0..MEASUREMENTS {
-        least = least.min(measure_crowd(rt, db, root)?);
-    }
-    Ok(least)
+// Of a walk beside the crowd: the one route is that of its networks, which have one prefix.
+fn print_crowd_times<R: Print>(rt: &R, times: Times) -> Result<()> {
+    ensure!(times.count == 1, "{} routes and not 1", times.count);
+    println!(rt;
+        "{TRANSITS} equal links to {CROWD} networks of one Link State ID:\n  walk {}",
+        times.walk
+    )?;
+    Ok(())
 }
 
-fn least_beside<R: Clock + AllocGlobal>(rt: &R) -> Result<u64> {
+fn times_beside_crowd<R: Clock + AllocGlobal>(rt: &R) -> Result<Times> {
     let db = crowd(rt.alloc())?;
-    let root = root(rt.alloc())?;
-    least_crowd(rt, &db, &root)
+    measure_at(rt, &db)
 }
 
 fn print_crowd<R: Clock + Print + AllocGlobal>(rt: &R) -> Result<()> {
-    let taken = least_beside(rt)?;
-    println!(rt; "{TRANSITS} equal links to {CROWD} networks of one Link State ID:")?;
-    println!(rt; "  walk {taken}")?;
-    Ok(())
+    print_crowd_times(rt, times_beside_crowd(rt)?)
 }
 
 /// Prints what a walk takes, what its candidates take, what their table takes and what the test
@@ -203,13 +236,8 @@ fn print_crowd<R: Clock + Print + AllocGlobal>(rt: &R) -> Result<()> {
 /// route.
 pub fn print<R: Clock + Print + AllocGlobal>(rt: &R) -> Result<()> {
     println!(rt; "microseconds, the least of {MEASUREMENTS}")?;
-    print_shape(rt, shape("ring", 4_000, [1, 0], 12_384))?;
-    print_shape(rt, shape("grid", 4_000, [1, 63], 12_384))?;
-    print_shape(rt, shape("circle", 4_000, [1, 1_483], 12_384))?;
-    let mut asked = shape("grid", 1_000, [1, 32], 15_000);
-    print_shape(rt, asked)?;
-    asked.forwards = true;
-    print_shape(rt, asked)?;
-    print_shape(rt, shape("grid", 16_384, [1, 128], 0))?;
+    for shape in &SHAPES {
+        print_shape(rt, *shape)?;
+    }
     print_crowd(rt)
 }
