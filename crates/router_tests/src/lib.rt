@@ -1,6 +1,6 @@
 //! Tests of a router's parts by their public calls: `lsdb`, `neighbor_places`, `routes`,
-//! `shortest_paths`, `candidates`, `tables` and `kept_routes`. They stand above, since a crate is
-//! proved once more for its tests.
+//! `shortest_paths`, `candidates`, `tables` and `kept_routes`, and of `forwarding_loops`. They
+//! stand above, since a crate is proved once more for its tests.
 #![tactic(auto)]
 
 #[cfg(test)]
@@ -13,6 +13,8 @@ mod instances;
 mod kept;
 #[cfg(test)]
 mod lines;
+#[cfg(test)]
+mod looping;
 #[cfg(test)]
 mod networks;
 #[cfg(test)]
