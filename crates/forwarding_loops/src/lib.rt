@@ -12,8 +12,6 @@ mod hop;
 mod marking;
 mod reaching;
 mod tables;
-#[cfg(test)]
-mod tests;
 
 pub use counting::count_loops;
 pub use hop::Hop;

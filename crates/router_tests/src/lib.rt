@@ -14,6 +14,8 @@ mod kept;
 #[cfg(test)]
 mod lines;
 #[cfg(test)]
+mod looping;
+#[cfg(test)]
 mod networks;
 #[cfg(test)]
 mod plain;

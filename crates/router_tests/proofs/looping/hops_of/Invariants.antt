@@ -1,6 +1,6 @@
 use Rattle.std.specs.List.{All}
 use Rattle.forwarding_loops.specs.Loops.{IsAmong}
-use Rattle.forwarding_loops.proofs.tests.hops_of.Given as goal
+use Rattle.router_tests.proofs.looping.hops_of.Given as goal
 
 abbrev pub invariant-loop-pair : goal.invariant-loop-pair
 invariant-loop-pair l = All (IsAmong l.routers) l.hops.items

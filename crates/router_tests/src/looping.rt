@@ -1,15 +1,14 @@
-//! Hops of a few routers, by hand.
-ghost use Rattle.std.specs.Prelude.{IfOk};
+//! Which routers a packet comes back to, over hops of a few routers by hand.
+ghost use Rattle.std.specs.Prelude.{IfOk, length};
 ghost use Rattle.std.specs.List.{All};
 ghost use Rattle.forwarding_loops.specs.Loops.{IsAmong};
 
-use crate::counting::count_loops;
-use crate::hop::Hop;
-use crate::marking::loops;
+use forwarding_loops::{Hop, count_loops, loops};
 use std::alloc::{AllocError, Global};
 use std::test::Fail;
 
 struct Case {
+    name: &'static str,
     costs: &'static [u32],
     hops: &'static [(usize, usize)],
     // which routers lie on a loop, and how many
@@ -18,50 +17,50 @@ struct Case {
 }
 
 const CASES: [Case; 7] = [
-    // a row to the first router
     Case {
+        name: "a row to the first router",
         costs: &[0, 10, 20],
         hops: &[(1, 0), (2, 1)],
         marks: &[false, false, false],
         count: 0,
     },
-    // two hand packets to each other
     Case {
+        name: "two hand packets to each other",
         costs: &[10, 10],
         hops: &[(0, 1), (1, 0)],
         marks: &[true, true],
         count: 2,
     },
-    // the last one leads into their loop, and lies on none
     Case {
+        name: "the last one leads into their loop, and lies on none",
         costs: &[10, 20, 30],
         hops: &[(0, 1), (1, 0), (2, 1)],
         marks: &[true, true, false],
         count: 2,
     },
-    // a way out of a loop doesn't end it
     Case {
+        name: "a way out of a loop doesn't end it",
         costs: &[0, 10, 20],
         hops: &[(1, 0), (1, 2), (2, 1)],
         marks: &[false, true, true],
         count: 2,
     },
-    // the one between two loops lies on none
     Case {
+        name: "the one between two loops lies on none",
         costs: &[50, 40, 30, 20, 10],
         hops: &[(0, 1), (1, 0), (1, 2), (2, 3), (3, 4), (4, 3)],
         marks: &[true, true, false, true, true],
         count: 4,
     },
-    // two loops that meet
     Case {
+        name: "two loops that meet",
         costs: &[7, 7, 7, 7, 7],
         hops: &[(0, 1), (1, 2), (2, 0), (2, 3), (3, 4), (4, 2)],
         marks: &[true, true, true, true, true],
         count: 5,
     },
-    // a router that leads to itself
     Case {
+        name: "a router that leads to itself",
         costs: &[3, 2],
         hops: &[(0, 1), (1, 1)],
         marks: &[false, true],
@@ -82,14 +81,24 @@ fn hops_of(alloc: Global, pairs: &[(usize, usize)], routers: usize) -> Result<Ve
     Ok(hops)
 }
 
+// Whether the marks and the count are those of the case.
+fn is_case(alloc: Global, hops: &[Hop], case: &Case) -> Result<bool, AllocError>
+    requires { All (IsAmong (length case.now.costs.now)) hops.now }
+{
+    let count = count_loops(alloc, hops, case.costs)?;
+    let marks = loops(alloc, hops, case.costs)?;
+    Ok(count == case.count && marks.as_slice() == case.marks)
+}
+
+fn is_right(alloc: Global, case: &Case) -> Result<bool, AllocError> {
+    let hops = hops_of(alloc, case.hops, case.costs.len())?;
+    is_case(alloc, &hops, case)
+}
+
 #[test]
 fn loops_are_found_and_counted(rt: HostRuntime) -> Result<(), Fail> {
     for case in &CASES {
-        let hops = hops_of(rt.alloc(), case.hops, case.costs.len())?;
-        let marks = loops(rt.alloc(), &hops, case.costs)?;
-        assert_eq!(rt; marks.as_slice(), case.marks);
-        let count = count_loops(rt.alloc(), &hops, case.costs)?;
-        assert_eq!(rt; count, case.count);
+        assert!(rt; is_right(rt.alloc(), case)?, "{}", case.name);
     }
     Ok(())
 }
