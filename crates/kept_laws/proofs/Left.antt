@@ -4,7 +4,6 @@ use Rattle.std.specs.Prelude.{◌==◌}
 use mathlib.Core.Bool.{false≢true}
 use Rattle.words.specs.declared.key.Key.{Key}
 use Rattle.lsa.specs.declared.body.Body.{Body}
-use Rattle.lsdb.specs.Changes.{HaveNoMaxAge, HaveOneAge}
 use Rattle.lsdb.specs.Copies.{DatabaseCopy, is_aged_out}
 use Rattle.kept_routes.specs.Ages.{IsOldCopy}
 use Rattle.kept_routes.specs.Sameness.{IsLeft}
@@ -24,9 +23,9 @@ old c is n same aged =
     let one : c ≡ n = cc in
     sym (ap (is_aged_out 100) one) ∙ is
 
-pub neither : (a b : DatabaseCopy) → (HaveOneAge a b → ⊥) → (HaveNoMaxAge 110 a b → ⊥) → HaveOneAge a b ⊎ HaveNoMaxAge 110 a b → ⊥
-neither a b no_one no_young (inl one) = no_one one
-neither a b no_one no_young (inr young) = no_young young
+pub neither : (A B : Type 0) → (A → ⊥) → (B → ⊥) → A ⊎ B → ⊥
+neither A B no_a no_b (inl a) = no_a a
+neither A B no_a no_b (inr b) = no_b b
 
 -- nothing was there and nothing is
 pub nowhere : (was is : Option DatabaseCopy) → was ≡ None → is ≡ None → IsLeft 100 110 was is

@@ -65,9 +65,13 @@ pub record WorkedCopies : Type 0 where
   pub ages_now : (b : Body) → IsLeftThen (Some (copy b (pos 4) 3580 90)) (Some (copy b (pos 4) 3580 90)) → ⊥
   pub is_flushed : (b : Body)
       → IsLeftThen (Some (copy b (pos 4) 10 90)) (Some (copy b (pos 4) 3600 105)) → ⊥
-  -- it had MaxAge and another instance is there, young or at MaxAge
+  -- it had MaxAge, or would have it by now, and another instance is there, young or at MaxAge
   pub is_back : (b : Body)
       → IsLeftThen (Some (copy b (pos 4) 3600 90)) (Some (copy b (pos 5) 0 105)) → ⊥
+  pub is_back_at_once : (b : Body)
+      → IsLeftThen (Some (copy b (pos 4) 3600 90)) (Some (copy b (pos 5) 0 90)) → ⊥
+  pub is_back_too_late : (b : Body)
+      → IsLeftThen (Some (copy b (pos 4) 3580 90)) (Some (copy b (pos 5) 0 110)) → ⊥
   pub is_flushed_again : (b : Body)
       → IsLeftThen (Some (copy b (pos 4) 3600 90)) (Some (copy b (pos 5) 3600 105)) → ⊥
 

@@ -1,6 +1,7 @@
 //! Tests of a router's parts by their public calls: `lsdb`, `neighbor_places`, `routes`,
 //! `shortest_paths`, `candidates`, `tables`, `kept_routes` and `forwarding_loops`; and of `words`,
-//! `lsa`, `packet` and `console`. They stand above, since a crate is proved once more for its tests.
+//! `lsa`, `packet` and `console`. They stand above, since a crate is proved once more for its
+//! tests.
 #![tactic(auto)]
 
 #[cfg(test)]

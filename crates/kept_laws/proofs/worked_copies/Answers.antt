@@ -24,10 +24,9 @@ returns c = record {
   changes_aged = λ b d other h. other h.same.0;
   ages = λ b h. false≢true (h.old_copy (copy b (pos 4) 3589 90) refl refl);
   ages_now = λ b h. false≢true (h.old_copy (copy b (pos 4) 3580 90) refl refl);
-  is_flushed = λ b h. neither (copy b (pos 4) 10 90) (copy b (pos 4) 3600 105)
-      (λ one. omega (arith, one.0)) (λ none. false≢true (sym none.1)) h.same.1;
-  is_back = λ b h. neither (copy b (pos 4) 3600 90) (copy b (pos 5) 0 105)
-      (λ one. omega (arith, one.0)) (λ none. false≢true (sym none.0)) h.same.1;
-  is_flushed_again = λ b h. neither (copy b (pos 4) 3600 90) (copy b (pos 5) 3600 105)
-      (λ one. omega (arith, one.1)) (λ none. false≢true (sym none.0)) h.same.1;
+  is_flushed = λ b h. neither _ _ (λ one. omega (arith, one.0)) (λ none. false≢true (sym none.1)) h.same.1;
+  is_back = λ b h. neither _ _ (λ one. omega (arith, one.0)) (λ none. false≢true (sym none.0)) h.same.1;
+  is_back_at_once = λ b h. neither _ _ (λ one. omega (arith, one.0)) (λ none. false≢true (sym none.0)) h.same.1;
+  is_back_too_late = λ b h. neither _ _ (λ one. omega (arith, one.0)) (λ none. false≢true (sym none.0)) h.same.1;
+  is_flushed_again = λ b h. neither _ _ (λ one. omega (arith, one.1)) (λ none. false≢true (sym none.0)) h.same.1;
 }
