@@ -1,5 +1,5 @@
 -- What answers let in of a list of routes, and what of it they leave unanswered.
-use Rattle.std.specs.Prelude.{List, ◌↔◌}
+use Rattle.std.specs.Prelude.{◌≡◌, ℕ, List, Some, slice_get, ◌↔◌}
 use Rattle.std.specs.List.{AllPairs, Contains}
 use Rattle.words.specs.declared.route.Route.{Route}
 use Rattle.routes.specs.Routes.{IsBefore}
@@ -16,3 +16,7 @@ pub record AreLetIn (answers : Answers) (routes part : List Route) : Type 0 wher
 -- some route isn't answered
 abbrev pub LacksAnswers : Answers → List Route → Type 0
 LacksAnswers answers routes = (r : Route) × Contains routes r × (IsAnswered answers r → ⊥)
+
+-- the answer to this route stands at this place
+abbrev pub StandsAt : Answers → ℕ → Route → Type 0
+StandsAt answers at route = (word : ℕ) × (slice_get answers at ≡ Some (route, word))

@@ -1,12 +1,14 @@
 //! The table and whether it is stale.
-ghost use Rattle.std.specs.Prelude.{◌↔◌, IfOk, IsTrue};
+ghost use Rattle.std.specs.Prelude.{◌≡◌, ◌↔◌, ◌<◌, ◌≤◌, ℕ, IfOk, IsTrue, Some, false};
+ghost use Rattle.std.specs.Prelude.{length, slice_get};
 ghost use Rattle.std.specs.List.Sorted.{IsSorted};
 ghost use Rattle.routes.specs.Candidates.{AreCandidates};
 ghost use Rattle.routes.specs.Said.{Said};
 ghost use Rattle.routes.specs.Tables.{IsStale, IsTable};
 ghost use Rattle.routes.specs.declared.root.Root.{Root};
 ghost use Rattle.tables.specs.Orders.{answer_cmp};
-ghost use Rattle.tables.specs.Parts.{AreLetIn, LacksAnswers};
+ghost use Rattle.tables.specs.Parts.{AreLetIn, LacksAnswers, StandsAt};
+ghost use Rattle.words.specs.declared.route.Route.{Route as RouteValue};
 
 use crate::lookups::{is_answered, is_let_in, is_of};
 use crate::order::{are_in_order, in_order};
@@ -56,8 +58,12 @@ pub fn is_stale(
         → AreCandidates said root candidates.now
         → (IsTrue stale ↔ IsStale said root answers.now)) }
 {
-    if are_answered_in_turn(candidates, answers) {
+    let met = answered_in_turn(candidates, answers);
+    if met >= candidates.len() {
         return Ok(false);
+    }
+    if !is_answered_from(answers, met, &candidates[met]) {
+        return Ok(true);
     }
     if are_in_order(answers) {
         return Ok(lack_answers(candidates, answers));
@@ -103,17 +109,38 @@ fn lack_answers(routes: &[Route], answers: &[(Route, u64)]) -> bool
     false
 }
 
-// Whether the answer to each route stands at the route's own place.
-fn are_answered_in_turn(routes: &[Route], answers: &[(Route, u64)]) -> bool
-    ensures { IsTrue result → LacksAnswers answers.now routes.now → ⊥ }
+// Whether the answer to this route stands at this place.
+fn stands_at(answers: &[(Route, u64)], at: usize, route: &Route) -> bool
+    ensures { IsTrue result → StandsAt answers.now at route.now }
 {
-    if answers.len() < routes.len() {
-        return false;
+    if at < answers.len() && is_of(&answers[at], route) {
+        return true;
     }
+    false
+}
+
+// How many of the first routes have their answers at their own places.
+fn answered_in_turn(routes: &[Route], answers: &[(Route, u64)]) -> usize
+    ensures within { result ≤ length routes.now }
+    ensures each { (k : ℕ) (r : RouteValue) → k < result → slice_get routes.now k ≡ Some r
+        → StandsAt answers.now k r }
+{
     for at in 0..routes.len() {
-        if !is_of(&answers[at], &routes[at]) {
-            return false;
+        if !stands_at(answers, at, &routes[at]) {
+            return at;
         }
     }
-    true
+    routes.len()
+}
+
+// Whether an answer to the route stands at this place or behind it.
+fn is_answered_from(answers: &[(Route, u64)], from: usize, route: &Route) -> bool
+    ensures { result ≡ false → (k : ℕ) → from ≤ k → StandsAt answers.now k route.now → ⊥ }
+{
+    for at in from..answers.len() {
+        if is_of(&answers[at], route) {
+            return true;
+        }
+    }
+    false
 }

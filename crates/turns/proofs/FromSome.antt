@@ -9,8 +9,9 @@ use Rattle.events.specs.Events.{Happens}
 use Rattle.events.specs.Routers.{Router}
 use Rattle.book.specs.Event.{Event}
 use Rattle.book.specs.Occurrences.{occurrence_of}
-use Rattle.book.specs.Offers.{IsOffered}
+use Rattle.book.specs.Offers.{AreCandidatesNow, IsOffered}
 use Rattle.turns.specs.Turns.{IsOfferedBySome, Sends, taken_at}
+use Rattle.turns.proofs.Tables.{rows_beside}
 
 pub sent_by_some : {V E : Type 0} (items : V → List Out) (moment at : Moment) (e : Event) (old new : Router) (r : Result V E)
     → at ≡ taken_at e moment old.moment
@@ -23,3 +24,8 @@ pub offered_by_some : {V E : Type 0} (candidates : V → List Route) (rows : V �
     → IfOk r (λ o. IsOffered now (candidates o) (rows o)) → IfOk r (λ o. IsOfferedBySome (candidates o) (rows o))
 offered_by_some candidates rows now (Ok x) h = (now, h)
 offered_by_some candidates rows now (Err x) h = h
+
+pub candidates_of_some : {V E : Type 0} (candidates : V → List Route) (now : Router) (r : Result V E)
+    → IfOk r (λ c. AreCandidatesNow now (candidates c)) → IfOk r (λ c. (rows : List TableRow) × IsOfferedBySome (candidates c) rows)
+candidates_of_some candidates now (Ok x) h = let beside = rows_beside now (candidates x) h in (beside.0, (now, beside.1))
+candidates_of_some candidates now (Err x) h = h

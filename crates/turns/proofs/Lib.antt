@@ -2,5 +2,6 @@ mod Configured
 mod Counted
 mod FromSome
 mod LetIn
+mod Tables
 pub mod Longer
 mod Vetoes

@@ -1,7 +1,8 @@
 //! The book under its lock.
-ghost use Rattle.std.specs.Prelude.{◌≡◌, ◌+◌, ◌<◌, ◌≤◌, Err, IfOk, OnOk, OnErr, max};
+ghost use Rattle.std.specs.Prelude.{◌≡◌, ◌+◌, ◌<◌, ◌≤◌, List, Err, IfOk, OnOk, OnErr, max};
 ghost use mathlib.Core.List.{IsPrefix};
 ghost use Rattle.words.specs.Constants.{clock_end};
+ghost use Rattle.words.specs.declared.route.TableRow.{TableRow};
 ghost use Rattle.maps.specs.Access.{floor};
 ghost use Rattle.maps.specs.Words.{grown};
 ghost use Rattle.maps.specs.declared.access.Access.TheVariants.{Read};
@@ -19,7 +20,7 @@ use std::marker::PhantomData;
 use std::sync::atomic::{AtomicU64, Ordering};
 use std::sync::ledger::Share;
 use std::sync::{Mutex, Wait};
-use words::{Prefix, RouterId, Second};
+use words::{Prefix, Route, RouterId, Second};
 
 /// The router's book, at which workers take turns, and the words that their programs share.
 #[derive(Drop)]
@@ -182,6 +183,15 @@ impl<L: Site, B: Taker<L>> Hub<L, B> {
         let guard = self.book.lock(rt);
         let book: &B = &*guard;
         book.offered()
+    }
+
+    /// The candidates now, for whom the rows beside them make no difference.
+    pub(crate) fn candidates<R: Wait>(&self, rt: &R) -> Result<Vec<Route>, AllocError>
+        ensures { IfOk result (λ c. (rows : List TableRow) × B.offers c.items rows) }
+    {
+        let guard = self.book.lock(rt);
+        let book: &B = &*guard;
+        book.candidates()
     }
 
     /// The neighbor at the interface of this number and its state, or None where it is Down or

@@ -177,8 +177,36 @@ fn price(
     }
 }
 
-/// An installation: of each candidate now, whether it is kept out of the table.
+/// An installation: of each candidate now, whether it is kept out of the table. Where no program
+/// stands at `veto`, one reading tells so for all of them, whatever rows the table has: these
+/// aren't asked for.
 pub fn installation<L: Site, B: Taker<L>, R: Wait>(
+    rt: &R,
+    hub: &Hub<L, B>,
+    asker: &mut Asker,
+    seat: &mut Seat,
+    moment: Second,
+) -> Result<Event, TurnError>
+    requires { IsOf L.words seat.old }
+    ensures event { IfOk result (λ event.
+        IsInstall B.offers (known_to asker.old) moment event) }
+    ensures err { IfErr result IsUnasked }
+    ensures seat { IsOf L.words seat.new }
+    ensures history { asks_of asker.new ≡ asks_of asker.old }
+    ensures known { IsPrefix (known_to asker.old) (known_to asker.new) }
+{
+    let candidates = hub.candidates(rt)?;
+    let routes = candidates.as_slice();
+    let all = asker.all_let_in(*candidates.allocator(), routes, moment)?;
+    match all {
+        Some(answers) => Ok(Event::Install(Sequence::from_vec(answers))),
+        None => vetoed(rt, hub, asker, seat, moment),
+    }
+}
+
+// The same, where a program may stand at `veto`: it is asked of each candidate beside the rows of
+// the table.
+fn vetoed<L: Site, B: Taker<L>, R: Wait>(
     rt: &R,
     hub: &Hub<L, B>,
     asker: &mut Asker,
@@ -198,34 +226,8 @@ pub fn installation<L: Site, B: Taker<L>, R: Wait>(
     Ok(Event::Install(Sequence::from_vec(answers)))
 }
 
-// The answers on the candidates, in their order. Where no program stands at `veto`, one reading
-// tells so for all of them.
+// The answers on the candidates, in their order, each by a question of its own.
 fn vetoes(
-    shared: &Shared,
-    asker: &mut Asker,
-    seat: &mut Seat,
-    moment: Second,
-    offered: &Offered,
-) -> Result<Vec<VetoAnswer>, TurnError>
-    requires { IsOf shared.now seat.old }
-    ensures answers { IfOk result (λ answers. AreVetoes (known_to asker.old)
-        moment offered.now.rows.items offered.now.candidates.items answers.items) }
-    ensures err { IfErr result IsUnasked }
-    ensures seat { IsOf shared.now seat.new }
-    ensures history { asks_of asker.new ≡ asks_of asker.old }
-    ensures known { IsPrefix (known_to asker.old) (known_to asker.new) }
-{
-    let routes = offered.candidates.as_slice();
-    let alloc = *offered.candidates.allocator();
-    let all = asker.all_let_in(alloc, routes, moment)?;
-    match all {
-        Some(answers) => Ok(answers),
-        None => each_veto(shared, asker, seat, moment, offered),
-    }
-}
-
-// The same, each candidate by a question of its own.
-fn each_veto(
     shared: &Shared,
     asker: &mut Asker,
     seat: &mut Seat,

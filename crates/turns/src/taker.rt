@@ -4,12 +4,12 @@ ghost use Rattle.std.specs.Prelude.{max};
 ghost use Rattle.words.specs.Constants.{clock_end};
 ghost use Rattle.words.specs.Numbers.{InterfaceNumber, Moment, RouterNumber};
 ghost use Rattle.words.specs.Prefixes.{Network};
-ghost use Rattle.words.specs.declared.route.Route.{Route};
+ghost use Rattle.words.specs.declared.route.Route.{Route as RouteValue};
 ghost use Rattle.words.specs.declared.route.TableRow.{TableRow};
 ghost use Rattle.events.specs.declared.model.Out.{Out};
 ghost use Rattle.events.specs.Routers.{shown_at};
 ghost use Rattle.book.specs.Event.{Event};
-ghost use Rattle.book.specs.Offers.{IsOffered};
+ghost use Rattle.book.specs.Offers.{AreCandidatesNow, IsOffered};
 ghost use Rattle.book.specs.State.{State};
 ghost use Rattle.turns.specs.Turns.{
   IsInstalling,
@@ -23,7 +23,7 @@ ghost use Rattle.turns.specs.Turns.{
 use book::{Book, BookError, CoreError, Event, Offered, Out, State};
 use std::alloc::AllocError;
 use std::sync::ledger::{Ledger, Share};
-use words::{Prefix, RouterId, Second};
+use words::{Prefix, Route, RouterId, Second};
 
 /// Takes events, and tells what it offers.
 ///
@@ -33,7 +33,7 @@ use words::{Prefix, RouterId, Second};
 pub trait Taker<L: Ledger> {
     ghost took: { Moment → Event → List Out → Type 0 };
 
-    ghost offers: { List Route → List TableRow → Type 0 };
+    ghost offers: { List RouteValue → List TableRow → Type 0 };
 
     ghost wanted: { Network → Bool → Type 0 };
 
@@ -66,6 +66,11 @@ pub trait Taker<L: Ledger> {
     /// The candidates now, and the rows of the table now.
     fn offered(&self) -> Result<Offered, AllocError>
         ensures { IfOk result (λ o. offers o.candidates.items o.rows.items) };
+
+    /// The candidates now, for whom the rows beside them make no difference: that takes less time
+    /// than [`offered`](Taker::offered).
+    fn candidates(&self) -> Result<Vec<Route>, AllocError>
+        ensures { IfOk result (λ c. (rows : List TableRow) × offers c.items rows) };
 
     /// Tells whether this destination is announced now.
     fn wants(&self, prefix: Prefix) -> bool
@@ -125,6 +130,13 @@ impl<L: Ledger> Taker<L> for Book<L> {
         ensures some { IfOk result (λ o. IsOfferedBySome o.candidates.items o.rows.items) }
     {
         self.now().offered()
+    }
+
+    fn candidates(&self) -> Result<Vec<Route>, AllocError>
+        ensures now { IfOk result (λ c. AreCandidatesNow self.now.current c.items) }
+        ensures some { IfOk result (λ c. (rows : List TableRow) × IsOfferedBySome c.items rows) }
+    {
+        self.now().candidates()
     }
 
     fn wants(&self, prefix: Prefix) -> bool

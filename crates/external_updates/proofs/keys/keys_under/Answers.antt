@@ -1,16 +1,9 @@
-use Rattle.std.proofs.Common.{◌≡◌, take, sym, subst, ◌∙◌, ap}
-use Rattle.std.specs.Prelude.{Some, slice_get}
-use Rattle.std.specs.FinMap as finite
-use Rattle.keyed_map.specs.Slots.{keys_from}
-use Rattle.external_updates.specs.Destinations.{first_key}
-use Rattle.external_updates.proofs.Under.{all_under}
+use Rattle.std.proofs.Common.{Vec, Global, Option, subst}
+use Rattle.std.specs.Prelude.{IfSome}
+use Rattle.words.specs.declared.key.Key.{Key}
+use Rattle.external_updates.specs.Destinations.{HaveAllUnder}
 use Rattle.external_updates.proofs.keys.keys_under.Goals as goal
 
-pub returns : goal.returns
-returns c =
-    let db = c.args.db.now.present in
-    let keys = c.in_ok-keys.keys.items in
-    let same = c.deref.ensures.value in
-    let are = c.in_ok-keys.ensures ∙ ap (λ k. take 64 (keys_from k (finite.keys db))) c.first_key.ensures in
-    all_under db c.args.prefix 63 keys are
-    (λ last at lies. c.may_lack.ensures c.if-may_lack.false last (subst (λ ks. slice_get ks 63 ≡ Some last) (sym same) at) lies)
+pub returns-in-Some : goal.returns-in-Some
+returns-in-Some c =
+    subst (λ (o : Option (Vec Key Global)). IfSome o (λ keys. HaveAllUnder c.args.db.now.present c.args.prefix keys.items)) c.in-Some.is c.in_ok-few.ensures

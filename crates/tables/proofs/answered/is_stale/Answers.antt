@@ -1,16 +1,26 @@
-use Rattle.std.proofs.Common.{◌≡◌, true, false, subst}
+use Rattle.std.proofs.Common.{◌≡◌, true, false, refl, subst}
 use Rattle.std.specs.Prelude.{◌↔◌, IsTrue}
+use Rattle.tables.proofs.InTurn.{none_lacks, one_lacks}
 use Rattle.tables.proofs.LetIn.{lack_by, tells_stale}
 use Rattle.tables.specs.Parts.{LacksAnswers}
 use Rattle.routes.specs.Tables.{Answers}
 use Rattle.tables.proofs.answered.is_stale.Goals as goal
 
-pub returns-then-are_answered_in_turn : goal.returns-then-are_answered_in_turn
-returns-then-are_answered_in_turn c =
+pub returns-then-met-candidates : goal.returns-then-met-candidates
+returns-then-met-candidates c =
     tells_stale c.args.answers.now c.args.candidates.now false (
       (λ t. absurd (let no : false ≡ true = t in cc)),
-      (λ lacks. absurd (c.are_answered_in_turn.ensures c.if-are_answered_in_turn.true lacks)),
+      (λ lacks. absurd (none_lacks c.args.answers.now c.args.candidates.now c.answered_in_turn-met.result c.if-met-candidates.true c.answered_in_turn-met.ensures.each lacks)),
     )
+
+pub returns-then-not-is_answered_from : goal.returns-then-not-is_answered_from
+returns-then-not-is_answered_from c said root are =
+    let answers = c.args.answers.now in
+    let candidates = c.args.candidates.now in
+    let met = c.answered_in_turn-met.result in
+    let behind = c.is_answered_from.ensures c.if-not-is_answered_from.true in
+    let lacks = one_lacks answers candidates met c.index-candidates-met.result c.if-met-candidates.false c.index-candidates-met.is are.ascending c.answered_in_turn-met.ensures.each behind in
+    tells_stale answers candidates true ((λ t. lacks), (λ any. refl)) said root are
 
 pub returns-then-are_in_order : goal.returns-then-are_in_order
 returns-then-are_in_order c = tells_stale c.args.answers.now c.args.candidates.now c.lack_answers.result c.lack_answers.ensures
