@@ -68,23 +68,29 @@ fn widen_and_narrow(
     fall(program, draft)
 }
 
-/// Finds the statements of the program without ranks, and the edges between them.
-fn find(program: &Program<'_>, draft: &mut Draft) -> Result<(), AllocError> {
+/// Keeps these statements as they are.
+fn keep(program: &Program<'_>, draft: &mut Draft, kept: &[Statement]) {
+    for statement in kept {
+        if let Some(site) = program.sites.at(statement.slot() as usize) {
+            draft.keep(site, *statement);
+        }
+    }
+}
+
+/// Finds the statements of the program without ranks, and the edges between them. Those that are
+/// kept stay as they are.
+fn find(program: &Program<'_>, draft: &mut Draft, kept: &[Statement]) -> Result<(), AllocError> {
+    keep(program, draft, kept);
     widen_and_narrow(program, draft, false)?;
     widen_and_narrow(program, draft, true)?;
     draft.begin(program.alloc, Purpose::Gather)?;
     program.pass(draft)
 }
 
-/// What is found for the program. Those that are kept stay as they are.
+/// What is found for the program.
 fn drafted(program: &Program<'_>, kept: &[Statement]) -> Result<Draft, AllocError> {
     let mut draft = Draft::new(program.alloc, program.sites.len())?;
-    for statement in kept {
-        if let Some(site) = program.sites.at(statement.slot() as usize) {
-            draft.keep(site, *statement);
-        }
-    }
-    find(program, &mut draft)?;
+    find(program, &mut draft, kept)?;
     Ok(draft)
 }
 

@@ -10,9 +10,10 @@ use crate::sites::Sites;
 use absdom::Domain;
 use isa::{Code, Hook, Instruction, Register, Slot, Source, Test, Width};
 use kinds::{Entry, Kind, Place, State, Target, put, reset, target_of};
+use object::Statement;
 use segments::places::{jumped, jumped_near, slots_of};
 use std::alloc::{AllocError, Global};
-use transfer::branch::{Edges, refined, tested};
+use transfer::branch::{Edges, tested};
 use transfer::load::any_loaded;
 use transfer::straight::straight;
 
@@ -58,54 +59,19 @@ fn start(alloc: Global) -> Result<State<Value>, AllocError> {
     })
 }
 
-/// What is known behind an instruction that doesn't go on there.
-fn ended(here: Here) -> Here {
-    let Here {
-        begun,
-        state,
-        is_idle,
-        ..
-    } = here;
-    Here {
-        begun,
-        state,
-        is_live: false,
-        is_idle,
-    }
-}
-
-/// The same, where no run comes if that is so.
-fn idled(here: Here, is_idle: bool) -> Here {
-    let Here {
-        begun,
-        state,
-        is_live,
-        ..
-    } = here;
-    Here {
-        begun,
-        state,
-        is_live,
-        is_idle,
-    }
-}
-
-/// What is known where the operands have these values.
-fn narrowed(here: Here, branch: &Branch, values: Option<(Value, Value)>) -> Here {
-    let Some(values) = values else {
-        return here;
-    };
-    let Here {
-        begun,
-        state,
-        is_live,
-        is_idle,
-    } = here;
-    Here {
-        begun,
-        state: refined(state, branch.left, branch.right, values),
-        is_live,
-        is_idle,
+/// Narrows what is known to where the operands have these values. Where that can't be, no run comes
+/// there; nor where none came before.
+fn narrow(here: &mut Here, branch: &Branch, values: Option<(Value, Value)>, was_idle: bool) {
+    here.is_idle = was_idle || values.is_none();
+    if let Some((left, right)) = values {
+        put(
+            &mut here.state.kinds,
+            branch.left.index(),
+            Kind::Number(left),
+        );
+        if let Source::Register(register) = branch.right {
+            put(&mut here.state.kinds, register.index(), Kind::Number(right));
+        }
     }
 }
 
@@ -140,22 +106,20 @@ impl<'a> Program<'a> {
     }
 
     /// Goes on to the next slot. Where that has a statement, it is entered, and begins with that.
-    fn go_on(&self, draft: &mut Draft, here: Here, slot: usize, next: usize) -> Here {
-        if self.enter(draft, &here, slot, next) {
-            ended(here)
-        } else {
-            here
+    fn go_on(&self, draft: &mut Draft, here: &mut Here, slot: usize, next: usize) {
+        if self.enter(draft, here, slot, next) {
+            here.is_live = false;
         }
     }
 
     /// Goes to the target of a jump.
-    fn leave(&self, draft: &mut Draft, here: Here, slot: usize, to: usize) -> Here {
-        let _is_entered = self.enter(draft, &here, slot, to);
-        ended(here)
+    fn leave(&self, draft: &mut Draft, here: &mut Here, slot: usize, to: usize) {
+        let _is_entered = self.enter(draft, here, slot, to);
+        here.is_live = false;
     }
 
     /// Goes both ways from a conditional jump.
-    fn branch(&self, draft: &mut Draft, here: Here, slot: usize, branch: &Branch) -> Here
+    fn branch(&self, draft: &mut Draft, here: &mut Here, slot: usize, branch: &Branch)
         requires { slot < 4096 }
     {
         match tested(
@@ -168,7 +132,7 @@ impl<'a> Program<'a> {
             Ok(edges) => self.part(draft, here, slot, branch, edges),
             // The verifier refuses it: both ways go on with what is known.
             Err(_) => {
-                let _is_entered = self.enter(draft, &here, slot, branch.to);
+                let _is_entered = self.enter(draft, here, slot, branch.to);
                 self.go_on(draft, here, slot, slot + 1)
             }
         }
@@ -178,45 +142,39 @@ impl<'a> Program<'a> {
     fn part(
         &self,
         draft: &mut Draft,
-        here: Here,
+        here: &mut Here,
         slot: usize,
         branch: &Branch,
         edges: Edges<Value>,
-    ) -> Here
+    )
         requires { slot < 4096 }
     {
         let was_idle = here.is_idle;
-        let there = idled(
-            narrowed(here, branch, edges.taken),
-            was_idle || edges.taken.is_none(),
-        );
+        narrow(here, branch, edges.taken, was_idle);
         if edges.taken.is_some() || draft.is_lenient {
-            let _is_entered = self.enter(draft, &there, slot, branch.to);
+            let _is_entered = self.enter(draft, here, slot, branch.to);
         }
-        let next = idled(
-            narrowed(there, branch, edges.passed),
-            was_idle || edges.passed.is_none(),
-        );
+        narrow(here, branch, edges.passed, was_idle);
         if edges.passed.is_some() || draft.is_lenient {
-            self.go_on(draft, next, slot, slot + 1)
+            self.go_on(draft, here, slot, slot + 1)
         } else {
-            ended(next)
+            here.is_live = false;
         }
     }
 
     /// Goes on behind an instruction that is no jump.
-    fn straight(&self, draft: &mut Draft, here: Here, slot: usize, instruction: Instruction) -> Here
+    fn straight(&self, draft: &mut Draft, here: &mut Here, slot: usize, instruction: Instruction)
         requires { slot < 4096 }
     {
         let next = slot + slots_of(&instruction);
         match copy_of(self.alloc, &here.state) {
             Ok(before) => {
-                let after = followed(here, before, self.hook, instruction);
-                self.go_on(draft, after, slot, next)
+                follow(here, before, self.hook, instruction);
+                self.go_on(draft, here, slot, next)
             }
             Err(_) => {
                 draft.is_short = true;
-                ended(here)
+                here.is_live = false;
             }
         }
     }
@@ -230,19 +188,19 @@ impl<'a> Program<'a> {
         }
     }
 
-    /// What is known at the slot. A statement there begins a segment.
-    fn arrive(&self, draft: &mut Draft, here: Here, slot: usize) -> Here {
-        let Some(site) = self.sites.at(slot) else {
-            return here;
-        };
+    /// What is stated at the site, if its segment is to be passed over now.
+    fn stated(&self, draft: &mut Draft, site: usize, slot: usize) -> Option<Statement> {
         self.fill(draft, site, slot);
-        if !draft.is_due(site) {
-            return ended(here);
+        if draft.is_due(site) {
+            draft.statement(site).copied()
+        } else {
+            None
         }
-        let Some(statement) = draft.statement(site).copied() else {
-            return ended(here);
-        };
-        match target_of(self.alloc, &statement) {
+    }
+
+    /// What is known at the site that begins with this.
+    fn begin(&self, draft: &mut Draft, here: Here, site: usize, statement: &Statement) -> Here {
+        match target_of(self.alloc, statement) {
             Ok(target) => begun_at(here, site, &target),
             Err(_) => {
                 draft.is_short = true;
@@ -251,8 +209,19 @@ impl<'a> Program<'a> {
         }
     }
 
+    /// What is known at the slot. A statement there begins a segment.
+    fn arrive(&self, draft: &mut Draft, here: Here, slot: usize) -> Here {
+        let Some(site) = self.sites.at(slot) else {
+            return here;
+        };
+        match self.stated(draft, site, slot) {
+            Some(statement) => self.begin(draft, here, site, &statement),
+            None => ended(here),
+        }
+    }
+
     /// Goes on by the instruction at the slot.
-    fn step(&self, draft: &mut Draft, here: Here, slot: usize, instruction: Instruction) -> Here
+    fn step(&self, draft: &mut Draft, here: &mut Here, slot: usize, instruction: Instruction)
         requires { slot < 4096 }
     {
         match instruction {
@@ -278,16 +247,16 @@ impl<'a> Program<'a> {
                 };
                 self.branch(draft, here, slot, &branch)
             }
-            Instruction::Exit => ended(here),
+            Instruction::Exit => here.is_live = false,
             _ => self.straight(draft, here, slot, instruction),
         }
     }
 
     /// What is known where a run begins. Where slot 0 has a statement, that is entered.
-    fn enter_start(&self, draft: &mut Draft) -> Result<Here, AllocError> {
+    fn enter_start(&self, draft: &mut Draft, state: State<Value>) -> Here {
         let here = Here {
             begun: None,
-            state: start(self.alloc)?,
+            state,
             is_live: draft.is_new || !matches!(draft.purpose, Purpose::Rise),
             is_idle: false,
         };
@@ -296,22 +265,35 @@ impl<'a> Program<'a> {
         if let Some(site) = self.sites.at(0) {
             self.enter_site(draft, &here, 0, site, false);
         }
-        Ok(here)
+        here
     }
 
-    /// Passes over the code once.
-    pub fn pass(&self, draft: &mut Draft) -> Result<(), AllocError> {
-        let mut here = self.enter_start(draft)?;
+    /// Passes over the code, from what is known where a run begins.
+    fn pass_from(&self, draft: &mut Draft, start: Here) {
+        let mut here = start;
         for slot in 0..self.code.len() {
             if let Some(Slot::Start(instruction)) = self.code.at(slot as u64) {
                 here = self.arrive(draft, here, slot);
                 if here.is_live {
-                    here = self.step(draft, here, slot, instruction);
+                    self.step(draft, &mut here, slot, instruction);
                 }
             }
         }
+    }
+
+    /// Passes over the code once.
+    pub fn pass(&self, draft: &mut Draft) -> Result<(), AllocError> {
+        let state = start(self.alloc)?;
+        let here = self.enter_start(draft, state);
+        self.pass_from(draft, here);
         draft.all()
     }
+}
+
+/// What is known where no run goes on.
+fn ended(mut here: Here) -> Here {
+    here.is_live = false;
+    here
 }
 
 /// What is known at a site that begins with this.
@@ -325,23 +307,11 @@ fn begun_at(here: Here, site: usize, target: &Target<'_, Value>) -> Here {
     }
 }
 
-/// What is known behind the instruction, of which the same was known before.
-fn followed(here: Here, before: State<Value>, hook: Hook, instruction: Instruction) -> Here {
-    let Here {
-        begun,
-        state,
-        is_idle,
-        ..
-    } = here;
-    let state = match straight(state, hook, instruction) {
-        Ok(state) => state,
-        Err(_) => excused(before, &instruction),
-    };
-    Here {
-        begun,
-        state,
-        is_live: true,
-        is_idle,
+/// Goes on behind the instruction, of which the same was known before.
+fn follow(here: &mut Here, before: State<Value>, hook: Hook, instruction: Instruction) {
+    match straight(before, hook, instruction) {
+        Ok(after) => here.state = after,
+        Err(_) => excuse(&mut here.state, &instruction),
     }
 }
 
@@ -360,7 +330,7 @@ fn filled(instruction: &Instruction) -> Option<(Register, Value)> {
 }
 
 /// Empties what a call empties, and fills r0 with any number.
-fn called(state: &mut State<Value>) {
+fn call(state: &mut State<Value>) {
     for register in 0..6usize {
         put(&mut state.kinds, register, Kind::Empty);
         put(&mut state.facts, register, None);
@@ -368,16 +338,14 @@ fn called(state: &mut State<Value>) {
     put(&mut state.kinds, 0, Kind::Number(Value::top()));
 }
 
-/// What to go on with behind an instruction that the verifier refuses: it fills its target with any
-/// number, and a call does what calls do.
-fn excused(before: State<Value>, instruction: &Instruction) -> State<Value> {
-    let mut state = before;
+/// Goes on behind an instruction that the verifier refuses: it fills its target with any number,
+/// and a call does what calls do.
+fn excuse(state: &mut State<Value>, instruction: &Instruction) {
     if let Some((target, value)) = filled(instruction) {
         put(&mut state.kinds, target.index(), Kind::Number(value));
         put(&mut state.facts, target.index(), None);
     }
     if matches!(instruction, Instruction::Call { .. }) {
-        called(&mut state);
+        call(state);
     }
-    state
 }
