@@ -17,10 +17,10 @@ use routes::Root;
 use std::alloc::{AllocError, Global};
 use words::{Key, Prefix, Route, Second};
 
-// So many keys of changed LSAs are followed, or a sixteenth of the number of candidates if that is
-// more: beyond that all calculated anew may cost less. The key of an LSA that came or left counts
-// twice. At 10,000 candidates a destination takes some 3 microseconds and all of them 2,500; a route
-// that comes or goes in their middle takes 10 more.
+// So many keys of changed LSAs are followed, or one for each 32 candidates if that is more: beyond
+// that all calculated anew may cost less. The key of an LSA that came or left counts twice. At
+// 10,000 candidates all of them cost some 2.8 milliseconds, the route to one destination 6
+// microseconds, and one that comes or leaves up to 17 more, since those behind it move.
 const FEW_CHANGED: usize = 64;
 
 // Calculates the route to one destination anew, where these are the keys of the AS-external-LSAs
@@ -121,7 +121,7 @@ pub fn follow_externals(
         → AreCandidates (said_at moment db.now.present) root.now routes.new.items) }
 {
     let keys = changed_keys(alloc, db, before, moment)?;
-    let most = FEW_CHANGED.max(routes.len() / 16);
+    let most = FEW_CHANGED.max(routes.len() / 32);
     if keys.len() > most {
         return Ok(false);
     }
