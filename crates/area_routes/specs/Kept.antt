@@ -1,7 +1,9 @@
 -- The routes of a router as they are kept from one event to the next (RFC 2328, section 16).
-use Rattle.std.specs.Prelude.{◌≡◌, ℕ, Bool, true, false, IfSome, Option, Some}
+use Rattle.std.specs.Prelude.{◌≡◌, ◌≢◌, ℕ, Bool, true, false, IfSome, List, Option, Some}
+use Rattle.std.specs.List.{Contains}
 use Rattle.std.specs.Global.{Vec}
 use Rattle.words.specs.Numbers.{Moment, RouterNumber}
+use Rattle.words.specs.declared.key.Key.{Key}
 use Rattle.words.specs.declared.route.Route.{Route}
 use Rattle.received.specs.Links.{Area}
 use Rattle.area_routes.specs.Offers.{root_by}
@@ -10,6 +12,8 @@ use Rattle.candidates.specs.declared.inner.InnerRoutes.{InnerRoutes}
 use Rattle.kept_routes.specs.Externals.{LeaveCandidates}
 use Rattle.kept_routes.specs.Kept.{IsWalkOf, KeptWalk}
 use Rattle.kept_routes.specs.Sameness.{AreLeft}
+use Rattle.offers.specs.Externals.{AreExternals}
+use Rattle.offers.specs.declared.externals.External.{External}
 use Rattle.routes.specs.Candidates.{AreCandidates}
 use Rattle.routes.specs.Said.{Said, said_at}
 use Rattle.routes.specs.Tables.{Answers, IsStale}
@@ -26,6 +30,8 @@ pub record KeptRoutes : Type 0 where
   -- what the LSAs of types 1 to 4 give, where candidates were calculated since one of them said
   -- something else
   pub inner : Option InnerRoutes
+  -- what AS-external-LSAs tell, where it was looked at since one of them said something else
+  pub externals : Option (Vec External)
   -- whether each candidate is known to stand among the answers
   pub answered : Bool
 
@@ -48,6 +54,18 @@ pub record AreInnerBy (said : Said) (root : Root) (walk : KeptWalk) (inner : Inn
 -- where it is kept, it is that of what the LSAs say
 abbrev pub KnowsInner : Said → Root → KeptRoutes → Type 0
 KnowsInner said root kept = IfSome kept.inner (AreInnerBy said root kept.walk)
+
+-- where it is kept, it is that of what the LSAs say
+abbrev pub KnowsExternals : Said → KeptRoutes → Type 0
+KnowsExternals said kept = IfSome kept.externals (λ told. AreExternals said told.items)
+
+-- what AS-external-LSAs say has stayed
+abbrev pub ExternalsSayTheSame : (old : Said) → (new : Said) → Type 0
+ExternalsSayTheSame old new = (key : Key) → key.ls_type ≡ 5 → old key ≡ new key
+
+-- none of the keys is that of an AS-external-LSA
+abbrev pub AreOfOthers : List Key → Type 0
+AreOfOthers keys = (key : Key) → Contains keys key → key.ls_type ≢ 5
 
 -- where each candidate is known to stand among the answers, each does
 abbrev pub KnowsAnswered : Said → Root → Answers → KeptRoutes → Type 0
@@ -79,12 +97,20 @@ pub record ServesOnlyThen (before : Moment) (moment : Moment) (router : RouterNu
   pub falls : (HasStayed (Some 2) before moment router old new kept.walk → ⊥) → next.behind ≡ true
   pub lags : kept.behind ≡ true → next.behind ≡ true
 
--- walk, candidates and what these rest on are the router's at the moment
+-- walk, candidates and what the LSAs of types 1 to 4 give are the router's at the moment
+pub record AreOffersOf (router : RouterNumber) (area : Area) (moment : Moment)
+    (kept : KeptRoutes) : Type 0 where
+  pub walk : KnowsWalk (said_at moment area.database) (root_by router area.links) kept
+  pub candidates : KnowsCandidates (said_at moment area.database) (root_by router area.links) kept
+  pub inner : KnowsInner (said_at moment area.database) (root_by router area.links) kept
+
+-- walk, candidates and what these rest on are
 pub record AreRoutesOf (router : RouterNumber) (area : Area) (moment : Moment)
     (kept : KeptRoutes) : Type 0 where
   pub walk : KnowsWalk (said_at moment area.database) (root_by router area.links) kept
   pub candidates : KnowsCandidates (said_at moment area.database) (root_by router area.links) kept
   pub inner : KnowsInner (said_at moment area.database) (root_by router area.links) kept
+  pub externals : KnowsExternals (said_at moment area.database) kept
 
 -- and so is what is known of the answers
 pub record AreKept (router : RouterNumber) (area : Area) (moment : Moment) (answers : Answers)

@@ -4,27 +4,29 @@ ghost use Rattle.std.specs.Prelude.{IfSome, IsSome, IsTrue, OnErr, OnOk, true};
 ghost use Rattle.std.specs.FinMap as finite;
 ghost use Rattle.area_routes.specs.Kept.{AreKept, AreRoutesOf, HaveStayed, KnowsAnswered};
 ghost use Rattle.area_routes.specs.Kept.{KnowsCandidates, KnowsInner, KnowsWalk, ServesOnlyThen};
-ghost use Rattle.area_routes.specs.Kept.{AreInnerBy};
+ghost use Rattle.area_routes.specs.Kept.{AreInnerBy, AreOffersOf, AreOfOthers, ExternalsSayTheSame};
+ghost use Rattle.area_routes.specs.Kept.{KnowsExternals};
+ghost use Rattle.offers.specs.Externals.{AreExternals};
 ghost use Rattle.area_routes.specs.Offers.{AreCandidatesOf, AreOffered, IsStaleOf, IsTableOf};
 ghost use Rattle.area_routes.specs.Offers.{root_by};
 ghost use Rattle.kept_routes.specs.Externals.{LeaveCandidates, OfferTheSame};
 ghost use Rattle.kept_routes.specs.Kept.{IsWalkOf};
 ghost use Rattle.kept_routes.specs.Sameness.{AreLeft, SayTheSame};
 ghost use Rattle.routes.specs.Candidates.{AreCandidates};
-ghost use Rattle.routes.specs.Said.{said_at};
+ghost use Rattle.routes.specs.Said.{Said, said_at};
 ghost use Rattle.routes.specs.Tables.{Answers};
 
 use crate::root::{is_root_of, root_of};
-use candidates::{Calculated, InnerRoutes};
-use external_updates::follow_externals;
+use candidates::{Calculated, External, InnerRoutes, externals_at};
 use external_updates::laws::inner_routes_are_kept;
+use external_updates::{changed_keys, follow_externals};
 use flooding::Area;
 use kept_routes::laws::{candidates_are_kept, walks_are_kept};
 use kept_routes::{Routes, leave_candidates, say_the_same};
 use std::alloc::{AllocError, Global};
 use std::marker::Model;
 use tables::{is_stale, rows_of, table};
-use words::{Route, RouterId, Second, TableRow};
+use words::{Key, Route, RouterId, Second, TableRow};
 
 /// The candidates of a router, and the rows of its table, of one moment.
 #[derive(Debug, Drop)]
@@ -52,6 +54,8 @@ pub struct AreaRoutes {
     candidates: Option<Vec<Route>>,
     // what the LSAs of types 1 to 4 give, where it was calculated since one said something else
     inner: Option<InnerRoutes>,
+    // what AS-external-LSAs tell, where it was looked at since one said something else
+    externals: Option<Vec<External>>,
     // each candidate stands among the answers
     answered: bool,
 }
@@ -66,6 +70,7 @@ impl Model for AreaRoutes {
       behind = a.behind;
       candidates = a.candidates;
       inner = a.inner;
+      externals = a.externals;
       answered = a.answered;
     } };
 }
@@ -109,6 +114,118 @@ fn says_the_same(
     let db = area.database();
     let same = say_the_same(alloc, db, last_type, before, moment)?;
     Ok(same)
+}
+
+// Whether all AS-external-LSAs say at the moment what they said before the event. Where memory is
+// refused, it isn't known.
+fn externals_stay(alloc: Global, area: &Area, before: Second, moment: Second) -> bool
+    requires { before ≤ moment }
+    ensures { IsTrue result → ExternalsSayTheSame
+        (said_at before area.now.settled.database) (said_at moment area.now.present.database) }
+{
+    let db = area.database();
+    if let Ok(keys) = changed_keys(alloc, db, before, moment) {
+        return are_of_others(&keys);
+    }
+    false
+}
+
+// Whether none of these keys is that of an AS-external-LSA.
+fn are_of_others(keys: &[Key]) -> bool
+    ensures { IsTrue result ↔ AreOfOthers keys.now }
+{
+    for key in keys {
+        if key.ls_type == 5 {
+            return false;
+        }
+    }
+    true
+}
+
+// What the AS-external-LSAs tell at the moment.
+fn externals_now(alloc: Global, area: &Area, moment: Second) -> Result<Vec<External>, AllocError>
+    ensures { IfOk result (λ told. AreExternals
+        (said_at moment area.now.present.database) told.items) }
+{
+    let db = area.database();
+    let told = externals_at(alloc, db, moment)?;
+    Ok(told)
+}
+
+// The candidates by this walk, where it is known what AS-external-LSAs tell.
+fn calculate_by(
+    alloc: Global,
+    area: &Area,
+    walk: &Routes,
+    moment: Second,
+    externals: &[External],
+) -> Result<Calculated, AllocError>
+    requires walk { IsWalkOf (said_at moment area.now.present.database) walk.now }
+    requires externals { AreExternals (said_at moment area.now.present.database) externals.now }
+    ensures routes { IfOk result (λ made. AreCandidates (said_at moment area.now.present.database)
+        walk.now.root made.routes.items) }
+    ensures inner { IfOk result (λ made. AreInnerBy (said_at moment area.now.present.database)
+        walk.now.root walk.now made.inner) }
+{
+    let db = area.database();
+    let made = walk.calculate(alloc, db, moment, externals)?;
+    Ok(made)
+}
+
+// Candidates, with what AS-external-LSAs tell if that wasn't kept.
+#[derive(Drop)]
+struct Made {
+    calculated: Calculated,
+    told: Option<Vec<External>>,
+}
+
+// The candidates by this walk, where it may be kept what AS-external-LSAs tell.
+fn calculated(
+    alloc: Global,
+    area: &Area,
+    walk: &Routes,
+    moment: Second,
+    kept: &Option<Vec<External>>,
+) -> Result<Made, AllocError>
+    requires walk { IsWalkOf (said_at moment area.now.present.database) walk.now }
+    requires externals { IfSome kept.now (λ told. AreExternals
+        (said_at moment area.now.present.database) told.items) }
+    ensures routes { IfOk result (λ made. AreCandidates (said_at moment area.now.present.database)
+        walk.now.root made.calculated.routes.items) }
+    ensures inner { IfOk result (λ made. AreInnerBy (said_at moment area.now.present.database)
+        walk.now.root walk.now made.calculated.inner) }
+    ensures externals { IfOk result (λ made. IfSome made.told (λ told. AreExternals
+        (said_at moment area.now.present.database) told.items)) }
+{
+    match kept {
+        Some(told) => {
+            let calculated = calculate_by(alloc, area, walk, moment, told)?;
+            Ok(Made {
+                calculated,
+                told: None,
+            })
+        }
+        None => {
+            let told = externals_now(alloc, area, moment)?;
+            let calculated = calculate_by(alloc, area, walk, moment, &told)?;
+            Ok(Made {
+                calculated,
+                told: Some(told),
+            })
+        }
+    }
+}
+
+// What was kept of what AS-external-LSAs tell, or else this.
+fn kept_or(kept: Option<Vec<External>>, made: Option<Vec<External>>) -> Option<Vec<External>>
+    ensures { (said : Said) → IfSome kept (λ told. AreExternals said told.items)
+        → IfSome made (λ told. AreExternals said told.items)
+        → IfSome result (λ told. AreExternals said told.items) }
+{
+    match kept {
+        Some(told) => Some(told),
+        None => made,
+    }
 }
 
 // The candidates of this moment, from those before an event over which AS-external-LSAs alone say
@@ -215,6 +332,7 @@ impl AreaRoutes {
         ensures behind { IfOk result (λ made. made.behind ≡ false) }
         ensures candidates { IfOk result (λ made. made.candidates ≡ None) }
         ensures inner { IfOk result (λ made. made.inner ≡ None) }
+        ensures externals { IfOk result (λ made. made.externals ≡ None) }
         ensures answered { IfOk result (λ made. made.answered ≡ false) }
     {
         let root = root_of(alloc, router, area)?;
@@ -225,6 +343,7 @@ impl AreaRoutes {
             behind: false,
             candidates: None,
             inner: None,
+            externals: None,
             answered: false,
         })
     }
@@ -261,7 +380,61 @@ impl AreaRoutes {
         // of the candidates and of the answers stays too.
         ensures candidates { OnOk result (self.old.behind ≡ false
             → HaveStayed before moment router area.now.settled area.now.present self.old.walk
+            → self.new ≡ record self.old { externals = self.new.externals }) }
+        ensures err { OnErr result (self.new ≡ self.old) }
+    {
+        let stay = self.externals_stay(alloc, area, before, moment);
+        self.follow_routes(alloc, router, area, before, moment)?;
+        self.keep_externals(stay);
+        Ok(())
+    }
+
+    // Whether what is kept of what AS-external-LSAs tell is what they tell after the event.
+    fn externals_stay(&self, alloc: Global, area: &Area, before: Second, moment: Second) -> bool
+        requires { before ≤ moment }
+        ensures { IsTrue result → ExternalsSayTheSame
+            (said_at before area.now.settled.database) (said_at moment area.now.present.database) }
+    {
+        if self.externals.is_none() {
+            return false;
+        }
+        externals_stay(alloc, area, before, moment)
+    }
+
+    // What AS-external-LSAs tell is kept, or no more.
+    fn keep_externals(&mut self, stay: bool)
+        ensures others { self.new ≡ record self.old { externals = self.new.externals } }
+        ensures kept { IsTrue stay → self.new.externals ≡ self.old.externals }
+        ensures forgotten { stay ≡ false → self.new.externals ≡ None }
+    {
+        if !stay {
+            self.externals = None;
+        }
+    }
+
+    // The same for all but what AS-external-LSAs tell.
+    fn follow_routes(
+        &mut self,
+        alloc: Global,
+        router: RouterId,
+        area: &Area,
+        before: Second,
+        moment: Second,
+    ) -> Result<(), AllocError>
+        requires order { before ≤ moment }
+        requires routes { AreOffersOf router area.now.settled before self.old }
+        ensures routes { OnOk result (AreOffersOf router area.now.present moment self.new) }
+        ensures answered { OnOk result ((answers : Answers)
+            → KnowsAnswered (said_at before area.now.settled.database)
+            (root_by router area.now.settled.links) answers self.old
+            → KnowsAnswered (said_at moment area.now.present.database)
+            (root_by router area.now.present.links) answers self.new) }
+        ensures walks { OnOk result (ServesOnlyThen before moment router
+            area.now.settled area.now.present self.old self.new) }
+        ensures candidates { OnOk result (self.old.behind ≡ false
+            → HaveStayed before moment router area.now.settled area.now.present self.old.walk
             → self.new ≡ self.old) }
+        ensures externals { self.new.externals ≡ self.old.externals }
         ensures err { OnErr result (self.new ≡ self.old) }
     {
         walks_are_kept();
@@ -305,6 +478,7 @@ impl AreaRoutes {
             self.old.walk.root self.new }
         ensures inner { KnowsInner (said_at moment area.now.present.database)
             self.old.walk.root self.new }
+        ensures externals { self.new.externals ≡ self.old.externals }
         ensures answered { self.new.answered ≡ false }
     {
         inner_routes_are_kept();
@@ -335,6 +509,7 @@ impl AreaRoutes {
             self.old.walk.root self.new }
         ensures inner { KnowsInner (said_at moment area.now.present.database)
             self.old.walk.root self.new }
+        ensures externals { self.new.externals ≡ self.old.externals }
         ensures answered { self.new.answered ≡ false }
     {
         let kept = self.candidates.take();
@@ -365,6 +540,7 @@ impl AreaRoutes {
         ensures counts { OnOk result (self.old.behind ≡ true → self.new.walk.walks
             ≡ min (self.old.walk.walks + 1) 18446744073709551615) }
         ensures candidates { self.new.candidates ≡ self.old.candidates }
+        ensures externals { self.new.externals ≡ self.old.externals }
         ensures answered { self.new.answered ≡ self.old.answered }
         ensures err { OnErr result (self.new ≡ self.old) }
     {
@@ -506,6 +682,7 @@ impl AreaRoutes {
             (root_by router area.now.present.links) self.new }
         ensures inner { KnowsInner (said_at moment area.now.present.database)
             (root_by router area.now.present.links) self.new }
+        ensures externals { KnowsExternals (said_at moment area.now.present.database) self.new }
         ensures kept { OnOk result (IsSome self.new.candidates) }
         ensures answered { self.new.answered ≡ self.old.answered }
         ensures err { OnErr result (self.new ≡ self.old) }
@@ -514,10 +691,12 @@ impl AreaRoutes {
             let lacks = is_stale(alloc, candidates, answers)?;
             return Ok(lacks);
         }
-        let db = area.database();
-        let made = self.walk.calculate(alloc, db, moment)?;
-        let lacks = is_stale(alloc, &made.routes, answers)?;
-        let Calculated { inner, routes } = made;
+        let made = calculated(alloc, area, &self.walk, moment, &self.externals)?;
+        let lacks = is_stale(alloc, &made.calculated.routes, answers)?;
+        let Made { calculated, told } = made;
+        let Calculated { inner, routes } = calculated;
+        let kept = self.externals.take();
+        self.externals = kept_or(kept, told);
         self.inner = Some(inner);
         self.candidates = Some(routes);
         Ok(lacks)

@@ -15,14 +15,17 @@ use Rattle.routes.specs.declared.root.Root.{Root}
 use Rattle.routes.proofs.Listed.{routes_among}
 use Rattle.offers.specs.Bodies.{HaveAll, OfSaid}
 use Rattle.offers.specs.Borders.{AreFlagged, Tells}
+use Rattle.offers.specs.Externals.{AreExternals, OfTold}
 use Rattle.offers.specs.Gathering.{Adds, OfEach}
 use Rattle.offers.specs.Sources.{IsInner, OfExternal}
 use Rattle.offers.specs.Ways.{AreWays, Ways}
+use Rattle.offers.specs.declared.externals.External.{External as ExternalTold}
 use Rattle.offers.specs.declared.flagged.Flagged.{Flagged}
 use Rattle.offers.proofs.Gathered.{all_such, such}
 use Rattle.offers.proofs.Carried.{inner_back, inner_forth}
 use Rattle.offers.proofs.Outward.{external_back, external_forth}
-use Rattle.candidates.proofs.Each.{external_up_to, inner_up_to, of_each, of_said, told_up_to}
+use Rattle.offers.proofs.Told.{of_told_one, told_of}
+use Rattle.candidates.proofs.Each.{inner_up_to, of_each, of_said, told_up_to}
 
 module _ (said : Said) (root : Root) (ways : Ways) (are : AreWays said root ways) (routers : List Flagged) (flagged : AreFlagged said ways routers) where
   -- ---- what the LSAs of types 1 to 4 give
@@ -43,15 +46,20 @@ module _ (said : Said) (root : Root) (ways : Ways) (are : AreWays said root ways
 
   -- ---- with external destinations
 
-  module _ (bodies : List (Key × Body)) (have : HaveAll 5 said bodies) (told networks : List Route) (all_told : AreRoutesAmong (OfSaid (Tells root routers) said) told) (inside : AreRoutesAmong (OffersInside said root) networks) where
-    of_external : (o : Offer) → OfEach (OfExternal root routers told networks) bodies o → Offers said root o
-    of_external o e = External (external_forth said root ways are routers flagged told all_told networks inside o (of_said 5 said bodies have (OfExternal root routers told networks) o e))
+  module _ (externals : List ExternalTold) (tell : AreExternals said externals) (told networks : List Route) (all_told : AreRoutesAmong (OfSaid (Tells root routers) said) told) (inside : AreRoutesAmong (OffersInside said root) networks) where
+    of_external : (o : Offer) → OfEach (OfTold root routers told networks) externals o → Offers said root o
+    of_external o (e, among, k) =
+        let one = (tell e).0 among in
+        External (external_forth said root ways are routers flagged told all_told networks inside o (one.0, one.1, of_told_one root routers told networks one.0 e one.2 o k))
 
     of_inner : (o : Offer) → OffersInside said root o → Offers said root o
     of_inner o (inl w) = Within w
     of_inner o (inr b) = Between b
 
-    pub are_candidates : (first all : List Offer) (routes : List Route) → ((o : Offer) → Contains first o ↔ OffersInside said root o) → Adds first all (OfEach (OfExternal root routers told networks) bodies)
+    by_external : (o : Offer) → OfSaid (OfExternal root routers told networks) said o → OfEach (OfTold root routers told networks) externals o
+    by_external o (one, is, k) = let t = told_of root routers told networks one o k in (t.0, (tell t.0).1 (one, is, t.1), t.2)
+
+    pub are_candidates : (first all : List Offer) (routes : List Route) → ((o : Offer) → Contains first o ↔ OffersInside said root o) → Adds first all (OfEach (OfTold root routers told networks) externals)
         → AreRoutesAmong (λ o. Contains all o) routes → AreCandidates said root routes
     are_candidates first all routes same more best =
         let put : (o : Offer) → OffersInside said root o → Contains all o = λ o k. (more o).1 (inl ((same o).1 k)) in
@@ -65,8 +73,6 @@ module _ (said : Said) (root : Root) (ways : Ways) (are : AreWays said root ways
         elim k [
           | Within w ↦ put o (inl w)
           | Between b ↦ put o (inr b)
-          | External e ↦
-              let Q = OfExternal root routers told networks in
-              (more o).1 (inr (of_each 5 said bodies have Q (external_up_to root routers told networks) o (external_back said root ways are routers flagged told all_told networks inside o e)))
+          | External e ↦ (more o).1 (inr (by_external o (external_back said root ways are routers flagged told all_told networks inside o e)))
         ])
         best

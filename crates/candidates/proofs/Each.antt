@@ -1,7 +1,6 @@
 -- What the LSAs of a list offer is what those of the database offer, if the list has all of their types.
-use Rattle.std.proofs.Common.{◌≤◌, ℕ, List, None, arith}
+use Rattle.std.proofs.Common.{◌≤◌, ℕ, List, None, Some, arith}
 use Rattle.words.specs.declared.key.Key.{Key}
-use Rattle.words.specs.declared.route.Route.{Route}
 use Rattle.lsa.specs.declared.body.Body.{Body}
 use Rattle.lsdb.specs.Bodies.{AreBodies}
 use Rattle.routes.specs.Said.{Said}
@@ -9,10 +8,12 @@ use Rattle.routes.specs.declared.offer.Offer.{Offer}
 use Rattle.routes.specs.declared.root.Root.{Root}
 use Rattle.offers.specs.Bodies.{HaveAll, OfSaid}
 use Rattle.offers.specs.Borders.{Tells}
+use Rattle.offers.specs.Externals.{AreExternals, AreToldBy}
 use Rattle.offers.specs.Gathering.{OfEach}
-use Rattle.offers.specs.Sources.{IsInner, OfExternal}
+use Rattle.offers.specs.Sources.{IsInner}
 use Rattle.offers.specs.Sources.IsInner.{ByNetwork, ByRouter, BySummary}
 use Rattle.offers.specs.Ways.{Ways}
+use Rattle.offers.specs.declared.externals.External.{External}
 use Rattle.offers.specs.declared.flagged.Flagged.{Flagged}
 
 -- ---- which types offer
@@ -29,9 +30,6 @@ inner_up_to root ways routers one o (BySummary k) = omega (arith, k.is_type)
 pub told_up_to : (root : Root) (routers : List Flagged) → AreUpTo 4 (Tells root routers)
 told_up_to root routers one o k = omega (arith, k.is_type)
 
-pub external_up_to : (root : Root) (routers : List Flagged) (told inner : List Route) → AreUpTo 5 (OfExternal root routers told inner)
-external_up_to root routers told inner one o k = omega (arith, k.is_type)
-
 -- ---- there and back
 
 module _ (last : ℕ) (said : Said) (bodies : List (Key × Body)) (have : HaveAll last said bodies) (Q : Key × Body → Offer → Type 0) where
@@ -41,11 +39,18 @@ module _ (last : ℕ) (said : Said) (bodies : List (Key × Body)) (have : HaveAl
   pub of_each : AreUpTo last Q → (o : Offer) → OfSaid Q said o → OfEach Q bodies o
   of_each up o ((key, says), is, q) = ((key, says), have.all key says (up (key, says) o q) is, q)
 
-pub all_bodies : (last : ℕ) (said : Said) (bodies : List (Key × Body)) → AreBodies None said bodies → HaveAll last said bodies
-all_bodies last said bodies are = record {
+pub up_to_bodies : (last : ℕ) (said : Said) (bodies : List (Key × Body)) → AreBodies (Some last) said bodies → HaveAll last said bodies
+up_to_bodies last said bodies are = record {
   each = λ key says among. ((are.each key says).0 among).1;
-  all = λ key says up is. (are.each key says).1 (tt, is);
+  all = λ key says up is. (are.each key says).1 (up, is);
 }
+
+-- what the LSAs of a list tell of external destinations is what those of the database tell
+pub all_external : (said : Said) (bodies : List (Key × Body)) (told : List External) → AreBodies None said bodies → AreToldBy bodies told → AreExternals said told
+all_external said bodies told are by e = (
+  (λ t. let p = (by e).0 t in ((p.0.0, p.0.1), ((are.each p.0.0 p.0.1).0 p.1).1, p.2)),
+  (λ p. (by e).1 ((p.0.0, p.0.1), (are.each p.0.0 p.0.1).1 (tt, p.1), p.2)),
+)
 
 pub fewer : (most last : ℕ) (said : Said) (bodies : List (Key × Body)) → last ≤ most → HaveAll most said bodies → HaveAll last said bodies
 fewer most last said bodies low have = record {

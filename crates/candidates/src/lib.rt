@@ -10,7 +10,7 @@ ghost use Rattle.words.specs.declared.route.Route.{Route as RouteValue};
 ghost use Rattle.routes.specs.Candidates.{AreCandidates, Offers};
 ghost use Rattle.routes.specs.declared.offer.Offer.{Offer};
 ghost use Rattle.routes.specs.Said.{Said, said_at};
-ghost use Rattle.offers.specs.Bodies.{HaveAll};
+ghost use Rattle.offers.specs.Externals.{AreExternals};
 ghost use Rattle.offers.specs.Ways.{AreNear, AreWays, Ways as WaysTo};
 
 mod inner;
@@ -18,8 +18,9 @@ mod inner;
 use crate::inner::inner_of;
 use candidate_laws::every_offer_has_a_candidate;
 pub use inner::InnerRoutes;
-use lsdb::{KeyedBody, Lsdb};
-use offers::{Inner, Ways, push_externals, routes_of_offers};
+use lsdb::Lsdb;
+pub use offers::External;
+use offers::{Inner, Ways, externals_of, push_externals, routes_of_offers};
 use routes::Root;
 use shortest_paths::walk;
 use std::alloc::{AllocError, Global};
@@ -70,7 +71,8 @@ pub fn routes_of<W: Ways>(
     ensures { IfOk result (λ routes. AreCandidates (said_at moment db.now.present) root.now
         routes.items) }
 {
-    let made = calculate(alloc, db, root, moment, ways)?;
+    let externals = externals_at(alloc, db, moment)?;
+    let made = calculate(alloc, db, root, moment, ways, &externals)?;
     Ok(made.routes)
 }
 
@@ -81,8 +83,20 @@ pub struct Calculated {
     pub routes: Vec<Route>,
 }
 
+/// What the AS-external-LSAs of a database tell of external destinations at a moment.
+///
+/// # Errors
+/// Where memory for it, or for what LSAs say, is refused.
+pub fn externals_at(alloc: Global, db: &Lsdb, moment: Second) -> Result<Vec<External>, AllocError>
+    ensures { IfOk result (λ told. AreExternals (said_at moment db.now.present) told.items) }
+{
+    let bodies = db.bodies_at(alloc, None, moment)?;
+    let told = externals_of(alloc, &bodies)?;
+    Ok(told)
+}
+
 /// The candidates of a database at a moment as `routes_of` gives them, with what those to external
-/// destinations rest on.
+/// destinations rest on, where it is known what AS-external-LSAs tell at the moment.
 ///
 /// # Errors
 /// Where memory for what LSAs say, the offers or the routes is refused.
@@ -92,31 +106,33 @@ pub fn calculate<W: Ways>(
     root: &Root,
     moment: Second,
     ways: &W,
+    externals: &[External],
 ) -> Result<Calculated, AllocError>
     requires near { AreNear (W.ways ways.now) }
     requires ways { AreWays (said_at moment db.now.present) root.now (W.ways ways.now) }
+    requires externals { AreExternals (said_at moment db.now.present) externals.now }
     ensures routes { IfOk result (λ made. AreCandidates (said_at moment db.now.present) root.now
         made.routes.items) }
     ensures inner { IfOk result (λ made. AreInner (said_at moment db.now.present) root.now
         (W.ways ways.now) made.inner) }
     ensures searchable { IfOk result (λ made. AreSearchable made.inner) }
 {
-    let bodies = db.bodies_at(alloc, None, moment)?;
+    let bodies = db.bodies_at(alloc, Some(4), moment)?;
     let inner = inner_of(alloc, root, ways, &bodies)?;
-    let routes = with_externals(alloc, root, &inner, &bodies)?;
+    let routes = with_externals(alloc, root, &inner, externals)?;
     Ok(Calculated { inner, routes })
 }
 
-// The routes of what these offer and of what AS-external-LSAs offer beside it.
+// The routes of what these offer and of what is offered beside it by what AS-external-LSAs tell.
 fn with_externals(
     alloc: Global,
     root: &Root,
     inner: &InnerRoutes,
-    bodies: &[KeyedBody<'_>],
+    externals: &[External],
 ) -> Result<Vec<Route>, AllocError>
     requires { AreSearchable inner.now }
     ensures { IfOk result (λ routes. (said : Said) (ways : WaysTo) → AreWays said root.now ways
-        → AreInner said root.now ways inner.now → HaveAll 5 said bodies.now
+        → AreInner said root.now ways inner.now → AreExternals said externals.now
         → AreCandidates said root.now routes.items) }
 {
     let by = Inner {
@@ -125,8 +141,10 @@ fn with_externals(
         networks: &inner.networks,
         lengths: &inner.lengths,
     };
-    let mut offers = Vec::from_slice(alloc, &inner.offers)?;
-    push_externals(root, &by, bodies, &mut offers)?;
+    let most = inner.offers.len().saturating_add(externals.len());
+    let mut offers = Vec::with_capacity(alloc, most)?;
+    offers.extend_from_slice(&inner.offers)?;
+    push_externals(alloc, root, &by, externals, &mut offers)?;
     let routes = routes_of_offers(alloc, &mut offers)?;
     Ok(routes)
 }

@@ -10,4 +10,5 @@ mod keys;
 pub mod laws;
 mod placing;
 
+pub use changes::changed_keys;
 pub use follow::follow_externals;

@@ -9,9 +9,10 @@ ghost use Rattle.routes.specs.declared.offer.Offer.{Offer};
 ghost use Rattle.shortest_paths.specs.Reached.{way_in};
 ghost use Rattle.candidates.specs.Inner.{AreInner, AreSearchable};
 ghost use Rattle.kept_routes.specs.Kept.{IsWalkOf};
+ghost use Rattle.offers.specs.Externals.{AreExternals};
 
 use candidate_laws::every_offer_has_a_candidate;
-use candidates::{Calculated, calculate, routes_of};
+use candidates::{Calculated, External, calculate, routes_of};
 use lsdb::Lsdb;
 use offers::Ways;
 use routes::{Node, Root, Way};
@@ -122,7 +123,7 @@ impl Routes {
     }
 
     /// The candidates as `candidates` gives them, with what those to external destinations rest on
-    /// (RFC 2328, sections 16.1 to 16.4).
+    /// (RFC 2328, sections 16.1 to 16.4), where it is known what AS-external-LSAs tell.
     ///
     /// # Errors
     /// Where memory for the offers or the routes is refused.
@@ -131,15 +132,17 @@ impl Routes {
         alloc: Global,
         db: &Lsdb,
         moment: Second,
+        externals: &[External],
     ) -> Result<Calculated, AllocError>
-        requires { IsWalkOf (said_at moment db.now.present) self.now }
+        requires walk { IsWalkOf (said_at moment db.now.present) self.now }
+        requires externals { AreExternals (said_at moment db.now.present) externals.now }
         ensures routes { IfOk result (λ made. AreCandidates (said_at moment db.now.present)
             self.now.root made.routes.items) }
         ensures inner { IfOk result (λ made. AreInner (said_at moment db.now.present) self.now.root
             (way_in self.now.reached) made.inner) }
         ensures searchable { IfOk result (λ made. AreSearchable made.inner) }
     {
-        let made = calculate(alloc, db, &self.root, moment, &self.reached)?;
+        let made = calculate(alloc, db, &self.root, moment, &self.reached, externals)?;
         Ok(made)
     }
 

@@ -21,10 +21,9 @@ use Rattle.routes.specs.Links.{router_key}
 use Rattle.routes.specs.Said.{Said}
 use Rattle.routes.specs.declared.graph.Way.{Way}
 use Rattle.routes.specs.declared.node.Node.TheVariants.{ARouter}
-use Rattle.routes.proofs.Listed.{other_default}
 use Rattle.routes.proofs.Lists.{of_cons, of_empty}
 use Rattle.offers.specs.Bodies.{HaveAll}
-use Rattle.offers.specs.Borders.{AreCloseBy, AreFlagged, AscendByRouter, IsBorderFlag, IsFlagged, IsListed, TellsFlags}
+use Rattle.offers.specs.Borders.{AreCloseBy, AreFlagged, AscendByRouter, IsBorderFlag, IsListed, TellsFlags}
 use Rattle.offers.specs.Gathering.{IsJust}
 use Rattle.offers.specs.Ways.{AreNear, Ways}
 use Rattle.offers.specs.declared.flagged.Flagged.{Flagged}
@@ -214,6 +213,12 @@ one_of_id routers up r s (i, in_i, is_r) (j, in_j, is_s) e =
 -- the router is among them
 abbrev pub IsAmong : List Flagged → ℕ → Flagged → Type 0
 IsAmong routers router listed = Contains routers listed × (listed.router ≡ router)
+
+pub just_router : (routers : List Flagged) (router : ℕ) → AscendByRouter routers → (r : Flagged) → IsAmong routers router r → IsJust (IsAmong routers router) (Some r)
+just_router routers router up r (among, its) = λ other. (
+  λ f. one_of_id routers up other r f.0 among (f.1 ∙ sym its),
+  λ e. subst (IsAmong routers router) (sym e) (among, its),
+)
 
 pub router_found : (routers : List Flagged) (router : ℕ) → AscendByRouter routers → (at : ℕ) (r : Flagged) → at < length routers → HoldsAt (λ (y : Flagged). nat_cmp y.router router ≡ Equal) routers at → r ≡ get_or routers at r
     → IsJust (IsAmong routers router) (Some r)

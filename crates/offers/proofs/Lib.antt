@@ -6,3 +6,4 @@ pub mod Boundaries
 pub mod Forwarded
 pub mod Carried
 pub mod Outward
+pub mod Told

@@ -1,24 +1,21 @@
 -- What the LSA of a key offers, from what was found of it.
-use Rattle.std.proofs.Common.{◌≡◌, ◌≢◌, ◌+◌, ◌<◌, ◌⊎◌, inl, inr, List, Some, None, refl, sym, ◌∙◌, subst}
+use Rattle.std.proofs.Common.{◌≡◌, ◌+◌, ◌⊎◌, inl, inr, List, Some, None, refl, sym, ◌∙◌, subst}
 use Rattle.words.specs.Prefixes.{Network}
 use Rattle.words.specs.declared.key.Key.{Key}
-use Rattle.words.specs.declared.route.Route.{Route}
 use Rattle.lsa.specs.declared.body.Body.{Body}
 use Rattle.lsa.specs.declared.body.Body.TheVariants as body
-use Rattle.lsa.specs.declared.body.ExternalLsa.{ExternalLsa}
 use Rattle.lsa.specs.declared.body.Link.{Link}
 use Rattle.lsa.specs.declared.body.RouterLsa.{RouterLsa}
 use Rattle.lsa.specs.declared.body.SummaryLsa.{SummaryLsa}
-use Rattle.routes.specs.Candidates.{external_offer}
 use Rattle.routes.specs.Offers.{IsPrefix}
 use Rattle.routes.specs.Summaries.{inter}
 use Rattle.routes.specs.declared.graph.Way.{Way}
 use Rattle.routes.specs.declared.node.Node.TheVariants.{ARouter}
 use Rattle.routes.specs.declared.offer.Offer.{Offer}
 use Rattle.routes.specs.declared.root.Root.{Root}
-use Rattle.offers.specs.Borders.{IsCounted, IsOutward, Tells, host}
+use Rattle.offers.specs.Borders.{IsCounted, Tells, host}
 use Rattle.offers.specs.Gathering.{Adds, IsJust, OfEach}
-use Rattle.offers.specs.Sources.{IsInner, IsStub, OfExternal, OfNetwork, OfRouter, OfSummary, leaving}
+use Rattle.offers.specs.Sources.{IsInner, IsStub, OfNetwork, OfRouter, OfSummary, leaving}
 use Rattle.offers.specs.Sources.IsInner.{ByNetwork, ByRouter, BySummary}
 use Rattle.offers.specs.Ways.{Ways}
 use Rattle.offers.specs.declared.flagged.Flagged.{Flagged}
@@ -102,39 +99,6 @@ module _ (root : Root) (ways : Ways) (routers : List Flagged) (one : Key × Body
         k.is ∙ (λ i. inter (host one.0.link_state_id) ((b i).distance + (same i).metric) (b i).hops) ∙ sym is,
     λ e. record { is_type = is_type; lsa = lsa; its = its; border = border; counts = (counted border).1 refl; is = e ∙ is },
   )
-
-  -- ---- an external destination
-
-  module _ (told inner : List Route) where
-    pub no_external : (lsa : ExternalLsa) → one.1 ≡ body.External lsa → IsJust (IsOutward routers told inner one.0.advertising_router lsa) None → IsJust (OfExternal root routers told inner one) None
-    no_external lsa its none = λ o k.
-        let bodies : body.External k.lsa ≡ body.External lsa = sym k.its ∙ its in
-        let same : k.lsa ≡ lsa = cc in
-        none k.way (subst (λ l. IsOutward routers told inner one.0.advertising_router l k.way) same k.is_way)
-
-    pub of_external : (lsa : ExternalLsa) (way : Way) (prefix : Network) (made : Offer) → one.0.ls_type ≡ 5 → one.1 ≡ body.External lsa → lsa.metric < 16777215 → one.0.advertising_router ≢ root.router
-        → IsJust (IsOutward routers told inner one.0.advertising_router lsa) (Some way) → IsJust (IsPrefix one.0.link_state_id lsa.mask) (Some prefix)
-        → made ≡ external_offer lsa.kind prefix lsa one.0.advertising_router (record { distance = way.distance; hops = way.hops }) → IsJust (OfExternal root routers told inner one) (Some made)
-    of_external lsa way prefix made is_type its reachable another outward under is = λ o. (
-      λ k.
-          let bodies : body.External k.lsa ≡ body.External lsa = sym k.its ∙ its in
-          let same : k.lsa ≡ lsa = cc in
-          let w : k.way ≡ way = (outward k.way).0 (subst (λ l. IsOutward routers told inner one.0.advertising_router l k.way) same k.is_way) in
-          let p : k.prefix ≡ prefix = (under k.prefix).0 (subst (λ (l : ExternalLsa). IsPrefix one.0.link_state_id l.mask k.prefix) same k.is_prefix) in
-          k.is ∙ (λ i. external_offer (same i).kind (p i) (same i) one.0.advertising_router (record { distance = (w i).distance; hops = (w i).hops })) ∙ sym is,
-      λ e. record {
-        is_type = is_type;
-        lsa = lsa;
-        its = its;
-        reachable = reachable;
-        of_another = another;
-        prefix = prefix;
-        is_prefix = (under prefix).1 refl;
-        way = way;
-        is_way = (outward way).1 refl;
-        is = e ∙ is;
-      },
-    )
 
   pub of_inner : (xs ys zs ws : List Offer) → Adds xs ys (OfRouter root ways one) → Adds ys zs (OfNetwork ways one) → Adds zs ws (OfSummary root routers one) → Adds xs ws (IsInner root ways routers one)
   of_inner xs ys zs ws a b c =

@@ -139,10 +139,15 @@ pub record IsLongest (routes : List Route) (address : ℕ) (route : Route) : Typ
       → other.prefix.length ≤ route.prefix.length
 
 -- the way to an external destination: by the originator, or by the forwarding address
-pub record IsOutward (routers : List Flagged) (told inner : List Route) (originator : ℕ)
-    (lsa : ExternalLsa) (way : Way) : Type 0 where
+pub record IsOutwardBy (routers : List Flagged) (told inner : List Route) (originator : ℕ)
+    (forwarding : ℕ) (way : Way) : Type 0 where
   pub boundary : Way
   pub reaches : IsBoundary routers told originator boundary
-  pub direct : lsa.forwarding ≡ 0 → way ≡ boundary
-  pub forwarded : lsa.forwarding ≢ 0
-      → (route : Route) × IsLongest inner lsa.forwarding route × (way ≡ way_by route)
+  pub direct : forwarding ≡ 0 → way ≡ boundary
+  pub forwarded : forwarding ≢ 0
+      → (route : Route) × IsLongest inner forwarding route × (way ≡ way_by route)
+
+-- the same by what an LSA says
+abbrev pub IsOutward : List Flagged → (told inner : List Route) → ℕ → ExternalLsa → Way → Type 0
+IsOutward routers told inner originator lsa way =
+    IsOutwardBy routers told inner originator lsa.forwarding way

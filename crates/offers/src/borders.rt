@@ -38,7 +38,7 @@ pub fn counted_border(
     if lsa.metric >= LS_INFINITY || originator == root.router {
         return None;
     }
-    flagged_way(routers, originator, BORDER)
+    flagged_way(routers, 0, originator, BORDER)
 }
 
 /// What the summary of this key tells of an AS boundary router, as an offer of the router's name
@@ -62,15 +62,21 @@ pub fn told_offer(root: &Root, routers: &[Flagged], key: &Key, body: &Body) -> O
     ))
 }
 
-/// The way to an AS boundary router: within the area where there is one, else what is told.
-pub fn boundary_way(routers: &[Flagged], told: &[Route], router: RouterId) -> Option<Way>
+/// The way to an AS boundary router: within the area where there is one, else what is told. Among
+/// the routers of the area it is looked for at this place first.
+pub fn boundary_way(
+    routers: &[Flagged],
+    place: usize,
+    told: &[Route],
+    router: RouterId,
+) -> Option<Way>
     requires routers { AscendByRouter routers.now × AreCloseBy routers.now }
     requires ascend { Ascend told.now }
     requires few { AreBelow told.now }
     ensures just { IsJust (IsBoundary routers.now told.now router) result }
     ensures near { IfSome result (λ way. way.distance < 2147483648) }
 {
-    match flagged_way(routers, router, BOUNDARY) {
+    match flagged_way(routers, place, router, BOUNDARY) {
         Some(way) => Some(way),
         None => {
             let route = find(told, host(router.number()))?;

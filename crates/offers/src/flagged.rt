@@ -90,25 +90,42 @@ fn compare(listed: &Flagged, router: RouterId) -> Ordering
     listed.router.number().cmp(&router.number())
 }
 
-// The router among them, found by halving.
-fn find_router(routers: &[Flagged], router: RouterId) -> Option<Flagged>
+// What stands at the place, if it is this router.
+fn at_place(routers: &[Flagged], place: usize, router: RouterId) -> Option<Flagged>
+    ensures { IfSome result (λ listed. Contains routers.now listed × (listed.router ≡ router)) }
+{
+    if place >= routers.len() {
+        return None;
+    }
+    let listed = routers[place];
+    if listed.router.number() != router.number() {
+        return None;
+    }
+    Some(listed)
+}
+
+// The router among them, found at the place where it is expected or by halving.
+fn find_router(routers: &[Flagged], place: usize, router: RouterId) -> Option<Flagged>
     requires { AscendByRouter routers.now }
     ensures { IsJust (λ listed. Contains routers.now listed × (listed.router ≡ router)) result }
 {
+    if let Some(listed) = at_place(routers, place, router) {
+        return Some(listed);
+    }
     match routers.binary_search_by(|listed| compare(listed, router)) {
         Ok(at) => Some(routers[at]),
         Err(_) => None,
     }
 }
 
-/// The way to a router that has the flag.
-pub fn flagged_way(routers: &[Flagged], router: RouterId, flag: u8) -> Option<Way>
+/// The way to a router that has the flag. It is looked for at this place first.
+pub fn flagged_way(routers: &[Flagged], place: usize, router: RouterId, flag: u8) -> Option<Way>
     requires ascend { AscendByRouter routers.now }
     requires close { AreCloseBy routers.now }
     ensures just { IsJust (IsListed routers.now router flag) result }
     ensures near { IfSome result (λ way. way.distance < 1073741824) }
 {
-    let listed = find_router(routers, router)?;
+    let listed = find_router(routers, place, router)?;
     if listed.flags & flag != flag {
         return None;
     }

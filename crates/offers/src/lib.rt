@@ -10,13 +10,14 @@ mod gathering;
 mod offer;
 mod order;
 mod passes;
+mod places;
 mod search;
 mod ways;
 
-pub use externals::{Inner, external_offer};
+pub use externals::{External, Inner, external_offer};
 pub use flagged::{Flagged, flagged_routers};
 pub use gathering::{network_of, push_offer};
 pub use order::routes_of_offers;
-pub use passes::{inner_offers, push_externals, told_routes};
+pub use passes::{externals_of, inner_offers, push_externals, told_routes};
 pub use search::lengths_of;
 pub use ways::Ways;

@@ -1,11 +1,11 @@
 //! Offers of each kind, and routers as networks of their own.
 ghost use Rattle.std.specs.Prelude.{◌≡◌, ◌<◌};
-ghost use Rattle.routes.specs.Candidates.{external_offer};
 ghost use Rattle.routes.specs.Offers.{intra};
 ghost use Rattle.routes.specs.Summaries.{inter};
 ghost use Rattle.offers.specs.Borders.{host, way_by};
+ghost use Rattle.offers.specs.Externals.{offer_by};
 
-use lsa::ExternalLsa;
+use crate::externals::External;
 use routes::{Offer, Way};
 use words::{Address, ExternalType, Hops, Prefix, Route, RouteKind, RouterId};
 
@@ -40,31 +40,28 @@ pub fn inter(prefix: Prefix, cost: u32, hops: u64) -> Offer
 }
 
 /// An offer of an AS boundary router, where this way leads to it or to its forwarding address.
-pub fn external(prefix: Prefix, lsa: &ExternalLsa, originator: RouterId, way: Way) -> Offer
+pub fn external(told: &External, way: Way) -> Offer
     requires near { way.distance < 2147483648 }
-    requires metric { lsa.now.metric < 16777215 }
-    ensures { result ≡ external_offer lsa.now.kind prefix lsa.now originator (record {
-      distance = way.distance;
-      hops = way.hops;
-    }) }
+    requires metric { told.now.metric < 16777215 }
+    ensures { result ≡ offer_by told.now way }
 {
-    match lsa.kind {
+    match told.kind {
         ExternalType::Type1 => Offer {
-            prefix,
+            prefix: told.prefix,
             kind: RouteKind::External1,
-            cost: way.distance + lsa.metric,
+            cost: way.distance + told.metric,
             distance: 0,
-            originator,
-            tag: lsa.tag,
+            originator: told.originator,
+            tag: told.tag,
             hops: Hops::from_bits(way.hops),
         },
         ExternalType::Type2 => Offer {
-            prefix,
+            prefix: told.prefix,
             kind: RouteKind::External2,
-            cost: lsa.metric,
+            cost: told.metric,
             distance: way.distance,
-            originator,
-            tag: lsa.tag,
+            originator: told.originator,
+            tag: told.tag,
             hops: Hops::from_bits(way.hops),
         },
     }

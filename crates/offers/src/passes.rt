@@ -10,15 +10,17 @@ ghost use Rattle.offers.specs.Borders.{
   Tells,
 };
 ghost use Rattle.offers.specs.Gathering.{Adds, AreCheap, OfEach};
-ghost use Rattle.offers.specs.Sources.{IsInner, OfExternal};
+ghost use Rattle.offers.specs.Externals.{AreToldBy, OfTold};
+ghost use Rattle.offers.specs.Sources.{IsInner};
 ghost use Rattle.offers.specs.Ways.{AreNear};
 
 use crate::area::push_inner;
 use crate::borders::told_offer;
-use crate::externals::{Inner, external_offer};
+use crate::externals::{External, Inner, offer_told, told_external};
 use crate::flagged::Flagged;
 use crate::gathering::push_offer;
 use crate::order::routes_of_offers;
+use crate::places::places_of;
 use crate::ways::Ways;
 use lsdb::KeyedBody;
 use routes::{Offer, Root};
@@ -78,14 +80,31 @@ pub fn inner_offers<W: Ways>(
     Ok(offers)
 }
 
-/// Adds what the LSAs offer of external destinations.
+/// What the AS-external-LSAs among these tell of external destinations, in the order of the bodies.
+///
+/// # Errors
+/// Where memory for it is refused.
+pub fn externals_of(alloc: Global, bodies: &[KeyedBody<'_>]) -> Result<Vec<External>, AllocError>
+    ensures { IfOk result (λ told. AreToldBy bodies.now told.items) }
+{
+    let mut all = Vec::new(alloc);
+    for one in bodies {
+        if let Some(told) = told_external(one.key(), one.body()) {
+            all.push(told)?;
+        }
+    }
+    Ok(all)
+}
+
+/// Adds what is offered by what AS-external-LSAs tell.
 ///
 /// # Errors
 /// Where memory for the offers is refused.
 pub fn push_externals(
+    alloc: Global,
     root: &Root,
     inner: &Inner<'_>,
-    bodies: &[KeyedBody<'_>],
+    externals: &[External],
     offers: &mut Vec<Offer>,
 ) -> Result<(), AllocError>
     requires flagged { AscendByRouter inner.now.flagged.now × AreCloseBy inner.now.flagged.now }
@@ -93,11 +112,12 @@ pub fn push_externals(
     requires networks { Ascend inner.now.networks.now × AreBelow inner.now.networks.now }
     requires lengths { HasLengths inner.now.networks.now inner.now.lengths.now }
     ensures { OnOk result (Adds offers.old.items offers.new.items
-        (OfEach (OfExternal root.now inner.now.flagged.now inner.now.routers.now
-        inner.now.networks.now) bodies.now)) }
+        (OfEach (OfTold root.now inner.now.flagged.now inner.now.routers.now
+        inner.now.networks.now) externals.now)) }
 {
-    for one in bodies {
-        push_offer(offers, external_offer(root, inner, one.key(), one.body()))?;
+    let places = places_of(alloc, inner.flagged)?;
+    for told in externals {
+        push_offer(offers, offer_told(root, inner, &places, told))?;
     }
     Ok(())
 }

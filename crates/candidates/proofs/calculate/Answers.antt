@@ -1,7 +1,7 @@
-use Rattle.std.proofs.Common.{None, sym, subst}
+use Rattle.std.proofs.Common.{Some, sym, subst}
 use Rattle.lsdb.specs.Bodies.{AreBodies, InOrder}
 use Rattle.routes.specs.Said.{Said, said_at}
-use Rattle.candidates.proofs.Each.{all_bodies}
+use Rattle.candidates.proofs.Each.{up_to_bodies}
 use Rattle.candidates.proofs.calculate.Goals as goal
 
 pub inner_of-requires-clause-order : goal.inner_of-requires-clause-order
@@ -11,10 +11,9 @@ pub returns-clause-inner : goal.returns-clause-inner
 returns-clause-inner g c =
     let said : Said = said_at c.args.moment c.args.db.now.present in
     c.in_ok-inner.ensures.inner said c.requires.ways
-    (all_bodies 4 said c.deref.result.now (subst (AreBodies None said) (sym c.deref.ensures.value) c.in_ok-bodies.ensures.bodies))
+    (up_to_bodies 4 said c.deref.result.now (subst (AreBodies (Some 4) said) (sym c.deref.ensures.value) c.in_ok-bodies.ensures.bodies))
 
 pub returns-clause-routes : goal.returns-clause-routes
 returns-clause-routes g c =
     let said : Said = said_at c.args.moment c.args.db.now.present in
-    c.in_ok-routes.ensures said (g.W.Ways.ways c.args.ways.now) c.requires.ways (returns-clause-inner g c)
-    (all_bodies 5 said c.deref-2.result.now (subst (AreBodies None said) (sym c.deref-2.ensures.value) c.in_ok-bodies.ensures.bodies))
+    c.in_ok-routes.ensures said (g.W.Ways.ways c.args.ways.now) c.requires.ways (returns-clause-inner g c) c.requires.externals

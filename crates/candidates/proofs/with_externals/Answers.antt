@@ -1,11 +1,11 @@
-use Rattle.std.proofs.Common.{◌≡◌, List, sym, subst, ◌∙◌}
+use Rattle.std.proofs.Common.{◌≡◌, List, ◌++◌, ap, sym, subst, ◌∙◌}
 use Rattle.std.specs.List.{Contains}
 use Rattle.std.specs.Prelude.{◌↔◌}
 use Rattle.words.specs.declared.route.Route.{Route}
 use Rattle.offers.specs.Borders.{AreBelow, AreCloseBy, Ascend, AscendByRouter, HasLengths}
 use Rattle.offers.specs.declared.flagged.Flagged.{Flagged}
 use Rattle.offers.specs.Gathering.{Adds, OfEach}
-use Rattle.offers.specs.Sources.{OfExternal}
+use Rattle.offers.specs.Externals.{OfTold}
 use Rattle.routes.specs.Summaries.{OffersInside}
 use Rattle.routes.specs.declared.offer.Offer.{Offer}
 use Rattle.candidates.proofs.All.{are_candidates}
@@ -32,15 +32,15 @@ push_externals-requires-clause-lengths c =
     subst P (sym c.deref-3.ensures.value) c.requires.lengths
 
 pub returns : goal.returns
-returns c said ways are inner have =
+returns c said ways are inner tell =
     let root = c.args.root.now in
-    let bodies = c.args.bodies.now in
+    let externals = c.args.externals.now in
     let it = c.args.inner.now in
-    let copied : c.in_ok-offers.offers.items ≡ it.offers.items = c.in_ok-offers.ensures.items ∙ c.deref-4.ensures.value in
-    let Q : List Flagged → List Route → List Route → Type 0 = λ routers told networks. Adds c.in_ok-offers.offers.items c.push_externals.new.offers.items (OfEach (OfExternal root routers told networks) bodies) in
+    let copied : c.extend_from_slice.new.self.items ≡ it.offers.items = c.in_ok-extend_from_slice.ensures.items ∙ ap (λ (xs : List Offer). xs ++ c.deref-4.result.now) c.in_ok-offers.ensures.items ∙ c.deref-4.ensures.value in
+    let Q : List Flagged → List Route → List Route → Type 0 = λ routers told networks. Adds c.extend_from_slice.new.self.items c.push_externals.new.offers.items (OfEach (OfTold root routers told networks) externals) in
     let first : Q it.flagged.items c.deref.result.now c.deref-3.result.now = subst (λ (rs : List Flagged). Q rs c.deref.result.now c.deref-3.result.now) c.deref-2.ensures.value c.in_ok-push_externals.ensures in
     let second : Q it.flagged.items it.told.items c.deref-3.result.now = subst (λ (rs : List Route). Q it.flagged.items rs c.deref-3.result.now) c.deref.ensures.value first in
     let third : Q it.flagged.items it.told.items it.networks.items = subst (λ (rs : List Route). Q it.flagged.items it.told.items rs) c.deref-3.ensures.value second in
-    let offered : (o : Offer) → Contains c.in_ok-offers.offers.items o ↔ OffersInside said root o = subst (λ (xs : List Offer). (o : Offer) → Contains xs o ↔ OffersInside said root o) (sym copied) inner.offers in
-    are_candidates said root ways are it.flagged.items inner.flagged bodies have it.told.items it.networks.items inner.told inner.networks
-    c.in_ok-offers.offers.items c.push_externals.new.offers.items c.in_ok-routes.routes.items offered third c.in_ok-routes.ensures.routes
+    let offered : (o : Offer) → Contains c.extend_from_slice.new.self.items o ↔ OffersInside said root o = subst (λ (xs : List Offer). (o : Offer) → Contains xs o ↔ OffersInside said root o) (sym copied) inner.offers in
+    are_candidates said root ways are it.flagged.items inner.flagged externals tell it.told.items it.networks.items inner.told inner.networks
+    c.extend_from_slice.new.self.items c.push_externals.new.offers.items c.in_ok-routes.routes.items offered third c.in_ok-routes.ensures.routes

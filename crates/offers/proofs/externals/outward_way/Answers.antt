@@ -18,5 +18,5 @@ returns-clause-just c = by_forwarding _ _ _ _ _ c.in_ok-boundary.boundary c.way_
 
 pub returns-clause-near : goal.returns-clause-near
 returns-clause-near c =
-    let low = below_longest c.args.inner.now.networks.now c.args.lsa.now.forwarding c.in_ok-route.route c.requires.networks.1 c.in_ok-route.ensures in
+    let low = below_longest c.args.inner.now.networks.now c.args.forwarding c.in_ok-route.route c.requires.networks.1 c.in_ok-route.ensures in
     omega (arith, low, ap (λ (w : Way). w.distance) c.way_by.ensures)

@@ -2,8 +2,11 @@ use Rattle.std.proofs.Common.{◌≡◌, rules}
 use Rattle.std.proofs.lemmas.Fn.{always_returns_same}
 use Rattle.std.specs.Ordering.{nat_cmp}
 use Rattle.offers.specs.declared.flagged.Flagged.{Flagged}
-use Rattle.offers.proofs.Flags.{router_found, router_not_found, searchable_by}
+use Rattle.offers.proofs.Flags.{just_router, router_found, router_not_found, searchable_by}
 use Rattle.offers.proofs.flagged.find_router.Goals as goal
+
+pub returns-in-Some : goal.returns-in-Some
+returns-in-Some c = just_router c.args.routers.now c.args.router c.requires c.in-Some.listed c.in-Some.ensures
 
 pub returns-in-Ok : goal.returns-in-Ok
 returns-in-Ok c =

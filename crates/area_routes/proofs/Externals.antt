@@ -1,0 +1,39 @@
+-- What AS-external-LSAs tell, kept over an event.
+use Rattle.std.proofs.Common.{◌≡◌, ◌∙◌, Bool, true, false, List, Option, None, Some, refl, sym, subst}
+use Rattle.std.specs.Prelude.{IfSome, IsTrue}
+use Rattle.std.specs.Global.{Vec}
+use Rattle.words.specs.Numbers.{Moment, RouterNumber}
+use Rattle.received.specs.Links.{Area}
+use Rattle.offers.specs.Externals.{AreExternals}
+use Rattle.offers.specs.declared.externals.External.{External}
+use Rattle.routes.specs.Said.{Said}
+use Rattle.area_routes.specs.Kept.{AreOffersOf, ExternalsSayTheSame, KeptRoutes, KnowsExternals}
+
+-- it stays while they say the same
+externals_stay : (old new : Said) (told : List External) → ExternalsSayTheSame old new → AreExternals old told → AreExternals new told
+externals_stay old new told same are e = (
+  (λ t. let p = (are e).0 t in (p.0, sym (same p.0.0 p.2.is_type) ∙ p.1, p.2)),
+  (λ p. (are e).1 (p.0, same p.0.0 p.2.is_type ∙ p.1, p.2)),
+)
+
+carried : (old new : Said) (kept : Option (Vec External)) → ExternalsSayTheSame old new → IfSome kept (λ told. AreExternals old told.items) → IfSome kept (λ told. AreExternals new told.items)
+carried old new None same are = are
+carried old new (Some told) same are = externals_stay old new told.items same are
+
+-- what is kept after an event, if they say the same
+pub externals_after : (old new : Said) (stay : Bool) (kept next last : KeptRoutes) → (IsTrue stay → ExternalsSayTheSame old new) → next.externals ≡ kept.externals
+    → (IsTrue stay → last.externals ≡ next.externals) → (stay ≡ false → last.externals ≡ None) → KnowsExternals old kept → KnowsExternals new last
+externals_after old new true kept next last same followed stays forgotten knows =
+    let is : last.externals ≡ kept.externals = stays refl ∙ followed in
+    subst (λ (o : Option (Vec External)). IfSome o (λ told. AreExternals new told.items)) (sym is) (carried old new kept.externals (same refl) knows)
+externals_after old new false kept next last same followed stays forgotten knows =
+    subst (λ (o : Option (Vec External)). IfSome o (λ told. AreExternals new told.items)) (sym (forgotten refl)) tt
+
+-- candidates and walk don't rest on what is kept of them
+pub same_but : (router : RouterNumber) (area : Area) (moment : Moment) (kept : KeptRoutes) (externals : Option (Vec External)) → AreOffersOf router area moment kept
+    → AreOffersOf router area moment (record kept { externals = externals })
+same_but router area moment kept externals are = record {
+  walk = record { walk = are.walk.walk; root = are.walk.root };
+  candidates = are.candidates;
+  inner = are.inner;
+}
