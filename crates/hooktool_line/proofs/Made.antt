@@ -1,11 +1,21 @@
 -- Which requests a command makes of its words.
-use Rattle.std.proofs.Common.{◌≡◌, ◌≢◌, ◌∙◌, ap, sym, arith, ℕ, List, Option, Some, None, codes, slice_index}
+use Rattle.std.proofs.Common.{◌≡◌, ◌≢◌, ◌∙◌, ap, ap₂, sym, subst, arith, ℕ, List, Option, Some, None, Ok, Err, codes, slice_index, inl, inr, refl}
 use Rattle.std.specs.Borrow.{Bor}
-use Rattle.clap.specs.Walk.{Row, Text, first_of}
+use Rattle.std.specs.Prelude.{Box, IfOk, IfErr, Result, option_map, ◌⊎◌}
+use Rattle.clap.specs.Matches.{found_of}
+use Rattle.clap.specs.Simple.{subcommand_rows}
+use Rattle.clap.specs.Values.{kind_of}
+use Rattle.clap.specs.Walk.{Row, Text, first_of, rows_of}
+use Rattle.clap.specs.declared.error.Error.{Error}
+use Rattle.clap.specs.declared.error.kind.ErrorKind.TheVariants as kinds
+use Rattle.clap.specs.declared.parser.matches.ArgMatches.{ArgMatches}
+use Rattle.clap.specs.declared.parser.matches.ArgMatches.TheViews.{out-SubCommand}
+use Rattle.clap.specs.declared.parser.matches.SubCommand.{SubCommand}
+use Rattle.std.specs.Box.{box_value}
 use Rattle.isa.specs.Hooks.{hook_name}
 use Rattle.isa.specs.declared.hook.Hook.{Hook}
 use Rattle.hooktool_line.specs.Questions.{HasQuestion}
-use Rattle.hooktool_line.specs.Requests.{HasFuel, HasWord, MadeBy, Makes, MakesNone, command_of}
+use Rattle.hooktool_line.specs.Requests.{HasFuel, HasWord, IsWrong, IsWrongWord, MadeBy, Makes, MakesNone, command_of}
 use Rattle.hooktool_line.specs.declared.requests.Question.{Question}
 use Rattle.hooktool_line.specs.declared.requests.Request.{Request}
 use Rattle.hooktool_line.specs.declared.requests.Request.TheVariants as requests
@@ -61,6 +71,32 @@ named_makes_none name rows none request makes =
     let same : rows ≡ makes.0 = ap (λ (p : Text × List Row). p.1) both in
     none request (sym names) (rw same makes.2)
 
+-- what a parse entered, read as a reference, and its rows
+pub named_rows : {Z : Type 0} (sub : Option (Box SubCommand Z)) (r : Option (Bor Text × Bor ArgMatches)) (p : Bor Text × Bor ArgMatches) → r ≡ Some p
+    → option_map (λ p. p.0.now) r ≡ option_map (λ b. (out-SubCommand (box_value b)).name.now) sub
+    → option_map (λ p. rows_of (found_of p.1.now)) r ≡ option_map (λ p. p.1) (subcommand_rows sub)
+    → subcommand_rows sub ≡ Some (p.0.now, rows_of (found_of p.1.now))
+named_rows {Z} sub None p is name rows = absurd (some≢none p (sym is))
+named_rows {Z} None (Some q) p is name rows = absurd (some≢none _ name)
+named_rows {Z} (Some b) (Some q) p is name rows =
+    ap₂ (λ (n : Text) (r : List Row). Some (n, r))
+    (sym (some_is name) ∙ ap (λ (x : Bor Text × Bor ArgMatches). x.0.now) (some_is is))
+    (sym (some_is rows) ∙ ap (λ (x : Bor Text × Bor ArgMatches). rows_of (found_of x.1.now)) (some_is is))
+
+-- what is made of the words of the command that was named
+pub all_made : (named : Option (Text × List Row)) (name : Text) (rows : List Row) (r : Result Request Error) → named ≡ Some (name, rows)
+    → IfOk r (λ request. MadeBy name rows (Some request)) → IfOk r (Makes named)
+all_made named name rows (Ok request) is made = subst (λ (n : Option (Text × List Row)). Makes n request) (sym is) (named_makes name rows request made)
+all_made named name rows (Err e) is made = tt
+
+pub all_wrong : (named : Option (Text × List Row)) (name : Text) (rows : List Row) (r : Result Request Error) → named ≡ Some (name, rows)
+    → IfErr r (IsWrong name rows) → IfErr r (λ e. (kind_of e ≡ kinds.OutOfMemory) ⊎ IsWrongWord named e)
+all_wrong named name rows (Ok request) is wrong = tt
+all_wrong named name rows (Err e) is wrong = elim wrong [
+  | inl memory ↦ inl memory
+  | inr value ↦ inr (subst (λ (n : Option (Text × List Row)). IsWrongWord n e) (sym is) (value.0, named_makes_none name rows value.1))
+]
+
 pub none_makes_none : MakesNone None
 none_makes_none request makes = some≢none _ (sym makes.1)
 
@@ -71,3 +107,18 @@ has_word rows name word e = sym e
 
 pub has_none : (rows : List Row) (name : Text) → None ≡ first_of name rows → (word : Text) → HasWord rows name word → ⊥
 has_none rows name none word has = some≢none word (sym has ∙ sym none)
+
+-- the words name no command
+pub all_unnamed : (named : Option (Text × List Row)) (e : Error) → named ≡ None
+    → (kind_of e ≡ kinds.OutOfMemory) ⊎ (kind_of e ≡ kinds.MissingSubcommand) → (kind_of e ≡ kinds.OutOfMemory) ⊎ IsWrongWord named e
+all_unnamed named e is kind = elim kind [
+  | inl memory ↦ inl memory
+  | inr missing ↦ inr (subst (λ (n : Option (Text × List Row)). IsWrongWord n e) (sym is) (missing, none_makes_none))
+]
+
+-- nothing was entered
+pub no_rows : {Z : Type 0} (sub : Option (Box SubCommand Z)) (r : Option (Bor Text × Bor ArgMatches)) → r ≡ None
+    → option_map (λ p. p.0.now) r ≡ option_map (λ b. (out-SubCommand (box_value b)).name.now) sub → subcommand_rows sub ≡ None
+no_rows {Z} None r is name = refl
+no_rows {Z} (Some b) None is name = absurd (some≢none _ (sym name))
+no_rows {Z} (Some b) (Some q) is name = absurd (some≢none q is)

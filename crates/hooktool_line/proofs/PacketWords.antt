@@ -6,8 +6,7 @@ use Rattle.std.proofs.lemmas.Str.Pattern.{strip_prefix_char}
 use Rattle.hex.specs.Hex.{decode_of}
 use Rattle.hex.specs.declared.error.FromHexError.{FromHexError}
 use Rattle.hex.specs.declared.error.FromHexError.TheVariants.{OutOfMemory}
-use Rattle.hooktool_line.specs.Words.{IsNoPacket, IsPacket, OrElse, Reads}
-use Rattle.clap.specs.Walk.{Text}
+use Rattle.hooktool_line.specs.Words.{IsPacket, Reads}
 use Rattle.hooktool_line.specs.declared.requests.Packet.{Packet}
 use Rattle.hooktool_line.specs.declared.requests.Packet.TheVariants as packets
 use denote.Ref.{Bor}
@@ -38,10 +37,3 @@ lacks {E} w e (Ok packet) plain bad none other =
       | inr refused ↦ no_packet w e plain refused
     ])
 lacks {E} w e (Err x) plain bad none other = tt
-
--- the packet of an option
-pub packet_has : (found given : Option Text) (r : Option Packet) (packet : Packet) → given ≡ found
-    → Reads (λ p. OrElse given (IsNoPacket p) (λ w. IsPacket w p)) r → r ≡ Some packet → OrElse found (IsNoPacket packet) (λ w. IsPacket w packet)
-packet_has found given r packet same reads some =
-    subst (λ (g : Option Text). OrElse g (IsNoPacket packet) (λ w. IsPacket w packet)) same
-    (subst (λ (q : Option Packet). Reads (λ p. OrElse given (IsNoPacket p) (λ w. IsPacket w p)) q) some reads)

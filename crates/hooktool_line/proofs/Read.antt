@@ -1,6 +1,6 @@
 -- What is read of words.
-use Rattle.std.proofs.Common.{◌≡◌, ◌∙◌, refl, sym, subst, List, [], Option, Some, None, Ok, Err, MatchResult, inl, inr, true}
-use Rattle.std.specs.Prelude.{Result, IfSome, IsErrAnd, ◌⊎◌}
+use Rattle.std.proofs.Common.{◌≡◌, refl, sym, subst, List, [], Option, Ok, Err, MatchResult, inl, inr, true}
+use Rattle.std.specs.Prelude.{Result, IfOk, IfErr, IsErrAnd, ◌⊎◌}
 use Rattle.clap.specs.Faults.{fault_of, is_simple_and_free}
 use Rattle.clap.specs.Kinds.{HasKind}
 use Rattle.clap.specs.Simple.{App, HasMatchesOf, subcommand_of, subcommand_rows_of}
@@ -12,7 +12,6 @@ use Rattle.clap.specs.declared.parser.matches.ArgMatches.{ArgMatches}
 use Rattle.hooktool_line.specs.CommandLine.{line}
 use Rattle.hooktool_line.specs.Requests.{Asks, IsRefusal, IsWrongWord, Makes}
 use Rattle.hooktool_line.specs.declared.requests.Request.{Request}
-use Rattle.hooktool_line.proofs.Made.{none_makes_none}
 
 abbrev pub Answers : List Text → Result Request Error → Type 0
 Answers words result = MatchResult result (Asks words) (IsRefusal words)
@@ -50,23 +49,17 @@ mistaken words e has = elim has [
 entered : (words : List Text) (m : ArgMatches) → HasMatchesOf line words m → subcommand_rows_of m ≡ subcommand_of line words
 entered words m has = (has refl).1
 
--- what is made of the words of what was entered
-pub made : (words : List Text) (m : ArgMatches) (o : Option Request) (request : Request) → HasMatchesOf line words m → o ≡ Some request
-    → IfSome o (Makes (subcommand_rows_of m)) → Makes (subcommand_of line words) request
-made words m o request has is makes =
-    subst (λ (named : Option (Text × List Row)). Makes named request) (entered words m has) (rw is at makes)
-
 -- a wrong word of the command that is named, or want of memory
-pub wrong_word : (words : List Text) (m : ArgMatches) (e : Error) → HasMatchesOf line words m → fault_of line words ≡ []
+wrong_word : (words : List Text) (m : ArgMatches) (e : Error) → HasMatchesOf line words m → fault_of line words ≡ []
     → (kind_of e ≡ kinds.OutOfMemory) ⊎ IsWrongWord (subcommand_rows_of m) e → IsRefusal words e
 wrong_word words m e has taken given = elim given [
   | inl memory ↦ inl memory
   | inr wrong ↦ inr (inr (taken, subst (λ (named : Option (Text × List Row)). IsWrongWord named e) (entered words m has) wrong))
 ]
 
--- no command is named
-pub no_command : (words : List Text) (m : ArgMatches) (e : Error) → HasMatchesOf line words m → fault_of line words ≡ []
-    → subcommand_rows_of m ≡ None → kind_of e ≡ kinds.MissingSubcommand → IsRefusal words e
-no_command words m e has taken none kind =
-    let unnamed : None ≡ subcommand_of line words = sym none ∙ entered words m has in
-    inr (inr (taken, subst (λ (named : Option (Text × List Row)). IsWrongWord named e) unnamed (kind, none_makes_none)))
+-- what is made of the words that were taken, or what is wrong with them
+pub read : (words : List Text) (m : ArgMatches) (r : Result Request Error) → HasMatchesOf line words m → fault_of line words ≡ []
+    → IfOk r (Makes (subcommand_rows_of m)) → IfErr r (λ e. (kind_of e ≡ kinds.OutOfMemory) ⊎ IsWrongWord (subcommand_rows_of m) e) → Answers words r
+read words m (Ok request) has taken makes wrong =
+    (taken, subst (λ (named : Option (Text × List Row)). Makes named request) (entered words m has) makes)
+read words m (Err e) has taken makes wrong = wrong_word words m e has taken wrong

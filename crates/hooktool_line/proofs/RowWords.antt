@@ -1,6 +1,5 @@
 -- Rows of the routing table, read of words.
 use Rattle.std.proofs.Common.{◌≡◌, ◌∙◌, ◌+◌, ◌<◌, ◌≤◌, ℕ, List, [], ◌∷◌, ◌++◌, Option, Some, None, ap, sym, subst, length, get_or, drop, lit<, append_assoc, arith}
-use Rattle.std.specs.Global.{Vec}
 use Rattle.std.specs.Prelude.{MatchOption, decimal, map}
 use Rattle.std.proofs.lemmas.List.{append-nil, drop_all, drop_more}
 use Rattle.std.proofs.lemmas.Str.Pattern.{IsSplitOnceResult, split_after, split_parts}
@@ -9,8 +8,7 @@ use Rattle.clap.specs.Walk.{Text}
 use Rattle.words.specs.Prefixes.{Network}
 use Rattle.words.specs.Text.{prefix_text}
 use Rattle.words.specs.declared.route.TableRow.{TableRow}
-use Rattle.hooktool_line.specs.Questions.{HasRows}
-use Rattle.hooktool_line.specs.Words.{AreRows, IsRow, Reads}
+use Rattle.hooktool_line.specs.Words.{AreRows, IsRow}
 use denote.Ref.{Bor}
 
 abbrev Cut : Type 0
@@ -85,17 +83,3 @@ read_all words i rows le has =
     let none : AreRows (texts []) [] = tt in
     let left : AreRows (texts (drop i words)) [] = subst (λ (xs : List (Bor Text)). AreRows (texts xs) []) (sym (drop_all i words le)) none in
     subst (λ (xs : List TableRow). AreRows (texts words) xs) (append-nil rows) (has.ahead [] left)
-
--- ---- the rows of an option
-
-pub no_table : (found given : Option (List Text)) (r : Option (Vec TableRow)) → given ≡ found → Reads (λ rows. HasRows given rows.items) r → r ≡ None
-    → (rows : Vec TableRow) → HasRows found rows.items → ⊥
-no_table found given r same reads none rows has =
-    subst (λ (q : Option (Vec TableRow)). Reads (λ rows. HasRows given rows.items) q) none reads rows
-    (subst (λ (g : Option (List Text)). HasRows g rows.items) (sym same) has)
-
-pub table : (found given : Option (List Text)) (r : Option (Vec TableRow)) (rows : Vec TableRow) → given ≡ found → Reads (λ rows. HasRows given rows.items) r
-    → r ≡ Some rows → HasRows found rows.items
-table found given r rows same reads some =
-    subst (λ (g : Option (List Text)). HasRows g rows.items) same
-    (subst (λ (q : Option (Vec TableRow)). Reads (λ rows. HasRows given rows.items) q) some reads)

@@ -1,25 +1,55 @@
--- Commands that are built, argument by argument.
-use Rattle.std.specs.Prelude.{◌≡◌, false, List, [], ◌∷◌, fold}
-use Rattle.clap.specs.Simple.{App, Shape, app_of, shape_of, with_rule}
-use Rattle.clap.specs.Walk.{Rule}
+-- Commands that are built of tables, word by word.
+use Rattle.std.specs.Prelude.{◌≡◌, false, List, [], ◌∷◌}
+use Rattle.clap.specs.Simple.{App, Shape, app_of, new_app, shape_of, with_rule, with_subcommand}
+use Rattle.clap.specs.Walk.{Rule, Text}
 use Rattle.clap.specs.declared.builder.command.Command.{Command}
 use Rattle.clap.specs.declared.builder.command.Command.TheViews.{out-Command}
+use Rattle.hooktool_line.specs.CommandLine.{option, repeated, required}
+use Rattle.hooktool_line.specs.declared.arguments.Form.{Form}
+use Rattle.hooktool_line.specs.declared.arguments.Given.{Given}
+use Rattle.hooktool_line.specs.declared.arguments.Given.TheVariants as given
+use Rattle.hooktool_line.specs.declared.arguments.Word.{Word}
 
 -- no argument of it is also one of its subcommands
 abbrev pub IsLocal : Command → Type 0
 IsLocal c = (out-Command c).has_globals ≡ false
 
--- the command with one more argument
-pub record Extends (before : Command) (rule : Rule) (after : Command) : Type 0 where
-  pub app : app_of after ≡ with_rule (app_of before) rule
+-- the rule of a word of this name
+abbrev pub rule_by : Given → Text → Rule
+rule_by given.Required name = required name
+rule_by given.Once name = option name
+rule_by given.Repeated name = repeated name
+
+abbrev pub rule_for : Word → Rule
+rule_for word = rule_by word.given word.name.now
+
+-- what has these words too, in their order
+abbrev pub with_words : App → List Word → App
+with_words app [] = app
+with_words app (word ∷ words) = with_words (with_rule app (rule_for word)) words
+
+-- the command with these words too
+pub record ExtendsBy (before : Command) (words : List Word) (after : Command) : Type 0 where
+  pub app : app_of after ≡ with_words (app_of before) words
   pub local : IsLocal before → IsLocal after
 
--- and with several, in their order
-pub record ExtendsBy (before : Command) (rules : List Rule) (after : Command) : Type 0 where
-  pub app : app_of after ≡ fold with_rule (app_of before) rules
-  pub local : IsLocal before → IsLocal after
+-- the command of a form
+abbrev pub shape_for : Form → Shape
+shape_for form = (with_words (new_app form.name.now) form.words.now).top
 
 -- a command of this shape
 pub record IsLeaf (wanted : Shape) (c : Command) : Type 0 where
   pub shape : shape_of c ≡ wanted
   pub local : IsLocal c
+
+-- the line with one more command
+pub record HasCommand (before : Command) (form : Form) (after : Command) : Type 0 where
+  pub app : app_of after ≡ with_subcommand (app_of before) (shape_for form)
+
+-- what has these commands too, in their order
+abbrev pub with_forms : App → List Form → App
+with_forms app [] = app
+with_forms app (form ∷ forms) = with_forms (with_subcommand app (shape_for form)) forms
+
+pub record HasCommands (before : Command) (forms : List Form) (after : Command) : Type 0 where
+  pub app : app_of after ≡ with_forms (app_of before) forms

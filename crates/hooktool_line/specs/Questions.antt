@@ -1,5 +1,6 @@
 -- The question that the options of a command ask.
 use Rattle.std.specs.Prelude.{◌≡◌, ◌^◌, ℕ, List, [], Option, Some, None, codes}
+use Rattle.std.specs.Global.{Vec}
 use Rattle.clap.specs.Walk.{Row, Text, all_of, first_of}
 use Rattle.words.specs.declared.route.TableRow.{TableRow}
 use Rattle.trial_runs.specs.declared.asked.Asked.{Asked}
@@ -7,6 +8,7 @@ use Rattle.hooktool_line.specs.Words.{AreRows, IsNoPacket, IsNumber, IsPacket, I
 use Rattle.hooktool_line.specs.Words.{everything, kind_word, type_word}
 use Rattle.hooktool_line.specs.declared.numbers.Numbers.{Numbers}
 use Rattle.hooktool_line.specs.declared.places.Places.{Places}
+use Rattle.hooktool_line.specs.declared.requests.Packet.{Packet}
 use Rattle.hooktool_line.specs.declared.requests.Question.{Question}
 use Rattle.words.specs.declared.route.ExternalType.TheVariants.{Type2}
 use Rattle.words.specs.declared.route.RouteKind.TheVariants.{Intra}
@@ -56,13 +58,30 @@ abbrev pub HasRows : Option (List Text) → List TableRow → Type 0
 HasRows None rows = rows ≡ []
 HasRows (Some words) rows = AreRows words rows
 
-pub record HasQuestion (rows : List Row) (question : Question) : Type 0 where
+-- what is asked, but for the packet and the rows, and how many times
+pub record HasAsked (rows : List Row) (question : Asked) (runs : ℕ) : Type 0 where
   pub places : Places
   pub numbers : Numbers
   pub named : HasPlaces rows places
   pub counted : HasNumbers rows numbers
-  pub asked : question.asked ≡ asked_of places numbers
+  pub asked : question ≡ asked_of places numbers
+  pub times : HasNumber rows (codes "times") 1 1 1000 runs
+
+pub record HasQuestion (rows : List Row) (question : Question) : Type 0 where
+  pub asked : HasAsked rows question.asked question.times
   pub packet : OrElse (first_of (codes "packet") rows) (IsNoPacket question.packet)
       (λ word. IsPacket word question.packet)
   pub table : HasRows (all_of (codes "row") rows) question.rows.items
-  pub times : HasNumber rows (codes "times") 1 1 1000 question.times
+
+-- the question of these parts, if there are all
+abbrev pub question_with : Option (Asked × ℕ) → Option Packet → Option (Vec TableRow)
+    → Option Question
+question_with None packet rows = None
+question_with (Some asked) None rows = None
+question_with (Some asked) (Some packet) None = None
+question_with (Some asked) (Some packet) (Some rows) = Some (record {
+  asked = asked.0;
+  packet = packet;
+  rows = rows;
+  times = asked.1;
+})

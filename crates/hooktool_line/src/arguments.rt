@@ -1,11 +1,11 @@
 //! The commands, the words that each may have, and their help.
 
 ghost use Rattle.std.specs.Prelude.{◌≡◌, ◌⊎◌, false, IfOk};
-ghost use Rattle.clap.specs.Simple.{app_of, new_app};
+ghost use Rattle.clap.specs.Simple.{app_of};
 ghost use Rattle.clap.specs.Values.{kind_of};
 ghost use Rattle.clap.specs.Walk.{rule_of};
-ghost use Rattle.clap.specs.declared.builder.command.Command.TheViews.{out-Command as fields_of};
-ghost use Rattle.hooktool_line.specs.Building.{Extends, ExtendsBy, IsLeaf};
+ghost use Rattle.hooktool_line.specs.Building.{ExtendsBy, HasCommand, HasCommands, IsLeaf};
+ghost use Rattle.hooktool_line.specs.Building.{rule_for, shape_for};
 ghost use Rattle.hooktool_line.specs.CommandLine as line;
 
 use clap::error::ErrorKind;
@@ -111,166 +111,252 @@ Examples:
 
 Statuses: 0 done, 1 refused or stuck, 2 usage, 3 file or stream, 4 memory.";
 
-fn required<'a>(alloc: Global, name: &'a str, help: &'a str) -> Arg<'a>
-    ensures rule { rule_of result ≡ line.required name.entry.now }
+/// How a word of a command is given.
+#[derive(Clone, Copy)]
+pub(crate) enum Given {
+    /// It has to be there, at its place.
+    Required,
+    /// Behind its name with two hyphens, if it is there.
+    Once,
+    /// The same, several times.
+    Repeated,
+}
+
+/// A word that a command takes: its name, what its value is called, and its help.
+#[derive(Clone, Copy)]
+pub(crate) struct Word {
+    pub given: Given,
+    pub name: &'static str,
+    pub value: &'static str,
+    pub help: &'static str,
+}
+
+/// A command: its name, its help, what stands behind that, and its words.
+#[derive(Clone, Copy)]
+pub(crate) struct Form {
+    pub name: &'static str,
+    pub about: &'static str,
+    pub more: &'static str,
+    pub words: &'static [Word],
+}
+
+const ANNOTATE_WORDS: [Word; 4] = [
+    Word {
+        given: Given::Required,
+        name: "HOOK",
+        value: "HOOK",
+        help: HOOK,
+    },
+    Word {
+        given: Given::Required,
+        name: "CODE",
+        value: "CODE",
+        help: CODE,
+    },
+    Word {
+        given: Given::Required,
+        name: "OBJECT",
+        value: "OBJECT",
+        help: "The object file that is written",
+    },
+    Word {
+        given: Given::Once,
+        name: "fuel",
+        value: "N",
+        help: FUEL,
+    },
+];
+
+const EXPLAIN_WORDS: [Word; 1] = [Word {
+    given: Given::Required,
+    name: "OBJECT",
+    value: "OBJECT",
+    help: "The object file",
+}];
+
+const TRY_WORDS: [Word; 13] = [
+    Word {
+        given: Given::Required,
+        name: "OBJECT",
+        value: "OBJECT",
+        help: "The object file",
+    },
+    Word {
+        given: Given::Once,
+        name: "prefix",
+        value: "A.B.C.D/L",
+        help: "The destination",
+    },
+    Word {
+        given: Given::Once,
+        name: "metric",
+        value: "N",
+        help: "The configured metric",
+    },
+    Word {
+        given: Given::Once,
+        name: "tag",
+        value: "N",
+        help: "The configured tag, or the route's",
+    },
+    Word {
+        given: Given::Once,
+        name: "type",
+        value: "1|2",
+        help: TYPE,
+    },
+    Word {
+        given: Given::Once,
+        name: "cost",
+        value: "N",
+        help: "The route's cost",
+    },
+    Word {
+        given: Given::Once,
+        name: "distance",
+        value: "N",
+        help: "The distance of a type 2 route",
+    },
+    Word {
+        given: Given::Once,
+        name: "kind",
+        value: "KIND",
+        help: "The route's kind: intra, inter, ext1 or ext2",
+    },
+    Word {
+        given: Given::Once,
+        name: "moment",
+        value: "N",
+        help: "The moment in seconds",
+    },
+    Word {
+        given: Given::Once,
+        name: "interface",
+        value: "N",
+        help: INTERFACE,
+    },
+    Word {
+        given: Given::Once,
+        name: "packet",
+        value: "HEX|@FILE",
+        help: "The packet",
+    },
+    Word {
+        given: Given::Repeated,
+        name: "row",
+        value: "A.B.C.D/L=COST",
+        help: ROW,
+    },
+    Word {
+        given: Given::Once,
+        name: "times",
+        value: "N",
+        help: TIMES,
+    },
+];
+
+const COMMANDS: [Form; 3] = [
+    Form {
+        name: "annotate",
+        about: ANNOTATE,
+        more: ANNOTATE_MORE,
+        words: &ANNOTATE_WORDS,
+    },
+    Form {
+        name: "explain",
+        about: EXPLAIN,
+        more: EXPLAIN_MORE,
+        words: &EXPLAIN_WORDS,
+    },
+    Form {
+        name: "try",
+        about: TRY,
+        more: TRY_MORE,
+        words: &TRY_WORDS,
+    },
+];
+
+// A word, as an argument of a command.
+fn argument<'a>(alloc: Global, word: &Word) -> Arg<'a>
+    ensures rule { rule_of result ≡ rule_for word.now }
     ensures local { result.global ≡ false }
 {
-    Arg::new(alloc, name)
-        .value_name(name)
-        .help(help)
-        .required(true)
+    let argument = Arg::new(alloc, word.name)
+        .value_name(word.value)
+        .help(word.help);
+    match word.given {
+        Given::Required => argument.required(true),
+        Given::Once => argument.long(word.name),
+        Given::Repeated => argument.long(word.name).action(ArgAction::Append),
+    }
 }
 
-fn option<'a>(alloc: Global, name: &'a str, value: &'a str, help: &'a str) -> Arg<'a>
-    ensures rule { rule_of result ≡ line.option name.entry.now }
-    ensures local { result.global ≡ false }
-{
-    Arg::new(alloc, name)
-        .long(name)
-        .value_name(value)
-        .help(help)
-}
-
-fn repeated<'a>(alloc: Global, name: &'a str, value: &'a str, help: &'a str) -> Arg<'a>
-    ensures rule { rule_of result ≡ line.repeated name.entry.now }
-    ensures local { result.global ≡ false }
-{
-    Arg::new(alloc, name)
-        .long(name)
-        .value_name(value)
-        .help(help)
-        .action(ArgAction::Append)
-}
-
-// The command with one more word that has to be there.
-fn with_required<'a>(
+// The command with these words, in their order.
+fn with_words<'a>(
     alloc: Global,
     command: Command<'a>,
-    name: &'a str,
-    help: &'a str,
+    words: &[Word],
 ) -> Result<Command<'a>, AllocError>
-    ensures { IfOk result (Extends command.entry (line.required name.entry.now)) }
+    ensures { IfOk result (ExtendsBy command.entry words.now) }
 {
-    command.arg(required(alloc, name, help))
+    let mut command = command;
+    for word in words {
+        command = command.arg(argument(alloc, word))?;
+    }
+    Ok(command)
 }
 
-// The command with one more option.
-fn with_option<'a>(
+// The command of this form.
+fn command_of<'a>(alloc: Global, form: &Form) -> Result<Command<'a>, AllocError>
+    ensures { IfOk result (IsLeaf (shape_for form.now)) }
+{
+    let command = Command::new(alloc, form.name)
+        .about(form.about)
+        .after_help(form.more);
+    with_words(alloc, command, form.words)
+}
+
+// The command line with the command of this form too.
+fn with_command<'a>(
     alloc: Global,
-    command: Command<'a>,
-    name: &'a str,
-    value: &'a str,
-    help: &'a str,
+    line: Command<'a>,
+    form: &Form,
 ) -> Result<Command<'a>, AllocError>
-    ensures { IfOk result (Extends command.entry (line.option name.entry.now)) }
+    ensures { IfOk result (HasCommand line.entry form.now) }
 {
-    command.arg(option(alloc, name, value, help))
+    let command = command_of(alloc, form)?;
+    line.subcommand(command)
 }
 
-// The command with one more option that may be given several times.
-fn with_repeated<'a>(
+// The command line with these commands, in their order.
+fn with_commands<'a>(
     alloc: Global,
-    command: Command<'a>,
-    name: &'a str,
-    value: &'a str,
-    help: &'a str,
+    line: Command<'a>,
+    forms: &[Form],
 ) -> Result<Command<'a>, AllocError>
-    ensures { IfOk result (Extends command.entry (line.repeated name.entry.now)) }
+    ensures { IfOk result (HasCommands line.entry forms.now) }
 {
-    command.arg(repeated(alloc, name, value, help))
-}
-
-fn named<'a>(alloc: Global, name: &'a str, about: &'a str, more: &'a str) -> Command<'a>
-    ensures app { app_of result ≡ new_app name.entry.now }
-    ensures local { (fields_of result).has_globals ≡ false }
-{
-    Command::new(alloc, name).about(about).after_help(more)
-}
-
-fn annotate<'a>(alloc: Global) -> Result<Command<'a>, AllocError>
-    ensures { IfOk result (IsLeaf line.annotate) }
-{
-    let command = named(alloc, "annotate", ANNOTATE, ANNOTATE_MORE);
-    let hooked = with_required(alloc, command, "HOOK", HOOK)?;
-    let coded = with_required(alloc, hooked, "CODE", CODE)?;
-    let written = with_required(alloc, coded, "OBJECT", "The object file that is written")?;
-    with_option(alloc, written, "fuel", "N", FUEL)
-}
-
-fn explain<'a>(alloc: Global) -> Result<Command<'a>, AllocError>
-    ensures { IfOk result (IsLeaf line.explain) }
-{
-    let command = named(alloc, "explain", EXPLAIN, EXPLAIN_MORE);
-    with_required(alloc, command, "OBJECT", "The object file")
-}
-
-// The options that name a destination and a route.
-fn with_route<'a>(alloc: Global, command: Command<'a>) -> Result<Command<'a>, AllocError>
-    ensures { IfOk result (ExtendsBy command.entry line.route_options) }
-{
-    let placed = with_option(alloc, command, "prefix", "A.B.C.D/L", "The destination")?;
-    let measured = with_option(alloc, placed, "metric", "N", "The configured metric")?;
-    let tagged = with_option(
-        alloc,
-        measured,
-        "tag",
-        "N",
-        "The configured tag, or the route's",
-    )?;
-    let typed = with_option(alloc, tagged, "type", "1|2", TYPE)?;
-    let paid = with_option(alloc, typed, "cost", "N", "The route's cost")?;
-    let far = with_option(
-        alloc,
-        paid,
-        "distance",
-        "N",
-        "The distance of a type 2 route",
-    )?;
-    with_option(
-        alloc,
-        far,
-        "kind",
-        "KIND",
-        "The route's kind: intra, inter, ext1 or ext2",
-    )
-}
-
-// The options on when and what a program is run on.
-fn with_surroundings<'a>(alloc: Global, command: Command<'a>) -> Result<Command<'a>, AllocError>
-    ensures { IfOk result (ExtendsBy command.entry line.other_options) }
-{
-    let timed = with_option(alloc, command, "moment", "N", "The moment in seconds")?;
-    let placed = with_option(alloc, timed, "interface", "N", INTERFACE)?;
-    let sent = with_option(alloc, placed, "packet", "HEX|@FILE", "The packet")?;
-    let routed = with_repeated(alloc, sent, "row", "A.B.C.D/L=COST", ROW)?;
-    with_option(alloc, routed, "times", "N", TIMES)
-}
-
-fn try_command<'a>(alloc: Global) -> Result<Command<'a>, AllocError>
-    ensures { IfOk result (IsLeaf line.try) }
-{
-    let command = named(alloc, "try", TRY, TRY_MORE);
-    let objected = with_required(alloc, command, "OBJECT", "The object file")?;
-    let routed = with_route(alloc, objected)?;
-    with_surroundings(alloc, routed)
+    let mut line = line;
+    for form in forms {
+        line = with_command(alloc, line, form)?;
+    }
+    Ok(line)
 }
 
 /// The whole command line.
 pub(crate) fn whole<'a>(alloc: Global) -> Result<Command<'a>, AllocError>
     ensures { IfOk result (λ c. app_of c ≡ line.line) }
 {
-    Command::new(alloc, "hooktool")
+    let line = Command::new(alloc, "hooktool")
         .about(ABOUT)
         .after_help(WORKED)
         .subcommand_required(true)
-        .arg_required_else_help(true)
-        .subcommand(annotate(alloc)?)?
-        .subcommand(explain(alloc)?)?
-        .subcommand(try_command(alloc)?)
+        .arg_required_else_help(true);
+    with_commands(alloc, line, &COMMANDS)
 }
 
 /// An error about the words of a command line.
-pub(crate) fn error(alloc: Global, kind: ErrorKind, text: &str) -> Result<Error, AllocError>
+fn error(alloc: Global, kind: ErrorKind, text: &str) -> Result<Error, AllocError>
     ensures { IfOk result (λ error. kind_of error ≡ kind) }
 {
     whole(alloc)?.error(kind, text)
@@ -281,6 +367,17 @@ pub(crate) fn wrong_value(alloc: Global, text: &str) -> Error
     ensures { (kind_of result ≡ ErrorKind.OutOfMemory) ⊎ (kind_of result ≡ ErrorKind.InvalidValue) }
 {
     match error(alloc, ErrorKind::InvalidValue, text) {
+        Ok(error) => error,
+        Err(error) => Error::from(error),
+    }
+}
+
+/// An error about words that name no command, or want of memory.
+pub(crate) fn no_command(alloc: Global) -> Error
+    ensures { (kind_of result ≡ ErrorKind.OutOfMemory)
+        ⊎ (kind_of result ≡ ErrorKind.MissingSubcommand) }
+{
+    match error(alloc, ErrorKind::MissingSubcommand, "no command is given") {
         Ok(error) => error,
         Err(error) => Error::from(error),
     }

@@ -35,8 +35,5 @@ pub fn parse<'a>(alloc: Global, words: &'a [&'a str]) -> Result<Request<'a>, Err
         (IsRefusal (map (λ w. w.now) words.entry.now)) }
 {
     let matches = arguments::whole(alloc)?.try_get_matches_from(words)?;
-    match requests::request_of(alloc, &matches)? {
-        Some(request) => Ok(request),
-        None => Err(arguments::error(alloc, ErrorKind::MissingSubcommand, "no command is given")?),
-    }
+    requests::request_of(alloc, &matches)
 }

@@ -1,17 +1,18 @@
 //! What a command and its words ask for.
 
-ghost use Rattle.std.specs.Prelude.{◌≡◌, ◌<◌, ◌⊎◌, codes, IfOk, IfErr, IfSome, Some, None};
+ghost use Rattle.std.specs.Prelude.{◌≡◌, ◌<◌, ◌⊎◌, codes, IfOk, IfErr, Some};
 ghost use Rattle.clap.specs.Matches.{found_of};
 ghost use Rattle.clap.specs.Simple.{subcommand_rows_of};
 ghost use Rattle.clap.specs.Values.{kind_of};
 ghost use Rattle.clap.specs.Walk.{rows_of};
 ghost use Rattle.clap.specs.declared.error.kind.ErrorKind.TheVariants as kinds;
-ghost use Rattle.hooktool_line.specs.Questions.{HasQuestion, asked_of};
+ghost use Rattle.hooktool_line.specs.Questions.{HasAsked, HasQuestion, asked_of};
+ghost use Rattle.hooktool_line.specs.Questions.{question_with};
 ghost use Rattle.hooktool_line.specs.Requests.{HasFuel, IsFuel, IsWrong, IsWrongWord, MadeBy};
 ghost use Rattle.hooktool_line.specs.Requests.{Makes};
 ghost use Rattle.hooktool_line.specs.Words.{Reads};
 
-use crate::arguments::wrong_value;
+use crate::arguments::{no_command, wrong_value};
 use crate::numbers::{Numbers, numbers_of};
 use crate::packets::packet_in;
 use crate::places::{Places, places_of};
@@ -81,6 +82,36 @@ fn asked_of(places: Places, numbers: Numbers) -> Asked
     }
 }
 
+/// What the options ask but for the packet and the rows, and how many times. None where one of
+/// their words has no meaning.
+fn asked_in(matches: &ArgMatches<'_>) -> Option<(Asked, u32)>
+    ensures { Reads (λ p. HasAsked (rows_of (found_of matches.now)) p.0 p.1) result }
+{
+    let places = places_of(matches)?;
+    let numbers = numbers_of(matches)?;
+    let times = number_of(matches, "times", 1, 1, 1000)?;
+    Some((asked_of(places, numbers), times as u32))
+}
+
+/// The question of these parts. None where one of them has no meaning.
+fn question_with<'a>(
+    asked: Option<(Asked, u32)>,
+    packet: Option<Packet<'a>>,
+    rows: Option<Vec<TableRow>>,
+) -> Option<Question<'a>>
+    ensures { result ≡ question_with asked packet.entry rows }
+{
+    let (asked, times) = asked?;
+    let packet = packet?;
+    let rows = rows?;
+    Some(Question {
+        asked,
+        packet,
+        rows,
+        times,
+    })
+}
+
 /// The question that the options ask. None where one of their words has no meaning.
 fn question_of<'a>(
     alloc: Global,
@@ -88,27 +119,9 @@ fn question_of<'a>(
 ) -> Result<Option<Question<'a>>, AllocError>
     ensures { IfOk result (Reads (HasQuestion (rows_of (found_of matches.now)))) }
 {
-    let Some(places) = places_of(matches) else {
-        return Ok(None);
-    };
-    let Some(numbers) = numbers_of(matches) else {
-        return Ok(None);
-    };
-    let Some(times) = number_of(matches, "times", 1, 1, 1000) else {
-        return Ok(None);
-    };
-    let Some(packet) = packet_in(alloc, word_of(matches, "packet"))? else {
-        return Ok(None);
-    };
-    let Some(rows) = rows_in(alloc, matches.get_strs("row"))? else {
-        return Ok(None);
-    };
-    Ok(Some(Question {
-        asked: asked_of(places, numbers),
-        packet,
-        rows,
-        times: times as u32,
-    }))
+    let packet = packet_in(alloc, word_of(matches, "packet"))?;
+    let rows = rows_in(alloc, matches.get_strs("row"))?;
+    Ok(question_with(asked_in(matches), packet, rows))
 }
 
 /// The number of turns that a word gives.
@@ -230,21 +243,14 @@ fn request_by<'a>(alloc: Global, name: &str, matches: &ArgMatches<'a>) -> Result
     }
 }
 
-/// What the command that the words name makes of its words. None where they name no command.
-pub(crate) fn request_of<'a>(
-    alloc: Global,
-    matches: &ArgMatches<'a>,
-) -> Result<Option<Request<'a>>, Error>
-    ensures some { IfOk result (λ o. IfSome o (Makes (subcommand_rows_of matches.now))) }
-    ensures none { IfOk result (λ o. o ≡ None → subcommand_rows_of matches.now ≡ None) }
+/// What the command that the words name makes of its words.
+pub(crate) fn request_of<'a>(alloc: Global, matches: &ArgMatches<'a>) -> Result<Request<'a>, Error>
+    ensures ok { IfOk result (Makes (subcommand_rows_of matches.now)) }
     ensures err { IfErr result (λ e. (kind_of e ≡ kinds.OutOfMemory)
         ⊎ IsWrongWord (subcommand_rows_of matches.now) e) }
 {
     match matches.subcommand() {
-        Some((name, matches)) => match request_by(alloc, name, matches) {
-            Ok(request) => Ok(Some(request)),
-            Err(error) => Err(error),
-        },
-        None => Ok(None),
+        Some((name, matches)) => request_by(alloc, name, matches),
+        None => Err(no_command(alloc)),
     }
 }
