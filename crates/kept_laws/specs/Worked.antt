@@ -48,8 +48,10 @@ pub record WorkedCopies : Type 0 where
   pub refreshed_late : (b : Body)
       → IsLeftThen (Some (copy b (pos 4) 3579 90)) (Some (copy b (pos 5) 0 105))
   -- it had come to MaxAge before, at moment 100 at the latest
-  pub was_aged : (b : Body) → IsLeftThen (Some (copy b (pos 4) 3600 90)) (Some (copy b (pos 4) 3600 90))
-  pub just_aged : (b : Body) → IsLeftThen (Some (copy b (pos 4) 3590 90)) (Some (copy b (pos 4) 3590 90))
+  pub was_aged : (b : Body)
+      → IsLeftThen (Some (copy b (pos 4) 3600 90)) (Some (copy b (pos 4) 3600 90))
+  pub just_aged : (b : Body)
+      → IsLeftThen (Some (copy b (pos 4) 3590 90)) (Some (copy b (pos 4) 3590 90))
   -- it comes or leaves, at MaxAge too
   pub comes : (b : Body) → IsLeftThen None (Some (copy b (pos 4) 10 105)) → ⊥
   pub comes_aged : (b : Body) → IsLeftThen None (Some (copy b (pos 4) 3600 105)) → ⊥
@@ -61,8 +63,10 @@ pub record WorkedCopies : Type 0 where
   pub changes_aged : (b c : Body) → b ≢ c
       → IsLeftThen (Some (copy b (pos 4) 3600 90)) (Some (copy c (pos 4) 3600 90)) → ⊥
   -- it comes to MaxAge, at moment 101 or 110, and is flushed
-  pub ages : (b : Body) → IsLeftThen (Some (copy b (pos 4) 3589 90)) (Some (copy b (pos 4) 3589 90)) → ⊥
-  pub ages_now : (b : Body) → IsLeftThen (Some (copy b (pos 4) 3580 90)) (Some (copy b (pos 4) 3580 90)) → ⊥
+  pub ages : (b : Body)
+      → IsLeftThen (Some (copy b (pos 4) 3589 90)) (Some (copy b (pos 4) 3589 90)) → ⊥
+  pub ages_now : (b : Body)
+      → IsLeftThen (Some (copy b (pos 4) 3580 90)) (Some (copy b (pos 4) 3580 90)) → ⊥
   pub is_flushed : (b : Body)
       → IsLeftThen (Some (copy b (pos 4) 10 90)) (Some (copy b (pos 4) 3600 105)) → ⊥
   -- it had MaxAge, or would have it by now, and another instance is there, young or at MaxAge
