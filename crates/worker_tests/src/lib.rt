@@ -12,6 +12,8 @@ mod journals;
 #[cfg(test)]
 mod member;
 #[cfg(test)]
+mod operated;
+#[cfg(test)]
 mod pair;
 #[cfg(test)]
 mod samples;
@@ -23,6 +25,8 @@ mod side_by_side;
 mod stage;
 #[cfg(test)]
 mod steps;
+#[cfg(test)]
+mod tableless;
 #[cfg(test)]
 mod times;
 #[cfg(test)]

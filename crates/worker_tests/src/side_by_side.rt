@@ -81,7 +81,9 @@ fn work_of(alloc: Global, held: Holds) -> Result<Work, AllocError> {
 
 /// Holds a turn of port 1 at moment 5 until port 2 has ticked at each moment from 5 to below this,
 /// which it begins once the other has come to its gate: what that is answered, or a Tick that was
-/// refused; 9 where one of both waited in vain.
+/// refused; 9 where one of both waited in vain. Where the turn is refused memory before it comes to
+/// its gate, it says that; and where both waited in vain, since no thread was to be had and one ran
+/// after the other, 6 too.
 pub fn hold<L: Site + Send + Sync, R: Threads + Wait + Clock + Sync, Q: Wait + Drop>(
     rt: &R,
     alloc: Global,
@@ -113,9 +115,14 @@ pub fn hold<L: Site + Send + Sync, R: Threads + Wait + Clock + Sync, Q: Wait + D
         },
     );
     if gave_up.load(Ordering::SeqCst) {
-        return Ok(9);
+        return Ok(if refused == 9 { 6 } else { 9 });
     }
-    Ok(if refused > 0 { refused } else { answer })
+    let is_refused_memory = answer == 6 && !came.load(Ordering::SeqCst);
+    Ok(if refused > 0 && !is_refused_memory {
+        refused
+    } else {
+        answer
+    })
 }
 
 // The first Tick is followed by a refresh, and the Hello comes third.

@@ -121,8 +121,7 @@ impl<L: Site, Q: Wait + Drop> Stage<L, Q> {
         }
     }
 
-    // A Tick's turn of port 0 during which the programs are changed: whether a refresh followed.
-    fn changed<R: Wait>(
+    fn changed_once<R: Wait>(
         &mut self,
         rt: &R,
         hub: &Hub<L, Book<L>>,
@@ -138,6 +137,22 @@ impl<L: Site, Q: Wait + Drop> Stage<L, Q> {
         ) {
             Ok(turned) => Ok(turned.refreshed.is_some()),
             Err(error) => Err(error),
+        }
+    }
+
+    // A Tick's turn of port 0 during which the programs are changed: whether a refresh followed. An
+    // allocation may be refused once.
+    fn changed<R: Wait>(
+        &mut self,
+        rt: &R,
+        hub: &Hub<L, Book<L>>,
+        now: Second,
+    ) -> Result<bool, TurnError> {
+        match self.changed_once(rt, hub, now) {
+            Err(TurnError::Book(BookError::Core(CoreError::Memory))) => {
+                self.changed_once(rt, hub, now)
+            }
+            answer => answer,
         }
     }
 

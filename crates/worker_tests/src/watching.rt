@@ -14,8 +14,8 @@ use std::test::Fail;
 use words::Second;
 use worker::{Book, Gate, Hub, Port, Site, Taker, turn};
 
-// Notes what stands in counter 5 whenever a turn passes: each time it multiplies what it noted
-// before by 10, and adds that.
+// Notes one more than what stands in counter 5 whenever a turn passes: each time it multiplies what
+// it noted before by 10, and adds that.
 #[derive(Drop)]
 struct Noting<'a, L: Site, B: Taker<L>, R: Wait> {
     rt: &'a R,
@@ -29,7 +29,10 @@ impl<'a, L: Site, B: Taker<L>, R: Wait> Gate for Noting<'a, L, B, R> {
         let mut port = self.port.lock(self.rt);
         let counted = self.hub.counter(&mut *port, 5);
         let before = self.noted.load(Ordering::SeqCst);
-        let noted = before.wrapping_mul(10).wrapping_add(counted);
+        let noted = before
+            .wrapping_mul(10)
+            .wrapping_add(counted)
+            .wrapping_add(1);
         self.noted.store(noted, Ordering::SeqCst);
     }
 }
@@ -62,7 +65,7 @@ pub fn watch<L: Site, R: Wait, Q: Wait + Drop>(
     let work = hello(alloc, 1, 0)?;
     let answer = number_of(turn(rt, hub, &mut port, &gate, Second::new(5), &work));
     let noted = gate.noted.load(Ordering::SeqCst);
-    Ok(if noted == 3 { answer } else { 9 })
+    Ok(if noted == 4 { answer } else { 9 })
 }
 
 // The Hello, and the refresh that follows.

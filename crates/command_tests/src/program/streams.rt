@@ -107,8 +107,16 @@ fn usage_that_cant_be_told_ends_with_3(rt: HostRuntime) -> Result<(), Fail> {
     Ok(())
 }
 
-// What is printed where the words can't be read for this cause.
+// What is printed where the words can't be read for this cause. An allocation may be refused once.
 fn without_words(alloc: Global, cause: io::ErrorKind) -> Result<Outcome, Fail> {
+    let outcome = without_words_once(alloc, cause)?;
+    if outcome.lacks_memory() {
+        return without_words_once(alloc, cause);
+    }
+    Ok(outcome)
+}
+
+fn without_words_once(alloc: Global, cause: io::ErrorKind) -> Result<Outcome, Fail> {
     let mut output = Vec::new(alloc);
     let mut errors = Vec::new(alloc);
     let error = io::Error::from(cause);

@@ -1,0 +1,10 @@
+use Rattle.hooks.specs.Known.{history_of}
+use Rattle.worker_tests.proofs.tableless.announced.Given as goal
+
+-- the ledger is that of the setup
+abbrev pub ghosts-announce_at-L-Ledger : goal.ghosts-announce_at-L-Ledger
+ghosts-announce_at-L-Ledger g a = record { name = a.setup.blank.name; parts = a.setup.blank.parts }
+
+-- and the workers share its words, and ask the programs of the loader
+abbrev pub ghosts-announce_at-L-Site : goal.ghosts-announce_at-L-Site
+ghosts-announce_at-L-Site g a = record { words = a.setup.shared; history = history_of a.loader }

@@ -1,0 +1,129 @@
+//! A destination is announced at a router that has no memory for its table.
+ghost use Rattle.std.specs.Prelude.{◌≡◌, ⊤};
+ghost use Rattle.events.specs.Routers.{shown_at};
+ghost use Rattle.hooks.specs.Known.{history_of};
+ghost use Rattle.worker.specs.Opening.{IsSetUpFor};
+
+use crate::samples::{destination, first};
+use crate::scenes::set_up;
+use crate::side_by_side::number_of;
+use hooks::Loader;
+use std::alloc::{AllocError, Global};
+use std::marker::Brand;
+use std::sync::Wait;
+use std::sync::ledger::Share;
+use std::test::Fail;
+use words::{External, ExternalType, Prefix, RouterId, Second};
+use worker::{
+    Book, BookError, Core, Event, Hub, Offered, Open, Out, Port, Setup, Site, State, Taker, Work,
+    open_hub, turn,
+};
+
+// A book that is refused memory for its table.
+#[derive(Drop)]
+struct Tableless<L: Site> {
+    book: Book<L>,
+}
+
+impl<L: Site> Taker<L> for Tableless<L> {
+    ghost took = { λ moment event outs. ⊤ };
+
+    ghost offers = { λ candidates rows. ⊤ };
+
+    ghost wanted = { λ prefix wanted. ⊤ };
+
+    ghost neighbor_at = { λ it interface. shown_at it.book.current interface };
+
+    ghost moment_of = { λ it. it.book.current.moment };
+
+    fn take(
+        &mut self,
+        mine: &mut Share<L>,
+        moment: Second,
+        event: Event,
+    ) -> Result<Vec<Out>, BookError> {
+        self.book.take(mine, moment, event)
+    }
+
+    fn stale(&mut self) -> Result<bool, AllocError> {
+        self.book.stale()
+    }
+
+    fn offered(&self) -> Result<Offered, AllocError> {
+        Err(AllocError)
+    }
+
+    fn wants(&self, prefix: Prefix) -> bool {
+        self.book.wants(prefix)
+    }
+
+    fn neighbor(&self, interface: u16) -> Option<(RouterId, State)> {
+        self.book.neighbor(interface)
+    }
+}
+
+// The number of the refusal where the destination is announced at a port, or 0; 9 without a port.
+fn announce<L: Site, R: Wait>(
+    rt: &R,
+    hub: Hub<L, Book<L>>,
+    port: Option<Port<L>>,
+    external: External,
+) -> u8 {
+    let (book, shared) = hub.into_parts();
+    let hub = Hub::new(Tableless { book }, shared);
+    let answer = match port {
+        None => 9,
+        Some(mut port) => number_of(turn(
+            rt,
+            &hub,
+            &mut port,
+            &Open {},
+            Second::new(5),
+            &Work::Add(external),
+        )),
+    };
+    let (tableless, _shared) = hub.into_parts();
+    let _taken = tableless.book.close();
+    answer
+}
+
+// The same at a router with this setup, at whose hooks no program stands.
+fn announce_at<L: Site, R: Wait, Q: Wait + Drop>(
+    rt: &R,
+    alloc: Global,
+    setup: Setup,
+    loader: Loader<Q>,
+    core: Core,
+    external: External,
+) -> u8
+    requires setup { IsSetUpFor L.name L.parts L.words L.history setup }
+    requires history { history_of loader ≡ L.history }
+{
+    let Ok((hub, mut ports, rest)) = open_hub::<L>(alloc, setup, core) else {
+        return 6;
+    };
+    let answer = announce(rt, hub, ports.pop(), external);
+    drop(rest);
+    drop(loader);
+    answer
+}
+
+#[tactic(auto, using(crate::proofs::Fresh::all_ask))]
+fn announced<R: Wait>(rt: &R, alloc: Global) -> Result<u8, Fail> {
+    let external = destination(ExternalType::Type2)?;
+    let (loader, setup) = set_up(alloc, rt)?;
+    let core = first(alloc)?;
+    Ok(announce_at::<Brand, R, &R>(rt, alloc, setup, loader, core, external))
+}
+
+// No table is asked for where no program stands at `tag` and `price`. An allocation may be refused
+// once.
+#[test]
+fn an_announcement_without_programs_asks_for_no_table(rt: HostRuntime) -> Result<(), Fail> {
+    let answer = match announced(&rt, rt.alloc())? {
+        0 => 0,
+        _ => announced(&rt, rt.alloc())?,
+    };
+    assert_eq!(rt; answer, 0);
+    Ok(())
+}
