@@ -1,4 +1,4 @@
-//! A destination is announced at a router that has no memory for its table.
+//! A destination is announced at a router that has no memory for its table or its candidates.
 ghost use Rattle.std.specs.Prelude.{◌≡◌, ⊤};
 ghost use Rattle.events.specs.Routers.{shown_at};
 ghost use Rattle.hooks.specs.Known.{history_of};
@@ -13,13 +13,13 @@ use std::marker::Brand;
 use std::sync::Wait;
 use std::sync::ledger::Share;
 use std::test::Fail;
-use words::{External, ExternalType, Prefix, RouterId, Second};
+use words::{External, ExternalType, Prefix, Route, RouterId, Second};
 use worker::{
     Book, BookError, Core, Event, Hub, Offered, Open, Out, Port, Setup, Site, State, Taker, Work,
     open_hub, turn,
 };
 
-// A book that is refused memory for its table.
+// A book that is refused memory for its table and its candidates.
 #[derive(Drop)]
 struct Tableless<L: Site> {
     book: Book<L>,
@@ -50,6 +50,10 @@ impl<L: Site> Taker<L> for Tableless<L> {
     }
 
     fn offered(&self) -> Result<Offered, AllocError> {
+        Err(AllocError)
+    }
+
+    fn candidates(&self) -> Result<Vec<Route>, AllocError> {
         Err(AllocError)
     }
 
