@@ -73,7 +73,7 @@ pub fn follow<L: Site, R: Wait>(
     Ok((ended.status(), link.sent))
 }
 
-const fn trial(down: Option<u16>, moments: &[u64], next: u64) -> Trial<'_> {
+const fn trial_of(down: Option<u16>, moments: &[u64], next: u64) -> Trial<'_> {
     Trial {
         down,
         moments,
@@ -105,11 +105,11 @@ fn are_tried<R: Threads + Wait + Clock + Abort + Sync>(
 #[test]
 fn a_turn_is_tried_three_times_again(rt: HostRuntime) -> Result<(), Fail> {
     let trials = [
-        (trial(None, &[5, 6, 6, 6, 6], 6), 0),
-        (trial(None, &[5, 6, 7, 8, 9], 7), 0),
-        (trial(None, &[5, 5, 5, 6, 6], 6), 0),
-        (trial(None, &[5, 5, 5, 5, 6], 6), 4),
-        (trial(None, &[5, 5, 5, 5], 5), 4),
+        (trial_of(None, &[5, 6, 6, 6, 6], 6), 0),
+        (trial_of(None, &[5, 6, 7, 8, 9], 7), 0),
+        (trial_of(None, &[5, 5, 5, 6, 6], 6), 0),
+        (trial_of(None, &[5, 5, 5, 5, 6], 6), 4),
+        (trial_of(None, &[5, 5, 5, 5], 5), 4),
     ];
     are_tried(&rt, rt.alloc(), &trials)
 }
@@ -119,9 +119,9 @@ fn a_turn_is_tried_three_times_again(rt: HostRuntime) -> Result<(), Fail> {
 #[test]
 fn a_turn_is_tried_again_only_for_its_moment(rt: HostRuntime) -> Result<(), Fail> {
     let trials = [
-        (trial(None, &[6, 7, 8, 9, 10], 7), 0),
-        (trial(Some(3), &[6, 7, 8, 9, 10], 7), 2),
-        (trial(Some(3), &[5, 6, 7, 8, 9], 7), 2),
+        (trial_of(None, &[6, 7, 8, 9, 10], 7), 0),
+        (trial_of(Some(3), &[6, 7, 8, 9, 10], 7), 2),
+        (trial_of(Some(3), &[5, 6, 7, 8, 9], 7), 2),
     ];
     are_tried(&rt, rt.alloc(), &trials)
 }
