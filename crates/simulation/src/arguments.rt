@@ -3,6 +3,7 @@ ghost use Rattle.std.specs.Prelude.{◌≡◌, ◌⊎◌, IfOk};
 ghost use Rattle.std.specs.IoError.{error_kind};
 ghost use Rattle.clap.specs.Values.{kind_of};
 
+use crate::reading::Wrong;
 use clap::error::ErrorKind;
 use clap::{Arg, ArgAction, Command, Error};
 use std::alloc::{AllocError, Global};
@@ -10,7 +11,7 @@ use std::io::{self, ErrorKind as IoKind};
 
 const ABOUT: &str = "Plays networks of many routers in memory, second by second";
 
-const RUN: &str = "\
+const RUN_ABOUT: &str = "\
 Plays a scenario from a start over a change to rest, and tells how long it takes to settle and how \
 often packets go round meanwhile";
 
@@ -28,7 +29,7 @@ Statuses:
   3  the output can't be written
   4  memory was refused";
 
-const SEARCH: &str = "\
+const SEARCH_ABOUT: &str = "\
 Searches by seed for a history after which Full neighbors' databases differ, and makes it short";
 
 const SEARCH_MORE: &str = "\
@@ -54,159 +55,182 @@ Statuses:
   3  the output can't be written
   4  memory was refused";
 
+const SCENARIO: &str = "\
+What happens after the start: start (nothing), link (lost with notice), silent (lost without), \
+restart, flap, partition, announce, withdraw or storm (start)";
+
+const WATCH: &str =
+    "Look at all tables in each second, and not only where all databases are the same";
+
 const WORKED: &str = "\
 The same words print the same on any machine.
 
 Statuses: 0 done, 1 not at rest or found, 2 usage, 3 stream, 4 memory.";
 
-const TOPOLOGY: &str = "grid, row, ring, fat-tree or random (grid)";
+// A word of a command: its name, what its value is called (of a flag, nothing) and its help.
+type Word = (&'static str, &'static str, &'static str);
 
-const SCENARIO: &str = "\
-What happens after the start: start (nothing), link (lost with notice), silent (lost without), \
-restart, flap, partition, announce, withdraw or storm (start)";
+const TOPOLOGY: Word = (
+    "topology",
+    "SHAPE",
+    "grid, row, ring, fat-tree or random (grid)",
+);
 
-const ANNOUNCERS: &str = "How many routers announce them (one for each 1,000)";
+const ROUTERS: Word = ("routers", "N", "How many routers there are (9)");
 
-const SPREAD: &str = "Links cost 10 and less than N more, by chance (1)";
+const EXTERNALS: Word = (
+    "externals",
+    "N",
+    "How many external destinations there are (0)",
+);
 
-const STAY: &str = "For how many seconds all has to stay calm until a part is over (12)";
+const SPREAD: Word = (
+    "spread",
+    "N",
+    "Links cost 10 and less than N more, by chance (1)",
+);
 
-const CALM: &str = "How many seconds at the end are calm: nothing is lost, late or repeated (60)";
+const HELLO: Word = ("hello", "N", "HelloInterval (10)");
 
-const LATE: &str = "How many of 10,000 packets come 1 to 3 seconds later (0)";
+const DEAD: Word = ("dead", "N", "RouterDeadInterval (40)");
 
-fn option<'a>(alloc: Global, name: &'a str, value: &'a str, help: &'a str) -> Arg<'a> {
-    Arg::new(alloc, name)
-        .long(name)
-        .value_name(value)
-        .help(help)
+const RETRANSMIT: Word = ("retransmit", "N", "RxmtInterval (5)");
+
+const LOSS: Word = ("loss", "N", "How many of 10,000 packets are lost (0)");
+
+const LATE: Word = (
+    "late",
+    "N",
+    "How many of 10,000 packets come 1 to 3 seconds later (0)",
+);
+
+const TWICE: Word = ("twice", "N", "How many of 10,000 packets come twice (0)");
+
+const SEED: Word = ("seed", "N", "The first seed (1)");
+
+const SEEDS: Word = ("seeds", "N", "How many seeds are played (1)");
+
+const CALM: Word = (
+    "calm",
+    "N",
+    "How many seconds at the end are calm: nothing is lost, late or repeated (60)",
+);
+
+/// A command: its name, its help, what stands behind that, and the words that it may have.
+struct Form {
+    name: &'static str,
+    about: &'static str,
+    more: &'static str,
+    words: &'static [Word],
 }
 
-fn with_option<'a>(
+static RUN: Form = Form {
+    name: "run",
+    about: RUN_ABOUT,
+    more: RUN_MORE,
+    words: &[
+        TOPOLOGY,
+        ROUTERS,
+        EXTERNALS,
+        SPREAD,
+        (
+            "announcers",
+            "N",
+            "How many routers announce them (one for each 1,000)",
+        ),
+        ("scenario", "NAME", SCENARIO),
+        HELLO,
+        DEAD,
+        RETRANSMIT,
+        LOSS,
+        LATE,
+        TWICE,
+        SEED,
+        SEEDS,
+        (
+            "seconds",
+            "N",
+            "How many seconds the start may take, and the change (300)",
+        ),
+        (
+            "stay",
+            "N",
+            "For how many seconds all has to stay calm until a part is over (12)",
+        ),
+        CALM,
+        ("watch", "", WATCH),
+        ("json", "", "Print an object of JSON for each seed"),
+    ],
+};
+
+static SEARCH: Form = Form {
+    name: "search",
+    about: SEARCH_ABOUT,
+    more: SEARCH_MORE,
+    words: &[
+        TOPOLOGY,
+        ROUTERS,
+        EXTERNALS,
+        SPREAD,
+        HELLO,
+        DEAD,
+        RETRANSMIT,
+        LOSS,
+        LATE,
+        TWICE,
+        SEED,
+        SEEDS,
+        ("steps", "N", "How many acts a history has (500)"),
+        CALM,
+        ("restarts", "", "Routers begin anew, too"),
+        (
+            "loops",
+            "",
+            "Search for neighbors that hand packets to each other",
+        ),
+    ],
+};
+
+fn argument<'a>(alloc: Global, word: &Word) -> Arg<'a> {
+    let (name, value, help) = *word;
+    let argument = Arg::new(alloc, name).long(name).help(help);
+    if value.is_empty() {
+        argument.action(ArgAction::SetTrue)
+    } else {
+        argument.value_name(value)
+    }
+}
+
+fn arguments<'a>(alloc: Global, words: &[Word]) -> Result<Vec<Arg<'a>>, AllocError> {
+    words
+        .iter()
+        .map(|word| argument(alloc, word))
+        .collect(alloc)
+}
+
+fn command<'a>(alloc: Global, form: &Form) -> Result<Command<'a>, AllocError> {
+    let arguments = arguments(alloc, form.words)?;
+    Command::new(alloc, form.name)
+        .about(form.about)
+        .after_help(form.more)
+        .args(arguments)
+}
+
+fn with_command<'a>(
     alloc: Global,
-    command: Command<'a>,
-    name: &'a str,
-    value: &'a str,
-    help: &'a str,
+    whole: Command<'a>,
+    form: &Form,
 ) -> Result<Command<'a>, AllocError> {
-    command.arg(option(alloc, name, value, help))
+    let command = command(alloc, form)?;
+    whole.subcommand(command)
 }
 
-fn with_flag<'a>(
-    alloc: Global,
-    command: Command<'a>,
-    name: &'a str,
-    help: &'a str,
-) -> Result<Command<'a>, AllocError> {
-    let flag = Arg::new(alloc, name)
-        .long(name)
-        .help(help)
-        .action(ArgAction::SetTrue);
-    command.arg(flag)
-}
-
-fn named<'a>(alloc: Global, name: &'a str, about: &'a str, more: &'a str) -> Command<'a> {
-    Command::new(alloc, name).about(about).after_help(more)
-}
-
-// The options that name a network.
-fn with_network<'a>(alloc: Global, command: Command<'a>) -> Result<Command<'a>, AllocError> {
-    let shaped = with_option(alloc, command, "topology", "SHAPE", TOPOLOGY)?;
-    let sized = with_option(
-        alloc,
-        shaped,
-        "routers",
-        "N",
-        "How many routers there are (9)",
-    )?;
-    let told = with_option(
-        alloc,
-        sized,
-        "externals",
-        "N",
-        "How many external destinations there are (0)",
-    )?;
-    with_option(alloc, told, "spread", "N", SPREAD)
-}
-
-// The options on times.
-fn with_times<'a>(alloc: Global, command: Command<'a>) -> Result<Command<'a>, AllocError> {
-    let greeted = with_option(alloc, command, "hello", "N", "HelloInterval (10)")?;
-    let dead = with_option(alloc, greeted, "dead", "N", "RouterDeadInterval (40)")?;
-    with_option(alloc, dead, "retransmit", "N", "RxmtInterval (5)")
-}
-
-// The options on what becomes of packets, and on seeds.
-fn with_chance<'a>(alloc: Global, command: Command<'a>) -> Result<Command<'a>, AllocError> {
-    let lost = with_option(
-        alloc,
-        command,
-        "loss",
-        "N",
-        "How many of 10,000 packets are lost (0)",
-    )?;
-    let late = with_option(alloc, lost, "late", "N", LATE)?;
-    let twice = with_option(
-        alloc,
-        late,
-        "twice",
-        "N",
-        "How many of 10,000 packets come twice (0)",
-    )?;
-    let seeded = with_option(alloc, twice, "seed", "N", "The first seed (1)")?;
-    with_option(alloc, seeded, "seeds", "N", "How many seeds are played (1)")
-}
-
-fn run<'a>(alloc: Global) -> Result<Command<'a>, AllocError> {
-    let command = named(alloc, "run", RUN, RUN_MORE);
-    let shaped = with_network(alloc, command)?;
-    let announced = with_option(alloc, shaped, "announcers", "N", ANNOUNCERS)?;
-    let acted = with_option(alloc, announced, "scenario", "NAME", SCENARIO)?;
-    let timed = with_times(alloc, acted)?;
-    let chanced = with_chance(alloc, timed)?;
-    let long = with_option(
-        alloc,
-        chanced,
-        "seconds",
-        "N",
-        "How many seconds the start may take, and the change (300)",
-    )?;
-    let stayed = with_option(alloc, long, "stay", "N", STAY)?;
-    let calm = with_option(alloc, stayed, "calm", "N", CALM)?;
-    let watched = with_flag(
-        alloc,
-        calm,
-        "watch",
-        "Look at all tables in each second, and not only where all databases are the same",
-    )?;
-    with_flag(
-        alloc,
-        watched,
-        "json",
-        "Print an object of JSON for each seed",
-    )
-}
-
-fn search<'a>(alloc: Global) -> Result<Command<'a>, AllocError> {
-    let command = named(alloc, "search", SEARCH, SEARCH_MORE);
-    let shaped = with_network(alloc, command)?;
-    let timed = with_times(alloc, shaped)?;
-    let chanced = with_chance(alloc, timed)?;
-    let stepped = with_option(
-        alloc,
-        chanced,
-        "steps",
-        "N",
-        "How many acts a history has (500)",
-    )?;
-    let calm = with_option(alloc, stepped, "calm", "N", CALM)?;
-    let restarted = with_flag(alloc, calm, "restarts", "Routers begin anew, too")?;
-    with_flag(
-        alloc,
-        restarted,
-        "loops",
-        "Search for neighbors that hand packets to each other",
-    )
+fn without_commands<'a>(alloc: Global) -> Command<'a> {
+    Command::new(alloc, "simulation")
+        .about(ABOUT)
+        .after_help(WORKED)
+        .subcommand_required(true)
+        .arg_required_else_help(true)
 }
 
 /// The whole command line.
@@ -214,30 +238,48 @@ fn search<'a>(alloc: Global) -> Result<Command<'a>, AllocError> {
 /// # Errors
 /// Where memory is refused.
 pub fn whole<'a>(alloc: Global) -> Result<Command<'a>, AllocError> {
-    Command::new(alloc, "simulation")
-        .about(ABOUT)
-        .after_help(WORKED)
-        .subcommand_required(true)
-        .arg_required_else_help(true)
-        .subcommand(run(alloc)?)?
-        .subcommand(search(alloc)?)
+    let with_run = with_command(alloc, without_commands(alloc), &RUN)?;
+    with_command(alloc, with_run, &SEARCH)
 }
 
-/// An error about the words of a command line.
-pub fn error(alloc: Global, kind: ErrorKind, text: &str) -> Result<Error, AllocError>
+fn error(alloc: Global, kind: ErrorKind, text: &str) -> Result<Error, AllocError>
     ensures { IfOk result (λ error. kind_of error ≡ kind) }
 {
     whole(alloc)?.error(kind, text)
 }
 
-/// An error about a wrong word, or want of memory.
-pub fn wrong_value(alloc: Global, text: &str) -> Error
+// An error about the words, or want of memory.
+fn error_of(alloc: Global, kind: ErrorKind, text: &str) -> Error
+    ensures { (kind_of result ≡ ErrorKind.OutOfMemory) ⊎ (kind_of result ≡ kind) }
+{
+    match error(alloc, kind, text) {
+        Ok(error) => error,
+        Err(error) => Error::from(error),
+    }
+}
+
+// An error about a wrong word, or want of memory.
+fn wrong_value(alloc: Global, text: &str) -> Error
     ensures { (kind_of result ≡ ErrorKind.OutOfMemory)
         ⊎ (kind_of result ≡ ErrorKind.InvalidValue) }
 {
-    match error(alloc, ErrorKind::InvalidValue, text) {
-        Ok(error) => error,
+    error_of(alloc, ErrorKind::InvalidValue, text)
+}
+
+fn out_of_range(alloc: Global, name: &str, least: u64, most: u64) -> Error {
+    match format!(in alloc; "--{name} takes a number from {least} to {most}") {
+        Ok(text) => wrong_value(alloc, text.as_str()),
         Err(error) => Error::from(error),
+    }
+}
+
+/// The text for words that are wrong, or want of memory.
+pub fn told(alloc: Global, wrong: Wrong) -> Error {
+    match wrong {
+        Wrong::Command => error_of(alloc, ErrorKind::MissingSubcommand, "no command is given"),
+        Wrong::Topology => wrong_value(alloc, "there is no such topology"),
+        Wrong::Scenario => wrong_value(alloc, "there is no such scenario"),
+        Wrong::Number { name, least, most } => out_of_range(alloc, name, least, most),
     }
 }
 

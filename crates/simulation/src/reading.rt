@@ -5,19 +5,27 @@ ghost use Rattle.simulated_histories.specs.declared.plan.Scenario.{Scenario};
 ghost use Rattle.simulated_networks.specs.declared.topology.Kind.{Kind};
 ghost use Rattle.simulation.specs.Words.{IsNumber, OrElse, scenario_word, topology_word};
 
-use crate::arguments::wrong_value;
 use crate::names::{scenario_of, topology_of};
 use address_texts::read_within;
-use clap::{ArgMatches, Error};
+use clap::ArgMatches;
 use simulated_histories::Scenario;
 use simulated_networks::{Faults, Kind, Times};
-use std::alloc::Global;
 
-fn out_of_range(alloc: Global, name: &str, least: u64, most: u64) -> Error {
-    match format!(in alloc; "--{name} takes a number from {least} to {most}") {
-        Ok(text) => wrong_value(alloc, text.as_str()),
-        Err(error) => Error::from(error),
-    }
+/// What is wrong with the words.
+#[derive(Clone, Copy)]
+pub enum Wrong {
+    /// They name no command.
+    Command,
+    /// There is no such topology.
+    Topology,
+    /// There is no such scenario.
+    Scenario,
+    /// The word under this name is no number from `least` to `most`.
+    Number {
+        name: &'static str,
+        least: u64,
+        most: u64,
+    },
 }
 
 /// The number under a name, or the usual one where there is none.
@@ -25,13 +33,12 @@ fn out_of_range(alloc: Global, name: &str, least: u64, most: u64) -> Error {
 /// # Errors
 /// Where the word is no number from `least` to `most`.
 pub fn number_of(
-    alloc: Global,
     matches: &ArgMatches<'_>,
-    name: &str,
+    name: &'static str,
     usual: u64,
     least: u64,
     most: u64,
-) -> Result<u64, Error>
+) -> Result<u64, Wrong>
     ensures { IfOk result (λ n. OrElse (first_value (found_of matches.now) name.now)
         (n ≡ usual) (λ word. IsNumber least most word n)) }
 {
@@ -39,7 +46,7 @@ pub fn number_of(
         None => Ok(usual),
         Some(word) => match read_within(word, least, most) {
             Some(number) => Ok(number),
-            None => Err(out_of_range(alloc, name, least, most)),
+            None => Err(Wrong::Number { name, least, most }),
         },
     }
 }
@@ -49,18 +56,16 @@ pub fn number_of(
 /// # Errors
 /// Where the word is no number from `least` to `most`.
 pub fn small_of(
-    alloc: Global,
     matches: &ArgMatches<'_>,
-    name: &str,
+    name: &'static str,
     usual: u32,
     least: u32,
     most: u32,
-) -> Result<u32, Error>
+) -> Result<u32, Wrong>
     ensures { IfOk result (λ n. OrElse (first_value (found_of matches.now) name.now)
         (n ≡ usual) (λ word. IsNumber least most word n)) }
 {
     let number = number_of(
-        alloc,
         matches,
         name,
         u64::from(usual),
@@ -74,7 +79,7 @@ pub fn small_of(
 ///
 /// # Errors
 /// Where there is no such shape.
-pub fn topology_in(alloc: Global, matches: &ArgMatches<'_>) -> Result<Kind, Error>
+pub fn topology_in(matches: &ArgMatches<'_>) -> Result<Kind, Wrong>
     ensures { IfOk result (λ kind. OrElse (first_value (found_of matches.now) (codes "topology"))
         (kind ≡ Kind.Grid) (λ word. word ≡ topology_word kind)) }
 {
@@ -82,7 +87,7 @@ pub fn topology_in(alloc: Global, matches: &ArgMatches<'_>) -> Result<Kind, Erro
         None => Ok(Kind::Grid),
         Some(word) => match topology_of(word) {
             Some(kind) => Ok(kind),
-            None => Err(wrong_value(alloc, "there is no such topology")),
+            None => Err(Wrong::Topology),
         },
     }
 }
@@ -91,7 +96,7 @@ pub fn topology_in(alloc: Global, matches: &ArgMatches<'_>) -> Result<Kind, Erro
 ///
 /// # Errors
 /// Where there is no such scenario.
-pub fn scenario_in(alloc: Global, matches: &ArgMatches<'_>) -> Result<Scenario, Error>
+pub fn scenario_in(matches: &ArgMatches<'_>) -> Result<Scenario, Wrong>
     ensures { IfOk result (λ s. OrElse (first_value (found_of matches.now) (codes "scenario"))
         (s ≡ Scenario.Start) (λ word. word ≡ scenario_word s)) }
 {
@@ -99,7 +104,7 @@ pub fn scenario_in(alloc: Global, matches: &ArgMatches<'_>) -> Result<Scenario, 
         None => Ok(Scenario::Start),
         Some(word) => match scenario_of(word) {
             Some(scenario) => Ok(scenario),
-            None => Err(wrong_value(alloc, "there is no such scenario")),
+            None => Err(Wrong::Scenario),
         },
     }
 }
@@ -108,10 +113,10 @@ pub fn scenario_in(alloc: Global, matches: &ArgMatches<'_>) -> Result<Scenario, 
 ///
 /// # Errors
 /// Where a word is outside of its range.
-pub fn times_in(alloc: Global, matches: &ArgMatches<'_>) -> Result<Times, Error> {
-    let hello = small_of(alloc, matches, "hello", 10, 1, 65_535)?;
-    let dead = small_of(alloc, matches, "dead", 40, 1, 1_000_000)?;
-    let retransmit = small_of(alloc, matches, "retransmit", 5, 1, 65_535)?;
+pub fn times_in(matches: &ArgMatches<'_>) -> Result<Times, Wrong> {
+    let hello = small_of(matches, "hello", 10, 1, 65_535)?;
+    let dead = small_of(matches, "dead", 40, 1, 1_000_000)?;
+    let retransmit = small_of(matches, "retransmit", 5, 1, 65_535)?;
     Ok(Times {
         hello: u16::try_from(hello).unwrap_or(10),
         dead,
@@ -123,10 +128,10 @@ pub fn times_in(alloc: Global, matches: &ArgMatches<'_>) -> Result<Times, Error>
 ///
 /// # Errors
 /// Where a word is outside of its range.
-pub fn faults_in(alloc: Global, matches: &ArgMatches<'_>) -> Result<Faults, Error> {
+pub fn faults_in(matches: &ArgMatches<'_>) -> Result<Faults, Wrong> {
     Ok(Faults {
-        loss: small_of(alloc, matches, "loss", 0, 0, 10_000)?,
-        late: small_of(alloc, matches, "late", 0, 0, 10_000)?,
-        twice: small_of(alloc, matches, "twice", 0, 0, 10_000)?,
+        loss: small_of(matches, "loss", 0, 0, 10_000)?,
+        late: small_of(matches, "late", 0, 0, 10_000)?,
+        twice: small_of(matches, "twice", 0, 0, 10_000)?,
     })
 }

@@ -1,97 +1,145 @@
 //! What the words of a command line ask for.
-use crate::arguments::{error, whole};
-use crate::reading::{faults_in, number_of, scenario_in, small_of, times_in, topology_in};
-use clap::error::ErrorKind;
+use crate::arguments::{told, whole};
+use crate::reading::{Wrong, faults_in, number_of, scenario_in, small_of, times_in, topology_in};
 use clap::{ArgMatches, Error};
 use simulated_histories::{Plan, Search, Sought};
 use simulated_networks::Kind;
 use std::alloc::Global;
 
-/// A request, for seeds from the first one on.
+/// A search for histories of so many seeds from the first one on, and the network that is searched.
+#[derive(Clone, Copy)]
+pub struct Asked {
+    pub search: Search,
+    pub topology: Kind,
+    pub spread: u32,
+    pub seed: u64,
+    pub seeds: u64,
+}
+
+/// A request.
 #[derive(Clone, Copy)]
 pub enum Request {
-    /// Play a scenario for so many seeds.
-    Run {
-        plan: Plan,
-        seeds: u64,
-        json: bool,
-    },
-    /// Search for histories of so many seeds.
-    Search {
-        search: Search,
-        topology: Kind,
-        spread: u32,
-        seed: u64,
-        seeds: u64,
-    },
+    /// Play a scenario for so many seeds from the plan's own on.
+    Run { plan: Plan, seeds: u64, json: bool },
+    /// Search for histories.
+    Search(Asked),
+}
+
+impl Request {
+    /// How many external destinations there are.
+    pub fn externals(&self) -> u32 {
+        match self {
+            Request::Run { plan, .. } => plan.externals,
+            Request::Search(asked) => asked.search.externals,
+        }
+    }
 }
 
 const MOST: u64 = 4_611_686_018_427_387_903;
 
-fn run(alloc: Global, matches: &ArgMatches<'_>) -> Result<Request, Error> {
-    let externals = small_of(alloc, matches, "externals", 0, 0, 100_000)?;
-    let usual = externals.saturating_add(999) / 1_000;
+// The network that words name.
+#[derive(Clone, Copy)]
+struct Shape {
+    topology: Kind,
+    routers: u32,
+    externals: u32,
+    spread: u32,
+}
+
+fn shape_in(matches: &ArgMatches<'_>) -> Result<Shape, Wrong> {
+    Ok(Shape {
+        topology: topology_in(matches)?,
+        routers: small_of(matches, "routers", 9, 1, 10_000)?,
+        externals: small_of(matches, "externals", 0, 0, 100_000)?,
+        spread: small_of(matches, "spread", 1, 1, 10_000)?,
+    })
+}
+
+// The first seed, and how many there are.
+fn seeds_in(matches: &ArgMatches<'_>) -> Result<(u64, u64), Wrong> {
+    let first = number_of(matches, "seed", 1, 0, MOST)?;
+    let count = number_of(matches, "seeds", 1, 1, MOST)?;
+    Ok((first, count))
+}
+
+// How many seconds a part may take, how many have to stay calm, and how many are calm at the end.
+fn seconds_in(matches: &ArgMatches<'_>) -> Result<(u64, u64, u64), Wrong> {
+    let seconds = number_of(matches, "seconds", 300, 1, MOST)?;
+    let stay = number_of(matches, "stay", 12, 0, MOST)?;
+    let calm = number_of(matches, "calm", 60, 0, MOST)?;
+    Ok((seconds, stay, calm))
+}
+
+fn run(matches: &ArgMatches<'_>) -> Result<Request, Wrong> {
+    let shape = shape_in(matches)?;
+    let usual = shape.externals.saturating_add(999) / 1_000;
+    let (seed, seeds) = seeds_in(matches)?;
+    let (seconds, stay, calm) = seconds_in(matches)?;
     let plan = Plan {
-        topology: topology_in(alloc, matches)?,
-        routers: small_of(alloc, matches, "routers", 9, 1, 10_000)?,
-        externals,
-        announcers: small_of(alloc, matches, "announcers", usual, 0, 10_000)?,
-        spread: small_of(alloc, matches, "spread", 1, 1, 10_000)?,
-        times: times_in(alloc, matches)?,
-        faults: faults_in(alloc, matches)?,
-        scenario: scenario_in(alloc, matches)?,
-        seed: number_of(alloc, matches, "seed", 1, 0, MOST)?,
-        seconds: number_of(alloc, matches, "seconds", 300, 1, MOST)?,
-        stay: number_of(alloc, matches, "stay", 12, 0, MOST)?,
-        calm: number_of(alloc, matches, "calm", 60, 0, MOST)?,
+        topology: shape.topology,
+        routers: shape.routers,
+        externals: shape.externals,
+        announcers: small_of(matches, "announcers", usual, 0, 10_000)?,
+        spread: shape.spread,
+        times: times_in(matches)?,
+        faults: faults_in(matches)?,
+        scenario: scenario_in(matches)?,
+        seed,
+        seconds,
+        stay,
+        calm,
         watches: matches.get_flag("watch"),
     };
     Ok(Request::Run {
         plan,
-        seeds: number_of(alloc, matches, "seeds", 1, 1, MOST)?,
+        seeds,
         json: matches.get_flag("json"),
     })
 }
 
-fn search(alloc: Global, matches: &ArgMatches<'_>) -> Result<Request, Error> {
-    let sought = if matches.get_flag("loops") {
+fn sought_in(matches: &ArgMatches<'_>) -> Sought {
+    if matches.get_flag("loops") {
         Sought::Loops
     } else {
         Sought::Databases
-    };
-    let search = Search {
-        sought,
-        routers: small_of(alloc, matches, "routers", 9, 1, 10_000)?,
-        externals: small_of(alloc, matches, "externals", 0, 0, 100_000)?,
-        times: times_in(alloc, matches)?,
-        faults: faults_in(alloc, matches)?,
-        restarts: matches.get_flag("restarts"),
-        steps: small_of(alloc, matches, "steps", 500, 0, 1_000_000)?,
-        calm: small_of(alloc, matches, "calm", 60, 0, 1_000_000)?,
-    };
-    Ok(Request::Search {
-        search,
-        topology: topology_in(alloc, matches)?,
-        spread: small_of(alloc, matches, "spread", 1, 1, 10_000)?,
-        seed: number_of(alloc, matches, "seed", 1, 0, MOST)?,
-        seeds: number_of(alloc, matches, "seeds", 1, 1, MOST)?,
-    })
-}
-
-// What the command of this name makes of its words. None where there is no such command.
-fn made_by(alloc: Global, name: &str, matches: &ArgMatches<'_>) -> Result<Option<Request>, Error> {
-    match name {
-        "run" => Ok(Some(run(alloc, matches)?)),
-        "search" => Ok(Some(search(alloc, matches)?)),
-        _ => Ok(None),
     }
 }
 
-// What the command that the words name makes of its words. None where they name no command.
-fn request_of(alloc: Global, matches: &ArgMatches<'_>) -> Result<Option<Request>, Error> {
+fn search(matches: &ArgMatches<'_>) -> Result<Request, Wrong> {
+    let shape = shape_in(matches)?;
+    let (seed, seeds) = seeds_in(matches)?;
+    let search = Search {
+        sought: sought_in(matches),
+        routers: shape.routers,
+        externals: shape.externals,
+        times: times_in(matches)?,
+        faults: faults_in(matches)?,
+        restarts: matches.get_flag("restarts"),
+        steps: small_of(matches, "steps", 500, 0, 1_000_000)?,
+        calm: small_of(matches, "calm", 60, 0, 1_000_000)?,
+    };
+    Ok(Request::Search(Asked {
+        search,
+        topology: shape.topology,
+        spread: shape.spread,
+        seed,
+        seeds,
+    }))
+}
+
+// What the command that the words name makes of its words.
+fn asked_for(matches: &ArgMatches<'_>) -> Result<Request, Wrong> {
     match matches.subcommand() {
-        Some((name, matches)) => made_by(alloc, name, matches),
-        None => Ok(None),
+        Some(("run", words)) => run(words),
+        Some(("search", words)) => search(words),
+        _ => Err(Wrong::Command),
+    }
+}
+
+fn request_of(alloc: Global, matches: &ArgMatches<'_>) -> Result<Request, Error> {
+    match asked_for(matches) {
+        Ok(request) => Ok(request),
+        Err(wrong) => Err(told(alloc, wrong)),
     }
 }
 
@@ -102,8 +150,5 @@ fn request_of(alloc: Global, matches: &ArgMatches<'_>) -> Result<Option<Request>
 /// refused.
 pub fn parse(alloc: Global, words: &[&str]) -> Result<Request, Error> {
     let matches = whole(alloc)?.try_get_matches_from(words)?;
-    match request_of(alloc, &matches)? {
-        Some(request) => Ok(request),
-        None => Err(error(alloc, ErrorKind::MissingSubcommand, "no command is given")?),
-    }
+    request_of(alloc, &matches)
 }

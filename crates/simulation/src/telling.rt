@@ -1,62 +1,98 @@
 //! What is printed for people.
 use crate::names::scenario_word;
-use simulated_histories::{Act, Outcome, Phase, Plan, Scenario};
+use simulated_histories::{Act, Look, Outcome, Phase, Plan, Scenario, Sum};
+use simulated_networks::{Counts, Seen};
 use std::io::{self, Write};
+
+// Numbers with their names before them, behind this beginning.
+fn tell_numbers<O: Write>(
+    output: &mut O,
+    beginning: &str,
+    numbers: &[(&str, u64)],
+) -> io::Result<()> {
+    let mut before = beginning;
+    for named in numbers {
+        let (name, number) = *named;
+        write!(output, "{before}{name} {number}")?;
+        before = ", ";
+    }
+    Ok(())
+}
+
+fn tell_sum<O: Write>(output: &mut O, what: &str, sum: &Sum) -> io::Result<()> {
+    let (seconds, pairs, most) = (sum.seconds, sum.pairs, sum.most);
+    writeln!(
+        output,
+        "  {what} in {seconds} s, {pairs} pair-seconds, at most {most} pairs"
+    )
+}
 
 fn tell_phase<O: Write>(output: &mut O, name: &str, phase: &Phase) -> io::Result<()> {
     let (full, settled, seconds) = (phase.full, phase.settled, phase.seconds);
-    let (looping, nowhere) = (phase.looping, phase.nowhere);
     writeln!(
         output,
         "{name}: full after {full} s, settled after {settled} s of {seconds}"
     )?;
-    let (in_seconds, pairs, most) = (looping.seconds, looping.pairs, looping.most);
-    writeln!(
-        output,
-        "  loops in {in_seconds} s, {pairs} pair-seconds, at most {most} pairs"
-    )?;
-    let (in_seconds, pairs, most) = (nowhere.seconds, nowhere.pairs, nowhere.most);
-    writeln!(
-        output,
-        "  into nothing in {in_seconds} s, {pairs} pair-seconds, at most {most} pairs"
-    )
+    tell_sum(output, "loops", &phase.looping)?;
+    tell_sum(output, "into nothing", &phase.nowhere)
 }
 
-fn tell_counts<O: Write>(output: &mut O, outcome: &Outcome) -> io::Result<()> {
-    let counts = outcome.counts;
-    let (events, refused, walks) = (counts.events, counts.refused, outcome.walks);
-    let (packets, bytes, lost) = (counts.packets, counts.bytes, counts.lost);
-    let (copies, most) = (counts.copies, counts.most_under_way);
-    writeln!(output, "events {events}, refused {refused}, walks {walks}")?;
-    writeln!(output, "packets {packets}, bytes {bytes}, lost {lost}")?;
-    writeln!(
+fn tell_counts<O: Write>(output: &mut O, counts: &Counts, walks: u64) -> io::Result<()> {
+    let events = [
+        ("events", counts.events),
+        ("refused", counts.refused),
+        ("walks", walks),
+    ];
+    let packets = [
+        ("packets", counts.packets),
+        ("bytes", counts.bytes),
+        ("lost", counts.lost),
+    ];
+    let most = [
+        ("LSAs in Updates", counts.copies),
+        ("packets under way at most", counts.most_under_way),
+    ];
+    tell_numbers(output, "", &events)?;
+    tell_numbers(output, "\n", &packets)?;
+    tell_numbers(output, "\n", &most)?;
+    writeln!(output, "")
+}
+
+fn tell_seen<O: Write>(output: &mut O, seen: &Seen) -> io::Result<()> {
+    let numbers = [
+        ("loops", seen.looping),
+        ("into nothing", seen.nowhere),
+        ("missing", seen.missing),
+        ("of another cost", seen.other_cost),
+        ("of nobody", seen.stray),
+    ];
+    tell_numbers(output, ", ", &numbers)
+}
+
+// What was seen last, where that isn't rest.
+fn tell_unrest<O: Write>(output: &mut O, look: &Look) -> io::Result<()> {
+    tell_numbers(
         output,
-        "LSAs in Updates {copies}, packets under way at most {most}"
-    )
+        "not at rest: ",
+        &[("not full", look.not_full as u64)],
+    )?;
+    if let Some(differ) = look.differ {
+        tell_numbers(output, ", ", &[("databases differ", differ as u64)])?;
+    }
+    if let Some(seen) = look.seen {
+        tell_seen(output, &seen)?;
+    }
+    writeln!(output, "")
 }
 
 fn tell_rest<O: Write>(output: &mut O, outcome: &Outcome) -> io::Result<()> {
     if outcome.is_at_rest() {
         return writeln!(output, "at rest");
     }
-    let Some(look) = outcome.rest.last() else {
-        return writeln!(output, "not at rest");
-    };
-    let not_full = look.not_full;
-    write!(output, "not at rest: not full {not_full}")?;
-    if let Some(differ) = look.differ {
-        write!(output, ", databases differ {differ}")?;
+    match outcome.rest.last() {
+        Some(look) => tell_unrest(output, &look),
+        None => writeln!(output, "not at rest"),
     }
-    if let Some(seen) = look.seen {
-        let (looping, nowhere, missing) = (seen.looping, seen.nowhere, seen.missing);
-        let (other_cost, stray) = (seen.other_cost, seen.stray);
-        write!(
-            output,
-            ", loops {looping}, into nothing {nowhere}, missing {missing}"
-        )?;
-        write!(output, ", of another cost {other_cost}, of nobody {stray}")?;
-    }
-    writeln!(output, "")
 }
 
 /// Tells what came of a plan for one seed.
@@ -73,7 +109,7 @@ pub fn tell_run<O: Write>(output: &mut O, plan: &Plan, outcome: &Outcome) -> io:
     if plan.scenario != Scenario::Start {
         tell_phase(output, scenario_word(plan.scenario), &outcome.change)?;
     }
-    tell_counts(output, outcome)?;
+    tell_counts(output, &outcome.counts, outcome.walks)?;
     tell_rest(output, outcome)
 }
 

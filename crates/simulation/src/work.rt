@@ -4,14 +4,29 @@ ghost use Rattle.simulation.specs.Endings.{IsVerdict};
 
 use crate::fault::{DONE, FOUND, Fault};
 use crate::json::write_run;
-use crate::requests::{Request, parse};
+use crate::requests::{Asked, Request, parse};
 use crate::telling::{tell_history, tell_run};
 use flood::Event;
-use simulated_histories::{Plan, Search, Stage, play_scenario};
+use simulated_histories::{Act, Outcome, Plan, Search, Stage, play_scenario};
 use simulated_networks::{Kind, Random, Topology, announcements};
 use std::alloc::Global;
 use std::io::Write;
 use std::sync::Wait;
+
+// Tells what came of the plan, and whether all is at rest at the end.
+fn tells<O: Write>(
+    output: &mut O,
+    plan: &Plan,
+    outcome: &Outcome,
+    json: bool,
+) -> Result<bool, Fault> {
+    if json {
+        write_run(output, plan, outcome)?;
+    } else {
+        tell_run(output, plan, outcome)?;
+    }
+    Ok(outcome.is_at_rest())
+}
 
 // Plays the plan once, and tells whether all is at rest at the end.
 fn play_one<O: Write>(
@@ -22,12 +37,7 @@ fn play_one<O: Write>(
     output: &mut O,
 ) -> Result<bool, Fault> {
     let outcome = play_scenario(alloc, plan, events)?;
-    if json {
-        write_run(output, plan, &outcome)?;
-    } else {
-        tell_run(output, plan, &outcome)?;
-    }
-    Ok(outcome.is_at_rest())
+    tells(output, plan, &outcome, json)
 }
 
 // Plays the plan for so many seeds from its own on.
@@ -55,6 +65,24 @@ fn play_all<O: Write>(
     Ok(if well == seeds { DONE } else { FOUND })
 }
 
+// Searches for the history of this seed, and tells of it. Answers whether it was found.
+fn search_one<O: Write>(
+    search: &Search,
+    stage: Stage<'_>,
+    seed: u64,
+    output: &mut O,
+) -> Result<bool, Fault> {
+    match search.found(stage, seed)? {
+        Some(acts) => tells_of(output, seed, &acts),
+        None => Ok(false),
+    }
+}
+
+fn tells_of<O: Write>(output: &mut O, seed: u64, acts: &[Act]) -> Result<bool, Fault> {
+    tell_history(output, seed, acts)?;
+    Ok(true)
+}
+
 // Searches among so many seeds from the first one on.
 fn search_all<O: Write>(
     search: &Search,
@@ -67,9 +95,7 @@ fn search_all<O: Write>(
     let (first, count) = seeds;
     let mut found = 0_u64;
     for turn in 0..count {
-        let seed = first.saturating_add(turn);
-        if let Some(acts) = search.found(stage, seed)? {
-            tell_history(output, seed, &acts)?;
+        if search_one(search, stage, first.saturating_add(turn), output)? {
             found = found.saturating_add(1);
         }
     }
@@ -81,6 +107,25 @@ fn topology_of(alloc: Global, kind: Kind, routers: u32, spread: u32) -> Result<T
     let mut random = Random::new(1);
     let topology = Topology::new(alloc, &mut random, kind, routers as usize, spread)?;
     Ok(topology)
+}
+
+// Searches in a network of this shape, where these destinations may be announced.
+fn search_in<O: Write>(
+    alloc: Global,
+    asked: &Asked,
+    events: &[Event],
+    output: &mut O,
+) -> Result<u8, Fault>
+    ensures { IfOk result IsVerdict }
+{
+    let search = asked.search;
+    let made = topology_of(alloc, asked.topology, search.routers, asked.spread)?;
+    let stage = Stage {
+        alloc,
+        topology: &made,
+        events,
+    };
+    search_all(&search, stage, (asked.seed, asked.seeds), output)
 }
 
 /// Carries out what the words ask for (the first is the program's name), and answers the status.
@@ -95,26 +140,12 @@ pub fn carry_out<R: Wait + Drop + Copy, O: Write>(
 ) -> Result<u8, Fault>
     ensures { IfOk result IsVerdict }
 {
-    match parse(alloc, words)? {
+    let request = parse(alloc, words)?;
+    let events = announcements(alloc, rt, request.externals())?;
+    match request {
         Request::Run { plan, seeds, json } => {
-            let events = announcements(alloc, rt, plan.externals)?;
             play_all(alloc, plan, seeds, json, &events, output)
         }
-        Request::Search {
-            search,
-            topology,
-            spread,
-            seed,
-            seeds,
-        } => {
-            let events = announcements(alloc, rt, search.externals)?;
-            let made = topology_of(alloc, topology, search.routers, spread)?;
-            let stage = Stage {
-                alloc,
-                topology: &made,
-                events: &events,
-            };
-            search_all(&search, stage, (seed, seeds), output)
-        }
+        Request::Search(asked) => search_in(alloc, &asked, &events, output),
     }
 }
