@@ -6,7 +6,6 @@ use crate::area::{Row, database, moment, root, rows, rows_of_lsas};
 use crate::lines::{announced, lsas_of};
 use crate::texts::{LinkText, Name, router};
 use crate::worked::{TWO, TWO_ADDRESSES};
-use candidates::externals_at;
 use kept_routes::{Routes, say_the_same};
 use lsa::Lsa;
 use lsdb::Lsdb;
@@ -213,63 +212,5 @@ fn second_walk_serves(alloc: Global, lsas: &[Lsa]) -> Result<bool, Fail> {
 fn a_kept_walk_gives_the_candidates(rt: HostRuntime) -> Result<(), Fail> {
     let lsas = lsas_of(rt.alloc(), &TWO, &[])?;
     assert!(rt; second_walk_serves(rt.alloc(), &lsas)?);
-    Ok(())
-}
-
-// The candidates by what AS-external-LSAs tell, and how many of them tell something.
-fn candidates_by_told(
-    alloc: Global,
-    db: &Lsdb,
-    root: &Root,
-    kept: &mut Routes,
-) -> Result<(Vec<Row>, usize), Fail>
-    requires interfaces { length root.now.addresses ≤ 63 }
-    requires size { finite.len db.now.present ≤ 16384 }
-{
-    let now = moment();
-    kept.walk(alloc, db, root, now)?;
-    let told = externals_at(alloc, db, now)?;
-    let made = kept.calculate(alloc, db, now, &told)?;
-    Ok((rows(alloc, &made.routes)?, told.len()))
-}
-
-// The same by a walk of its own.
-fn candidates_by_external(
-    alloc: Global,
-    db: &Lsdb,
-    root: &Root,
-) -> Result<(Vec<Row>, usize), Fail> {
-    if db.len() > 16384 || root.addresses.as_slice().len() > 63 {
-        return Err(Fail::from("a database or a router that is too large"));
-    }
-    let mut kept = Routes::new(alloc, db, root, moment())?;
-    candidates_by_told(alloc, db, root, &mut kept)
-}
-
-// The same of the database of these LSAs.
-fn candidates_by_external_of(
-    alloc: Global,
-    lsas: &[Lsa],
-    root: &Root,
-) -> Result<(Vec<Row>, usize), Fail> {
-    let db = database(alloc, lsas)?;
-    candidates_by_external(alloc, &db, root)
-}
-
-// Whether these LSAs tell of so many external destinations, and the candidates by what they tell are
-// those of the database.
-fn tell_of(alloc: Global, lsas: &[Lsa], count: usize) -> Result<bool, Fail> {
-    let root = root(alloc, 0x0101_0101, &TWO_ADDRESSES)?;
-    let (found, told) = candidates_by_external_of(alloc, lsas, &root)?;
-    let anew = rows_of_lsas(alloc, lsas, &root)?;
-    Ok(told == count && found.as_slice() == anew.as_slice())
-}
-
-#[test]
-fn what_is_told_of_external_destinations_gives_the_candidates(rt: HostRuntime) -> Result<(), Fail> {
-    let mut lsas = lsas_of(rt.alloc(), &TWO, &[])?;
-    lsas.push(announced(rt.alloc(), 0xcb00_7100, 0x0202_0202, true)?)?;
-    lsas.push(announced(rt.alloc(), 0xcb00_7200, 0x0202_0202, false)?)?;
-    assert!(rt; tell_of(rt.alloc(), &lsas, 2)?);
     Ok(())
 }
