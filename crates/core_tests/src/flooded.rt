@@ -64,7 +64,6 @@ impl Flooded {
         is_there || self.adds(interface, instance, moment)
     }
 
-    // One allocation may be refused.
     fn adds(&mut self, interface: u16, instance: &Named, moment: u64) -> bool {
         let entry = Entry {
             interface,
@@ -73,7 +72,7 @@ impl Flooded {
             is_acknowledged: false,
             is_lost: false,
         };
-        self.entries.push(entry).is_ok() || self.entries.push(entry).is_ok()
+        self.entries.push(entry).is_ok()
     }
 
     /// The neighbor at this interface isn't Full.

@@ -129,11 +129,7 @@ fn joins(members: &mut Vec<Member>, alloc: Global, place: usize) -> bool {
     }
 }
 
-// One allocation may be refused.
 fn all_join(members: &mut Vec<Member>, alloc: Global, count: usize) -> bool {
-    if members.reserve(count).is_err() && members.reserve(count).is_err() {
-        return false;
-    }
     for place in 0..count {
         if !joins(members, alloc, place) {
             return false;
@@ -163,18 +159,12 @@ impl Network {
     /// Lets the routers go.
     pub fn close(self) {}
 
-    // Whether there is room for one more packet. One allocation may be refused.
-    fn has_room(&mut self) -> bool {
-        self.packets.reserve(1).is_ok() || self.packets.reserve(1).is_ok()
-    }
-
     // The packet is under way, if its interface leads somewhere.
     fn sends(&mut self, place: usize, out: Out) -> bool {
         match other_end(place, out.interface) {
             Some((to, at)) if to < self.members.len() => {
-                let has_room = self.has_room();
                 let event = Event::Packet(at, out.bytes);
-                self.packets.push(Coming { to, event }).is_ok() && has_room
+                self.packets.push(Coming { to, event }).is_ok()
             }
             _ => true,
         }
