@@ -15,7 +15,7 @@ use Rattle.isa.specs.declared.instruction.ByteOrder.{ByteOrder}
 use Rattle.isa.specs.declared.instruction.ByteOrder.TheVariants as orders
 use Rattle.isa.specs.declared.instruction.SwapWidth.{SwapWidth}
 use Rattle.isa.specs.declared.instruction.SwapWidth.TheVariants as swaps
-use Rattle.isa.specs.Arithmetic.{bits, low, signed, unsigned, operate, extended, reordered, swap_modulus}
+use Rattle.isa.specs.Arithmetic.{bits, low, signed, unsigned, operate, sign_extended, in_byte_order, swap_modulus}
 use Rattle.absdom.specs.declared.unary.UnaryOperation.{UnaryOperation}
 use Rattle.absdom.specs.declared.unary.UnaryOperation.TheVariants.{Negate, Extend, Reorder}
 use Rattle.absdom.specs.Unary.{unary_result, unary_modulus}
@@ -94,14 +94,14 @@ operate_below w Move a b left right = right
 operate_below w ArithmeticShiftRight a b left right =
     unsigned_below w (int_shr (signed w a) (b % bits w)) (omega (arith, shifted_near (signed w a) (b % bits w), signed_near w a left))
 
-extended_below : (extension : Extension) (n : ℕ) → extended extension n < unary_modulus (Extend extension)
+extended_below : (extension : Extension) (n : ℕ) → sign_extended extension n < unary_modulus (Extend extension)
 extended_below (extensions.Byte Bits32) n = grind (arith, ints)
 extended_below (extensions.Byte Bits64) n = grind (arith, ints)
 extended_below (extensions.Half Bits32) n = grind (arith, ints)
 extended_below (extensions.Half Bits64) n = grind (arith, ints)
 extended_below extensions.Word n = grind (arith, ints)
 
-reordered_below : (order : ByteOrder) (w : SwapWidth) (n : ℕ) → reordered order w n < swap_modulus w
+reordered_below : (order : ByteOrder) (w : SwapWidth) (n : ℕ) → in_byte_order order w n < swap_modulus w
 reordered_below orders.Little swaps.Bits16 n = omega arith
 reordered_below orders.Little swaps.Bits32 n = omega arith
 reordered_below orders.Little swaps.Bits64 n = omega arith

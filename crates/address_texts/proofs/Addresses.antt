@@ -14,7 +14,7 @@ use Rattle.std.proofs.lemmas.Str.Parse.{not_in_digits}
 use Rattle.std.proofs.lemmas.Str.Pattern.{IsSplitOnceResult, split_after, split_parts}
 use denote.Ref.{Bor}
 use Rattle.words.specs.Prefixes.{Network, IsNetwork}
-use Rattle.words.specs.Text.{dotted, prefix_text}
+use Rattle.words.specs.Text.{dotted_address, prefix_text}
 use Rattle.address_texts.proofs.Decimals.{own}
 
 -- ---- addresses
@@ -26,22 +26,22 @@ four a b c d (suc (suc zero)) la lb lc ld = lc
 four a b c d (suc (suc (suc zero))) la lb lc ld = ld
 four a b c d (suc (suc (suc (suc i)))) la lb lc ld = lit< tt
 
-bits_text : (n : ℕ) (octets : List ℕ) → to_be_bytes w32 n ≡ octets → dotted n ≡ ipv4_text octets
+bits_text : (n : ℕ) (octets : List ℕ) → to_be_bytes w32 n ≡ octets → dotted_address n ≡ ipv4_text octets
 bits_text n octets e = ap ipv4_text e
 
-dotted_again : (w octets : List ℕ) (n : ℕ) → IsDotted w octets → n ≡ from_be_bytes w32 octets → w ≡ dotted n
+dotted_again : (w octets : List ℕ) (n : ℕ) → IsDotted w octets → n ≡ from_be_bytes w32 octets → w ≡ dotted_address n
 dotted_again w octets n d e =
     let bytes : (i : ℕ) → get_or octets i 0 < 256 = λ i. subst (λ (o : List ℕ). get_or o i 0 < 256) (sym d.value) (four d.a d.b d.c d.d i d.fit.0 d.fit.1 d.fit.2 d.fit.3) in
     let same : to_be_bytes w32 n ≡ octets = be_bytes_4 octets n (ap length d.value) bytes e in
     d.spelled ∙ sym (ap ipv4_text d.value) ∙ sym (bits_text n octets same)
 
 -- the address that is read is the one that is spelled
-pub address_spelled : (w : List ℕ) (x : Ipv4Addr) (n : ℕ) → IsIpv4Text w x → n ≡ ipv4_bits x → w ≡ dotted n
+pub address_spelled : (w : List ℕ) (x : Ipv4Addr) (n : ℕ) → IsIpv4Text w x → n ≡ ipv4_bits x → w ≡ dotted_address n
 unfolding ipv4_bits
 address_spelled w x n d e = dotted_again w (ipv4_octets x) n d e
 
 -- an address that is spelled is read
-pub address_unread : (w : List ℕ) → ((x : Ipv4Addr) → IsIpv4Text w x → ⊥) → (a : ℕ) → w ≢ dotted a
+pub address_unread : (w : List ℕ) → ((x : Ipv4Addr) → IsIpv4Text w x → ⊥) → (a : ℕ) → w ≢ dotted_address a
 address_unread w none a e =
     none (record { octets = a / 16777216 % 256 ∷ a / 65536 % 256 ∷ a / 256 % 256 ∷ a % 256 ∷ [] }) (record {
       a = a / 16777216 % 256;
@@ -76,7 +76,7 @@ free_dot : Free 47 (46 ∷ [])
 free_dot zero lt e = omega (arith, e)
 free_dot (suc i) lt e = absurd (omega arith)
 
-free_dotted : (a : ℕ) → Free 47 (dotted a)
+free_dotted : (a : ℕ) → Free 47 (dotted_address a)
 free_dotted a =
     let low : 47 < 48 = lit< tt in
     let p = free_append 47 _ _ (free_octet 47 (a / 16777216) low) free_dot in
@@ -94,7 +94,7 @@ one_byte : (byte x : ℕ) → x < byte → Free byte (x ∷ [])
 one_byte byte x below zero lt e = absurd (omega (arith, e))
 one_byte byte x below (suc i) lt e = absurd (omega arith)
 
-high_dotted : (byte a : ℕ) → 57 < byte → Free byte (dotted a)
+high_dotted : (byte a : ℕ) → 57 < byte → Free byte (dotted_address a)
 high_dotted byte a high =
     let dot : Free byte (46 ∷ []) = one_byte byte 46 (omega arith) in
     let p = free_append byte _ _ (high_octet byte (a / 16777216) high) dot in
@@ -125,7 +125,7 @@ halves byte (x ∷ xs) ys (v ∷ vs) ws f g e =
     let tail : xs ≡ vs = rest.0 in
     (cc, rest.1)
 
-octets_text : (a : ℕ) → dotted a ≡ decimal (a / 16777216 % 256) ++ 46 ∷ (decimal (a / 65536 % 256) ++ 46 ∷ (decimal (a / 256 % 256) ++ 46 ∷ decimal (a % 256)))
+octets_text : (a : ℕ) → dotted_address a ≡ decimal (a / 16777216 % 256) ++ 46 ∷ (decimal (a / 65536 % 256) ++ 46 ∷ (decimal (a / 256 % 256) ++ 46 ∷ decimal (a % 256)))
 octets_text a = simp append_assoc
 
 same_octet : (m n : ℕ) → decimal (m % 256) ≡ decimal (n % 256) → m % 256 ≡ n % 256
@@ -136,7 +136,7 @@ same_number : (a b : ℕ) → a < 2 ^ 32 → b < 2 ^ 32 → a / 16777216 % 256 �
 same_number a b h k p q r s = omega arith
 
 -- a text is of one address
-pub one_address : (a b : ℕ) → a < 2 ^ 32 → b < 2 ^ 32 → dotted a ≡ dotted b → a ≡ b
+pub one_address : (a b : ℕ) → a < 2 ^ 32 → b < 2 ^ 32 → dotted_address a ≡ dotted_address b → a ≡ b
 one_address a b h k e =
     let low : 46 < 48 = lit< tt in
     let one = halves 46 _ _ _ _ (free_octet 46 (a / 16777216) low) (free_octet 46 (b / 16777216) low) (sym (octets_text a) ∙ e ∙ octets_text b) in
@@ -150,26 +150,26 @@ one_address a b h k e =
 
 -- ---- a place: an address, a slash and a length
 
-slash_text : (n : Network) → prefix_text n ≡ dotted n.address ++ 47 ∷ decimal n.length
-slash_text n = append_assoc (dotted n.address) (47 ∷ []) (decimal n.length)
+slash_text : (n : Network) → prefix_text n ≡ dotted_address n.address ++ 47 ∷ decimal n.length
+slash_text n = append_assoc (dotted_address n.address) (47 ∷ []) (decimal n.length)
 
 cut : (w : List ℕ) (r : Option (Bor (List ℕ) × Bor (List ℕ))) → IsSplitOnceResult 47 w r → (n : Network) → w ≡ prefix_text n
-    → MatchOption r ⊥ (λ x. (x.0.now ≡ dotted n.address) × (x.1.now ≡ decimal n.length))
-cut w r h n e = split_after 47 w (dotted n.address) (decimal n.length) r h (lit< tt) (e ∙ slash_text n) (free_dotted n.address)
+    → MatchOption r ⊥ (λ x. (x.0.now ≡ dotted_address n.address) × (x.1.now ≡ decimal n.length))
+cut w r h n e = split_after 47 w (dotted_address n.address) (decimal n.length) r h (lit< tt) (e ∙ slash_text n) (free_dotted n.address)
 
 pub no_place : (w : List ℕ) (r : Option (Bor (List ℕ) × Bor (List ℕ))) → IsSplitOnceResult 47 w r → r ≡ None → (n : Network) → w ≢ prefix_text n
-no_place w r h none n e = subst (λ (q : Option (Bor (List ℕ) × Bor (List ℕ))). MatchOption q ⊥ (λ x. (x.0.now ≡ dotted n.address) × (x.1.now ≡ decimal n.length))) none (cut w r h n e)
+no_place w r h none n e = subst (λ (q : Option (Bor (List ℕ) × Bor (List ℕ))). MatchOption q ⊥ (λ x. (x.0.now ≡ dotted_address n.address) × (x.1.now ≡ decimal n.length))) none (cut w r h n e)
 
 pub place_parts : (w : List ℕ) (r : Option (Bor (List ℕ) × Bor (List ℕ))) (x : Bor (List ℕ) × Bor (List ℕ)) → IsSplitOnceResult 47 w r → r ≡ Some x → (n : Network) → w ≡ prefix_text n
-    → (x.0.now ≡ dotted n.address) × (x.1.now ≡ decimal n.length)
-place_parts w r x h some n e = subst (λ (q : Option (Bor (List ℕ) × Bor (List ℕ))). MatchOption q ⊥ (λ x. (x.0.now ≡ dotted n.address) × (x.1.now ≡ decimal n.length))) some (cut w r h n e)
+    → (x.0.now ≡ dotted_address n.address) × (x.1.now ≡ decimal n.length)
+place_parts w r x h some n e = subst (λ (q : Option (Bor (List ℕ) × Bor (List ℕ))). MatchOption q ⊥ (λ x. (x.0.now ≡ dotted_address n.address) × (x.1.now ≡ decimal n.length))) some (cut w r h n e)
 
-pub place_spelled : (w : List ℕ) (r : Option (Bor (List ℕ) × Bor (List ℕ))) (x : Bor (List ℕ) × Bor (List ℕ)) → IsSplitOnceResult 47 w r → r ≡ Some x → (a l : ℕ) → x.0.now ≡ dotted a → x.1.now ≡ decimal l
+pub place_spelled : (w : List ℕ) (r : Option (Bor (List ℕ) × Bor (List ℕ))) (x : Bor (List ℕ) × Bor (List ℕ)) → IsSplitOnceResult 47 w r → r ≡ Some x → (a l : ℕ) → x.0.now ≡ dotted_address a → x.1.now ≡ decimal l
     → w ≡ prefix_text (record { address = a; length = l })
 place_spelled w r x h some a l e f =
     let parts : (w ≡ x.0.now ++ (47 ∷ x.1.now)) × ((i : ℕ) → i < length x.0.now → get_or x.0.now i 0 ≢ 47) =
     subst (λ (q : Option (Bor (List ℕ) × Bor (List ℕ))). MatchOption q ((i : ℕ) → i < length w → get_or w i 0 ≢ 47) (λ x. (w ≡ x.0.now ++ (47 ∷ x.1.now)) × ((i : ℕ) → i < length x.0.now → get_or x.0.now i 0 ≢ 47))) some (split_parts 47 w r h (lit< tt)) in
-    parts.0 ∙ ap (λ (t : List ℕ). t ++ (47 ∷ x.1.now)) e ∙ ap (λ (t : List ℕ). dotted a ++ (47 ∷ t)) f ∙ sym (slash_text (record { address = a; length = l }))
+    parts.0 ∙ ap (λ (t : List ℕ). t ++ (47 ∷ x.1.now)) e ∙ ap (λ (t : List ℕ). dotted_address a ++ (47 ∷ t)) f ∙ sym (slash_text (record { address = a; length = l }))
 
 -- a text is of one place
 pub one_place : (m n : Network) → m.address < 2 ^ 32 → n.address < 2 ^ 32 → m.length ≤ 32 → n.length ≤ 32 → prefix_text m ≡ prefix_text n → (m.address ≡ n.address) × (m.length ≡ n.length)

@@ -5,7 +5,7 @@ ghost use Rattle.std.specs.Prelude.{◌≡◌, ◌≢◌, ◌<◌, ◌≤◌, �
 ghost use Rattle.std.specs.Prelude.{decimal, length, not, slice_index};
 ghost use Rattle.std.specs.Str.{all_ascii_digits};
 ghost use Rattle.words.specs.Prefixes.{Network, IsNetwork};
-ghost use Rattle.words.specs.Text.{dotted, prefix_text};
+ghost use Rattle.words.specs.Text.{dotted_address, prefix_text};
 
 use std::net::Ipv4Addr;
 use words::{Address, Prefix};
@@ -66,8 +66,8 @@ pub fn read_within(word: &str, least: u64, most: u64) -> Option<u64>
 /// The address that the word spells.
 pub fn read_address(word: &str) -> Option<Address>
     ensures { MatchOption result
-        ((a : ℕ) → a < 2 ^ 32 → word.now ≢ dotted a)
-        (λ a. (word.now ≡ dotted a) × (a < 2 ^ 32)) }
+        ((a : ℕ) → a < 2 ^ 32 → word.now ≢ dotted_address a)
+        (λ a. (word.now ≡ dotted_address a) × (a < 2 ^ 32)) }
 {
     match word.parse::<Ipv4Addr>() {
         Ok(address) => Some(Address::new(address.to_bits())),

@@ -9,7 +9,7 @@ use Rattle.std.specs.Ordering.{eq_by_cmp, is_eq, is_lt}
 use Rattle.std.specs.declared.cmp.Ordering.{Ordering}
 use Rattle.std.specs.declared.cmp.Ordering.TheVariants.{Less, Equal, Greater}
 use Rattle.words.specs.declared.key.Key.{Key}
-use Rattle.lsdb.specs.Copies.{Database, DatabaseCopy, listed}
+use Rattle.lsdb.specs.Copies.{Database, DatabaseCopy, list_entry_of}
 use Rattle.lsdb.specs.Instances.{ListEntry, aged_header}
 use Rattle.lsdb.specs.Keys.{ByKey, key_cmp}
 use Rattle.lsdb.proofs.Keys.{keys_exact, keys_total}
@@ -119,14 +119,14 @@ module _ (test : DatabaseCopy → Bool) (moment : ℕ) (db : Database) where
   -- what the list has of a copy
   abbrev of_copy : Option DatabaseCopy → Option ListEntry
   of_copy None = None
-  of_copy (Some c) = cond (test c) (Some (listed moment c)) None
+  of_copy (Some c) = cond (test c) (Some (list_entry_of moment c)) None
 
   abbrev or_else : Option ListEntry → Option ListEntry → Option ListEntry
   or_else None o = o
   or_else (Some x) o = Some x
 
-  entered : (list : ByKey ListEntry) (key q : Key) (c : DatabaseCopy) (b : Bool) → finite.get (cond b (finite.insert list key (listed moment c)) list) q ≡ cond (eq_by_cmp key_cmp q key) (or_else (cond b (Some (listed moment c)) None) (finite.get list q)) (finite.get list q)
-  entered list key q c true = finite.get-insert keys_total list key (listed moment c) q
+  entered : (list : ByKey ListEntry) (key q : Key) (c : DatabaseCopy) (b : Bool) → finite.get (cond b (finite.insert list key (list_entry_of moment c)) list) q ≡ cond (eq_by_cmp key_cmp q key) (or_else (cond b (Some (list_entry_of moment c)) None) (finite.get list q)) (finite.get list q)
+  entered list key q c true = finite.get-insert keys_total list key (list_entry_of moment c) q
   entered list key q c false = sym (either_way (eq_by_cmp key_cmp q key) (finite.get list q))
     where
       either_way : (a : Bool) (o : Option ListEntry) → cond a o o ≡ o
@@ -164,7 +164,7 @@ module _ (test : DatabaseCopy → Bool) (moment : ℕ) (db : Database) where
       by_key false tied = refl
 
   listed-find : (es : List (Key × DatabaseCopy)) (q : Key) → T (is_sorted key_cmp es)
-      → finite.find key_cmp q (map (λ (e : Key × DatabaseCopy). (e.0, listed moment e.1)) (filter (λ e. test e.1) es)) ≡ of_copy (finite.find key_cmp q es)
+      → finite.find key_cmp q (map (λ (e : Key × DatabaseCopy). (e.0, list_entry_of moment e.1)) (filter (λ e. test e.1) es)) ≡ of_copy (finite.find key_cmp q es)
   listed-find [] q sorted = refl
   listed-find (e ∷ es) q sorted =
       by_tests (listed-find es q (second (below_all key_cmp e.0 es) (is_sorted key_cmp es) sorted)) (test e.1) (eq_by_cmp key_cmp q e.0) refl refl
@@ -172,16 +172,16 @@ module _ (test : DatabaseCopy → Bool) (moment : ℕ) (db : Database) where
       none_behind : eq_by_cmp key_cmp q e.0 ≡ true → finite.find key_cmp q es ≡ None
       none_behind tied = absent q e.0 es (equal (key_cmp q e.0) tied) (first (below_all key_cmp e.0 es) (is_sorted key_cmp es) sorted)
 
-      by_tests : finite.find key_cmp q (map (λ (f : Key × DatabaseCopy). (f.0, listed moment f.1)) (filter (λ f. test f.1) es)) ≡ of_copy (finite.find key_cmp q es)
+      by_tests : finite.find key_cmp q (map (λ (f : Key × DatabaseCopy). (f.0, list_entry_of moment f.1)) (filter (λ f. test f.1) es)) ≡ of_copy (finite.find key_cmp q es)
           → (b r : Bool) → test e.1 ≡ b → eq_by_cmp key_cmp q e.0 ≡ r
-          → finite.find key_cmp q (map (λ (f : Key × DatabaseCopy). (f.0, listed moment f.1)) (cond b (e ∷ filter (λ f. test f.1) es) (filter (λ f. test f.1) es)))
+          → finite.find key_cmp q (map (λ (f : Key × DatabaseCopy). (f.0, list_entry_of moment f.1)) (cond b (e ∷ filter (λ f. test f.1) es) (filter (λ f. test f.1) es)))
           ≡ of_copy (cond r (Some e.1) (finite.find key_cmp q es))
       by_tests behind true true is tied =
-          ap (λ b. cond b (Some (listed moment e.1)) (finite.find key_cmp q (map (λ (f : Key × DatabaseCopy). (f.0, listed moment f.1)) (filter (λ f. test f.1) es)))) tied
-          ∙ sym (ap (λ b. cond b (Some (listed moment e.1)) None) is)
+          ap (λ b. cond b (Some (list_entry_of moment e.1)) (finite.find key_cmp q (map (λ (f : Key × DatabaseCopy). (f.0, list_entry_of moment f.1)) (filter (λ f. test f.1) es)))) tied
+          ∙ sym (ap (λ b. cond b (Some (list_entry_of moment e.1)) None) is)
       by_tests behind true false is tied =
-          ap (λ b. cond b (Some (listed moment e.1)) (finite.find key_cmp q (map (λ (f : Key × DatabaseCopy). (f.0, listed moment f.1)) (filter (λ f. test f.1) es)))) tied ∙ behind
-      by_tests behind false true is tied = behind ∙ ap of_copy (none_behind tied) ∙ sym (ap (λ b. cond b (Some (listed moment e.1)) None) is)
+          ap (λ b. cond b (Some (list_entry_of moment e.1)) (finite.find key_cmp q (map (λ (f : Key × DatabaseCopy). (f.0, list_entry_of moment f.1)) (filter (λ f. test f.1) es)))) tied ∙ behind
+      by_tests behind false true is tied = behind ∙ ap of_copy (none_behind tied) ∙ sym (ap (λ b. cond b (Some (list_entry_of moment e.1)) None) is)
       by_tests behind false false is tied = behind
 
   if_there : (o : Option DatabaseCopy) → cond (is_some o) (or_else (of_copy o) None) None ≡ of_copy o
@@ -201,4 +201,4 @@ module _ (test : DatabaseCopy → Bool) (moment : ℕ) (db : Database) where
       ∙ if_there (finite.get db q)
       ∙ ap of_copy (finite.get-entries db q)
       ∙ sym (listed-find (finite.entries db) q (finite.entries_sorted db))
-      ∙ sym (finite.get-from_entries keys_total (map (λ (e : Key × DatabaseCopy). (e.0, listed moment e.1)) (filter (λ e. test e.1) (finite.entries db))) q))
+      ∙ sym (finite.get-from_entries keys_total (map (λ (e : Key × DatabaseCopy). (e.0, list_entry_of moment e.1)) (filter (λ e. test e.1) (finite.entries db))) q))

@@ -7,7 +7,7 @@ use Rattle.std.specs.FinMap as finite
 use Rattle.std.specs.FinSet as set
 use Rattle.std.specs.List.{AllByRecursion, cons_option, filter, filter_map}
 use Rattle.words.specs.declared.key.Key.{Key}
-use Rattle.lsdb.specs.Copies.{Database, DatabaseCopy, age_now, is_aged_out, listed, lsa_now}
+use Rattle.lsdb.specs.Copies.{Database, DatabaseCopy, age_now, is_aged_out, list_entry_of, lsa_now}
 use Rattle.lsdb.specs.Headers.{Header, Lsa, key_of, lsa_aged, lsa_key}
 use Rattle.lsdb.specs.Instances.{ListEntry}
 use Rattle.packet.specs.declared.model.Description.{Description}
@@ -141,14 +141,14 @@ module _ (t : Telling) where
 
   -- the copies at MaxAge
   listed_told : (moment : ℕ) (es : List (Key × DatabaseCopy)) → AllByRecursion (OfEntry (OfCopy t)) es
-      → AllByRecursion (OfEntry (OfListed t)) (map (λ (e : Key × DatabaseCopy). (e.0, listed moment e.1)) (filter (λ e. is_aged_out moment e.1) es))
+      → AllByRecursion (OfEntry (OfListed t)) (map (λ (e : Key × DatabaseCopy). (e.0, list_entry_of moment e.1)) (filter (λ e. is_aged_out moment e.1) es))
   listed_told moment [] h = tt
   listed_told moment (e ∷ es) h =
       by_test (is_aged_out moment e.1) (listed_told moment es h.1)
     where
-      by_test : (b : Bool) → AllByRecursion (OfEntry (OfListed t)) (map (λ (x : Key × DatabaseCopy). (x.0, listed moment x.1)) (filter (λ x. is_aged_out moment x.1) es))
+      by_test : (b : Bool) → AllByRecursion (OfEntry (OfListed t)) (map (λ (x : Key × DatabaseCopy). (x.0, list_entry_of moment x.1)) (filter (λ x. is_aged_out moment x.1) es))
           → AllByRecursion (OfEntry (OfListed t))
-          (map (λ (x : Key × DatabaseCopy). (x.0, listed moment x.1)) (cond b (e ∷ filter (λ x. is_aged_out moment x.1) es) (filter (λ x. is_aged_out moment x.1) es)))
+          (map (λ (x : Key × DatabaseCopy). (x.0, list_entry_of moment x.1)) (cond b (e ∷ filter (λ x. is_aged_out moment x.1) es) (filter (λ x. is_aged_out moment x.1) es)))
       by_test true rest = (t.header (lsa_now moment e.1) (now_told moment e.1 h.0), rest)
       by_test false rest = rest
 

@@ -5,7 +5,7 @@ use Rattle.std.specs.Prelude.{if◌then◌else◌, List, [], ◌∷◌, Option, 
 use Rattle.std.specs.FinMap as finite
 use Rattle.words.specs.Numbers.{Moment, RouterNumber}
 use Rattle.words.specs.declared.key.Key.{Key}
-use Rattle.lsdb.specs.Copies.{Database, DatabaseCopy, is_aged_out, listed}
+use Rattle.lsdb.specs.Copies.{Database, DatabaseCopy, is_aged_out, list_entry_of}
 use Rattle.lsdb.specs.Headers.{Header}
 use Rattle.lsdb.specs.Instances.{ListEntry, aged_header}
 use Rattle.lsdb.specs.Keys.{ByKey}
@@ -142,7 +142,7 @@ abbrev pub with_copy : (DatabaseCopy → Bool) → Moment → Key → Option Dat
     → ByKey ListEntry
 with_copy test moment key None list = list
 with_copy test moment key (Some c) list =
-    if test c then finite.insert list key (listed moment c) else list
+    if test c then finite.insert list key (list_entry_of moment c) else list
 
 abbrev pub with_key : (DatabaseCopy → Bool) → Moment → Database → ByKey ListEntry → Key
     → ByKey ListEntry

@@ -75,15 +75,16 @@ distance_of slots slot None = None
 distance_of slots slot (Some place) = Some (distance_between (slot + 1) (detour_at slots place))
 
 -- the instruction, to this distance if there is one
-abbrev pub redirected : Instruction → Option ℤ → Instruction
-redirected i None = i
-redirected i (Some distance) = with_distance i distance
+abbrev pub with_distance_if_given : Instruction → Option ℤ → Instruction
+with_distance_if_given i None = i
+with_distance_if_given i (Some distance) = with_distance i distance
 
 -- An instruction with its second half, if it has one; where that stands, there is nothing more. A
 -- jump back to a head goes to the head's detour instead.
 abbrev pub slots_at : ℕ → List ℕ → ℕ → Slot → List Slot
 slots_at slots heads slot (Start i) =
-    slots_of (redirected i (distance_of slots slot (place_of heads slot (jump_target slot i))))
+    slots_of
+    (with_distance_if_given i (distance_of slots slot (place_of heads slot (jump_target slot i))))
 slots_at slots heads slot SecondHalf = []
 
 -- the code from this slot on

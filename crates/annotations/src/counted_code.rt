@@ -4,7 +4,7 @@ ghost use Rattle.std.specs.Prelude.{position};
 ghost use Rattle.isa.specs.Flow.{jump_target};
 ghost use Rattle.annotations.specs.CountedCode.{IsCounted, detour, detour_at, detours};
 ghost use Rattle.annotations.specs.CountedCode.{distance_between, distance_of, place_of};
-ghost use Rattle.annotations.specs.CountedCode.{redirected, redirected_from, slots_at};
+ghost use Rattle.annotations.specs.CountedCode.{with_distance_if_given, redirected_from, slots_at};
 ghost use Rattle.annotations.specs.CountedCode.{with_distance, with_number};
 
 use crate::count_error::CountError;
@@ -117,7 +117,7 @@ fn distance_of(
 
 /// The instruction, to this distance if there is one.
 fn redirected(instruction: &Instruction, distance: Option<i16>) -> Instruction
-    ensures { result ≡ redirected instruction.now distance }
+    ensures { result ≡ with_distance_if_given instruction.now distance }
 {
     match distance {
         Some(distance) => with_distance(*instruction, distance),

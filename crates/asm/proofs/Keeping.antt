@@ -31,9 +31,9 @@ use Rattle.asm.specs.declared.error.AsmFault.{AsmFault}
 use Rattle.asm.specs.declared.error.AsmFault.TheVariants as faults
 use Rattle.asm.specs.declared.labels.Place.{Place}
 use Rattle.asm.specs.Numbers.{natural_in}
-use Rattle.asm.specs.Instructions.{◌>>=◌, ranged, code_step, instruction_of, with_instruction}
+use Rattle.asm.specs.Instructions.{◌>>=◌, or_range_fault, code_step, instruction_of, with_instruction}
 use Rattle.asm.specs.Rules.{◌and_then◌, is_stated_number, term_in, term_of, rank_of, slot_of, numbers_of, map_of, at_most, kind_of, range_in, bytes_of}
-use Rattle.asm.specs.Assembling.{Sketch, nothing, line_step, body_step, label_step, state_step, state_at, opened, order_fault, has_slot, all_of, bare, instruction_step, hook_step, rank_step, with_rank, with_code, with_last, with_step, kind_step, bytes_step, with_bytes, last_of, match_last, is_empty, slot_at}
+use Rattle.asm.specs.Assembling.{Sketch, nothing, line_step, body_step, label_step, state_step, state_at, open_statement, order_fault, has_slot, all_of, bare, instruction_step, hook_step, rank_step, with_rank, with_code, with_last, with_step, kind_step, bytes_step, with_bytes, last_of, match_last, is_empty, slot_at}
 use Rattle.asm.specs.Lawful.{IsFront, IsTermSoon, IsOpen, AreInOrder, IsLawful}
 
 -- ---- what an answer came from
@@ -50,7 +50,7 @@ found_from : {A B : Type 0} (x : Option A) (f : A → Option B) (b : B) → (x a
 found_from (Some a) f b e = (a, refl, e)
 found_from None f b e = cc
 
-in_range : {A : Type 0} (x : Option A) (a : A) → ranged x ≡ Ok a → x ≡ Some a
+in_range : {A : Type 0} (x : Option A) (a : A) → or_range_fault x ≡ Ok a → x ≡ Some a
 in_range (Some a) b e = cc
 in_range None b e = cc
 
@@ -222,7 +222,7 @@ bare_open rest slot r is = record {
   stack = length-replicate 512 false;
 }
 
-opened_from : (s t : Sketch) (slot : ℕ) (r : Rank) (fault : Option AsmFault) → opened s slot r fault ≡ Ok t → (fault ≡ None) × (record s { before = all_of s.before s.last; last = Some (bare slot r) } ≡ t)
+opened_from : (s t : Sketch) (slot : ℕ) (r : Rank) (fault : Option AsmFault) → open_statement s slot r fault ≡ Ok t → (fault ≡ None) × (record s { before = all_of s.before s.last; last = Some (bare slot r) } ≡ t)
 opened_from s t slot r (Some fault) e = cc
 opened_from s t slot r None e = (refl, ok_same _ t e)
 
@@ -231,8 +231,8 @@ state_keeps : (s t : Sketch) (target : Target) (constant : Numeral) (found : Ter
 state_keeps s t target constant found place rest is e =
     let at = taken_from (slot_of target place) (state_at s (rank_of constant found rest)) t e in
     let slot = at.0 in
-    let within = taken_else (nat_le (length s.code) slot) faults.Range (ranged (rank_of constant found rest) >>= λ r. opened s slot r (order_fault s.before s.last slot)) t at.2 in
-    let rank = taken_from (ranged (rank_of constant found rest)) (λ r. opened s slot r (order_fault s.before s.last slot)) t within.1 in
+    let within = taken_else (nat_le (length s.code) slot) faults.Range (or_range_fault (rank_of constant found rest) >>= λ r. open_statement s slot r (order_fault s.before s.last slot)) t at.2 in
+    let rank = taken_from (or_range_fault (rank_of constant found rest)) (λ r. open_statement s slot r (order_fault s.before s.last slot)) t within.1 in
     let next = opened_from s t slot rank.0 (order_fault s.before s.last slot) rank.2 in
     let fits = leb-false (length s.code) slot within.0 in
     let soon = rank_soon (replicate 10 kinds.Empty) rest constant found rank.0 (in_range (rank_of constant found rest) rank.0 rank.1) in
@@ -335,7 +335,7 @@ kind_kept p q register kind e =
 with_open : (p q : StatementParts) (register : ℕ) (content : Content) (rest : List (Option Line)) → with_step p register content ≡ Ok q
     → (p.slot ≡ q.slot) × (IsOpen (Some (lines.With register content) ∷ rest) p → IsOpen rest q)
 with_open p q register content rest e =
-    let k = taken_from (ranged (kind_of content)) (kind_step p register) q e in
+    let k = taken_from (or_range_fault (kind_of content)) (kind_step p register) q e in
     let kind = k.0 in
     let found = in_range (kind_of content) kind k.1 in
     let c = kind_kept p q register kind k.2 in
@@ -369,7 +369,7 @@ length_with_range start end stack low high e =
 
 bytes_open : (p q : StatementParts) (m n : Numeral) (rest : List (Option Line)) → bytes_step p m n ≡ Ok q → (p.slot ≡ q.slot) × (IsOpen (Some (lines.Bytes m n) ∷ rest) p → IsOpen rest q)
 bytes_open p q m n rest e =
-    let a = taken_from (ranged (bytes_of m n)) (with_bytes p) q e in
+    let a = taken_from (or_range_fault (bytes_of m n)) (with_bytes p) q e in
     let found = in_range (bytes_of m n) a.0 a.1 in
     let start = found_from (natural_in (2 ^ 32) m) _ a.0 found in
     let end = found_from (natural_in (2 ^ 32) n) _ a.0 start.2 in
@@ -405,8 +405,8 @@ front_rank (Some hook) code rank e fits = fits
 
 rank_keeps : (s t : Sketch) (n : Numeral) (rest : List (Option Line)) → IsLawful (Some (lines.Rank n) ∷ rest) s → rank_step s n ≡ Ok t → IsLawful rest t
 rank_keeps s t n rest is e =
-    let c = taken_else (is_none s.hook || is_some s.rank) faults.Syntax (ranged (natural_in (2 ^ 32) n) >>= with_rank s) t e in
-    let rank = taken_from (ranged (natural_in (2 ^ 32) n)) (with_rank s) t c.1 in
+    let c = taken_else (is_none s.hook || is_some s.rank) faults.Syntax (or_range_fault (natural_in (2 ^ 32) n) >>= with_rank s) t e in
+    let rank = taken_from (or_range_fault (natural_in (2 ^ 32) n)) (with_rank s) t c.1 in
     let fits = natural_below (2 ^ 32) n rank.0 (in_range (natural_in (2 ^ 32) n) rank.0 rank.1) in
     let same = passed s (Some (lines.Rank n) ∷ rest) rest (λ r. refl) is in
     subst (IsLawful rest) (ok_same (record s { rank = Some rank.0 }) t rank.2)

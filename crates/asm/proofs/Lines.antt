@@ -21,7 +21,7 @@ use Rattle.asm_lines.specs.declared.line.Target.TheVariants as targets
 use Rattle.asm_lines.specs.declared.line.Terms.{Terms}
 use Rattle.asm_lines.specs.declared.line.Content.{Content}
 use Rattle.asm_lines.specs.Written.{line_text}
-use Rattle.asm.specs.Listing.{AddsText, text_of, slot_lines, instruction_line, with_line, with_lines, the_content, the_terms, joined, longest_ranges, bytes_line, state_line, statement_lines, listing_lines}
+use Rattle.asm.specs.Listing.{AddsText, text_of, slot_lines, instruction_line, with_line, with_lines, the_content, the_terms, join_byte, longest_ranges, bytes_line, state_line, statement_lines, listing_lines}
 use Rattle.asm.proofs.Ranges.{AllIn}
 
 pub text-append : (a b : List Line) → text_of (a ++ b) ≡ text_of a ++ text_of b
@@ -81,16 +81,16 @@ kinds_written text whole ks at h inv = all_written text whole (with_lines at (dr
 -- ---- ranges of stack bytes
 
 -- a range that begins further on stays as it is
-apart_one : (byte from end : ℕ) (ranges : List (ℕ × ℕ)) → byte + 1 < from → joined byte ((from, end) ∷ ranges) ≡ (byte, byte + 1) ∷ (from, end) ∷ ranges
+apart_one : (byte from end : ℕ) (ranges : List (ℕ × ℕ)) → byte + 1 < from → join_byte byte ((from, end) ∷ ranges) ≡ (byte, byte + 1) ∷ (from, end) ∷ ranges
 apart_one byte from end ranges h = cond-false (from == byte + 1) ((byte, end) ∷ ranges) ((byte, byte + 1) ∷ (from, end) ∷ ranges) (ne_eqb from (byte + 1) (λ e. omega (arith, e, h)))
 
-apart_joined : (byte from : ℕ) (ranges : List (ℕ × ℕ)) → byte + 1 < from → joined byte (joined from ranges) ≡ (byte, byte + 1) ∷ joined from ranges
+apart_joined : (byte from : ℕ) (ranges : List (ℕ × ℕ)) → byte + 1 < from → join_byte byte (join_byte from ranges) ≡ (byte, byte + 1) ∷ join_byte from ranges
 apart_joined byte from [] h = apart_one byte from (from + 1) [] h
 apart_joined byte from (range ∷ ranges) h =
-    cond_both (range.0 == from + 1) ((from, range.1) ∷ ranges) ((from, from + 1) ∷ range ∷ ranges) (λ (x : List (ℕ × ℕ)). joined byte x ≡ (byte, byte + 1) ∷ x)
+    cond_both (range.0 == from + 1) ((from, range.1) ∷ ranges) ((from, from + 1) ∷ range ∷ ranges) (λ (x : List (ℕ × ℕ)). join_byte byte x ≡ (byte, byte + 1) ∷ x)
     (λ e. apart_one byte from range.1 ranges h) (λ e. apart_one byte from (from + 1) (range ∷ ranges) h)
 
-apart : (bytes : List Bool) (byte from : ℕ) → byte + 1 < from → joined byte (longest_ranges from bytes) ≡ (byte, byte + 1) ∷ longest_ranges from bytes
+apart : (bytes : List Bool) (byte from : ℕ) → byte + 1 < from → join_byte byte (longest_ranges from bytes) ≡ (byte, byte + 1) ∷ longest_ranges from bytes
 apart [] byte from h = refl
 apart (true ∷ bytes) byte from h = apart_joined byte from (longest_ranges (from + 1) bytes) h
 apart (false ∷ bytes) byte from h = apart bytes byte (from + 1) (omega (arith, h))
@@ -99,7 +99,7 @@ abbrev FirstOut : List Bool → Type 0
 FirstOut [] = Unit {0}
 FirstOut (b ∷ bytes) = b ≡ false
 
-one_range : (byte : ℕ) (rest : List Bool) → FirstOut rest → joined byte (longest_ranges (byte + 1) rest) ≡ (byte, byte + 1) ∷ longest_ranges (byte + 1) rest
+one_range : (byte : ℕ) (rest : List Bool) → FirstOut rest → join_byte byte (longest_ranges (byte + 1) rest) ≡ (byte, byte + 1) ∷ longest_ranges (byte + 1) rest
 one_range byte [] out = refl
 one_range byte (true ∷ rest) out = absurd (false≢true (sym out))
 one_range byte (false ∷ rest) out = apart rest byte (byte + 1 + 1) (omega arith)
@@ -109,7 +109,7 @@ one_run zero byte rest out = one_range byte rest out
 one_run (suc n) byte rest out =
     let end : byte + 1 + suc n ≡ byte + suc (suc n) = omega arith in
     let later = longest_ranges (byte + 1 + suc n) rest in
-    ap (λ (rs : List (ℕ × ℕ)). joined byte rs) (one_run n (byte + 1) rest out)
+    ap (λ (rs : List (ℕ × ℕ)). join_byte byte rs) (one_run n (byte + 1) rest out)
     ∙ cond-true (byte + 1 == byte + 1) ((byte, byte + 1 + suc n) ∷ later) ((byte, byte + 1) ∷ (byte + 1, byte + 1 + suc n) ∷ later) (eq-eqb (byte + 1) (byte + 1) refl)
     ∙ ap (λ (m : ℕ). (byte, m) ∷ longest_ranges m rest) end
 

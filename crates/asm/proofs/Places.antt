@@ -14,7 +14,7 @@ use Rattle.asm.specs.declared.error.AsmFault.{AsmFault}
 use Rattle.asm.specs.declared.error.AsmError.{AsmError}
 use Rattle.asm.specs.Labels.{◌or_else◌}
 use Rattle.asm.specs.Faults.{error_at, IsWantOfMemory}
-use Rattle.asm.specs.Assembling.{taken_all, Says, Declines, Refuses, gives_label, slots_in, place_from, Sketch, taken, line_step, blamed}
+use Rattle.asm.specs.Assembling.{taken_all, Says, Declines, Refuses, gives_label, slots_in, place_from, Sketch, take_lines, line_step, blame_line}
 
 -- the line `n` of those that are left
 pub place_here : (n at slot : ℕ) (lines : List (Option Line)) (names : List (Bor Word)) (word : Word) (d : Option Line) (e : Bor Word) → n < length lines → length lines ≡ length names
@@ -27,14 +27,14 @@ place_here zero at slot (l ∷ ls) (m ∷ ms) word d e h same = refl
 place_here (suc n) at slot (l ∷ ls) (m ∷ ms) word d e h same = place_here n at slot ls ms word d e (omega arith) (omega arith)
 
 -- nothing is left
-pub taken_end : (places : Word → Option Place) (n at : ℕ) (lines : List (Option Line)) (names : List Word) (s : Sketch) → n ≡ length lines → taken places at (drop n lines) names s ≡ Ok s
+pub taken_end : (places : Word → Option Place) (n at : ℕ) (lines : List (Option Line)) (names : List Word) (s : Sketch) → n ≡ length lines → take_lines places at (drop n lines) names s ≡ Ok s
 taken_end places n at [] names s h = rw h refl
 taken_end places zero at (l ∷ ls) names s h = absurd (omega arith)
 taken_end places (suc n) at (l ∷ ls) names s h = taken_end places n at ls names s (omega arith)
 
 -- the line `n` of those that are left spells nothing
 pub taken_bad : (places : Word → Option Place) (n at : ℕ) (lines : List (Option Line)) (names : List (Bor Word)) (s : Sketch) (d : Option Line) → n < length lines → length lines ≡ length names
-    → get_or lines n d ≡ None → taken places at (drop n lines) (views (drop n names)) s ≡ Err (at + 1, faults.Syntax)
+    → get_or lines n d ≡ None → take_lines places at (drop n lines) (views (drop n names)) s ≡ Err (at + 1, faults.Syntax)
 taken_bad places n at [] names s d h same e = absurd (omega arith)
 taken_bad places n at (l ∷ ls) [] s d h same e = absurd (omega arith)
 taken_bad places zero at (l ∷ ls) (m ∷ ms) s d h same e = rw e refl
@@ -42,8 +42,8 @@ taken_bad places (suc n) at (l ∷ ls) (m ∷ ms) s d h same e = taken_bad place
 
 -- or it spells a line
 pub taken_here : (places : Word → Option Place) (n at : ℕ) (lines : List (Option Line)) (names : List (Bor Word)) (s : Sketch) (line : Line) (d : Option Line) (b : Bor Word) → n < length lines → length lines ≡ length names
-    → get_or lines n d ≡ Some line → taken places at (drop n lines) (views (drop n names)) s
-    ≡ blamed at (line_step s line at (places (get_or names n b).now) (drop (suc n) lines)) (taken places (at + 1) (drop (suc n) lines) (views (drop (suc n) names)))
+    → get_or lines n d ≡ Some line → take_lines places at (drop n lines) (views (drop n names)) s
+    ≡ blame_line at (line_step s line at (places (get_or names n b).now) (drop (suc n) lines)) (take_lines places (at + 1) (drop (suc n) lines) (views (drop (suc n) names)))
 taken_here places n at [] names s line d b h same e = absurd (omega arith)
 taken_here places n at (l ∷ ls) [] s line d b h same e = absurd (omega arith)
 taken_here places zero at (l ∷ ls) (m ∷ ms) s line d b h same e = rw e refl
@@ -123,9 +123,9 @@ same_step s line at p q r r2 x e f h = subst (λ (a : Option Place). line_step s
 -- what the line at this place makes
 pub stepped : (lines : List (Option Line)) (names : List (Bor Word)) (at : ℕ) (s : Sketch) (l : Option Line) (line : Line) (n : Bor Word) (la lb : List (Option Line)) (na : List (Bor Word)) (p : Option Place) (x : Result Sketch AsmFault)
     → at < length lines → length lines ≡ length names → l ≡ get_or lines at l → l ≡ Some line → n ≡ get_or names at n → la ≡ lines → na ≡ names → lb ≡ lines → p ≡ place_from 0 0 la (views na) n.now
-    → taken_all lines (views names) ≡ taken (place_from 0 0 lines (views names)) at (drop at lines) (views (drop at names)) s
+    → taken_all lines (views names) ≡ take_lines (place_from 0 0 lines (views names)) at (drop at lines) (views (drop at names)) s
     → line_step s line at p (take (length lb - (at + 1)) (drop (at + 1) lb)) ≡ x
-    → taken_all lines (views names) ≡ blamed at x (taken (place_from 0 0 lines (views names)) (at + 1) (drop (at + 1) lines) (views (drop (at + 1) names)))
+    → taken_all lines (views names) ≡ blame_line at x (take_lines (place_from 0 0 lines (views names)) (at + 1) (drop (at + 1) lines) (views (drop (at + 1) names)))
 stepped lines names at s l line n la lb na p x h same el e en ela ena elb ep inv given =
     let next : at + 1 ≡ suc at = omega arith in
     let places = place_from 0 0 lines (views names) in
@@ -133,8 +133,8 @@ stepped lines names at s l line n la lb na p x h same el e en ela ena elb ep inv
     (ep ∙ same_place lines la names na n (get_or names at n) ela ena en)
     (rest_all lb (at + 1) ∙ ap (λ (ys : List (Option Line)). drop (at + 1) ys) elb ∙ ap (λ k. drop k lines) next) given in
     inv ∙ taken_here places at at lines names s line l n h same (sym el ∙ e)
-    ∙ ap (λ (r : Result Sketch AsmFault). blamed at r (taken places (at + 1) (drop (suc at) lines) (views (drop (suc at) names)))) here
-    ∙ ap (λ k. blamed at x (taken places (at + 1) (drop k lines) (views (drop k names)))) (sym next)
+    ∙ ap (λ (r : Result Sketch AsmFault). blame_line at r (take_lines places (at + 1) (drop (suc at) lines) (views (drop (suc at) names)))) here
+    ∙ ap (λ k. blame_line at x (take_lines places (at + 1) (drop k lines) (views (drop k names)))) (sym next)
 
 -- ---- refusals
 
@@ -164,7 +164,7 @@ refuses_at text lines names r line fault says is e = refuses_as text r line faul
 
 -- a line that spells nothing
 pub refused_bad : (text : List ℕ) (lines : List (Option Line)) (names : List (Bor Word)) (r : AsmError) (at : ℕ) (s : Sketch) (l : Option Line) → Says text lines names → at < length lines → l ≡ get_or lines at l → l ≡ None
-    → taken_all lines (views names) ≡ taken (place_from 0 0 lines (views names)) at (drop at lines) (views (drop at names)) s
+    → taken_all lines (views names) ≡ take_lines (place_from 0 0 lines (views names)) at (drop at lines) (views (drop at names)) s
     → r ≡ error_at (at + 1) faults.Syntax → Told text r
 refused_bad text lines names r at s l says h el e inv is =
     refuses_at text lines names r (at + 1) faults.Syntax says is (inv ∙ taken_bad (place_from 0 0 lines (views names)) at at lines names s l h says.same (sym el ∙ e))

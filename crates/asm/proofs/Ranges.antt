@@ -9,7 +9,7 @@ use Rattle.object.specs.Statements.{StatementParts}
 use Rattle.object.specs.Sets.{has_byte, with_range}
 use Rattle.asm_words.specs.declared.numeral.Numeral.TheVariants as numerals
 use Rattle.asm_lines.specs.declared.line.Line.TheVariants as lines
-use Rattle.asm.specs.Instructions.{◌>>=◌, ranged}
+use Rattle.asm.specs.Instructions.{◌>>=◌, or_range_fault}
 use Rattle.asm.specs.Rules.{◌and_then◌, bytes_of, range_in}
 use Rattle.asm.specs.Numbers.{natural_in}
 use Rattle.asm.specs.Assembling.{Sketch, with_bytes, with_last}
@@ -76,7 +76,7 @@ bytes_line old new f slot rank ks stack start end long lt le all adds listed =
     let s = filling f slot rank ks (bytes_up_to stack start) in
     let p : StatementParts = record { slot = slot; rank = rank; kinds = ks; stack = bytes_up_to stack start } in
     listed_push old new (lines.Bytes (numerals.Natural start) (numerals.Natural end)) s (filling f slot rank ks (bytes_up_to stack end)) Any Any adds listed (λ rest d. d)
-    (λ n place rest d. ap (λ (o : Option (ℕ × ℕ)). ranged o >>= with_bytes p >>= with_last s) (bytes_are start end lt le)
+    (λ n place rest d. ap (λ (o : Option (ℕ × ℕ)). or_range_fault o >>= with_bytes p >>= with_last s) (bytes_are start end lt le)
     ∙ ap (λ (b : List Bool). Ok (filling f slot rank ks b)) (range_taken stack start end long lt le all))
 
 pub bytes_end : (text : List ℕ) (f : Front) (slot : ℕ) (rank : Rank) (ks : List Kind) (stack : List Bool) → length stack ≡ 512

@@ -17,7 +17,7 @@ use Rattle.asm_lines.specs.declared.line.Content.TheVariants as contents
 use Rattle.asm.specs.declared.error.AsmFault.{AsmFault}
 use Rattle.asm.specs.declared.error.AsmFault.TheVariants as faults
 use Rattle.asm.specs.declared.labels.Place.{Place}
-use Rattle.asm.specs.Instructions.{◌>>=◌, ranged}
+use Rattle.asm.specs.Instructions.{◌>>=◌, or_range_fault}
 use Rattle.asm.specs.Rules.{is_stated_number, kind_of}
 use Rattle.asm.specs.Assembling.{Sketch, line_step, kind_step, with_last, is_empty}
 use Rattle.asm.specs.Listed.{Listed, AddsLine, Any, Front, sketch_of, AreStated, is_stated, is_number, gives_number}
@@ -117,7 +117,7 @@ with_steps f slot rank ks at k content n place rest long h g again =
     ap (λ (xs : List Kind). slice_index_or xs at kinds.Empty) (up_to_here ks at h) ∙ get_at (take at ks) kinds.Empty tail kinds.Empty at front in
     let set : slice_set now at k ≡ kinds_up_to ks (at + 1) =
     ap (λ (xs : List Kind). slice_set xs at k) (up_to_here ks at h) ∙ set_at (take at ks) kinds.Empty tail k at front ∙ up_to_more ks at k long h g in
-    ap (λ (o : Option Kind). ranged o >>= kind_step p at >>= with_last (stating f slot rank now)) again
+    ap (λ (o : Option Kind). or_range_fault o >>= kind_step p at >>= with_last (stating f slot rank now)) again
     ∙ ap (λ (r : Result StatementParts AsmFault). r >>= with_last (stating f slot rank now)) (cond-false (nat_lt 9 at) (Err faults.Range) _ (le-ltb 9 at (omega (arith, h)))
     ∙ cond-true (is_empty (slice_index_or now at kinds.Empty)) (Ok (record p { kinds = slice_set now at k })) (Err faults.Twice) (ap is_empty empty)
     ∙ ap (λ (xs : List Kind). Ok (record { slot = slot; rank = rank; kinds = xs; stack = no_bytes })) set)

@@ -20,10 +20,10 @@ use Rattle.asm.specs.declared.error.AsmFault.{AsmFault}
 use Rattle.asm.specs.declared.error.AsmFault.TheVariants as faults
 use Rattle.asm.specs.declared.labels.Place.{Place}
 use Rattle.asm.specs.Numbers.{natural_in}
-use Rattle.asm.specs.Instructions.{◌>>=◌, ranged}
+use Rattle.asm.specs.Instructions.{◌>>=◌, or_range_fault}
 use Rattle.asm.specs.Rules.{rank_of, number_slot}
-use Rattle.asm.specs.Assembling.{line_step, state_at, opened, order_fault, has_slot, all_of, bare}
-use Rattle.asm.specs.Listed.{Listed, ListedAll, AddsLine, AddsKinds, AddsStack, AddsStatement, Any, Front, behind, sketch_of, coded, AreStated, is_stated}
+use Rattle.asm.specs.Assembling.{line_step, state_at, open_statement, order_fault, has_slot, all_of, bare}
+use Rattle.asm.specs.Listed.{Listed, ListedAll, AddsLine, AddsKinds, AddsStack, AddsStatement, Any, Front, behind, sketch_of, code_sketch, AreStated, is_stated}
 use Rattle.asm.proofs.Pushed.{listed_push, in_field}
 use Rattle.asm.proofs.Registers.{stated_term}
 
@@ -34,10 +34,10 @@ state_steps f last s n m t place at rest en em fits within order again =
     let sk = sketch_of f last in
     ap (λ (x : Numeral). number_slot (natural_in (2 ^ 64) x) >>= state_at sk (rank_of m t rest)) en
     ∙ ap (λ (o : Option ℕ). number_slot o >>= state_at sk (rank_of m t rest)) (in_field (2 ^ 64) s.slot (omega (arith, fits)))
-    ∙ cond-false (nat_le (length f.code) s.slot) (Err faults.Range) (ranged (rank_of m t rest) >>= λ r. opened sk s.slot r (order_fault f.before last s.slot)) (lt-leb (length f.code) s.slot within)
-    ∙ ap (λ (x : Numeral). ranged (rank_of x t rest) >>= λ r. opened sk s.slot r (order_fault f.before last s.slot)) em
-    ∙ ap (λ (o : Option Rank). ranged o >>= λ r. opened sk s.slot r (order_fault f.before last s.slot)) again
-    ∙ ap (λ (o : Option AsmFault). opened sk s.slot s.rank o) order
+    ∙ cond-false (nat_le (length f.code) s.slot) (Err faults.Range) (or_range_fault (rank_of m t rest) >>= λ r. open_statement sk s.slot r (order_fault f.before last s.slot)) (lt-leb (length f.code) s.slot within)
+    ∙ ap (λ (x : Numeral). or_range_fault (rank_of x t rest) >>= λ r. open_statement sk s.slot r (order_fault f.before last s.slot)) em
+    ∙ ap (λ (o : Option Rank). or_range_fault o >>= λ r. open_statement sk s.slot r (order_fault f.before last s.slot)) again
+    ∙ ap (λ (o : Option AsmFault). open_statement sk s.slot s.rank o) order
 
 state_line : (old new : List ℕ) (f : Front) (last : Option StatementParts) (s : StatementParts) (n m : Numeral) (t : Terms) → n ≡ numerals.Natural s.slot → m ≡ numerals.Natural s.rank.constant → IsStatement s
     → s.slot < length f.code → order_fault f.before last s.slot ≡ None
@@ -89,7 +89,7 @@ in_order before (Some l) n below =
     (or_from (n == l.slot) (has_slot before n) (ne_eqb n l.slot (λ e. omega (arith, e, above))) (has_none before (l ∷ []) n below))
     ∙ cond-false (nat_lt n l.slot) (Some faults.Range) None (le-ltb n l.slot (omega (arith, above)))
 
-pub none_listed : (text : List ℕ) (hook : Hook) (rank : ℕ) (code : List Slot) → Listed text (coded hook rank code) Any → ListedAll text hook rank code []
+pub none_listed : (text : List ℕ) (hook : Hook) (rank : ℕ) (code : List Slot) → Listed text (code_sketch hook rank code) Any → ListedAll text hook rank code []
 none_listed text hook rank code listed = record { before = []; last = None; same = refl; listed = listed }
 
 pub one_more_listed : (old new : List ℕ) (hook : Hook) (rank : ℕ) (code : List Slot) (ss : List StatementParts) (at : ℕ) (s : StatementParts) → at < length ss → s ≡ get_or ss at s → AreStatements 0 (length code) ss

@@ -17,8 +17,8 @@ use Rattle.asm_words.specs.Words.{Word}
 use Rattle.asm_lines.specs.Text.{words_in, Reads, Readings}
 use Rattle.asm_lines.specs.Views.{views, items}
 use Rattle.asm_lines.specs.Written.{some_reading}
-use Rattle.asm.specs.Assembling.{taken, place_from, nothing, TextSpells}
-use Rattle.asm.specs.Listed.{ListedAll, sketch_of, unnamed, no_name, some_line}
+use Rattle.asm.specs.Assembling.{take_lines, place_from, nothing, TextSpells}
+use Rattle.asm.specs.Listed.{ListedAll, sketch_of, without_label, no_name, some_line}
 
 -- ---- the code has a slot for eight bytes
 
@@ -78,7 +78,7 @@ same_long : (ls : List Line) → length (found_of ls) ≡ length (names_of ls)
 same_long [] = refl
 same_long (l ∷ ls) = ap (λ (n : ℕ). suc n) (same_long ls)
 
-items_are : (ls : List Line) → items (found_of ls) (names_of ls) ≡ map some_reading (map unnamed ls) ++ Some (lines.Empty, []) ∷ []
+items_are : (ls : List Line) → items (found_of ls) (names_of ls) ≡ map some_reading (map without_label ls) ++ Some (lines.Empty, []) ∷ []
 items_are [] = refl
 items_are (l ∷ ls) = ap (λ (xs : List (Option (Line × Word))). Some (l, []) ∷ xs) (items_are ls)
 
@@ -108,10 +108,10 @@ listed_spells text o code spells is all =
       says = record {
         same = same_long h.lines;
         read = subst (λ (ls : List (List ℕ)). Readings ls (items found names)) (sym h.are.lines)
-            (subst (λ (xs : List (Option (Line × Word))). Readings (h.are.front ++ [] ∷ []) xs) (sym (items_are h.lines)) (readings_more h.are.front (map some_reading (map unnamed h.lines)) h.are.read));
+            (subst (λ (xs : List (Option (Line × Word))). Readings (h.are.front ++ [] ∷ []) xs) (sym (items_are h.lines)) (readings_more h.are.front (map some_reading (map without_label h.lines)) h.are.read));
       };
       made = made;
-      taken = ap (λ (ws : List Word). taken places 0 found ws nothing) (views_are h.lines) ∙ h.leads places (Some lines.Empty ∷ []) ([] ∷ []) tt;
+      taken = ap (λ (ws : List Word). take_lines places 0 found ws nothing) (views_are h.lines) ∙ h.leads places (Some lines.Empty ∷ []) ([] ∷ []) tt;
       is_made = record { hook = refl; rank = refl; code = spells; statements = all.same; lawful = is };
     }
 

@@ -15,7 +15,7 @@ use Rattle.asm_lines.specs.Text.{lines_in, words_in, Reads, Readings}
 use Rattle.asm_lines.specs.Views.{views, items}
 use Rattle.asm.specs.declared.error.AsmFault.{AsmFault}
 use Rattle.asm.specs.declared.labels.Place.{Place}
-use Rattle.asm.specs.Assembling.{Sketch, Verdict, taken, taken_all, blamed, line_step, IsMade, TextSpells, Refuses, Says}
+use Rattle.asm.specs.Assembling.{Sketch, Verdict, take_lines, taken_all, blame_line, line_step, IsMade, TextSpells, Refuses, Says}
 
 abbrev pub OneReading : Type 0
 OneReading = (words : List Word) (line other : Line) (name another : Word) → Spells words line name → Spells words other another → (line ≡ other) × (name ≡ another)
@@ -84,17 +84,17 @@ abbrev is_ok : Verdict → Bool
 is_ok (Ok s) = true
 is_ok (Err fault) = false
 
-step_some : (at : ℕ) (r : Result Sketch AsmFault) (next : Sketch → Verdict) (xs : List Item) → ((t : Sketch) → is_ok (next t) ≡ true → all_some xs ≡ true) → is_ok (blamed at r next) ≡ true → all_some xs ≡ true
+step_some : (at : ℕ) (r : Result Sketch AsmFault) (next : Sketch → Verdict) (xs : List Item) → ((t : Sketch) → is_ok (next t) ≡ true → all_some xs ≡ true) → is_ok (blame_line at r next) ≡ true → all_some xs ≡ true
 step_some at (Ok t) next xs all h = all t h
 step_some at (Err fault) next xs all h = absurd (false≢true h)
 
-taken_some : (places : Word → Option Place) (at : ℕ) (found : List (Option Line)) (names : List (Bor Word)) (s : Sketch) → length found ≡ length names → is_ok (taken places at found (views names) s) ≡ true → all_some (items found names) ≡ true
+taken_some : (places : Word → Option Place) (at : ℕ) (found : List (Option Line)) (names : List (Bor Word)) (s : Sketch) → length found ≡ length names → is_ok (take_lines places at found (views names) s) ≡ true → all_some (items found names) ≡ true
 taken_some places at [] [] s e h = refl
 taken_some places at [] (n ∷ names) s e h = absurd (omega (arith, e))
 taken_some places at (l ∷ found) [] s e h = absurd (omega (arith, e))
 taken_some places at (None ∷ found) (n ∷ names) s e h = absurd (false≢true h)
 taken_some places at (Some l ∷ found) (n ∷ names) s e h =
-    step_some at (line_step s l at (places n.now) found) (taken places (at + 1) found (views names)) (items found names) (λ t k. taken_some places (at + 1) found names t (omega (arith, e)) k) h
+    step_some at (line_step s l at (places n.now) found) (take_lines places (at + 1) found (views names)) (items found names) (λ t k. taken_some places (at + 1) found names t (omega (arith, e)) k) h
 
 verdict_of : (text : List ℕ) (found : List (Option Line)) (names : List (Bor Word)) → Says text found names → all_some (items found names) ≡ true → taken_all found (views names) ≡ taken_all (lines_of (items found names)) (names_in (items found names))
 verdict_of text found names says s =

@@ -27,7 +27,7 @@ use Rattle.asm.specs.declared.error.AsmFault.{AsmFault}
 use Rattle.asm.specs.declared.error.AsmFault.TheVariants as faults
 use Rattle.asm.specs.declared.labels.Place.{Place}
 use Rattle.asm.specs.Numbers.{natural_in}
-use Rattle.asm.specs.Instructions.{◌>>=◌, ranged, code_step, slots_taken}
+use Rattle.asm.specs.Instructions.{◌>>=◌, or_range_fault, code_step, slots_taken}
 use Rattle.asm.specs.Rules.{rank_of, slot_of, kind_of, bytes_of}
 
 -- ---- labels
@@ -74,7 +74,7 @@ with_rank s rank = Ok (record s { rank = Some rank })
 
 abbrev pub rank_step : Sketch → Numeral → Result Sketch AsmFault
 rank_step s n = if is_none s.hook || is_some s.rank then Err faults.Syntax
-    else (ranged (natural_in (2 ^ 32) n) >>= with_rank s)
+    else (or_range_fault (natural_in (2 ^ 32) n) >>= with_rank s)
 
 abbrev pub with_code : Sketch → List Slot → Result Sketch AsmFault
 with_code s code = Ok (record s { code = code })
@@ -108,16 +108,16 @@ order_fault before (Some last) slot = if (slot == last.slot) || has_slot before 
     else (if nat_lt slot last.slot then Some faults.Range else None)
 
 -- the last statement behind those before it, and another in its place
-abbrev pub shifted : Sketch → Option StatementParts → Sketch
-shifted s last = record s { before = all_of s.before s.last; last = last }
+abbrev pub with_last_statement : Sketch → Option StatementParts → Sketch
+with_last_statement s last = record s { before = all_of s.before s.last; last = last }
 
-abbrev pub opened : Sketch → ℕ → Rank → Option AsmFault → Result Sketch AsmFault
-opened s slot rank (Some fault) = Err fault
-opened s slot rank None = Ok (shifted s (Some (bare slot rank)))
+abbrev pub open_statement : Sketch → ℕ → Rank → Option AsmFault → Result Sketch AsmFault
+open_statement s slot rank (Some fault) = Err fault
+open_statement s slot rank None = Ok (with_last_statement s (Some (bare slot rank)))
 
 abbrev pub state_at : Sketch → Option Rank → ℕ → Result Sketch AsmFault
 state_at s rank slot = if nat_le (length s.code) slot then Err faults.Range
-    else (ranged rank >>= λ r. opened s slot r (order_fault s.before s.last slot))
+    else (or_range_fault rank >>= λ r. open_statement s slot r (order_fault s.before s.last slot))
 
 -- These lines follow the `state` line.
 abbrev pub state_step : Sketch → Target → Numeral → Terms → Option ℕ → List (Option Line)
@@ -136,13 +136,13 @@ kind_step p register kind = if nat_lt 9 register then Err faults.Range
     then Ok (record p { kinds = slice_set p.kinds register kind }) else Err faults.Twice)
 
 abbrev pub with_step : StatementParts → ℕ → Content → Result StatementParts AsmFault
-with_step p register content = ranged (kind_of content) >>= kind_step p register
+with_step p register content = or_range_fault (kind_of content) >>= kind_step p register
 
 abbrev pub with_bytes : StatementParts → ℕ × ℕ → Result StatementParts AsmFault
 with_bytes p range = Ok (record p { stack = with_range range.0 range.1 p.stack })
 
 abbrev pub bytes_step : StatementParts → Numeral → Numeral → Result StatementParts AsmFault
-bytes_step p start end = ranged (bytes_of start end) >>= with_bytes p
+bytes_step p start end = or_range_fault (bytes_of start end) >>= with_bytes p
 
 abbrev pub with_last : Sketch → StatementParts → Result Sketch AsmFault
 with_last s p = Ok (record s { last = Some p })
@@ -203,21 +203,22 @@ line_step s other at place rest = if is_none s.rank then Err faults.Syntax
 abbrev pub Verdict : Type 0
 Verdict = Result Sketch (ℕ × AsmFault)
 
-abbrev pub blamed : ℕ → Result Sketch AsmFault → (Sketch → Verdict) → Verdict
-blamed at (Ok s) next = next s
-blamed at (Err fault) next = Err (at + 1, fault)
+abbrev pub blame_line : ℕ → Result Sketch AsmFault → (Sketch → Verdict) → Verdict
+blame_line at (Ok s) next = next s
+blame_line at (Err fault) next = Err (at + 1, fault)
 
 -- the lines from `at` on, where the labels name what `places` says
-abbrev pub taken : (Word → Option Place) → ℕ → List (Option Line) → List Word → Sketch → Verdict
-taken places at [] names s = Ok s
-taken places at (line ∷ rest) [] s = Ok s
-taken places at (None ∷ rest) (name ∷ names) s = Err (at + 1, faults.Syntax)
-taken places at (Some line ∷ rest) (name ∷ names) s =
-    blamed at (line_step s line at (places name) rest) (taken places (at + 1) rest names)
+abbrev pub take_lines : (Word → Option Place) → ℕ → List (Option Line) → List Word → Sketch
+    → Verdict
+take_lines places at [] names s = Ok s
+take_lines places at (line ∷ rest) [] s = Ok s
+take_lines places at (None ∷ rest) (name ∷ names) s = Err (at + 1, faults.Syntax)
+take_lines places at (Some line ∷ rest) (name ∷ names) s =
+    blame_line at (line_step s line at (places name) rest) (take_lines places (at + 1) rest names)
 
 -- the whole text, whose lines say these things with these names beside them
 abbrev pub taken_all : List (Option Line) → List Word → Verdict
-taken_all found names = taken (place_from 0 0 found names) 0 found names nothing
+taken_all found names = take_lines (place_from 0 0 found names) 0 found names nothing
 
 -- The object is what the lines say.
 pub record IsMade (s : Sketch) (o : ObjectParts) : Type 0 where
@@ -250,7 +251,7 @@ pub record TextSpells (text : List ℕ) (o : ObjectParts) : Type 0 where
   pub names : List (Bor Word)
   pub says : Says text found names
   pub made : Sketch
-  pub taken : taken_all found (views names) ≡ Ok made
+  pub take_lines : taken_all found (views names) ≡ Ok made
   pub is_made : IsMade made o
 
 -- The first bad line, and what is wrong with it. Where no line is bad and none is an instruction,

@@ -28,6 +28,6 @@ abbrev pub IsWantOfMemory : AsmError → Type 0
 IsWantOfMemory error = (error.kind ≡ faults.Memory) × (error.line ≡ 0)
 
 -- A refusal to decode an object's code is told as that, and want of memory as itself.
-abbrev pub told : DecodeFault → ListError
-told decode_faults.Memory = list_errors.Memory
-told fault = list_errors.Code
+abbrev pub as_list_error : DecodeFault → ListError
+as_list_error decode_faults.Memory = list_errors.Memory
+as_list_error fault = list_errors.Code

@@ -26,9 +26,9 @@ abbrev pub ◌>>=◌ : {A B : Type 0} → Result A AsmFault → (A → Result B 
 (Err fault) >>= f = Err fault
 
 -- a number in its field, or `Range`
-abbrev pub ranged : {A : Type 0} → Option A → Result A AsmFault
-ranged (Some x) = Ok x
-ranged None = Err faults.Range
+abbrev pub or_range_fault : {A : Type 0} → Option A → Result A AsmFault
+or_range_fault (Some x) = Ok x
+or_range_fault None = Err faults.Range
 
 abbrev pub immediate_of : Option ℤ → Option Source
 immediate_of (Some n) = Some (sources.Immediate n)
@@ -57,32 +57,33 @@ distance_of targets.Label slot place = label_distance slot place
 -- instruction is `Syntax`.
 abbrev pub instruction_of : Line → ℕ → Option ℕ → Result Instruction AsmFault
 instruction_of (lines.Arithmetic width operation target source) slot place =
-    ranged (source_of source) >>= λ s. Ok (instructions.Arithmetic width operation target s)
+    or_range_fault (source_of source) >>= λ s. Ok (instructions.Arithmetic width operation target s)
 instruction_of (lines.Negate width target) slot place = Ok (instructions.Negate width target)
 instruction_of (lines.SignExtend extension target source) slot place =
     Ok (instructions.SignExtend extension target source)
 instruction_of (lines.Reorder order width target) slot place =
     Ok (instructions.Reorder order width target)
 instruction_of (lines.Jump target) slot place = distance_of target slot place >>= λ d.
-    ranged (signed_in (2 ^ 15) d) >>= λ distance. Ok (instructions.Jump distance)
+    or_range_fault (signed_in (2 ^ 15) d) >>= λ distance. Ok (instructions.Jump distance)
 instruction_of (lines.LongJump target) slot place = distance_of target slot place >>= λ d.
-    ranged (signed_in (2 ^ 31) d) >>= λ distance. Ok (instructions.LongJump distance)
+    or_range_fault (signed_in (2 ^ 31) d) >>= λ distance. Ok (instructions.LongJump distance)
 instruction_of (lines.Branch width test left right target) slot place =
-    distance_of target slot place >>= λ d. ranged (signed_in (2 ^ 15) d) >>= λ distance.
-    ranged (source_of right) >>= λ s.
+    distance_of target slot place >>= λ d. or_range_fault (signed_in (2 ^ 15) d) >>= λ distance.
+    or_range_fault (source_of right) >>= λ s.
     Ok (instructions.Branch width test left s distance)
-instruction_of (lines.Call helper) slot place = ranged (signed_in (2 ^ 31) helper) >>= λ n.
+instruction_of (lines.Call helper) slot place = or_range_fault (signed_in (2 ^ 31) helper) >>= λ n.
     Ok (instructions.Call n)
 instruction_of lines.Exit slot place = Ok instructions.Exit
 instruction_of (lines.Load size target base offset) slot place =
-    ranged (signed_in (2 ^ 15) offset) >>= λ n. Ok (instructions.Load size target base n)
+    or_range_fault (signed_in (2 ^ 15) offset) >>= λ n. Ok (instructions.Load size target base n)
 instruction_of (lines.Store size base offset source) slot place =
-    ranged (signed_in (2 ^ 15) offset) >>= λ n. ranged (source_of source) >>= λ s.
+    or_range_fault (signed_in (2 ^ 15) offset) >>= λ n. or_range_fault (source_of source) >>= λ s.
     Ok (instructions.Store size base n s)
 instruction_of (lines.LoadNumber target number) slot place =
-    ranged (natural_in (2 ^ 64) number) >>= λ n. Ok (instructions.LoadNumber target n)
+    or_range_fault (natural_in (2 ^ 64) number) >>= λ n. Ok (instructions.LoadNumber target n)
 instruction_of (lines.LoadMap target map offset) slot place =
-    ranged (signed_in (2 ^ 31) map) >>= λ m. ranged (signed_in (2 ^ 31) offset) >>= λ n.
+    or_range_fault (signed_in (2 ^ 31) map) >>= λ m. or_range_fault (signed_in (2 ^ 31) offset) >>=
+    λ n.
     Ok (instructions.LoadMap target m n)
 instruction_of other slot place = Err faults.Syntax
 

@@ -16,13 +16,13 @@ use Rattle.asm_lines.specs.declared.line.Content.TheVariants as contents
 use Rattle.asm_words.specs.Words.{Word}
 use Rattle.asm_lines.specs.Written.{AreLines}
 use Rattle.asm.specs.declared.labels.Place.{Place}
-use Rattle.asm.specs.Assembling.{Sketch, nothing, taken, all_of, bare, order_fault}
+use Rattle.asm.specs.Assembling.{Sketch, nothing, take_lines, all_of, bare, order_fault}
 use Rattle.asm.specs.Rules.{is_stated_number}
 
 -- ---- texts of lines without labels
 
-abbrev pub unnamed : Line → Line × Word
-unnamed line = (line, [])
+abbrev pub without_label : Line → Line × Word
+without_label line = (line, [])
 
 abbrev pub no_name : Line → Word
 no_name line = []
@@ -38,11 +38,11 @@ AddsLine old new line = (items : List (Line × Word)) → AreLines old items
 -- The text's lines say this much, if `Next` holds of the lines that follow.
 pub record Listed (text : List ℕ) (s : Sketch) (Next : List (Option Line) → Type 0) : Type 0 where
   pub lines : List Line
-  pub are : AreLines text (map unnamed lines)
+  pub are : AreLines text (map without_label lines)
   pub leads : (places : Word → Option Place) (rest : List (Option Line)) (names : List Word)
       → Next rest
-      → taken places 0 (map some_line lines ++ rest) (map no_name lines ++ names) nothing
-      ≡ taken places (length lines) rest names s
+      → take_lines places 0 (map some_line lines ++ rest) (map no_name lines ++ names) nothing
+      ≡ take_lines places (length lines) rest names s
 
 abbrev pub Any : List (Option Line) → Type 0
 Any rest = Unit {0}
@@ -60,8 +60,8 @@ sketch_of f last =
     record { hook = Some f.hook; rank = Some f.rank; code = f.code; before = f.before; last = last }
 
 -- no statement yet
-abbrev pub coded : Hook → ℕ → List Slot → Sketch
-coded hook rank code =
+abbrev pub code_sketch : Hook → ℕ → List Slot → Sketch
+code_sketch hook rank code =
     sketch_of (record { hook = hook; rank = rank; code = code; before = [] }) None
 
 -- The text says this much, and these statements.
@@ -96,21 +96,22 @@ gives_number other = false
 -- ---- what the lines of each part of a listing add to what the lines before them say
 
 abbrev pub AddsCode : List ℕ → List ℕ → List Slot → Type 0
-AddsCode old new code = (hook : Hook) (rank : ℕ) → Listed old (coded hook rank []) Any
-    → Listed new (coded hook rank code) Any
+AddsCode old new code = (hook : Hook) (rank : ℕ) → Listed old (code_sketch hook rank []) Any
+    → Listed new (code_sketch hook rank code) Any
 
-abbrev pub filled : ℕ → Rank → List Kind → List Bool → StatementParts
-filled slot rank kinds stack = record { slot = slot; rank = rank; kinds = kinds; stack = stack }
+abbrev pub statement_parts : ℕ → Rank → List Kind → List Bool → StatementParts
+statement_parts slot rank kinds stack = record { slot = slot; rank = rank; kinds = kinds; stack =
+    stack }
 
 abbrev pub AddsKinds : List ℕ → List ℕ → List Kind → Type 0
 AddsKinds old new kinds = (f : Front) (slot : ℕ) (rank : Rank)
     → Listed old (sketch_of f (Some (bare slot rank))) (AreStated kinds 0)
-    → Listed new (sketch_of f (Some (filled slot rank kinds no_bytes))) Any
+    → Listed new (sketch_of f (Some (statement_parts slot rank kinds no_bytes))) Any
 
 abbrev pub AddsStack : List ℕ → List ℕ → List Bool → Type 0
 AddsStack old new stack = (f : Front) (slot : ℕ) (rank : Rank) (kinds : List Kind)
-    → Listed old (sketch_of f (Some (filled slot rank kinds no_bytes))) Any
-    → Listed new (sketch_of f (Some (filled slot rank kinds stack))) Any
+    → Listed old (sketch_of f (Some (statement_parts slot rank kinds no_bytes))) Any
+    → Listed new (sketch_of f (Some (statement_parts slot rank kinds stack))) Any
 
 -- behind the statements so far
 abbrev pub behind : Front → Option StatementParts → Front
@@ -125,4 +126,4 @@ AddsStatement old new s = (f : Front) (last : Option StatementParts)
 abbrev pub AddsStatements : List ℕ → List ℕ → List StatementParts → Type 0
 AddsStatements old new statements = (hook : Hook) (rank : ℕ) (code : List Slot)
     → AreStatements 0 (length code) statements
-    → Listed old (coded hook rank code) Any → ListedAll new hook rank code statements
+    → Listed old (code_sketch hook rank code) Any → ListedAll new hook rank code statements

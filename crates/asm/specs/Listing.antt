@@ -110,16 +110,16 @@ with_lines register (kind ∷ kinds) = with_line register (the_content kind)
 -- ---- what it says of stack bytes
 
 -- A byte joins the range that begins right behind it, and is a range of its own where none does.
-abbrev pub joined : ℕ → List (ℕ × ℕ) → List (ℕ × ℕ)
-joined byte [] = (byte, byte + 1) ∷ []
-joined byte (range ∷ ranges) =
+abbrev pub join_byte : ℕ → List (ℕ × ℕ) → List (ℕ × ℕ)
+join_byte byte [] = (byte, byte + 1) ∷ []
+join_byte byte (range ∷ ranges) =
     if range.0 == byte + 1 then (byte, range.1) ∷ ranges else (byte, byte + 1) ∷ range ∷ ranges
 
 -- The longest ranges of bytes in the set, from this byte on, ascending: the first byte of each, and
 -- the first behind it.
 abbrev pub longest_ranges : ℕ → List Bool → List (ℕ × ℕ)
 longest_ranges byte [] = []
-longest_ranges byte (true ∷ bytes) = joined byte (longest_ranges (byte + 1) bytes)
+longest_ranges byte (true ∷ bytes) = join_byte byte (longest_ranges (byte + 1) bytes)
 longest_ranges byte (false ∷ bytes) = longest_ranges (byte + 1) bytes
 
 abbrev pub bytes_line : ℕ × ℕ → Line

@@ -4,7 +4,8 @@ ghost use Rattle.std.specs.Prelude.{IfErr, MatchResult, length, map, option_map}
 ghost use Rattle.asm_words.specs.Words.{Word};
 ghost use Rattle.asm.specs.Assembling.{hook_step, rank_step, instruction_step, state_step};
 ghost use Rattle.asm.specs.Assembling.{with_line_step, bytes_line_step, body_step, line_step};
-ghost use Rattle.asm.specs.Assembling.{has_slot, order_fault, slot_at, shifted, nothing, Takes};
+ghost use Rattle.asm.specs.Assembling.{has_slot, order_fault, slot_at};
+ghost use Rattle.asm.specs.Assembling.{with_last_statement, nothing, Takes};
 ghost use Rattle.asm.specs.Assembling.{IsMade, Declines, TextSpells, Refuses};
 ghost use Rattle.asm.specs.Faults.{error_at, IsWantOfMemory};
 ghost use Rattle.asm.specs.Lawful.{AreAscending, IsLawful};
@@ -124,7 +125,8 @@ impl Draft {
 
     /// Puts the last statement, if there is one, behind those before it.
     fn shift(&mut self) -> Result<(), AsmFault>
-        ensures kept { MatchResult result (λ _. sketch self.new ≡ shifted (sketch self.old)
+        ensures kept { MatchResult result (λ _. sketch self.new
+            ≡ with_last_statement (sketch self.old)
             (sketch self.new).last)
             (λ fault. fault ≡ AsmFault.Memory) }
     {

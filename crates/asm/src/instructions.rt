@@ -1,7 +1,7 @@
 //! The instruction of a line, both ways.
 ghost use Rattle.std.specs.Prelude.{◌≡◌, ◌⊎◌, ℕ, Option, true, false, Some, Ok, Err, MatchResult};
 ghost use Rattle.std.specs.Prelude.{OnErr};
-ghost use Rattle.asm.specs.Instructions.{ranged, source_of, distance_to, distance_of};
+ghost use Rattle.asm.specs.Instructions.{or_range_fault, source_of, distance_to, distance_of};
 ghost use Rattle.asm.specs.Instructions.{instruction_of, code_step};
 ghost use Rattle.asm_lines.specs.Forms.{names_label};
 ghost use Rattle.asm.specs.declared.error.AsmFault.{AsmFault};
@@ -17,7 +17,7 @@ use isa::{BuildError, CodeBuilder, Instruction, Source};
 
 /// A number in its field, or `Range`.
 fn in_range<T: Drop>(number: Option<T>) -> Result<T, AsmFault>
-    ensures { result ≡ ranged number }
+    ensures { result ≡ or_range_fault number }
 {
     match number {
         Some(number) => Ok(number),

@@ -13,9 +13,9 @@ ghost use Rattle.asm_lines.specs.Forms.{names_label};
 ghost use Rattle.asm_lines.specs.Written.{line_text};
 ghost use Rattle.asm.specs.Rules.{term_of, rank_of, numbers_of, kind_of};
 ghost use Rattle.asm.specs.Assembling.{TextSpells};
-ghost use Rattle.asm.specs.Faults.{told};
+ghost use Rattle.asm.specs.Faults.{as_list_error};
 ghost use Rattle.asm.specs.Listed.{AddsLine, AddsCode, AddsKinds, AddsStack, AddsStatement};
-ghost use Rattle.asm.specs.Listed.{AddsStatements, Listed, Any, coded, is_stated, is_number};
+ghost use Rattle.asm.specs.Listed.{AddsStatements, Listed, Any, code_sketch, is_stated, is_number};
 ghost use Rattle.asm.specs.Listed.{gives_number};
 ghost use Rattle.asm.specs.Listing.{AddsText, IsListing, slot_lines, the_term, the_terms};
 ghost use Rattle.asm.specs.Listing.{the_range, the_content, with_lines, longest_ranges, bytes_line};
@@ -114,7 +114,8 @@ fn content_of(kind: Kind) -> Option<Content>
 
 /// The first two lines.
 fn write_head(alloc: Global, hook: Hook, entry_rank: u32) -> Result<String, AllocError>
-    ensures says { IfOk result (λ text. Listed (string_bytes text) (coded hook entry_rank []) Any) }
+    ensures says { IfOk result (λ text.
+        Listed (string_bytes text) (code_sketch hook entry_rank []) Any) }
     ensures text { IfOk result (λ text. string_bytes text
         ≡ text_of (Line.Hook hook ∷ Line.Rank (Numeral.Natural entry_rank) ∷ [])) }
 {
@@ -246,7 +247,7 @@ fn write_object(alloc: Global, object: &Object, code: &Code) -> Result<String, A
 
 /// What a refusal to decode an object's code is told as.
 fn told(fault: DecodeFault) -> ListError
-    ensures { result ≡ told fault }
+    ensures { result ≡ as_list_error fault }
 {
     match fault {
         DecodeFault::Memory => ListError::Memory,

@@ -17,7 +17,7 @@ use Rattle.asm_words.specs.Numbers.{number_of, natural_of, negative_of, is_numer
 use Rattle.asm_lines.specs.Forms.{Part, Number, Distance, Name, Definition}
 use Rattle.asm_words.specs.Names.{is_letter, is_name_character, are_name_characters, is_name}
 use Rattle.asm_words.specs.Words.{Word, is_inner, is_word}
-use Rattle.asm_lines.specs.Written.{part_word, followed, IsWritten, AreWritten, Adds, Starts}
+use Rattle.asm_lines.specs.Written.{part_word, each_after_a_space, IsWritten, AreWritten, Adds, Starts}
 use Rattle.asm_words.proofs.Numbers.{both}
 
 -- ---- one after the other
@@ -26,7 +26,7 @@ pub on_ok : {T E P Q : Type 0} (r : Result T E) → (P → Q) → OnOk r P → O
 on_ok (Ok x) f h = f h
 on_ok (Err e) f h = h
 
-followed_more : (ps qs : List Part) → followed (ps ++ qs) ≡ followed ps ++ followed qs
+followed_more : (ps qs : List Part) → each_after_a_space (ps ++ qs) ≡ each_after_a_space ps ++ each_after_a_space qs
 followed_more [] qs = refl
 followed_more (p ∷ ps) qs = rw (followed_more ps qs, ← append_assoc) refl
 
@@ -148,7 +148,7 @@ written_definition w e = record { one_word = definition_word w e; matches = (ref
 
 -- ---- what a call that appends has added
 
-append_one : (p : Part) → followed (p ∷ []) ≡ 32 ∷ part_word p
+append_one : (p : Part) → each_after_a_space (p ∷ []) ≡ 32 ∷ part_word p
 append_one p = ap (λ rest. 32 ∷ rest) (append-nil (part_word p))
 
 pub added : {T E : Type 0} (r : Result T E) (old new : List ℕ) (p : Part) → IsWritten p → OnOk r (new ≡ old ++ 32 ∷ part_word p) → OnOk r (Adds old new (p ∷ []))

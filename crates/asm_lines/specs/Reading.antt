@@ -86,20 +86,20 @@ two a b = if at (codes "hook") a then (hook_of b >>= λ hook. Some (plain (lines
     else None))))
 
 -- what is assigned beside registers and numbers
-abbrev pub computed : Width → ℕ → Word → Option Line
-computed width target c = if at (codes "neg") c then Some (lines.Negate width target)
+abbrev pub negation_or_reordering : Width → ℕ → Word → Option Line
+negation_or_reordering width target c = if at (codes "neg") c then Some (lines.Negate width target)
     else (if_wide width c >>= λ word. reorder_of word >>= λ order.
     Some (lines.Reorder order.0 order.1 target))
 
-abbrev pub moved : Width → Operation → ℕ → Word → Option Line
-moved width operations.Move target c = computed width target c
-moved width other target c = None
+abbrev pub assigned_line : Width → Operation → ℕ → Word → Option Line
+assigned_line width operations.Move target c = negation_or_reordering width target c
+assigned_line width other target c = None
 
-abbrev pub assignment : Width × ℕ → Word → Word → Option Line
-assignment register b c = operation_of b >>= λ operation.
+abbrev pub arithmetic_or_assignment : Width × ℕ → Word → Word → Option Line
+arithmetic_or_assignment register b c = operation_of b >>= λ operation.
     or_else (operand_at register.0 c >>= λ source.
     Some (lines.Arithmetic register.0 operation register.1 source))
-    (moved register.0 operation register.1 c)
+    (assigned_line register.0 operation register.1 c)
 
 abbrev pub stack_range : Word → Word → Word → Option Line
 stack_range a b c =
@@ -108,11 +108,12 @@ stack_range a b c =
 
 abbrev pub three : Word → Word → Word → Option (Line × Word)
 three a b c =
-    or_else (register_of a >>= λ register. assignment register b c) (stack_range a b c) >>= λ line.
+    or_else (register_of a >>=
+    λ register. arithmetic_or_assignment register b c) (stack_range a b c) >>= λ line.
     Some (plain line)
 
-abbrev pub widened : Width × ℕ → Word → Word → Option Line
-widened register c d = if at (codes "wide") c
+abbrev pub widening_line : Width × ℕ → Word → Word → Option Line
+widening_line register c d = if at (codes "wide") c
     then (if_wide register.0 d >>= λ word. number_of word >>= λ n.
     Some (lines.LoadNumber register.1 n))
     else (extension_of register.0 c >>= λ extension. register_at register.0 d >>= λ source.
@@ -133,23 +134,25 @@ offset_of a b c d =
 
 abbrev pub four : Word → Word → Word → Word → Option (Line × Word)
 four a b c d = if at (codes "=") b
-    then (register_of a >>= λ register. widened register c d >>= λ line. Some (plain line))
+    then (register_of a >>= λ register. widening_line register c d >>= λ line. Some (plain line))
     else (if at (codes "state") a then state_of a b c d terms.None
     else (offset_of a b c d >>= λ line. Some (plain line)))
 
-abbrev pub loaded : ℕ → Word → Word → Word → Option Line
-loaded target c d e = if at (codes "map") c
+abbrev pub load_line : ℕ → Word → Word → Word → Option Line
+load_line target c d e = if at (codes "map") c
     then (number_of d >>= λ map. number_of e >>= λ offset. Some (lines.LoadMap target map offset))
     else (load_of c >>= λ size. register_at Bits64 d >>= λ base. number_of e >>= λ offset.
     Some (lines.Load size target base offset))
 
-abbrev pub stored : Word → Word → Word → Word → Option Line
-stored a b c e = store_of a >>= λ size. register_at Bits64 b >>= λ base. number_of c >>= λ offset.
+abbrev pub store_line : Word → Word → Word → Word → Option Line
+store_line a b c e = store_of a >>= λ size. register_at Bits64 b >>= λ base. number_of c >>=
+    λ offset.
     operand_at Bits64 e >>= λ source. Some (lines.Store size base offset source)
 
 abbrev pub five : Word → Word → Word → Word → Word → Option (Line × Word)
-five a b c d e = (if at (codes "=") b then (register_at Bits64 a >>= λ target. loaded target c d e)
-    else (when (at (codes "=") d) (stored a b c e))) >>= λ line. Some (plain line)
+five a b c d e = (if at (codes "=") b then (register_at Bits64 a >>=
+    λ target. load_line target c d e)
+    else (when (at (codes "=") d) (store_line a b c e))) >>= λ line. Some (plain line)
 
 abbrev pub six : Word → Word → Word → Word → Word → Word → Option (Line × Word)
 six a b c d e f =

@@ -30,18 +30,18 @@ part_word (Name name) = name
 part_word (Definition name) = name ++ 58 ∷ []
 
 -- the words, each with a space (32) before it
-abbrev pub followed : List Part → List ℕ
-followed [] = []
-followed (part ∷ parts) = 32 ∷ (part_word part ++ followed parts)
+abbrev pub each_after_a_space : List Part → List ℕ
+each_after_a_space [] = []
+each_after_a_space (part ∷ parts) = 32 ∷ (part_word part ++ each_after_a_space parts)
 
 -- the words between single spaces
-abbrev pub spaced : List Part → List ℕ
-spaced [] = []
-spaced (part ∷ parts) = part_word part ++ followed parts
+abbrev pub between_spaces : List Part → List ℕ
+between_spaces [] = []
+between_spaces (part ∷ parts) = part_word part ++ each_after_a_space parts
 
 -- the bytes of a line, with a line feed (10) at their end
 abbrev pub line_text : Line → Word → List ℕ
-line_text line name = spaced (form_of line name) ++ 10 ∷ []
+line_text line name = between_spaces (form_of line name) ++ 10 ∷ []
 
 -- Where the line gives or uses a label, this is a label's name; else it is empty.
 abbrev pub IsNamed : Line → Word → Type 0
@@ -59,12 +59,12 @@ AreWritten (part ∷ parts) = IsWritten part × AreWritten parts
 
 -- New is old and these parts behind it, each with a space before it.
 pub record Adds (old new : List ℕ) (parts : List Part) : Type 0 where
-  pub bytes : new ≡ old ++ followed parts
+  pub bytes : new ≡ old ++ each_after_a_space parts
   pub written : AreWritten parts
 
 -- New is old and these parts behind it, with spaces between them.
 pub record Starts (old new : List ℕ) (parts : List Part) : Type 0 where
-  pub bytes : new ≡ old ++ spaced parts
+  pub bytes : new ≡ old ++ between_spaces parts
   pub written : AreWritten parts
 
 -- ---- whole texts

@@ -8,9 +8,12 @@ ghost use Rattle.asm_words.specs.Words.{Word, register_word};
 ghost use Rattle.asm_lines.specs.Views.{item_view, target_view, views, items, SpellsItem};
 ghost use Rattle.asm_lines.specs.Views.{SpellsPlain};
 ghost use Rattle.asm_lines.specs.Reading.{register_at, operand_at, name_at, target_at, slot_at};
-ghost use Rattle.asm_lines.specs.Reading.{label_at, one, two, computed, moved, assignment};
-ghost use Rattle.asm_lines.specs.Reading.{stack_range, three, widened, state_of, offset_of, four};
-ghost use Rattle.asm_lines.specs.Reading.{loaded, stored, five, six, range_of, term_of, numbers_of};
+ghost use Rattle.asm_lines.specs.Reading.{label_at, one, two};
+ghost use Rattle.asm_lines.specs.Reading.{negation_or_reordering, assigned_line, arithmetic_or_assignment};
+ghost use Rattle.asm_lines.specs.Reading.{stack_range, three, widening_line};
+ghost use Rattle.asm_lines.specs.Reading.{state_of, offset_of, four};
+ghost use Rattle.asm_lines.specs.Reading.{load_line, store_line, five};
+ghost use Rattle.asm_lines.specs.Reading.{six, range_of, term_of, numbers_of};
 ghost use Rattle.asm_lines.specs.Reading.{seven, map_value_of, eight, terms_of, ten, line_of};
 ghost use Rattle.asm_lines.specs.Text.{words_in, lines_in, AddsReading, Readings};
 ghost use Rattle.asm_lines.specs.declared.line.Line.{Line};
@@ -149,7 +152,7 @@ fn two<'a>(a: &str, b: &'a str) -> Option<Item<'a>>
 /// What `=` assigns beside registers and numbers.
 fn computed(width: Width, target: Register, c: &str) -> Option<Line>
     requires { target ≤ 10 }
-    ensures value { result ≡ computed width target c.now }
+    ensures value { result ≡ negation_or_reordering width target c.now }
     ensures found { IfSome result (SpellsPlain (register_word (width, target) ∷ codes "=" ∷ c.now
         ∷ [])) }
 {
@@ -171,7 +174,7 @@ fn computed(width: Width, target: Register, c: &str) -> Option<Line>
 
 fn assignment(width: Width, target: Register, b: &str, c: &str) -> Option<Line>
     requires { target ≤ 10 }
-    ensures value { result ≡ assignment (width, target) b.now c.now }
+    ensures value { result ≡ arithmetic_or_assignment (width, target) b.now c.now }
     ensures found { IfSome result (SpellsPlain (register_word (width, target) ∷ b.now ∷ c.now
         ∷ [])) }
 {
@@ -219,7 +222,7 @@ fn three<'a>(a: &str, b: &str, c: &'a str) -> Option<Item<'a>>
 /// extended.
 fn widened(width: Width, target: Register, c: &str, d: &str) -> Option<Line>
     requires { target ≤ 10 }
-    ensures value { result ≡ widened (width, target) c.now d.now }
+    ensures value { result ≡ widening_line (width, target) c.now d.now }
     ensures found { IfSome result (SpellsPlain (register_word (width, target) ∷ codes "=" ∷ c.now
         ∷ d.now ∷ [])) }
 {
@@ -306,7 +309,7 @@ fn four<'a>(a: &str, b: &'a str, c: &str, d: &str) -> Option<Item<'a>>
 
 fn loaded(target: Register, c: &str, d: &str, e: &str) -> Option<Line>
     requires { target ≤ 10 }
-    ensures value { result ≡ loaded target c.now d.now e.now }
+    ensures value { result ≡ load_line target c.now d.now e.now }
     ensures found { IfSome result (SpellsPlain (register_word (Width.Bits64, target) ∷ codes "="
         ∷ c.now ∷ d.now ∷ e.now ∷ [])) }
 {
@@ -331,7 +334,7 @@ fn loaded(target: Register, c: &str, d: &str, e: &str) -> Option<Line>
 }
 
 fn stored(a: &str, b: &str, c: &str, e: &str) -> Option<Line>
-    ensures value { result ≡ stored a.now b.now c.now e.now }
+    ensures value { result ≡ store_line a.now b.now c.now e.now }
     ensures found { IfSome result (SpellsPlain (a.now ∷ b.now ∷ c.now ∷ codes "=" ∷ e.now ∷ [])) }
 {
     let size = store_of(a)?;

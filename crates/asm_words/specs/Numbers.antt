@@ -17,13 +17,13 @@ held n = if nat_lt n (2 ^ 64) then Natural n else Huge
 abbrev pub natural_of : List ℕ → Option Numeral
 natural_of word = if is_numeral word then Some (held (digits_value 10 word)) else None
 
-abbrev pub negated : Numeral → Numeral
-negated (Natural n) = if n == 0 then Natural 0
+abbrev pub negated_numeral : Numeral → Numeral
+negated_numeral (Natural n) = if n == 0 then Natural 0
     else (if nat_lt (n - 1) (2 ^ 32) then Negative (n - 1) else Huge)
-negated other = other
+negated_numeral other = other
 
 abbrev pub negated_some : Option Numeral → Option Numeral
-negated_some (Some n) = Some (negated n)
+negated_some (Some n) = Some (negated_numeral n)
 negated_some None = None
 
 abbrev pub negative_of : List ℕ → Option Numeral

@@ -16,7 +16,7 @@ use worker::Work;
 pub const SIZE: u32 = 16_384;
 
 /// What comes in.
-#[derive(Clone, Copy, PartialEq, Eq, Debug)]
+#[derive(Clone, Copy)]
 pub enum Kind {
     Hello,
     /// The next instance of an AS-external-LSA, which says the same.
@@ -57,7 +57,7 @@ impl fmt::Display for Kind {
 }
 
 /// A measurement.
-#[derive(Clone, Copy, Debug)]
+#[derive(Clone, Copy)]
 pub struct Load {
     pub kind: Kind,
     /// 1 or 4.

@@ -32,22 +32,23 @@ fn measure<R: Clock + Print + AllocGlobal + Threads + Wait + Copy + Send + Sync 
     rt: &R,
     name: &str,
 ) -> anyhow::Result<bool> {
-    match name {
-        "run" => bench_code::print_run(rt)?,
-        "decode" => bench_code::print_decode(rt)?,
-        "encode" => bench_code::print_encode(rt)?,
-        "asm" => bench_code::print_asm(rt)?,
-        "objects" => bench_code::print_objects(rt)?,
-        "maps" => bench_code::print_maps(*rt)?,
-        "texts" => bench_lsas::print_texts(rt)?,
-        "core" => core_speed::print(rt)?,
-        "database" => bench_lsas::print_database(rt)?,
-        "hooks" => bench_code::print_hooks(*rt)?,
-        "turn" => turn_speed::print(rt)?,
-        "walk" => bench_lsas::print_walk(rt)?,
-        "verify" => bench_code::print_verify(rt)?,
+    let printed = match name {
+        "run" => bench_code::print_run(rt),
+        "decode" => bench_code::print_decode(rt),
+        "encode" => bench_code::print_encode(rt),
+        "asm" => bench_code::print_asm(rt),
+        "objects" => bench_code::print_objects(rt),
+        "maps" => bench_code::print_maps(*rt),
+        "texts" => bench_lsas::print_texts(rt),
+        "core" => core_speed::print(rt),
+        "database" => bench_lsas::print_database(rt),
+        "hooks" => bench_code::print_hooks(*rt),
+        "turn" => turn_speed::print(rt),
+        "walk" => bench_lsas::print_walk(rt),
+        "verify" => bench_code::print_verify(rt),
         _ => return Ok(false),
-    }
+    };
+    printed?;
     Ok(true)
 }
 

@@ -81,6 +81,18 @@ impl Round for Running<'_> {
     }
 }
 
+fn print_runs<R: Clock + Print>(
+    rt: &R,
+    what: &str,
+    rounds: u64,
+    running: &mut Running<'_>,
+) -> Result<()> {
+    let used = running.used;
+    println!(rt; "{what}: {used} instructions a run")?;
+    report(rt, "  they take", rounds, used, "each", running)?;
+    Ok(())
+}
+
 // Runs the program so many times for each measurement, and prints how long an instruction takes.
 fn print_each<R: Clock + Print + AllocGlobal>(
     rt: &R,
@@ -89,10 +101,7 @@ fn print_each<R: Clock + Print + AllocGlobal>(
     accepted: &Accepted,
 ) -> Result<()> {
     let mut running = Running::new(rt.alloc(), accepted)?;
-    let used = running.used;
-    println!(rt; "{what}: {used} instructions a run")?;
-    report(rt, "  they take", rounds, used, "each", &mut running)?;
-    Ok(())
+    print_runs(rt, what, rounds, &mut running)
 }
 
 // The program of an object.
@@ -101,13 +110,26 @@ fn program_of(alloc: Global, object: &Object) -> Result<Accepted> {
     verify_object(alloc, &bytes).map_err(|error| anyhow!("{error}"))
 }
 
+// The same of an object's program.
+fn print_object<R: Clock + Print + AllocGlobal>(
+    rt: &R,
+    what: &str,
+    rounds: u64,
+    object: &Object,
+) -> Result<()> {
+    let accepted = program_of(rt.alloc(), object)?;
+    print_each(rt, what, rounds, &accepted)
+}
+
+fn print_long<R: Clock + Print + AllocGlobal>(rt: &R) -> Result<()> {
+    let object = object_of(rt.alloc(), 4_000, 0)?;
+    let what = "accepted straight-line arithmetic, 4,000 slots";
+    print_object(rt, what, 1_000, &object)
+}
+
 /// Prints how long an instruction of accepted programs takes: straight-line code and a loop.
 pub fn print<R: Clock + Print + AllocGlobal>(rt: &R) -> Result<()> {
-    let object = object_of(rt.alloc(), 4_000, 0)?;
-    let long = program_of(rt.alloc(), &object)?;
-    let what = "accepted straight-line arithmetic, 4,000 slots";
-    print_each(rt, what, 1_000, &long)?;
+    print_long(rt)?;
     let object = assemble(rt.alloc(), LOOP)?;
-    let counting = program_of(rt.alloc(), &object)?;
-    print_each(rt, "accepted counting loop", 10, &counting)
+    print_object(rt, "accepted counting loop", 10, &object)
 }

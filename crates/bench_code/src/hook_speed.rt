@@ -4,7 +4,7 @@ use crate::party::{Party, QUESTIONS};
 use crate::publishing::{Stands, change, program};
 use anyhow::Result;
 use bench_figures::{MEASUREMENTS, Times};
-use hooks::{Asker, programs};
+use hooks::{Asker, Loader, programs};
 use std::rt::Clock;
 use std::sync::atomic::{AtomicU64, Ordering};
 use std::sync::{Arc, Barrier, Wait};
@@ -47,8 +47,51 @@ fn slowest<R: Threads>(rt: &R, threads: Vec<JoinHandle<Result<Times>>>) -> Resul
     Ok(slowest)
 }
 
-// Measures with so many askers, each on a thread of its own; this thread changes what stands at the
-// hook.
+// Starts a thread for each asker.
+fn put_threads<R: Clock + AllocGlobal + Threads + Wait + Copy + Send + 'static>(
+    rt: R,
+    askers: Vec<Asker>,
+    stands: Stands,
+    signal: &Arc<Barrier>,
+    ended: &Arc<AtomicU64>,
+    threads: &mut Vec<JoinHandle<Result<Times>>>,
+) -> Result<()> {
+    for asker in askers {
+        threads.push(start_thread(rt, asker, stands, signal, ended)?)?;
+    }
+    Ok(())
+}
+
+// Measures with a thread for each asker; this thread changes what stands at the hook.
+fn measure_at<R: Clock + AllocGlobal + Threads + Wait + Copy + Send + 'static>(
+    rt: R,
+    loader: &mut Loader<R>,
+    askers: Vec<Asker>,
+    stands: Stands,
+    signal: &Arc<Barrier>,
+    ended: &Arc<AtomicU64>,
+) -> Result<Times> {
+    let count = askers.len() as u64;
+    let mut threads = Vec::new(rt.alloc());
+    put_threads(rt, askers, stands, signal, ended, &mut threads)?;
+    if stands == Stands::InTurn {
+        change(rt.alloc(), loader, &**ended, count)?;
+    }
+    slowest(&rt, threads)
+}
+
+fn measure_with<R: Clock + AllocGlobal + Threads + Wait + Copy + Send + 'static>(
+    rt: R,
+    loader: &mut Loader<R>,
+    askers: Vec<Asker>,
+    stands: Stands,
+) -> Result<Times> {
+    let signal = Arc::new(rt.alloc(), Barrier::new(askers.len()))?;
+    let ended = Arc::new(rt.alloc(), AtomicU64::new(0))?;
+    measure_at(rt, loader, askers, stands, &signal, &ended)
+}
+
+// Measures with so many askers, each on a thread of its own.
 fn measure<R: Clock + AllocGlobal + Threads + Wait + Copy + Send + 'static>(
     rt: R,
     count: usize,
@@ -58,16 +101,7 @@ fn measure<R: Clock + AllocGlobal + Threads + Wait + Copy + Send + 'static>(
     if stands != Stands::Nothing {
         loader.attach(program(rt.alloc())?)?;
     }
-    let signal = Arc::new(rt.alloc(), Barrier::new(count))?;
-    let ended = Arc::new(rt.alloc(), AtomicU64::new(0))?;
-    let mut threads = Vec::new(rt.alloc());
-    for asker in askers {
-        threads.push(start_thread(rt, asker, stands, &signal, &ended)?)?;
-    }
-    if stands == Stands::InTurn {
-        change(rt.alloc(), &mut loader, &*ended, count as u64)?;
-    }
-    slowest(&rt, threads)
+    measure_with(rt, &mut loader, askers, stands)
 }
 
 /// Prints how long a question takes that one, two and four askers ask side by side: without a

@@ -18,7 +18,7 @@ const ADDS: u64 = 4_000_000;
 
 /// When a thread's adds began and ended, in nanoseconds since a common start, and how many were
 /// made.
-#[derive(Clone, Copy, PartialEq, Eq, Debug)]
+#[derive(Clone, Copy)]
 struct Adds {
     began: u64,
     ended: u64,
@@ -77,6 +77,23 @@ fn start_thread<R: Clock + Threads + Wait + Copy + Send + 'static>(
     Ok(thread::spawn(&rt, job)?)
 }
 
+// The same with the signal and the table of others too.
+fn start_another<R: Clock + Threads + Wait + Copy + Send + 'static>(
+    rt: R,
+    signal: &Arc<Barrier>,
+    start: Instant,
+    shared: &Arc<Shared>,
+    seat: Seat,
+    index: usize,
+) -> Result<JoinHandle<Result<Adds>>>
+    requires table { IsOf (arc_value shared.now) seat }
+    requires index { index < 256 }
+{
+    let signal = Arc::try_clone(signal)?;
+    let shared = Arc::try_clone(shared)?;
+    start_thread(rt, signal, start, shared, seat, index)
+}
+
 // Starts a thread for each seat: all on counter 0, or each on one that lies apart.
 fn start_threads<R: Clock + AllocGlobal + Threads + Wait + Copy + Send + 'static>(
     rt: R,
@@ -92,9 +109,7 @@ fn start_threads<R: Clock + AllocGlobal + Threads + Wait + Copy + Send + 'static
     let mut seats = seats;
     while let Some(seat) = seats.pop() {
         let index = if is_apart { seats.len() % 32 * 8 } else { 0 };
-        let signal = Arc::try_clone(signal)?;
-        let shared = Arc::try_clone(shared)?;
-        threads.push(start_thread(rt, signal, start, shared, seat, index)?)?;
+        threads.push(start_another(rt, signal, start, shared, seat, index)?)?;
     }
     Ok(threads)
 }

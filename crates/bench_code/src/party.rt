@@ -24,7 +24,7 @@ pub struct Party {
 }
 
 /// How many words were the program's, and how many the configured metric.
-#[derive(Clone, Copy, PartialEq, Eq, Debug)]
+#[derive(Clone, Copy)]
 pub struct Words {
     pub of_the_program: u64,
     pub of_the_metric: u64,
@@ -85,7 +85,14 @@ impl Party {
         let start = Instant::now(rt)?;
         let words = self.ask_many(external);
         let nanos = nanoseconds_since(rt, start)?;
-        ensure!(stands.allows(words), "the words were {words:?}");
+        let Words {
+            of_the_program,
+            of_the_metric,
+        } = words;
+        ensure!(
+            stands.allows(words),
+            "{of_the_program} words of the program, {of_the_metric} of the metric"
+        );
         Ok(nanos)
     }
 

@@ -14,7 +14,7 @@ use std::sync::atomic::{AtomicU64, Ordering};
 use verifier::Accepted;
 
 /// What stands at the hook while it is asked.
-#[derive(Clone, Copy, PartialEq, Eq, Debug)]
+#[derive(Clone, Copy, PartialEq, Eq)]
 pub enum Stands {
     Nothing,
     /// `r0 = 1; exit`.

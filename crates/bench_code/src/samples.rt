@@ -6,7 +6,7 @@ use std::alloc::Global;
 use std::fmt;
 
 /// Which slots of a program have a statement.
-#[derive(Clone, Copy, PartialEq, Eq, Debug)]
+#[derive(Clone, Copy)]
 pub enum Stated {
     Nowhere,
     /// Slot 0, 16, 32 and so on.
@@ -53,9 +53,8 @@ fn instruction(slot: u32) -> Option<Instruction> {
     })
 }
 
-// The code with so many slots, as bytes.
-fn code(alloc: Global, slots: u32) -> Result<Vec<u8>> {
-    let mut builder = CodeBuilder::new(alloc);
+// The instructions of so many slots.
+fn put_code(builder: &mut CodeBuilder, slots: u32) -> Result<()> {
     for slot in 1..slots {
         let Some(instruction) = instruction(slot.wrapping_sub(1)) else {
             return Err(anyhow!("a register that there isn't"));
@@ -63,6 +62,13 @@ fn code(alloc: Global, slots: u32) -> Result<Vec<u8>> {
         builder.push(instruction)?;
     }
     builder.push(Instruction::Exit)?;
+    Ok(())
+}
+
+// The code with so many slots, as bytes.
+fn code(alloc: Global, slots: u32) -> Result<Vec<u8>> {
+    let mut builder = CodeBuilder::new(alloc);
+    put_code(&mut builder, slots)?;
     let Some(code) = builder.finish() else {
         return Err(anyhow!("no instruction"));
     };

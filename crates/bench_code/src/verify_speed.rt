@@ -52,6 +52,22 @@ fn measure<R: Clock + AllocGlobal>(rt: &R, object: &Object) -> Result<u64> {
     time(rt, object, code)
 }
 
+// The least of all measurements.
+fn least<R: Clock + AllocGlobal>(rt: &R, object: &Object) -> Result<u64> {
+    let mut least = u64::MAX;
+    for _measurement in 0..MEASUREMENTS {
+        least = least.min(measure(rt, object)?);
+    }
+    Ok(least)
+}
+
+fn print_each<R: Clock + Print + AllocGlobal>(rt: &R, slots: u32, stated: Stated) -> Result<()> {
+    let object = object(rt.alloc(), slots, stated)?;
+    let least = least(rt, &object)?;
+    println!(rt; "{slots} slots, {stated}: {least}")?;
+    Ok(())
+}
+
 /// Prints how long the verifier takes, with intervals and known bits, to accept straight-line code
 /// of 1,024 and of 4,096 slots: without statements, with one at each sixteenth slot, and with one
 /// at each slot. In microseconds, the least of 21 measurements.
@@ -63,12 +79,7 @@ pub fn print<R: Clock + Print + AllocGlobal>(rt: &R) -> Result<()> {
     println!(rt; "microseconds, the least of {MEASUREMENTS}")?;
     for slots in [1_024, 4_096] {
         for stated in [Stated::Nowhere, Stated::AtEachSixteenth, Stated::AtEach] {
-            let object = object(rt.alloc(), slots, stated)?;
-            let mut least = u64::MAX;
-            for _measurement in 0..MEASUREMENTS {
-                least = least.min(measure(rt, &object)?);
-            }
-            println!(rt; "{slots} slots, {stated}: {least}")?;
+            print_each(rt, slots, stated)?;
         }
     }
     Ok(())

@@ -1,6 +1,6 @@
 //! How long reading, writing, sealing and checking packets and LSAs take, by the byte.
 ghost use Rattle.std.specs.Prelude.{◌≡◌, ◌≤◌, ◌<◌, ◌^◌, length, vec_len};
-ghost use Rattle.packet.specs.Text.{closed, lsa_count, text};
+ghost use Rattle.packet.specs.Text.{closed_fields, lsa_count, text};
 
 use anyhow::{Result, anyhow};
 use bench_figures::{Round, report};
@@ -119,7 +119,7 @@ impl Round for PacketReading<'_> {
 struct PacketWriting {
     alloc: Global,
     packet: Packet,
-    ghost size: { length (text closed 0 packet) ≤ 8192 },
+    ghost size: { length (text closed_fields 0 packet) ≤ 8192 },
     ghost count: { lsa_count packet.body < 2 ^ 32 },
 }
 

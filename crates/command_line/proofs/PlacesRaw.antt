@@ -18,7 +18,7 @@ use Rattle.clap.specs.declared.builder.value_parser.ValueParser.TheVariants.{Sig
 use Rattle.clap.specs.declared.error.kind.ErrorKind.{ErrorKind}
 use Rattle.command_line.proofs.Places.{SameRows}
 use Rattle.command_line.proofs.PlacesFaults.{SameFaults}
-use Rattle.command_line.specs.CommandLine.{checked, required}
+use Rattle.command_line.specs.CommandLine.{checked_word, required_word}
 
 -- the parsers take the same texts, and read and refuse them alike
 pub record SameParser (p q : ValueParser) : Type 0 where
@@ -27,10 +27,10 @@ pub record SameParser (p q : ValueParser) : Type 0 where
   pub refused : refused_kind p ≡ refused_kind q
 
 abbrev hook_by : ValueParser → Rule
-hook_by p = with_index 1 (filled (checked (codes "HOOK") p))
+hook_by p = with_index 1 (filled (checked_word (codes "HOOK") p))
 
 abbrev others : List Rule
-others = with_index 2 (filled (required (codes "FILE"))) ∷ with_index 3 (filled (checked (codes "SEATS") (Signed (pos 1) (pos 64))))
+others = with_index 2 (filled (required_word (codes "FILE"))) ∷ with_index 3 (filled (checked_word (codes "SEATS") (Signed (pos 1) (pos 64))))
     ∷ filled help_rule ∷ []
 
 -- the rules of `raw` as it is built

@@ -11,7 +11,7 @@ use Rattle.clap.specs.declared.builder.value_parser.ValueParser.{ValueParser}
 use Rattle.clap.specs.declared.builder.value_parser.ValueParser.TheVariants.{Names, Signed}
 use Rattle.command_line.proofs.Plain.{NoFlag, Taken, no_flag, rows_of_words}
 use Rattle.command_line.proofs.PlainSeats.{TakenSeats, taken_seats}
-use Rattle.command_line.specs.CommandLine.{asm, checked, command, hook_names, line_with, list, required, route, run, verify}
+use Rattle.command_line.specs.CommandLine.{asm, checked_word, command, hook_names, line_with, list, required_word, route, run, verify}
 use Rattle.command_line.specs.Laws.{RawIsTaken}
 use Rattle.command_line.specs.Requests.{Asks, HasWord}
 use Rattle.command_line.specs.Words.{hook_name}
@@ -36,7 +36,7 @@ taken_hook names a b c d e hooks.Veto = record { plain = record { not_end = refl
 -- the command line, with any parsers for the hook and the seats, so that nothing of them computes
 abbrev pub line_by : ValueParser → ValueParser → App
 line_by hook seats = record (line_with (record { ref_ptr = (0, 0); now = [] })) {
-  subs = command (codes "raw") (checked (codes "HOOK") hook ∷ required (codes "FILE") ∷ checked (codes "SEATS") seats ∷ [])
+  subs = command (codes "raw") (checked_word (codes "HOOK") hook ∷ required_word (codes "FILE") ∷ checked_word (codes "SEATS") seats ∷ [])
       ∷ run ∷ asm ∷ list ∷ verify ∷ route ∷ [];
 }
 

@@ -9,12 +9,12 @@ use Rattle.isa.specs.Hooks.{hook_name}
 use Rattle.isa.specs.declared.hook.Hook.TheVariants as hook
 
 -- a word that has to be there
-abbrev pub required : Text → Rule
-required id = record (new_rule id) { value_names = 1; required = true }
+abbrev pub required_word : Text → Rule
+required_word id = record (new_rule id) { value_names = 1; required_word = true }
 
 -- and has to pass this
-abbrev pub checked : Text → ValueParser → Rule
-checked id parser = record (required id) { parser = Some parser }
+abbrev pub checked_word : Text → ValueParser → Rule
+checked_word id parser = record (required_word id) { parser = Some parser }
 
 abbrev pub command : Text → List Rule → Shape
 command name rules = record (new_shape name) { rules = rules }
@@ -30,30 +30,31 @@ hook_names a b c d =
 -- raw HOOK FILE SEATS
 abbrev pub raw : Bor (List (Bor Text)) → Shape
 raw hooks = command (codes "raw")
-    (checked (codes "HOOK") (parsers.Names hooks) ∷ required (codes "FILE")
-    ∷ checked (codes "SEATS") (parsers.Signed (pos 1) (pos 64)) ∷ [])
+    (checked_word (codes "HOOK") (parsers.Names hooks) ∷ required_word (codes "FILE")
+    ∷ checked_word (codes "SEATS") (parsers.Signed (pos 1) (pos 64)) ∷ [])
 
 -- run OBJECT CONTEXT PACKET
 abbrev pub run : Shape
 run =
     command (codes "run")
-    (required (codes "OBJECT") ∷ required (codes "CONTEXT") ∷ required (codes "PACKET") ∷ [])
+    (required_word (codes "OBJECT") ∷ required_word (codes "CONTEXT")
+    ∷ required_word (codes "PACKET") ∷ [])
 
 -- asm SOURCE OBJECT
 abbrev pub asm : Shape
-asm = command (codes "asm") (required (codes "SOURCE") ∷ required (codes "OBJECT") ∷ [])
+asm = command (codes "asm") (required_word (codes "SOURCE") ∷ required_word (codes "OBJECT") ∷ [])
 
 -- list OBJECT
 abbrev pub list : Shape
-list = command (codes "list") (required (codes "OBJECT") ∷ [])
+list = command (codes "list") (required_word (codes "OBJECT") ∷ [])
 
 -- verify OBJECT
 abbrev pub verify : Shape
-verify = command (codes "verify") (required (codes "OBJECT") ∷ [])
+verify = command (codes "verify") (required_word (codes "OBJECT") ∷ [])
 
 -- route CONFIG
 abbrev pub route : Shape
-route = command (codes "route") (required (codes "CONFIG") ∷ [])
+route = command (codes "route") (required_word (codes "CONFIG") ∷ [])
 
 -- One of these commands has to be named, and without any word the answer is help.
 abbrev pub line_with : Bor (List (Bor Text)) → App

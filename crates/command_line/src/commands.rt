@@ -174,7 +174,7 @@ Statuses: 0 done, 1 refused or stuck, 2 usage, 3 file, socket or stream, 4 memor
 static HOOKS: [&str; 4] = ["count", "tag", "price", "veto"];
 
 fn required<'a>(alloc: Global, name: &'a str, help: &'a str) -> Arg<'a>
-    ensures rule { rule_of result ≡ line.required name.entry.now }
+    ensures rule { rule_of result ≡ line.required_word name.entry.now }
     ensures local { result.global ≡ false }
 {
     Arg::new(alloc, name)
@@ -185,7 +185,7 @@ fn required<'a>(alloc: Global, name: &'a str, help: &'a str) -> Arg<'a>
 
 /// A word that has to be there, and has to pass this.
 fn checked<'a>(alloc: Global, name: &'a str, help: &'a str, parser: ValueParser<'a>) -> Arg<'a>
-    ensures rule { rule_of result ≡ line.checked name.entry.now parser.entry }
+    ensures rule { rule_of result ≡ line.checked_word name.entry.now parser.entry }
     ensures local { result.global ≡ false }
 {
     required(alloc, name, help).value_parser(parser)
@@ -203,7 +203,7 @@ fn hook_parser<'a>() -> ValueParser<'a>
 fn hook<'a>(alloc: Global) -> Arg<'a>
     ensures rule { (hooks : Bor (List (Bor (List ℕ)))) × (a b c d : ℕ × ℕ)
         × (hooks.now ≡ hook_names a b c d)
-        × (rule_of result ≡ line.checked (codes "HOOK") (Names hooks)) }
+        × (rule_of result ≡ line.checked_word (codes "HOOK") (Names hooks)) }
     ensures local { result.global ≡ false }
 {
     let parser = hook_parser();
@@ -211,7 +211,7 @@ fn hook<'a>(alloc: Global) -> Arg<'a>
 }
 
 fn seats<'a>(alloc: Global) -> Arg<'a>
-    ensures rule { rule_of result ≡ line.checked (codes "SEATS") (Signed (pos 1) (pos 64)) }
+    ensures rule { rule_of result ≡ line.checked_word (codes "SEATS") (Signed (pos 1) (pos 64)) }
     ensures local { result.global ≡ false }
 {
     required(alloc, "SEATS", "How many threads run it, 1 to 64").value_parser(value_parser!(

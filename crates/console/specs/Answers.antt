@@ -4,7 +4,7 @@ use Rattle.std.specs.Prelude.{filter, map, if◌then◌else◌, nat_lt}
 use Rattle.std.specs.List.{join_with_byte, range_with_len}
 use Rattle.words.specs.Interfaces.{has_interface}
 use Rattle.words.specs.Numbers.{InterfaceNumber, RouterNumber}
-use Rattle.words.specs.Text.{dotted, prefix_text}
+use Rattle.words.specs.Text.{dotted_address, prefix_text}
 use Rattle.words.specs.declared.route.Route.{Route}
 use Rattle.words.specs.declared.route.RouteKind.{RouteKind}
 use Rattle.words.specs.declared.route.RouteKind.TheVariants.{Intra, Inter, External1, External2}
@@ -60,7 +60,7 @@ state_name Full = codes "Full"
 abbrev pub neighbor_line : InterfaceNumber → Option (RouterNumber × State) → List ℕ
 neighbor_line interface None = []
 neighbor_line interface (Some (router, state)) =
-    codes "neighbor " ++ (decimal interface ++ (codes " " ++ (dotted router ++ (codes " "
+    codes "neighbor " ++ (decimal interface ++ (codes " " ++ (dotted_address router ++ (codes " "
     ++ (state_name state ++ 10 ∷ [])))))
 
 abbrev pub neighbor_lines : InterfaceNumber → List (Option (RouterNumber × State)) → List ℕ

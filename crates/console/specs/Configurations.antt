@@ -5,7 +5,7 @@ use Rattle.std.specs.Prelude.{decimal, length, map, slice_get, Some, take, ◌�
 use Rattle.std.specs.List.{list_any, slice_split}
 use Rattle.words.specs.Constants.{max_age, most_interfaces}
 use Rattle.words.specs.Numbers.{InterfaceNumber, RouterNumber}
-use Rattle.words.specs.Text.{dotted, prefix_text}
+use Rattle.words.specs.Text.{dotted_address, prefix_text}
 use Rattle.adjacency.specs.declared.interface.Interface.{Interface}
 use Rattle.events.specs.Routers.{are_distinct}
 use Rattle.console.specs.declared.configuration.Configured.{Configured}
@@ -17,7 +17,7 @@ Line = List ℕ
 
 -- the words of each line
 abbrev pub router_words : RouterNumber → List Word
-router_words router = codes "router" ∷ dotted router ∷ []
+router_words router = codes "router" ∷ dotted_address router ∷ []
 
 abbrev pub interface_words : InterfaceNumber → ConfiguredInterface → List Word
 interface_words number c =

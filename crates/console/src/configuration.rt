@@ -8,7 +8,7 @@ ghost use Rattle.console.specs.Configurations.{IsRouter, MayFollow, Refuses, Ref
 ghost use Rattle.console.specs.Configurations.{RefusesLines, Says, SaysInterface, SaysRouter};
 ghost use Rattle.console.specs.Views.{views};
 ghost use Rattle.words.specs.Prefixes.{Network};
-ghost use Rattle.words.specs.Text.{dotted, prefix_text};
+ghost use Rattle.words.specs.Text.{dotted_address, prefix_text};
 ghost use Rattle.console.specs.declared.configuration.ConfiguredInterface.{ConfiguredInterface};
 
 use crate::reading::{is_text, words_of};
@@ -87,7 +87,8 @@ fn read_setting(words: (&str, &str), name: &str, least: u64, most: u64) -> Optio
 /// The Router ID that the word spells, which isn't 0.0.0.0.
 fn read_router_id(word: &str) -> Option<RouterId>
     ensures { MatchOption result
-        ((r : ℕ) → IsRouter r → word.now ≢ dotted r) (λ r. (word.now ≡ dotted r) × IsRouter r) }
+        ((r : ℕ) → IsRouter r → word.now ≢ dotted_address r) (λ r. (word.now ≡ dotted_address r)
+            × IsRouter r) }
 {
     let Some(id) = read_address(word) else {
         return None;

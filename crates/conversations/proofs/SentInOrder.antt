@@ -20,7 +20,7 @@ use Rattle.events.specs.Packing.{acknowledgments, bodies, descriptions, first_ke
 use Rattle.event_rooms.specs.PackingLaws.{IsAscending}
 use Rattle.event_rooms.proofs.Packings.{headers_fit, ordered, packs}
 use Rattle.event_rooms.proofs.Rooms.{order_all}
-use Rattle.conversations.specs.SentInOrder.{AreAscending, AreInOrder, IsNoLater, WhatIsSentStandsInOrder, arising, headers_told, lsa_of, lsas_told, named, told_in_order}
+use Rattle.conversations.specs.SentInOrder.{AreAscending, AreInOrder, IsNoLater, WhatIsSentStandsInOrder, arising, headers_told, lsa_of, lsas_told, key_named, told_in_order}
 use Rattle.conversations.specs.SentInOrder.IsNoLater.{ByType, ById, ByRouter}
 
 -- ---- the order of keys
@@ -159,7 +159,7 @@ four_headers_in_order : (b : LsaBody)
 four_headers_in_order b = refl
 
 one_key_in_order : (a b : LsaBody)
-    → bodies 1 (map (λ c. Content.Updates (lsa_of 10 c (named 1 2 7))) (a ∷ b ∷ [])) ≡ body.Update (map (λ c. text (lsa_of 11 c (named 1 2 7))) (a ∷ b ∷ [])) ∷ []
+    → bodies 1 (map (λ c. Content.Updates (lsa_of 10 c (key_named 1 2 7))) (a ∷ b ∷ [])) ≡ body.Update (map (λ c. text (lsa_of 11 c (key_named 1 2 7))) (a ∷ b ∷ [])) ∷ []
 one_key_in_order a b = refl
 
 kinds_in_order : (hello : Hello) (d : Description) (keys : List Key) (lsa : Lsa) (h : Header)

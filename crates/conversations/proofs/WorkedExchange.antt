@@ -30,7 +30,7 @@ use Rattle.events.specs.Packing.{outs_of}
 use Rattle.events.specs.EventState.{EventState, on_area}
 use Rattle.events.specs.Routers.{Occurrence, Router, shown_at}
 use Rattle.conversations.specs.WorkedAdjacency.{NothingAges, describes}
-use Rattle.conversations.specs.WorkedExchange.{AnExchangeAsSlave, IsJudged, last_with, opened, reply, slave}
+use Rattle.conversations.specs.WorkedExchange.{AnExchangeAsSlave, IsJudged, last_with, in_ex_start, reply, slave}
 use Rattle.conversations.specs.WorkedOwn.{beside}
 use Rattle.conversations.proofs.WorkedAdjacency.{answered, at_moment}
 use Rattle.conversations.proofs.WorkedEnds.{begins, describes_not, describes_not_later, differ_not, last}
@@ -78,21 +78,21 @@ ending moment p s = at_moment moment (on_area (λ o. remove_aged moment (one_nei
 -- ---- negotiation
 
 abbrev as_slave : ℕ → ℕ → Router → Neighbor → Neighbor
-as_slave moment sequence r n = record (negotiated_neighbor false sequence moment r.area.database (opened n)) { received = Some (as_received (initial_description sequence)); sequence = sequence }
+as_slave moment sequence r n = record (negotiated_neighbor false sequence moment r.area.database (in_ex_start n)) { received = Some (as_received (initial_description sequence)); sequence = sequence }
 
 pub negotiates_it : (r new : Router) (link : Link) (n : Neighbor) (moment sequence : ℕ) (bytes : List ℕ) (outs : List Out)
-    → NothingAges r moment → IsJudged r (opened n) bytes (initial_description sequence) Verdict.NegotiatedAsSlave → requests_nothing n ≡ true
-    → Happens (beside r link (opened n)) moment (Occurrence.Packet 1 bytes) outs new
+    → NothingAges r moment → IsJudged r (in_ex_start n) bytes (initial_description sequence) Verdict.NegotiatedAsSlave → requests_nothing n ≡ true
+    → Happens (beside r link (in_ex_start n)) moment (Occurrence.Packet 1 bytes) outs new
     → (shown_at new 1 ≡ Some (n.router, Exchange))
-    × (outs ≡ outs_of r.id (beside r link (opened n)).area.links (describes (reply moment sequence (young_copies moment r.area.database))))
+    × (outs ≡ outs_of r.id (beside r link (in_ex_start n)).area.links (describes (reply moment sequence (young_copies moment r.area.database))))
 negotiates_it r new link n moment sequence bytes outs nothing said none event =
-    let old : Router = beside r link (opened n) in
+    let old : Router = beside r link (in_ex_start n) in
     let replied : Step = describe moment (as_slave moment sequence r n) in
     let m : Neighbor = replied.neighbor in
     let p : EventState = answered r link moment (reply moment sequence (young_copies moment r.area.database)) m in
     let own : event.after ≡ p =
-    judged r new link (opened n) moment bytes (initial_description sequence) Verdict.NegotiatedAsSlave outs nothing said refl event
-    ∙ (λ i. taken r link (opened n) moment (cond (or_true (nat_lt 408 (finite.len (young_copies moment r.area.database))) i) replied (record replied { neighbor = exchange_done moment m }))) in
+    judged r new link (in_ex_start n) moment bytes (initial_description sequence) Verdict.NegotiatedAsSlave outs nothing said refl event
+    ∙ (λ i. taken r link (in_ex_start n) moment (cond (or_true (nat_lt 408 (finite.len (young_copies moment r.area.database))) i) replied (record replied { neighbor = exchange_done moment m }))) in
     let quietly : last moment p ≡ at_moment moment p = λ i. ending moment p (cond (true && not (none i) && set.len n.outstanding == 0) (asking moment m) (no_sends m)) in
     let end : end_event old moment event.after ≡ at_moment moment p = ap (end_event old moment) own ∙ finishes old moment p (at_moment moment p) refl refl quietly in (
       ap (λ s. shown_at s 1) (event.router ∙ ap (λ (q : EventState). q.router) end),

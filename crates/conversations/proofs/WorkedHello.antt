@@ -18,7 +18,7 @@ use Rattle.events.specs.Originations.{links_of, point_to_point, router_body, stu
 use Rattle.events.specs.Packets.{after_hello, after_packet, hear, heard_on, is_from, with_neighbor}
 use Rattle.events.specs.Packing.{outs_of}
 use Rattle.events.specs.EventState.{EventState, on_area}
-use Rattle.events.specs.Routers.{shown, shown_at}
+use Rattle.events.specs.Routers.{id_and_state, shown_at}
 use Rattle.conversations.specs.WorkedHello.{ANeighborIsHeard}
 use Rattle.conversations.proofs.WorkedEnds.{begins, ended, ends_by}
 use Rattle.conversations.proofs.WorkedLinks.{link_changed}
@@ -98,6 +98,6 @@ is_heard_of old new number link moment from bytes h outs rest there none hello e
     let end : end_event old moment event.after ≡ ended moment p = ap (end_event old moment) own ∙ ends_by old moment p body_same still in
     let here : link_at number xs ≡ Some (cond (number == number) (with_neighbor n link) link) =
     link_changed (λ (e : ℕ × Link). cond (e.0 == number) (with_neighbor n e.1) e.1) number old.area.links link there in (
-      ap (λ s. shown_at s number) (event.router ∙ ap (λ (q : EventState). q.router) end) ∙ ap (λ o. shown (neighbor_on o)) here ∙ (λ i. shown (cond (itself number i) (with_neighbor n link) link).neighbor),
+      ap (λ s. shown_at s number) (event.router ∙ ap (λ (q : EventState). q.router) end) ∙ ap (λ o. id_and_state (neighbor_on o)) here ∙ (λ i. id_and_state (cond (itself number i) (with_neighbor n link) link).neighbor),
       event.sent ∙ ap (λ (q : EventState). outs_of old.id old.area.links q.sends) end,
     )

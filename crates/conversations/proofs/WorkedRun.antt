@@ -13,7 +13,7 @@ use Rattle.events.specs.Packing.{outs_of}
 use Rattle.events.specs.EventState.{EventState}
 use Rattle.events.specs.Routers.{Occurrence, Router, shown_at}
 use Rattle.conversations.specs.WorkedAdjacency.{NothingAges, describes}
-use Rattle.conversations.specs.WorkedExchange.{IsJudged, opened, reply}
+use Rattle.conversations.specs.WorkedExchange.{IsJudged, in_ex_start, reply}
 use Rattle.conversations.specs.WorkedRun.{AnAdjacencyIsNegotiated}
 use Rattle.conversations.proofs.WorkedAdjacency.{last_heard, hello_ends, opens_it}
 use Rattle.conversations.proofs.WorkedEnds.{ended}
@@ -33,7 +33,7 @@ is_negotiated r new link moment later from sequence hello_bytes bytes h outs ans
     let q : Router = greeted_by r link moment from in
     let n : Neighbor = opener moment from in
     let none : (finite.len n.requests == 0) ≡ true = ap (λ k. k == 0) (finite.len-empty key_cmp ListEntry) in
-    let judged : IsJudged q (opened n) bytes (initial_description sequence) Verdict.NegotiatedAsSlave =
+    let judged : IsJudged q (in_ex_start n) bytes (initial_description sequence) Verdict.NegotiatedAsSlave =
     record { is_text = text; is_other = hello.is_other; fits = refl; is_judged = ap (λ b. cond b Verdict.NegotiatedAsSlave Verdict.Discarded) larger } in
     let is : q ≡ run.0 = sym (run.1.router ∙ ap (λ (p : EventState). p.router) (hello_ends r run.0 link moment from hello_bytes h outs nothing hello run.1)) in
     let second = subst

@@ -21,15 +21,15 @@ abbrev pub instance : Body → ℤ → Lsa
 instance says sequence = external_lsa says sequence 10
 
 -- the neighbor told of number 5 at moment 100, and is asked for it
-abbrev pub told : Body → ListEntry
-told says = record { header = (instance says (pos 5)).header; at = 100 }
+abbrev pub told_entry : Body → ListEntry
+told_entry says = record { header = (instance says (pos 5)).header; at = 100 }
 
 abbrev pub its_key : Body → Key
 its_key says = lsa_key (instance says (pos 5))
 
 pub record IsAskedFor (says : Body) (state : State) (n : Neighbor) : Type 0 where
   pub is_in : n.state ≡ state
-  pub is_requested : finite.get n.requests (its_key says) ≡ Some (told says)
+  pub is_requested : finite.get n.requests (its_key says) ≡ Some (told_entry says)
 
 -- it is flooded to the neighbor at interface 2
 abbrev pub flooded_on : Body → ℤ → Link → Neighbor → Step
@@ -39,7 +39,7 @@ flooded_on says sequence link n = flood_to 100 (Some 1) (instance says sequence)
 
 -- it is on the request list as it was
 abbrev pub IsStillRequested : Body → Step → Type 0
-IsStillRequested says s = finite.get s.neighbor.requests (its_key says) ≡ Some (told says)
+IsStillRequested says s = finite.get s.neighbor.requests (its_key says) ≡ Some (told_entry says)
 
 -- it has left the request list, and is outstanding no more
 abbrev pub IsMet : Body → Step → Type 0

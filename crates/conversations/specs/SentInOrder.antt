@@ -82,19 +82,21 @@ lsa_of age says key = record {
   body = says;
 }
 
-abbrev pub named : ℕ → ℕ → ℕ → Key
-named ls_type id router =
+abbrev pub key_named : ℕ → ℕ → ℕ → Key
+key_named ls_type id router =
     record { ls_type = ls_type; link_state_id = id; advertising_router = router }
 
 -- the fourth, the second, the third and the first in the order of their keys
 abbrev pub arising : LsaBody → List Lsa
 arising says =
-    map (lsa_of 10 says) (named 5 1 1 ∷ named 1 2 8 ∷ named 1 3 1 ∷ named 1 2 7 ∷ [])
+    map (lsa_of 10 says) (key_named 5 1 1 ∷ key_named 1 2 8 ∷ key_named 1 3 1 ∷ key_named 1 2 7
+    ∷ [])
 
 -- a second older: InfTransDelay
 abbrev pub told_in_order : LsaBody → List Lsa
 told_in_order says =
-    map (lsa_of 11 says) (named 1 2 7 ∷ named 1 2 8 ∷ named 1 3 1 ∷ named 5 1 1 ∷ [])
+    map (lsa_of 11 says) (key_named 1 2 7 ∷ key_named 1 2 8 ∷ key_named 1 3 1 ∷ key_named 5 1 1
+    ∷ [])
 
 pub record WhatIsSentStandsInOrder : Type 0 where
   -- whatever is sent, where an Update has room for each LSA behind 28 bytes
@@ -111,8 +113,8 @@ pub record WhatIsSentStandsInOrder : Type 0 where
       ≡ body.Acknowledgment (map (λ (l : Lsa). record l.header { age = 10 }) (told_in_order b)) ∷ []
   -- two of one key stay in the order in which they arose
   pub one_key : (a b : LsaBody)
-      → bodies 1 (map (λ c. Content.Updates (lsa_of 10 c (named 1 2 7))) (a ∷ b ∷ []))
-      ≡ body.Update (map (λ c. text (lsa_of 11 c (named 1 2 7))) (a ∷ b ∷ [])) ∷ []
+      → bodies 1 (map (λ c. Content.Updates (lsa_of 10 c (key_named 1 2 7))) (a ∷ b ∷ []))
+      ≡ body.Update (map (λ c. text (lsa_of 11 c (key_named 1 2 7))) (a ∷ b ∷ [])) ∷ []
   -- first Hellos, then Descriptions, Requests, Updates and Acknowledgments
   pub kinds : (hello : Hello) (d : Description) (keys : List Key) (lsa : Lsa) (h : Header)
       → bodies 1

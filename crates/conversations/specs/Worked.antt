@@ -31,8 +31,8 @@ abbrev pub destination : Network → External
 destination prefix = record { prefix = prefix; metric = 20; kind = Type2; tag = 0 }
 
 -- a copy that flooding has brought at this moment
-abbrev pub brought : Lsa → ℕ → DatabaseCopy
-brought lsa at = record { lsa = lsa; stored = at; installed = Some at; sent = None }
+abbrev pub flooded_copy : Lsa → ℕ → DatabaseCopy
+flooded_copy lsa at = record { lsa = lsa; stored = at; installed = Some at; sent = None }
 
 pub record WorkedEvents : Type 0 where
   -- 10.0.0.0/16 isn't announced beside 10.0.0.0/8, and withdrawing what isn't there does nothing
@@ -65,8 +65,8 @@ pub record WorkedEvents : Type 0 where
   -- 1800
   pub too_early : interval_is_over 4 (Some 0) ≡ false
   pub in_time : interval_is_over 5 (Some 0) ≡ true
-  pub young : (lsa : Lsa) → is_stale 1799 (Some (brought (lsa_aged 0 lsa) 0)) ≡ false
-  pub renewed : (lsa : Lsa) → is_stale 1800 (Some (brought (lsa_aged 0 lsa) 0)) ≡ true
+  pub young : (lsa : Lsa) → is_stale 1799 (Some (flooded_copy (lsa_aged 0 lsa) 0)) ≡ false
+  pub renewed : (lsa : Lsa) → is_stale 1800 (Some (flooded_copy (lsa_aged 0 lsa) 0)) ≡ true
   -- a copy of MaxSequenceNumber is flushed before its LSA is originated again
   pub wraps : (may_now : Bool) (moment : ℕ) (key : Key) (says : Body) (c : DatabaseCopy)
       (p : EventState) → finite.get p.router.area.database key ≡ Some c

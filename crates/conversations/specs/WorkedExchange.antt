@@ -25,8 +25,8 @@ use Rattle.events.specs.Routers.{Occurrence, Router, shown_at}
 use Rattle.conversations.specs.WorkedAdjacency.{NothingAges, describes}
 use Rattle.conversations.specs.WorkedOwn.{beside}
 
-abbrev pub opened : Neighbor → Neighbor
-opened n = record n { state = ExStart }
+abbrev pub in_ex_start : Neighbor → Neighbor
+in_ex_start n = record n { state = ExStart }
 
 abbrev pub slave : Neighbor → Neighbor
 slave n = record n { state = Exchange; is_master = false }
@@ -62,11 +62,11 @@ pub record AnExchangeAsSlave : Type 0 where
   pub negotiates : (r new : Router) (link : Link) (n : Neighbor) (moment sequence : ℕ)
       (bytes : List ℕ) (outs : List Out)
       → NothingAges r moment
-      → IsJudged r (opened n) bytes (initial_description sequence) Verdict.NegotiatedAsSlave
+      → IsJudged r (in_ex_start n) bytes (initial_description sequence) Verdict.NegotiatedAsSlave
       → requests_nothing n ≡ true
-      → Happens (beside r link (opened n)) moment (Occurrence.Packet 1 bytes) outs new
+      → Happens (beside r link (in_ex_start n)) moment (Occurrence.Packet 1 bytes) outs new
       → (shown_at new 1 ≡ Some (n.router, Exchange))
-      × (outs ≡ outs_of r.id (beside r link (opened n)).area.links
+      × (outs ≡ outs_of r.id (beside r link (in_ex_start n)).area.links
       (describes (reply moment sequence (young_copies moment r.area.database))))
   -- in Exchange, with room for all that is left to describe, the master's last Description, with
   -- one header that is wanted: Loading, and what is sent is the reply of its number and then a

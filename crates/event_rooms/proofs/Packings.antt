@@ -15,7 +15,7 @@ use Rattle.packet.specs.declared.model.Body.{Body}
 use Rattle.received.specs.Links.{Link}
 use Rattle.received.specs.Outcomes.{Send}
 use Rattle.events.specs.declared.model.Out.{Out}
-use Rattle.events.specs.Packing.{at_interface, bodies, fill_on, header_size, in_key_order, is_after, out_of, outs_at, outs_of, packed_groups, put}
+use Rattle.events.specs.Packing.{at_interface, bodies, fill_on, header_size, in_key_order, is_after, out_of, outs_at, outs_of, packed_groups, insert_by_key}
 use Rattle.event_rooms.specs.PackingLaws.{AreByInterface, AreFull, IsAscending, IsFull, IsInKeyOrder, IsPacking, sizes, total}
 
 -- ---- the order of keys
@@ -40,11 +40,11 @@ after_not : (x y : Key) → is_after x y ≡ true → is_after y x ≡ false
 after_not x y e = after_by (key_cmp y x) (ap is_gt (sym (keys_total.antisymm x y)) ∙ e)
 
 module _ {X : Type 0} (key : X → Key) where
-  pub put_all : (P : X → Type 0) (x : X) (ys : List X) → P x → AllByRecursion P ys → AllByRecursion P (put key x ys)
+  pub put_all : (P : X → Type 0) (x : X) (ys : List X) → P x → AllByRecursion P ys → AllByRecursion P (insert_by_key key x ys)
   put_all P x [] p all = (p, tt)
   put_all P x (y ∷ ys) p all = by_test (is_after (key x) (key y)) (put_all P x ys p all.1)
     where
-      by_test : (b : Bool) → AllByRecursion P (put key x ys) → AllByRecursion P (cond b (y ∷ put key x ys) (x ∷ (y ∷ ys)))
+      by_test : (b : Bool) → AllByRecursion P (insert_by_key key x ys) → AllByRecursion P (cond b (y ∷ insert_by_key key x ys) (x ∷ (y ∷ ys)))
       by_test true rest = (all.0, rest)
       by_test false rest = (p, all)
 
@@ -52,11 +52,11 @@ module _ {X : Type 0} (key : X → Key) where
   behind_all x y [] f all = tt
   behind_all x y (z ∷ zs) f all = (not_after (key x) (key y) (key z) f all.0, behind_all x y zs f all.1)
 
-  put_ascends : (x : X) (ys : List X) → IsAscending key ys → IsAscending key (put key x ys)
+  put_ascends : (x : X) (ys : List X) → IsAscending key ys → IsAscending key (insert_by_key key x ys)
   put_ascends x [] up = (tt, tt)
   put_ascends x (y ∷ ys) up = by_test (is_after (key x) (key y)) refl (put_ascends x ys up.1)
     where
-      by_test : (b : Bool) → is_after (key x) (key y) ≡ b → IsAscending key (put key x ys) → IsAscending key (cond b (y ∷ put key x ys) (x ∷ (y ∷ ys)))
+      by_test : (b : Bool) → is_after (key x) (key y) ≡ b → IsAscending key (insert_by_key key x ys) → IsAscending key (cond b (y ∷ insert_by_key key x ys) (x ∷ (y ∷ ys)))
       by_test true e rest = (put_all (λ z. is_after (key y) (key z) ≡ false) x ys (after_not (key x) (key y) e) up.0, rest)
       by_test false e rest = ((e, behind_all x y ys e up.0), up)
 
@@ -82,7 +82,7 @@ module _ {X : Type 0} (key : X → Key) where
   swapped false true x y zs apart = refl
   swapped false false x y zs apart = refl
 
-  put_same : (k : Key) (x : X) (ys : List X) → filter (λ z. same_key k (key z)) (put key x ys) ≡ filter (λ z. same_key k (key z)) (x ∷ ys)
+  put_same : (k : Key) (x : X) (ys : List X) → filter (λ z. same_key k (key z)) (insert_by_key key x ys) ≡ filter (λ z. same_key k (key z)) (x ∷ ys)
   put_same k x [] = refl
   put_same k x (y ∷ ys) = by_test (is_after (key x) (key y)) refl (put_same k x ys)
     where
@@ -92,8 +92,8 @@ module _ {X : Type 0} (key : X → Key) where
       never : is_after (key x) (key y) ≡ true → same_key k (key y) ≡ true → same_key k (key x) ≡ true → ⊥
       never e q p = contradiction (sym e ∙ tied_both k (key x) (key y) p q)
 
-      by_test : (b : Bool) → is_after (key x) (key y) ≡ b → filter (λ z. same_key k (key z)) (put key x ys) ≡ filter (λ z. same_key k (key z)) (x ∷ ys)
-          → filter (λ z. same_key k (key z)) (cond b (y ∷ put key x ys) (x ∷ (y ∷ ys))) ≡ filter (λ z. same_key k (key z)) (x ∷ (y ∷ ys))
+      by_test : (b : Bool) → is_after (key x) (key y) ≡ b → filter (λ z. same_key k (key z)) (insert_by_key key x ys) ≡ filter (λ z. same_key k (key z)) (x ∷ ys)
+          → filter (λ z. same_key k (key z)) (cond b (y ∷ insert_by_key key x ys) (x ∷ (y ∷ ys))) ≡ filter (λ z. same_key k (key z)) (x ∷ (y ∷ ys))
       by_test true e rest =
           ap (λ zs. cond (same_key k (key y)) (y ∷ zs) zs) rest
           ∙ swapped (same_key k (key y)) (same_key k (key x)) x y (filter (λ z. same_key k (key z)) ys) (never e)

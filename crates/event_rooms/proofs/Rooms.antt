@@ -14,7 +14,7 @@ use Rattle.packet.specs.declared.model.Body.TheVariants as body
 use Rattle.packet.specs.declared.model.Packet.{Packet}
 use Rattle.packet.specs.Checksum.{packet_checksum}
 use Rattle.packet.specs.Reading.{key_at, router_at}
-use Rattle.packet.specs.Text.{IsKey, IsRouter, body_text, canonical, closed, description, header, hello, key_text, router_text, text, type_of}
+use Rattle.packet.specs.Text.{IsKey, IsRouter, body_text, canonical, closed_fields, description, header, hello, key_text, router_text, text, type_of}
 use Rattle.packet.proofs.Records.{key-wide, router-wide}
 use Rattle.adjacency.specs.Contents.{Content}
 use Rattle.received.specs.Links.{Link}
@@ -73,15 +73,15 @@ chosen_all {Y = Y} f P each (c ∷ cs) p = in_front (f c) (each c p.0) (filter_m
 
 -- ---- bytes
 
-canonical_length : (p : Packet) → length (canonical p) ≡ 24 + length (body_text closed p.body)
+canonical_length : (p : Packet) → length (canonical p) ≡ 24 + length (body_text closed_fields p.body)
 unfolding canonical
-canonical_length p = length-append (fields (header (type_of p.body) (24 + length (body_text closed p.body)) p.router (packet_checksum (text closed 0 p)) 0)) (body_text closed p.body)
+canonical_length p = length-append (fields (header (type_of p.body) (24 + length (body_text closed_fields p.body)) p.router (packet_checksum (text closed_fields 0 p)) 0)) (body_text closed_fields p.body)
 
 hello_room : (c : Content) → HasRoom c → AllByRecursion HasPacketRoom (cons_option (hellos c) [])
 hello_room (Content.SendsHello h) room =
     let wide : length (flat_map router_text h.neighbors) ≡ 4 * length h.neighbors = length-records_text router_at router_text IsRouter 4 router-wide h.neighbors in
-    let size : length (fields (hello closed h) ++ flat_map router_text h.neighbors) ≡ 20 + length (flat_map router_text h.neighbors) = length-append (fields (hello closed h)) (flat_map router_text h.neighbors) in
-    let few : 24 + length (fields (hello closed h) ++ flat_map router_text h.neighbors) ≤ 8192 = omega (arith, wide, size, room) in
+    let size : length (fields (hello closed_fields h) ++ flat_map router_text h.neighbors) ≡ 20 + length (flat_map router_text h.neighbors) = length-append (fields (hello closed_fields h)) (flat_map router_text h.neighbors) in
+    let few : 24 + length (fields (hello closed_fields h) ++ flat_map router_text h.neighbors) ≤ 8192 = omega (arith, wide, size, room) in
     (record { bytes = few; count = omega arith }, tt)
 hello_room (Content.Describes d) room = tt
 hello_room (Content.Requests keys) room = tt

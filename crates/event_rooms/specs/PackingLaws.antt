@@ -5,7 +5,7 @@ use Rattle.words.specs.declared.key.Key.{Key}
 use Rattle.lsdb.specs.Headers.{Header, Lsa, key_of, lsa_key}
 use Rattle.lsdb.specs.Keys.{same_key}
 use Rattle.packet.specs.declared.model.Body.{Body}
-use Rattle.packet.specs.Text.{body_text, closed, lsa_count}
+use Rattle.packet.specs.Text.{body_text, closed_fields, lsa_count}
 use Rattle.adjacency.specs.Contents.{Content}
 pub use Rattle.adjacency.specs.Rooms.{HasRoom}
 use Rattle.received.specs.Links.{Link}
@@ -60,7 +60,7 @@ pub record IsPacking {X : Type 0} (size : X → ℕ) (start : ℕ) (xs : List X)
 -- behind its header of 24 bytes a packet has room for what it says, and an Update for the number of
 -- its LSAs
 pub record HasPacketRoom (says : Body) : Type 0 where
-  pub bytes : 24 + length (body_text closed says) ≤ 8192
+  pub bytes : 24 + length (body_text closed_fields says) ≤ 8192
   pub count : lsa_count says ≤ 8192
 
 -- ---- in the order of the interfaces

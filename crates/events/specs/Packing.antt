@@ -24,13 +24,14 @@ use Rattle.events.specs.declared.model.Out.{Out}
 abbrev pub is_after : Key → Key → Bool
 is_after a b = is_gt (key_cmp a b)
 
-abbrev pub put : {X : Type 0} → (X → Key) → X → List X → List X
-put key x [] = x ∷ []
-put key x (y ∷ ys) = if is_after (key x) (key y) then y ∷ put key x ys else x ∷ (y ∷ ys)
+abbrev pub insert_by_key : {X : Type 0} → (X → Key) → X → List X → List X
+insert_by_key key x [] = x ∷ []
+insert_by_key key x (y ∷ ys) = if is_after (key x) (key y) then y ∷ insert_by_key key x ys else x
+    ∷ (y ∷ ys)
 
 abbrev pub in_key_order : {X : Type 0} → (X → Key) → List X → List X
 in_key_order key [] = []
-in_key_order key (x ∷ xs) = put key x (in_key_order key xs)
+in_key_order key (x ∷ xs) = insert_by_key key x (in_key_order key xs)
 
 -- ---- as many as fit into a packet
 

@@ -96,11 +96,11 @@ unannounced_router c = with_links c.router (map fresh_link c.interfaces) c.start
 
 -- ---- what is shown
 
-abbrev pub shown : Option Neighbor → Option (ℕ × State)
-shown None = None
-shown (Some n) = Some (n.router, n.state)
+abbrev pub id_and_state : Option Neighbor → Option (ℕ × State)
+id_and_state None = None
+id_and_state (Some n) = Some (n.router, n.state)
 
 -- the Router ID and the state of the neighbor at the interface of this number, unless it is Down or
 -- there is no such interface
 abbrev pub shown_at : Router → InterfaceNumber → Option (ℕ × State)
-shown_at r number = shown (neighbor_at number r.area.links)
+shown_at r number = id_and_state (neighbor_at number r.area.links)

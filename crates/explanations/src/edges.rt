@@ -16,31 +16,47 @@ fn known_at(kinds: &[Kind<Value>], register: usize) -> Kind<Value> {
     kinds.get(register).copied().unwrap_or(Kind::Empty)
 }
 
-/// A line for each register that isn't within the statement, and for the first such byte of the
-/// stack.
-fn push_outside(out: &mut Text, target: &Target<'_, Value>, state: &State<Value>) {
+/// A line for each register that isn't within the statement.
+fn push_registers_outside(out: &mut Text, target: &Target<'_, Value>, state: &State<Value>) {
     for register in 0..10usize {
         let known = known_at(&state.kinds, register);
         let stated = known_at(&target.kinds, register);
         if !kind_within(known, stated) {
-            out.numbered("  r", register as u64, ": ");
-            push_kind(out, known);
-            out.numbered("\n  allowed: r", register as u64, " ");
-            push_kind(out, stated);
-            out.push(", as is stated there\n");
+            push_register_outside(out, register, known, stated);
         }
     }
+}
+
+/// What is known of the register, and what is stated there.
+fn push_register_outside(out: &mut Text, register: usize, known: Kind<Value>, stated: Kind<Value>) {
+    out.numbered("  r", register as u64, ": ");
+    push_kind(out, known);
+    out.numbered("\n  allowed: r", register as u64, " ");
+    push_kind(out, stated);
+    out.push(", as is stated there\n");
+}
+
+/// The first byte of the stack that isn't within the statement.
+fn byte_outside(target: &Target<'_, Value>, state: &State<Value>) -> Option<usize> {
     for place in 0..512usize {
         let is_byte = matches!(state.entries.get(place), Some(Entry::Byte));
         if target.statement.stack().contains(place) && !is_byte {
-            out.numbered(
-                "  stack ",
-                place as u64,
-                ": may be empty, or a part of a pointer\n  allowed: a byte, \
-                    as is stated there\n",
-            );
-            return;
+            return Some(place);
         }
+    }
+    None
+}
+
+/// A line for each register that isn't within the statement, and for the first such byte of the
+/// stack.
+fn push_outside(out: &mut Text, target: &Target<'_, Value>, state: &State<Value>) {
+    push_registers_outside(out, target, state);
+    if let Some(place) = byte_outside(target, state) {
+        out.numbered(
+            "  stack ",
+            place as u64,
+            ": may be empty, or a part of a pointer\n  allowed: a byte, as is stated there\n",
+        );
     }
 }
 

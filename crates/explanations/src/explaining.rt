@@ -198,8 +198,22 @@ fn push_object(
     push_known_by(alloc, page, program, &targets, &statement)
 }
 
-/// What the verifier knows where a run begins, and at each slot, told by these lines of the
-/// instructions.
+/// The hook, and the rank at the entry.
+fn push_head(out: &mut Text, object: &Object) {
+    out.push("hook ");
+    out.push(object.hook().name());
+    out.numbered(", rank ", u64::from(object.entry_rank()), " at the entry\n");
+}
+
+/// What the verifier knows where a run of the object's program begins, and at each slot.
+fn page_of(alloc: Global, object: &Object, program: &Program<'_>) -> Result<Texts, AllocError> {
+    let mut page = Page::new(alloc);
+    push_head(&mut page.here, object);
+    push_object(alloc, &mut page, program, object)?;
+    page.finish()
+}
+
+/// The same, told by these lines of the instructions.
 fn texts_by(
     alloc: Global,
     object: &Object,
@@ -216,12 +230,7 @@ fn texts_by(
         lines: &lines,
         refusal,
     };
-    let mut page = Page::new(alloc);
-    page.here.push("hook ");
-    page.here.push(object.hook().name());
-    page.here.numbered(", rank ", u64::from(object.entry_rank()), " at the entry\n");
-    push_object(alloc, &mut page, &program, object)?;
-    page.finish()
+    page_of(alloc, object, &program)
 }
 
 /// The same, up to the slot that it refuses.

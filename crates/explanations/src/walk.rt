@@ -86,36 +86,29 @@ fn push_slot<'a>(
     }
 }
 
-/// What is known behind the instruction, in this segment. None where it is refused.
-fn followed<'a>(
-    code: &Code,
-    hook: Hook,
-    targets: &[Option<Target<'a, Value>>],
-    segment: &Target<'a, Value>,
-    here: Here,
-    slot: usize,
-    instruction: Instruction,
-) -> Option<Here>
-    requires small { slot < 4096 }
-    requires here { slice_get code.now slot ≡ Some (Start instruction) }
-{
-    let Here { begun, known } = here;
-    if !known.is_live {
-        return Some(Here { begun, known });
-    }
-    match check_places(code, targets, true, slot, &instruction) {
-        Ok(()) => match follow(code, hook, targets, segment, known.state, slot, instruction) {
-            Ok(known) => Some(Here { begun, known }),
-            Err(_) => None,
-        },
-        Err(_) => None,
+/// The statement at the slot where a segment began, if it began at one.
+fn stated_by<'t, 'a>(
+    targets: &'t [Option<Target<'a, Value>>],
+    begun: Option<usize>,
+) -> Option<&'t Target<'a, Value>> {
+    match begun {
+        Some(start) => stated_at(targets, start),
+        None => None,
     }
 }
 
-/// The same, in the segment that begins at the entry or at a statement.
-fn followed_in<'a>(
-    code: &Code,
-    hook: Hook,
+/// The statement of the segment that begins at this slot, or at the entry.
+fn segment_of<'t, 'a>(
+    targets: &'t [Option<Target<'a, Value>>],
+    entry: &'t Target<'a, Value>,
+    begun: Option<usize>,
+) -> &'t Target<'a, Value> {
+    stated_by(targets, begun).unwrap_or(entry)
+}
+
+/// What is known behind the instruction. None where it is refused.
+fn followed<'a>(
+    program: &Program<'_>,
     targets: &[Option<Target<'a, Value>>],
     entry: &Target<'a, Value>,
     here: Here,
@@ -123,15 +116,44 @@ fn followed_in<'a>(
     instruction: Instruction,
 ) -> Option<Here>
     requires small { slot < 4096 }
-    requires here { slice_get code.now slot ≡ Some (Start instruction) }
+    requires here { slice_get program.now.code.now slot ≡ Some (Start instruction) }
 {
-    let Some(start) = here.begun else {
-        return followed(code, hook, targets, entry, here, slot, instruction);
-    };
-    match stated_at(targets, start) {
-        Some(segment) => followed(code, hook, targets, segment, here, slot, instruction),
-        None => followed(code, hook, targets, entry, here, slot, instruction),
+    if !here.known.is_live {
+        return Some(here);
     }
+    let Here { begun, known } = here;
+    let Known { state, .. } = known;
+    match known_behind(program, targets, entry, begun, state, slot, instruction) {
+        Ok(known) => Some(Here { begun, known }),
+        Err(_) => None,
+    }
+}
+
+/// The same, of what is known in the segment that begins at this slot, or at the entry.
+fn known_behind<'a>(
+    program: &Program<'_>,
+    targets: &[Option<Target<'a, Value>>],
+    entry: &Target<'a, Value>,
+    begun: Option<usize>,
+    state: State<Value>,
+    slot: usize,
+    instruction: Instruction,
+) -> Result<Known<Value>, Rule>
+    requires small { slot < 4096 }
+    requires here { slice_get program.now.code.now slot ≡ Some (Start instruction) }
+{
+    let code = program.code;
+    check_places(code, targets, true, slot, &instruction)?;
+    let segment = segment_of(targets, entry, begun);
+    follow(
+        code,
+        program.hook,
+        targets,
+        segment,
+        state,
+        slot,
+        instruction,
+    )
 }
 
 fn is_jump(instruction: &Instruction) -> bool {
@@ -162,29 +184,6 @@ fn push_edges<'a>(
     }
 }
 
-/// The same, in the segment that begins at the entry or at a statement.
-fn push_edges_in<'a>(
-    out: &mut Text,
-    hook: Hook,
-    targets: &[Option<Target<'a, Value>>],
-    entry: &Target<'a, Value>,
-    here: Here,
-    slot: usize,
-    instruction: &Instruction,
-)
-    requires { slot < 4096 }
-{
-    let Here { begun, known } = here;
-    let Known { state, .. } = known;
-    let Some(start) = begun else {
-        return push_edges(out, hook, targets, entry, state, slot, instruction);
-    };
-    match stated_at(targets, start) {
-        Some(segment) => push_edges(out, hook, targets, segment, state, slot, instruction),
-        None => push_edges(out, hook, targets, entry, state, slot, instruction),
-    }
-}
-
 /// What is wrong at the instruction that the verifier refuses by this rule.
 fn push_fault<'a>(
     out: &mut Text,
@@ -200,12 +199,56 @@ fn push_fault<'a>(
 {
     match rule {
         Rule::NotWithin | Rule::Rank => {
-            push_edges_in(out, hook, targets, entry, here, slot, instruction)
+            let segment = segment_of(targets, entry, here.begun);
+            push_edges(
+                out,
+                hook,
+                targets,
+                segment,
+                here.known.state,
+                slot,
+                instruction,
+            )
         }
         Rule::Target | Rule::FallsOff | Rule::Unreached | Rule::Unstated => {
             push_misplaced(out, slot, instruction, rule)
         }
         _ => push_reason(out, hook, &here.known.state, instruction, rule),
+    }
+}
+
+/// Tells of the slot, and goes on behind its instruction. Where the verifier refuses it, says what
+/// is wrong there, and goes on nowhere.
+fn passed<'a>(
+    page: &mut Page,
+    program: &Program<'_>,
+    targets: &[Option<Target<'a, Value>>],
+    entry: &Target<'a, Value>,
+    here: Here,
+    slot: usize,
+    instruction: Instruction,
+) -> Option<Here>
+    requires small { slot < 4096 }
+    requires here { slice_get program.now.code.now slot ≡ Some (Start instruction) }
+{
+    let here = arrived(targets, slot, here);
+    push_slot(page, program, targets, &here, slot);
+    match program.rule_at(slot) {
+        Some(rule) => {
+            let out = &mut page.reasons;
+            push_fault(
+                out,
+                program.hook,
+                targets,
+                entry,
+                here,
+                slot,
+                rule,
+                &instruction,
+            );
+            None
+        }
+        None => followed(program, targets, entry, here, slot, instruction),
     }
 }
 
@@ -225,17 +268,9 @@ pub(crate) fn push_pass<'a>(
             is_live: true,
         },
     };
-    let code = program.code;
-    let hook = program.hook;
-    for slot in 0..code.len() {
-        if let Some(Slot::Start(instruction)) = code.at(slot as u64) {
-            here = arrived(targets, slot, here);
-            push_slot(page, program, targets, &here, slot);
-            if let Some(rule) = program.rule_at(slot) {
-                let out = &mut page.reasons;
-                return push_fault(out, hook, targets, entry, here, slot, rule, &instruction);
-            }
-            match followed_in(code, hook, targets, entry, here, slot, instruction) {
+    for slot in 0..program.code.len() {
+        if let Some(Slot::Start(instruction)) = program.code.at(slot as u64) {
+            match passed(page, program, targets, entry, here, slot, instruction) {
                 Some(next) => here = next,
                 None => return,
             }

@@ -44,14 +44,4 @@ impl Event {
             Event::LinkDown(number) => Ok(Event::LinkDown(*number)),
         }
     }
-
-    /// About how many bytes the event holds outside of itself: those of a packet, 64 for each
-    /// answer of an Install.
-    pub fn weight(&self) -> u64 {
-        match self {
-            Event::Packet(_, bytes) => bytes.as_slice().len() as u64,
-            Event::Install(answers) => (answers.as_slice().len() as u64).saturating_mul(64),
-            _ => 0,
-        }
-    }
 }

@@ -9,9 +9,9 @@ use Rattle.std.specs.List.{AllByRecursion, Contains, cons_option, enumerate_from
 use Rattle.words.specs.Fields.{field, fields}
 use Rattle.words.specs.declared.key.Key.{Key}
 use Rattle.words.specs.declared.route.External.{External}
-use Rattle.lsa.specs.Fletcher.{covered, first_check_byte, one_to_255, sealed, second_check_byte, unsealed, weighted_sum}
+use Rattle.lsa.specs.Fletcher.{bytes_but_age, first_check_byte, one_to_255, with_checksum, second_check_byte, without_checksum, weighted_sum}
 use Rattle.lsa.specs.Headers.{IsHeader, header_at, header_text}
-use Rattle.lsa.specs.Origination.{sealed_lsa, unchecked}
+use Rattle.lsa.specs.Origination.{sealed_lsa, with_header_of_body}
 use Rattle.lsa.specs.Reading.{fault_of, lsa_in, lsa_of}
 use Rattle.lsa.specs.Text.{Parts, body_text, text, type_of}
 use Rattle.lsa.specs.declared.body.Body.{Body as LsaBody}
@@ -185,17 +185,17 @@ one_in_range n =
     by_rest false m le = le
 
 first_in_range : (bytes : List ℕ) → first_check_byte bytes ≤ 255
-first_in_range bytes = one_in_range ((length bytes - 17) * sum (covered bytes) + 254 * weighted_sum (covered bytes))
+first_in_range bytes = one_in_range ((length bytes - 17) * sum (bytes_but_age bytes) + 254 * weighted_sum (bytes_but_age bytes))
 
 second_in_range : (bytes : List ℕ) → second_check_byte bytes ≤ 255
-second_in_range bytes = one_in_range (254 * (length bytes - 16) * sum (covered bytes) + weighted_sum (covered bytes))
+second_in_range bytes = one_in_range (254 * (length bytes - 16) * sum (bytes_but_age bytes) + weighted_sum (bytes_but_age bytes))
 
 both_in_range : (x y : ℕ) → x ≤ 255 → y ≤ 255 → x * 256 + (y * 1 + 0) < 65536
 both_in_range x y hx hy = omega arith
 
-checksum_in_range : (p : Parts) → field (sealed (text (unchecked p))) 16 2 < 2 ^ 16
+checksum_in_range : (p : Parts) → field (with_checksum (text (with_header_of_body p))) 16 2 < 2 ^ 16
 checksum_in_range p =
-    let t = unsealed (text (unchecked p)) in
+    let t = without_checksum (text (with_header_of_body p)) in
     both_in_range (first_check_byte t) (second_check_byte t) (first_in_range t) (second_in_range t)
 
 next_in_range : (z : ℤ) → FitsSigned w32 z → z ≢ pos 0x7fff_ffff → FitsSigned w32 (z +ℤ pos 1)

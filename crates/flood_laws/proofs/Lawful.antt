@@ -18,7 +18,7 @@ use Rattle.lsdb.specs.Headers.{Lsa}
 use Rattle.packet.specs.declared.model.Body.{Body}
 use Rattle.packet.specs.declared.model.Body.TheVariants as packets
 use Rattle.packet.specs.declared.model.Packet.{Packet}
-use Rattle.packet.specs.Text.{IsBody, IsUnread, PacketText, canonical, closed, text as packet_text}
+use Rattle.packet.specs.Text.{IsBody, IsUnread, PacketText, canonical, closed_fields, text as packet_text}
 use Rattle.packet.proofs.Patch.{canonical_is_text}
 use Rattle.adjacency.specs.Rooms.{Fits}
 use Rattle.flood_laws.specs.Lawful.{TextsAreLawful}
@@ -98,7 +98,7 @@ all_unread (l ∷ ls) h = (unread l h.0.0 h.0.1, all_unread ls h.1)
 
 -- ---- packets
 
-same_long : (p : Packet) → length (canonical p) ≡ length (packet_text closed 0 p)
+same_long : (p : Packet) → length (canonical p) ≡ length (packet_text closed_fields 0 p)
 unfolding canonical
 same_long p = refl
 

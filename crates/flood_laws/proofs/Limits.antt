@@ -8,7 +8,7 @@ use Rattle.std.specs.declared.cmp.Ordering.TheVariants.{Less, Equal, Greater}
 use Rattle.std.proofs.lemmas.Bool.{le-ltb, ltb-false, ltb-true}
 use Rattle.words.specs.Numbers.{RouterNumber}
 use Rattle.words.specs.declared.key.Key.{Key}
-use Rattle.keyed_map.specs.Slots.{counted}
+use Rattle.keyed_map.specs.Slots.{count_after_change}
 use Rattle.words.specs.declared.route.External.{External}
 use Rattle.lsa.specs.Origination.{sealed_lsa}
 use Rattle.lsa.specs.Reading.{lsa_in}
@@ -126,7 +126,7 @@ module _ (id : RouterNumber) where
     all = subst (λ n. n ≤ 16384) (sym (finite.len-insert keys_total db key d ∙ ap (λ b. cond b (finite.len db) (finite.len db + 1)) (contained db key c is))) h.all;
     externals = subst (λ n. n ≤ 4096)
         (sym (count_put (is_own_external id) db key d
-        ∙ ap (λ b. cond (is_own_external id key) (counted b true (own db)) (own db)) (contained db key c is)
+        ∙ ap (λ b. cond (is_own_external id key) (count_after_change b true (own db)) (own db)) (contained db key c is)
         ∙ either (is_own_external id key) (own db))) h.externals;
   }
     where
@@ -177,7 +177,7 @@ module _ (id : RouterNumber) where
           omega (arith, fewer)
 
       own_by : (b o : Bool) → (b || (nat_lt (finite.len db) 16384 && (not o || nat_lt (own_externals id db) 4096))) ≡ true
-          → cond o (counted b true (own db)) (own db) ≤ 4096
+          → cond o (count_after_change b true (own db)) (own db) ≤ 4096
       own_by b false e = h.externals
       own_by true true e = h.externals
       own_by false true e =

@@ -8,7 +8,7 @@ use Rattle.std.specs.declared.cmp.Ordering.{Ordering}
 use Rattle.std.proofs.lemmas.Bool.{eqb-true}
 use Rattle.words.specs.declared.key.Key.{Key}
 use Rattle.lsa.specs.Reading.{lsa_in}
-use Rattle.lsdb.specs.Copies.{Database, DatabaseCopy, age_out, has_just_aged_out, install_flooded, is_aged_out, listed, lsa_now}
+use Rattle.lsdb.specs.Copies.{Database, DatabaseCopy, age_out, has_just_aged_out, install_flooded, is_aged_out, list_entry_of, lsa_now}
 use Rattle.lsdb.specs.Headers.{Lsa, header_aged, lsa_aged, lsa_key}
 use Rattle.lsdb.specs.Instances.{ListEntry}
 use Rattle.lsdb.specs.Keys.{ByKey, key_cmp}
@@ -93,7 +93,7 @@ stays_aged : (age stored at now : ℕ) → age_at age stored at ≡ 3600 → at 
 stays_aged age stored at now is later = omega (arith, is, later)
 
 -- an entry that is made of a copy at MaxAge
-of_aged : (db : Database) (key : Key) (moment : ℕ) (c : DatabaseCopy) → finite.get db key ≡ Some c → is_aged_out moment c ≡ true → IsOfCopy db key (listed moment c)
+of_aged : (db : Database) (key : Key) (moment : ℕ) (c : DatabaseCopy) → finite.get db key ≡ Some c → is_aged_out moment c ≡ true → IsOfCopy db key (list_entry_of moment c)
 of_aged db key moment c there aged = (
   c,
   there,
@@ -112,10 +112,10 @@ all_there db = entries_in (There db) db (λ key. found key (finite.get db key) r
     found key (Some c) is = is
 
 aged_entries : (db : Database) (moment : ℕ) (es : List (Key × DatabaseCopy)) → AllByRecursion (OfEntry (There db)) es
-    → AllByRecursion (OfEntry (IsOfCopy db)) (map (λ (e : Key × DatabaseCopy). (e.0, listed moment e.1)) (filter (λ e. is_aged_out moment e.1) es))
+    → AllByRecursion (OfEntry (IsOfCopy db)) (map (λ (e : Key × DatabaseCopy). (e.0, list_entry_of moment e.1)) (filter (λ e. is_aged_out moment e.1) es))
 aged_entries db moment [] h = tt
 aged_entries db moment (e ∷ es) h =
-    chosen (λ (fs : List (Key × DatabaseCopy)). AllByRecursion (OfEntry (IsOfCopy db)) (map (λ (e : Key × DatabaseCopy). (e.0, listed moment e.1)) fs))
+    chosen (λ (fs : List (Key × DatabaseCopy)). AllByRecursion (OfEntry (IsOfCopy db)) (map (λ (e : Key × DatabaseCopy). (e.0, list_entry_of moment e.1)) fs))
     (is_aged_out moment e.1) (e ∷ filter (λ e. is_aged_out moment e.1) es) (filter (λ e. is_aged_out moment e.1) es)
     (λ is. (of_aged db e.0 moment e.1 h.0 is, aged_entries db moment es h.1)) (λ is. aged_entries db moment es h.1)
 
@@ -298,7 +298,7 @@ aged_flooded moment e o still aged h =
     let db : Database = o.area.database in
     let c : DatabaseCopy = record e.1 { sent = still.0 } in
     flood_kept moment None (lsa_now moment e.1) db o h.keys
-    (subst (λ (k : Key). IsOfCopy db k (listed moment e.1)) (sym (own_at db e.0 c h.keys still.1)) (of_aged db e.0 moment c still.1 aged))
+    (subst (λ (k : Key). IsOfCopy db k (list_entry_of moment e.1)) (sym (own_at db e.0 c h.keys still.1)) (of_aged db e.0 moment c still.1 aged))
     (λ q other x of_copy. of_copy) h.each
 
 both_aged : (a b : Bool) → (a && b) ≡ true → a ≡ true

@@ -19,7 +19,7 @@ use Rattle.events.specs.Routers.{Occurrence, Router}
 use Rattle.flood_laws.specs.NewInstances.{BringsLsa, lsas_brought}
 use Rattle.flood_laws.specs.TakenOff.{IsFlooded, IsTakenOff, IsTold, listed_instance}
 use Rattle.flood_laws.specs.Worlds.{Keeps}
-use Rattle.flood_laws.specs.WrongSteps.{AcknowledgesAnother, AnotherAcknowledgmentTakesNothingOff, release_on, released, without_entry}
+use Rattle.flood_laws.specs.WrongSteps.{AcknowledgesAnother, AnotherAcknowledgmentTakesNothingOff, release_on, remove_retransmission_in, without_entry}
 use Rattle.flood_laws.proofs.Leaving.{numbered_kept}
 use Rattle.flood_laws.proofs.Lists.{of_empty}
 
@@ -55,7 +55,7 @@ module _ (old : Router) (moment number : ℕ) (n : Neighbor) (name : LsaInstance
       numbered_kept (λ (o : Option Neighbor). o ≡ Some n) (λ (o : Option Neighbor). o ≡ Some (remove_retransmission name.key n)) (λ none. absurd cc)
       (λ (e : ℕ × Link). cond (e.0 == number) (release_on name.key e.1) e.1) number
       (λ link is. chosen (λ (l : Link). l.neighbor ≡ Some (remove_retransmission name.key n)) (number == number) (release_on name.key link) link
-      (λ here. ap (released name.key) is) (λ away. absurd (eqb-false number number away refl)))
+      (λ here. ap (remove_retransmission_in name.key) is) (λ away. absurd (eqb-false number number away refl)))
       old.area.links at.there
 
   not_flooded : IsFlooded old moment event new number n name.key → ⊥

@@ -18,12 +18,12 @@ use Rattle.flood_laws.specs.TakenOff.{comes_to_max_age, owes}
 use Rattle.flood_laws.specs.Worlds.{Keeps}
 
 -- the entry of the key leaves the list of the neighbor at this interface, and nothing else changes
-abbrev pub released : Key → Option Neighbor → Option Neighbor
-released key None = None
-released key (Some n) = Some (remove_retransmission key n)
+abbrev pub remove_retransmission_in : Key → Option Neighbor → Option Neighbor
+remove_retransmission_in key None = None
+remove_retransmission_in key (Some n) = Some (remove_retransmission key n)
 
 abbrev pub release_on : Key → Link → Link
-release_on key link = record link { neighbor = released key link.neighbor }
+release_on key link = record link { neighbor = remove_retransmission_in key link.neighbor }
 
 abbrev pub without_entry : InterfaceNumber → Key → Router → Router
 without_entry number key r =

@@ -4,21 +4,21 @@ use Rattle.std.specs.Prelude.{Result, Ok, Err, OnOk}
 use Rattle.std.proofs.lemmas.List.Elements.{All-map, All-more, All-weaker}
 use Rattle.std.specs.List.{All}
 use Rattle.forwarding_loops.specs.declared.hop.Hop.{Hop}
-use Rattle.forwarding_loops.specs.Loops.{AreLoops, AreLoopsSoFar, AreReached, ComesBack, GoesRoundOnly, HoldsWholeLoops, IsAmong, IsBoth, IsMarked, IsMarkedBefore, MarksBetween, MarksLoopsAt, MarksLoopsBefore, Place, Walk, turned}
+use Rattle.forwarding_loops.specs.Loops.{AreLoops, AreLoopsSoFar, AreReached, ComesBack, GoesRoundOnly, HoldsWholeLoops, IsAmong, IsBoth, IsMarked, IsMarkedBefore, MarksBetween, MarksLoopsAt, MarksLoopsBefore, Place, Walk, reversed_hop}
 use Rattle.forwarding_loops.proofs.Walks.{all_loops, join, turned_back, turned_to}
 
 -- what both lists mark leads to the place
-after_both : (hops : List Hop) (place k : Place) (ahead behind old new : List Bool) → ((e : Place) → IsMarked behind e → Walk (map turned hops) place e) → IsMarked old k ⊎ (IsMarked ahead k × IsMarked behind k) → IsMarked old k ⊎ (IsMarked ahead k × Walk hops k place)
+after_both : (hops : List Hop) (place k : Place) (ahead behind old new : List Bool) → ((e : Place) → IsMarked behind e → Walk (map reversed_hop hops) place e) → IsMarked old k ⊎ (IsMarked ahead k × IsMarked behind k) → IsMarked old k ⊎ (IsMarked ahead k × Walk hops k place)
 after_both hops place k ahead behind old new sound (inl kept) = inl kept
 after_both hops place k ahead behind old new sound (inr both) = inr (both.0, turned_back (sound k both.1))
 
 -- what leads to the place both lists mark
-before_both : (hops : List Hop) (place k : Place) (ahead behind old new : List Bool) → ((e : Place) → Walk (map turned hops) place e → IsMarked behind e) → IsMarked old k ⊎ (IsMarked ahead k × Walk hops k place) → IsMarked old k ⊎ (IsMarked ahead k × IsMarked behind k)
+before_both : (hops : List Hop) (place k : Place) (ahead behind old new : List Bool) → ((e : Place) → Walk (map reversed_hop hops) place e → IsMarked behind e) → IsMarked old k ⊎ (IsMarked ahead k × Walk hops k place) → IsMarked old k ⊎ (IsMarked ahead k × IsMarked behind k)
 before_both hops place k ahead behind old new complete (inl kept) = inl kept
 before_both hops place k ahead behind old new complete (inr both) = inr (both.0, complete k (turned_to both.1))
 
 -- what both lists mark, where the second one is of the hops the other way
-pub between : (hops : List Hop) (place : Place) (ahead behind old new : List Bool) → AreReached (map turned hops) place behind → ((e : Place) → Walk (map turned hops) place e → IsMarked behind e) → ((k : Place) → IsBoth ahead behind old new k) → MarksBetween hops place ahead old new
+pub between : (hops : List Hop) (place : Place) (ahead behind old new : List Bool) → AreReached (map reversed_hop hops) place behind → ((e : Place) → Walk (map reversed_hop hops) place e → IsMarked behind e) → ((k : Place) → IsBoth ahead behind old new k) → MarksBetween hops place ahead old new
 between hops place ahead behind old new sound complete both = λ k. (
   λ marked. after_both hops place k ahead behind old new sound ((both k).0 marked),
   λ either. (both k).1 (before_both hops place k ahead behind old new complete either),
@@ -86,11 +86,11 @@ all_of_them hops costs marks count sound whole before = record {
 }
 
 -- turned hops lead from and to the same routers
-pub turned_among : (n : ℕ) (hops : List Hop) → All (IsAmong n) hops → All (IsAmong n) (map turned hops)
-turned_among n hops all = All-map (IsAmong n) turned hops (All-weaker (IsAmong n) (λ h. IsAmong n (turned h)) (λ h among. (among.1, among.0)) hops all)
+pub turned_among : (n : ℕ) (hops : List Hop) → All (IsAmong n) hops → All (IsAmong n) (map reversed_hop hops)
+turned_among n hops all = All-map (IsAmong n) reversed_hop hops (All-weaker (IsAmong n) (λ h. IsAmong n (reversed_hop h)) (λ h among. (among.1, among.0)) hops all)
 
 -- `between`, of equal lists
-pub between_at : (hops back : List Hop) (place : Place) (ahead behind seen old new : List Bool) → back ≡ map turned hops → seen ≡ behind → AreReached back place behind → ((k : Place) → Walk back place k → IsMarked behind k) → ((k : Place) → IsBoth ahead seen old new k) → MarksBetween hops place ahead old new
+pub between_at : (hops back : List Hop) (place : Place) (ahead behind seen old new : List Bool) → back ≡ map reversed_hop hops → seen ≡ behind → AreReached back place behind → ((k : Place) → Walk back place k → IsMarked behind k) → ((k : Place) → IsBoth ahead seen old new k) → MarksBetween hops place ahead old new
 between_at hops back place ahead behind seen old new turns same sound complete both =
     let A : List Hop → Type 0 = λ xs. AreReached xs place behind in
     let B : List Hop → Type 0 = λ xs. (k : Place) → Walk xs place k → IsMarked behind k in

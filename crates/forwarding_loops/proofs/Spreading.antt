@@ -6,7 +6,7 @@ use Rattle.std.proofs.lemmas.List.Sums.{sum_by-set}
 use Rattle.std.proofs.lemmas.List.Elements.{All-get_or, All-more, Contains-get_or}
 use Rattle.std.specs.List.{All}
 use Rattle.forwarding_loops.specs.declared.hop.Hop.{Hop}
-use Rattle.forwarding_loops.specs.Loops.{AreReached, HandsTo, IsAmong, IsMarked, IsPassedOn, IsSpread, PassesOn, Place, Walk, unmarked}
+use Rattle.forwarding_loops.specs.Loops.{AreReached, HandsTo, IsAmong, IsMarked, IsPassedOn, IsSpread, PassesOn, Place, Walk, count_unmarked}
 use Rattle.forwarding_loops.specs.Loops.Walk.{OneHop, OneMore}
 
 -- the end of a hop that is passed on is reached
@@ -20,7 +20,7 @@ still_sound hops start to marks sound walk place (inl same) marked = let P : Pla
 still_sound hops start to marks sound walk place (inr other) marked = sound place (sym (get_or-set_other marks to place true false other) ∙ marked)
 
 -- one router less is unmarked
-one_fewer : (marks : List Bool) (to : Place) → to < length marks → get_or marks to false ≡ false → unmarked (set marks to true) < unmarked marks
+one_fewer : (marks : List Bool) (to : Place) → to < length marks → get_or marks to false ≡ false → count_unmarked (set marks to true) < count_unmarked marks
 one_fewer marks to within before =
     let f : Bool → ℕ = λ x. cond (not x) 1 0 in
     let one : f (get_or marks to false) ≡ 1 = ap f before in

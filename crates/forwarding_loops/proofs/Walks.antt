@@ -5,7 +5,7 @@ use Rattle.std.specs.List.{All}
 use Rattle.std.proofs.lemmas.Bool.{cases_lt}
 use Rattle.std.proofs.lemmas.List.Elements.{All-contains}
 use Rattle.forwarding_loops.specs.declared.hop.Hop.{Hop}
-use Rattle.forwarding_loops.specs.Loops.{ComesBack, HandsTo, HoldsWholeLoops, IsMarked, IsMarkedBefore, IsPassedOn, Place, Walk, turned}
+use Rattle.forwarding_loops.specs.Loops.{ComesBack, HandsTo, HoldsWholeLoops, IsMarked, IsMarkedBefore, IsPassedOn, Place, Walk, reversed_hop}
 use Rattle.forwarding_loops.specs.Loops.Walk.{OneHop, OneMore}
 
 -- two walks, one behind the other
@@ -14,27 +14,27 @@ join before (OneHop hop) = OneMore before hop
 join before (OneMore walk hop) = OneMore (join before walk) hop
 
 -- a turned hop leads back
-pub hands_back : (hops : List Hop) (from to : Place) → HandsTo (map turned hops) from to → HandsTo hops to from
+pub hands_back : (hops : List Hop) (from to : Place) → HandsTo (map reversed_hop hops) from to → HandsTo hops to from
 hands_back hops from to (k, below, here) =
     let back : Hop = record { from = to; to = from } in
     let Below : ℕ → Type 0 = λ n. k < n in
-    let within : k < length hops = subst Below (length-map hops turned) below in
-    (k, within, ap turned (sym (get_or-map turned hops k back _ within) ∙ here))
+    let within : k < length hops = subst Below (length-map hops reversed_hop) below in
+    (k, within, ap reversed_hop (sym (get_or-map reversed_hop hops k back _ within) ∙ here))
 
 -- and a hop that is turned leads the other way
-pub hands_turned : (hops : List Hop) (from to : Place) → HandsTo hops from to → HandsTo (map turned hops) to from
+pub hands_turned : (hops : List Hop) (from to : Place) → HandsTo hops from to → HandsTo (map reversed_hop hops) to from
 hands_turned hops from to (k, below, here) =
     let one : Hop = record { from = from; to = to } in
     let Below : ℕ → Type 0 = λ n. k < n in
-    (k, subst Below (sym (length-map hops turned)) below, get_or-map turned hops k one _ below ∙ ap turned here)
+    (k, subst Below (sym (length-map hops reversed_hop)) below, get_or-map reversed_hop hops k one _ below ∙ ap reversed_hop here)
 
 -- a walk over turned hops leads back
-pub turned_back : {hops : List Hop} {start : Place} {end : Place} → Walk (map turned hops) start end → Walk hops end start
+pub turned_back : {hops : List Hop} {start : Place} {end : Place} → Walk (map reversed_hop hops) start end → Walk hops end start
 turned_back {hops} (OneHop hop) = OneHop (hands_back hops _ _ hop)
 turned_back {hops} (OneMore walk hop) = join (OneHop (hands_back hops _ _ hop)) (turned_back walk)
 
 -- and a walk leads the other way over turned hops
-pub turned_to : {hops : List Hop} {start : Place} {end : Place} → Walk hops start end → Walk (map turned hops) end start
+pub turned_to : {hops : List Hop} {start : Place} {end : Place} → Walk hops start end → Walk (map reversed_hop hops) end start
 turned_to {hops} (OneHop hop) = OneHop (hands_turned hops _ _ hop)
 turned_to {hops} (OneMore walk hop) = join (OneHop (hands_turned hops _ _ hop)) (turned_to walk)
 

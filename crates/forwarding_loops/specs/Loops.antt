@@ -50,8 +50,8 @@ abbrev pub IsPassedOn : Place → List Bool → Hop → Type 0
 IsPassedOn start marks hop =
     (hop.from ≡ start) ⊎ IsMarked marks hop.from → IsMarked marks hop.to
 
-abbrev pub unmarked : List Bool → ℕ
-unmarked marks = count_by not marks
+abbrev pub count_unmarked : List Bool → ℕ
+count_unmarked marks = count_by not marks
 
 -- the hop is passed on: its end wasn't marked, and is
 pub record PassesOn (start : Place) (hop : Hop) (old new : List Bool) : Type 0 where
@@ -63,12 +63,12 @@ pub record PassesOn (start : Place) (hop : Hop) (old new : List Bool) : Type 0 w
 pub record IsSpread (hops : List Hop) (start : Place) (old marks : List Bool) (some : Bool)
     (count : ℕ) : Type 0 where
   pub sound : AreReached hops start marks
-  pub fewer : some ≡ true → unmarked marks < unmarked old
-  pub no_more : unmarked marks ≤ unmarked old
+  pub fewer : some ≡ true → count_unmarked marks < count_unmarked old
+  pub no_more : count_unmarked marks ≤ count_unmarked old
   pub closed : some ≡ false → All (IsPassedOn start marks) (take count hops)
 
-abbrev pub turned : Hop → Hop
-turned hop = record { from = hop.to; to = hop.from }
+abbrev pub reversed_hop : Hop → Hop
+reversed_hop hop = record { from = hop.to; to = hop.from }
 
 -- what was marked, and what both lists mark, is marked, and nothing else
 abbrev pub IsBoth : List Bool → List Bool → List Bool → List Bool → Place → Type 0

@@ -2,7 +2,7 @@
 ghost use Rattle.std.specs.Prelude.{◌≡◌, ℕ, IfOk, length, map, true, false};
 ghost use Rattle.std.specs.List.{All};
 ghost use Rattle.forwarding_loops.specs.Loops.{AreReached, IsAmong, IsMarked, IsPassedOn, IsSpread};
-ghost use Rattle.forwarding_loops.specs.Loops.{PassesOn, Walk, turned};
+ghost use Rattle.forwarding_loops.specs.Loops.{PassesOn, Walk, reversed_hop};
 
 use crate::hop::Hop;
 use std::alloc::{AllocError, Global};
@@ -77,7 +77,7 @@ pub fn reached(
 /// # Errors
 /// Where memory for them is refused.
 pub fn turn_all(alloc: Global, hops: &[Hop]) -> Result<Vec<Hop>, AllocError>
-    ensures { IfOk result (λ made. made.items ≡ map turned hops.now) }
+    ensures { IfOk result (λ made. made.items ≡ map reversed_hop hops.now) }
 {
     hops.iter()
         .map(|hop| Hop {

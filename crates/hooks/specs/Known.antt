@@ -5,11 +5,11 @@ use Rattle.hooks.specs.declared.operation.Operation.{Operation}
 use Rattle.hooks.specs.declared.loader.Loader.{Loader}
 use Rattle.hooks.specs.declared.loader.Notice.{Notice}
 use Rattle.hooks.specs.declared.asker.Asker.{Asker}
-use Rattle.hooks.specs.Shown.{listed, history}
+use Rattle.hooks.specs.Shown.{published_operations, history}
 
 -- its operations, in order
 abbrev pub operations_of : {R : Type 0} → Loader R → List Operation
-operations_of l = listed l.writer.desk.shown.value
+operations_of l = published_operations l.writer.desk.shown.value
 
 -- which history they are
 abbrev pub history_of : {R : Type 0} → Loader R → Book

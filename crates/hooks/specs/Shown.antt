@@ -9,8 +9,8 @@ use Rattle.hooks.specs.declared.value.Entry.{Entry}
 use Rattle.hooks.specs.Operations.{after, leaves}
 
 -- the operations that were published
-abbrev pub listed : Programs → List Operation
-listed p = p.front.seen.log
+abbrev pub published_operations : Programs → List Operation
+published_operations p = p.front.seen.log
 
 -- which history they are of
 abbrev pub history : Programs → Book
@@ -23,12 +23,14 @@ vacant front = record { count = None; tag = None; price = None; veto = None; fro
 -- each slot shows what the operations leave at its hook
 abbrev pub Stands : Programs → Type 0
 Stands p =
-    (p.count ≡ leaves Count (listed p)) × (p.tag ≡ leaves Tag (listed p))
-    × (p.price ≡ leaves Price (listed p)) × (p.veto ≡ leaves Veto (listed p))
+    (p.count ≡ leaves Count (published_operations p))
+    × (p.tag ≡ leaves Tag (published_operations p))
+    × (p.price ≡ leaves Price (published_operations p))
+    × (p.veto ≡ leaves Veto (published_operations p))
 
 -- the value after one more operation
-abbrev pub changed : Programs → Entry → Programs
-changed p e =
+abbrev pub after_operation : Programs → Entry → Programs
+after_operation p e =
     record {
       count = after Count p.count e.operation;
       tag = after Tag p.tag e.operation;
@@ -40,4 +42,5 @@ changed p e =
 -- the value with these entries stays one that stands, of the same history
 abbrev pub Fits : Programs → List Entry → Type 0
 Fits p entries =
-    Stands p → Stands (fold changed p entries) × (history (fold changed p entries) ≡ history p)
+    Stands p → Stands (fold after_operation p entries)
+    × (history (fold after_operation p entries) ≡ history p)

@@ -3,7 +3,7 @@ ghost use Rattle.std.specs.Prelude.{◌≡◌, ◌≢◌, ◌<◌, ◌≤◌, []
 ghost use Rattle.std.specs.Prelude.{vec_len, IfOk, IfErr, MatchResult};
 ghost use Rattle.left_right.specs.Sides.{view};
 ghost use Rattle.hooks.specs.History.{head_of};
-ghost use Rattle.hooks.specs.Shown.{Fits, changed, history, vacant};
+ghost use Rattle.hooks.specs.Shown.{Fits, after_operation, history, vacant};
 ghost use Rattle.hooks.specs.declared.operation.Operation.TheVariants.{Attach, Detach};
 ghost use Rattle.isa.specs.declared.hook.Hook.TheVariants.{Count as HookCount};
 
@@ -39,7 +39,7 @@ pub struct Notice {
 /// Shows askers each pending entry.
 fn show<R: Wait>(writer: ProgramWriter, rt: &R) -> (ProgramWriter, ())
     requires { Fits writer.desk.shown.value (drop writer.behind writer.log.items) }
-    ensures shown { result.0.desk.shown.value ≡ fold changed writer.desk.shown.value
+    ensures shown { result.0.desk.shown.value ≡ fold after_operation writer.desk.shown.value
         (drop writer.behind writer.log.items) }
     ensures idle { drop result.0.behind result.0.log.items ≡ [] }
     ensures knows { view result.0.desk.place ≡ Some result.0.desk.shown.value.front }

@@ -4,6 +4,7 @@
 
 use hooktool_commands::program;
 use std::alloc::{AllocError, Global};
+use std::io::Write;
 use std::process::ExitCode;
 use std::{env, io};
 
@@ -11,19 +12,30 @@ use std::{env, io};
 fn main(rt: HostRuntime) -> ExitCode {
     let mut output = io::writer(&rt);
     let mut errors = rt.stderr();
-    let status = match arguments(&rt) {
-        Ok(words) => match texts_of(rt.alloc(), &words) {
-            Ok(texts) => program::program(&rt, &texts, &mut output, &mut errors),
-            Err(error) => program::end_without_words(
-                rt.alloc(),
-                &io::Error::from(error),
-                &mut output,
-                &mut errors,
-            ),
-        },
-        Err(error) => { program::end_without_words(rt.alloc(), &error, &mut output, &mut errors) }
-    };
-    ExitCode::from(status)
+    ExitCode::from(status(&rt, &mut output, &mut errors))
+}
+
+// Runs the program, if its arguments can be read, and answers the status.
+fn status<O: Write, E: Write>(rt: &HostRuntime, output: &mut O, errors: &mut E) -> u8 {
+    match arguments(rt) {
+        Ok(words) => run(rt, &words, output, errors),
+        Err(error) => program::end_without_words(rt.alloc(), &error, output, errors),
+    }
+}
+
+// The same, with these arguments.
+fn run<O: Write, E: Write>(
+    rt: &HostRuntime,
+    words: &[String],
+    output: &mut O,
+    errors: &mut E,
+) -> u8 {
+    match texts_of(rt.alloc(), words) {
+        Ok(texts) => program::program(rt, &texts, output, errors),
+        Err(error) => {
+            program::end_without_words(rt.alloc(), &io::Error::from(error), output, errors)
+        }
+    }
 }
 
 fn arguments(rt: &HostRuntime) -> io::Result<Vec<String>> {

@@ -8,33 +8,62 @@ use crate::fault::Fault;
 use crate::files;
 use crate::report::Report;
 use annotations::{Annotated, CountError, Endless, Rejected, Shortfall, Trouble, annotate_file};
-use explanations::explain;
+use explanations::{Explanation, explain};
 use isa::Hook;
 use std::alloc::{AllocError, Global};
 use std::rt::Files;
 
-/// Why a loop has no rank, and what an author can do.
+/// Why a loop has no rank.
+fn push_trouble(out: &mut String, trouble: Trouble) -> Result<(), AllocError> {
+    match trouble {
+        Trouble::Rises { register } => {
+            writeln!(out, "r{register} rises with each turn, and none falls")
+        }
+        Trouble::TooHigh { register, from } => writeln!(
+            out,
+            "r{register} falls from up to {from}, which takes too long"
+        ),
+        Trouble::NoneFalls => {
+            out.push_str("no register falls by a single number on each way round\n")
+        }
+    }
+}
+
+/// Which loop has no rank and why, and what an author can do.
 fn push_endless(out: &mut String, endless: &Endless) -> Result<(), AllocError> {
     let slot = endless.slot;
     write!(out, "the loop at slot {slot} has no rank: ")?;
-    match endless.trouble {
-        Trouble::Rises { register } => {
-            writeln!(out, "r{register} rises with each turn, and none falls")?;
-        }
-        Trouble::TooHigh { register, from } => {
-            writeln!(
-                out,
-                "r{register} falls from up to {from}, which takes too long"
-            )?;
-        }
-        Trouble::NoneFalls => {
-            out.push_str("no register falls by a single number on each way round\n")?;
-        }
-    }
+    push_trouble(out, endless.trouble)?;
     out.push_str(
         "  either let a register fall with each turn (DOWN and EACH of examples/c/leafrunt.h \
             do)\n  or count the turns: --fuel N\n",
     )
+}
+
+/// Where the verifier refuses the object file that these bytes are, and why.
+fn why_refused(alloc: Global, bytes: &[u8]) -> Result<String, AllocError> {
+    match explain(alloc, bytes) {
+        Ok(explanation) => {
+            let Explanation { last, told, .. } = explanation;
+            let mut text = last;
+            text.push_str(told.as_str())?;
+            Ok(text)
+        }
+        Err(_) => Err(AllocError),
+    }
+}
+
+/// The same, and which loop has no rank.
+fn rejection_text(
+    alloc: Global,
+    rejected: &Rejected,
+    endless: &Option<Endless>,
+) -> Result<String, AllocError> {
+    let mut text = why_refused(alloc, &rejected.bytes)?;
+    if let Some(endless) = endless {
+        push_endless(&mut text, endless)?;
+    }
+    Ok(text)
 }
 
 /// What is told of a program that the verifier refuses.
@@ -45,17 +74,7 @@ fn rejection(
 ) -> Result<Report, AllocError>
     ensures { IfOk result (λ report. report.is_refused ≡ true) }
 {
-    let mut text = String::new(alloc);
-    match explain(alloc, &rejected.bytes) {
-        Ok(explanation) => {
-            text.push_str(explanation.last.as_str())?;
-            text.push_str(explanation.told.as_str())?;
-        }
-        Err(_) => return Err(AllocError),
-    }
-    if let Some(endless) = endless {
-        push_endless(&mut text, endless)?;
-    }
+    let text = rejection_text(alloc, rejected, endless)?;
     Ok(Report {
         text,
         is_refused: true,

@@ -38,12 +38,18 @@ struct Program {
 
 fn program_of<'a>(alloc: Global, bytes: &[u8]) -> Result<Program, Fault<'a>> {
     let object = object::read(alloc, bytes)?;
+    program_in(alloc, &object)
+}
+
+/// The program of the object.
+fn program_in<'a>(alloc: Global, object: &Object) -> Result<Program, Fault<'a>> {
     let code = decode(alloc, object.code())?;
+    let lines = instruction_lines(alloc, object)?;
     Ok(Program {
         hook: object.hook(),
-        bound: bound_of(&object),
+        bound: bound_of(object),
         code,
-        lines: instruction_lines(alloc, &object)?,
+        lines,
     })
 }
 
@@ -88,11 +94,16 @@ fn push_numbers(out: &mut String, name: &str, numbers: &[u64]) -> Result<(), All
     Ok(())
 }
 
+/// Each run's end, and what was left in counters and cells.
+fn push_trial(out: &mut String, program: &Program, trial: &Trial) -> Result<(), AllocError> {
+    push_endings(out, program, &trial.endings)?;
+    push_numbers(out, "counter", &trial.counters)?;
+    push_numbers(out, "cell", &trial.cells)
+}
+
 fn text_of(alloc: Global, program: &Program, trial: &Trial) -> Result<String, AllocError> {
     let mut text = String::new(alloc);
-    push_endings(&mut text, program, &trial.endings)?;
-    push_numbers(&mut text, "counter", &trial.counters)?;
-    push_numbers(&mut text, "cell", &trial.cells)?;
+    push_trial(&mut text, program, trial)?;
     Ok(text)
 }
 
@@ -117,15 +128,15 @@ fn packet_bytes<'a, R: Files + AllocGlobal>(
 
 /// Runs the program of the object file that these bytes are on the question, with this packet, and
 /// says what is to be told of it.
-fn trial_of<'a>(
+fn told_of<'a>(
     alloc: Global,
     bytes: &[u8],
     packet: &[u8],
     question: &Question<'_>,
+    program: &Program,
 ) -> Result<Report, Fault<'a>>
     ensures { IfOk result (IsTried bytes.now packet.now question.now) }
 {
-    let program = program_of(alloc, bytes)?;
     let trial = try_object(
         alloc,
         bytes,
@@ -135,9 +146,22 @@ fn trial_of<'a>(
         question.times,
     )?;
     Ok(Report {
-        text: text_of(alloc, &program, &trial)?,
+        text: text_of(alloc, program, &trial)?,
         is_refused: is_any_stuck(&trial.endings),
     })
+}
+
+/// The same, where the bytes hold a program.
+fn trial_of<'a>(
+    alloc: Global,
+    bytes: &[u8],
+    packet: &[u8],
+    question: &Question<'_>,
+) -> Result<Report, Fault<'a>>
+    ensures { IfOk result (IsTried bytes.now packet.now question.now) }
+{
+    let program = program_of(alloc, bytes)?;
+    told_of(alloc, bytes, packet, question, &program)
 }
 
 /// Runs the program of the object file at `path` on the question, and tells each run's end and what

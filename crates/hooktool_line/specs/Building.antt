@@ -4,7 +4,7 @@ use Rattle.clap.specs.Simple.{App, Shape, app_of, new_app, shape_of, with_rule, 
 use Rattle.clap.specs.Walk.{Rule, Text}
 use Rattle.clap.specs.declared.builder.command.Command.{Command}
 use Rattle.clap.specs.declared.builder.command.Command.TheViews.{out-Command}
-use Rattle.hooktool_line.specs.CommandLine.{option, repeated, required}
+use Rattle.hooktool_line.specs.CommandLine.{option, repeated_option, required_word}
 use Rattle.hooktool_line.specs.declared.arguments.Form.{Form}
 use Rattle.hooktool_line.specs.declared.arguments.Given.{Given}
 use Rattle.hooktool_line.specs.declared.arguments.Given.TheVariants as given
@@ -16,9 +16,9 @@ IsLocal c = (out-Command c).has_globals ≡ false
 
 -- the rule of a word of this name
 abbrev pub rule_by : Given → Text → Rule
-rule_by given.Required name = required name
+rule_by given.Required name = required_word name
 rule_by given.Once name = option name
-rule_by given.Repeated name = repeated name
+rule_by given.Repeated name = repeated_option name
 
 abbrev pub rule_for : Word → Rule
 rule_for word = rule_by word.given word.name.now

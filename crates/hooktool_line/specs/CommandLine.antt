@@ -5,16 +5,16 @@ use Rattle.clap.specs.Walk.{Rule, Text}
 use Rattle.clap.specs.declared.builder.action.ArgAction.TheVariants.{Append}
 
 -- a word that has to be there
-abbrev pub required : Text → Rule
-required id = record (new_rule id) { value_names = 1; required = true }
+abbrev pub required_word : Text → Rule
+required_word id = record (new_rule id) { value_names = 1; required_word = true }
 
 -- one that stands behind its name, with two hyphens, if it is there
 abbrev pub option : Text → Rule
 option id = record (new_rule id) { long = Some id; value_names = 1 }
 
 -- and may be there several times
-abbrev pub repeated : Text → Rule
-repeated id = record (option id) { action = Some Append }
+abbrev pub repeated_option : Text → Rule
+repeated_option id = record (option id) { action = Some Append }
 
 abbrev pub command : Text → List Rule → Shape
 command name rules = record (new_shape name) { rules = rules }
@@ -23,12 +23,12 @@ command name rules = record (new_shape name) { rules = rules }
 abbrev pub annotate : Shape
 annotate =
     command (codes "annotate")
-    (required (codes "HOOK") ∷ required (codes "CODE") ∷ required (codes "OBJECT")
+    (required_word (codes "HOOK") ∷ required_word (codes "CODE") ∷ required_word (codes "OBJECT")
     ∷ option (codes "fuel") ∷ [])
 
 -- explain OBJECT
 abbrev pub explain : Shape
-explain = command (codes "explain") (required (codes "OBJECT") ∷ [])
+explain = command (codes "explain") (required_word (codes "OBJECT") ∷ [])
 
 -- a destination and a route
 abbrev pub route_options : List Rule
@@ -40,12 +40,12 @@ route_options =
 abbrev pub other_options : List Rule
 other_options =
     option (codes "moment") ∷ option (codes "interface") ∷ option (codes "packet")
-    ∷ repeated (codes "row") ∷ option (codes "times") ∷ []
+    ∷ repeated_option (codes "row") ∷ option (codes "times") ∷ []
 
 -- try OBJECT, and the question
 abbrev pub try : Shape
 try =
-    command (codes "try") (required (codes "OBJECT") ∷ route_options ++ other_options)
+    command (codes "try") (required_word (codes "OBJECT") ∷ route_options ++ other_options)
 
 -- One of these commands has to be named, and without any word the answer is help.
 abbrev pub line : App

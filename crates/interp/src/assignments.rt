@@ -1,10 +1,11 @@
 //! Instructions that put a content into a register.
 ghost use Rattle.std.specs.Prelude.{◌≡◌, ◌≢◌, ◌<◌, ◌+◌, ℕ, OnOk, OnErr, IfOk, IfErr, Some};
-ghost use Rattle.isa.specs.Arithmetic.{negated, extended, reordered, widened};
+ghost use Rattle.isa.specs.Arithmetic.{negated_number, sign_extended};
+ghost use Rattle.isa.specs.Arithmetic.{in_byte_order, widened_immediate};
 ghost use Rattle.isa.specs.declared.map.Map.{Map};
 ghost use Rattle.machine.specs.declared.state.Content.TheVariants.{Number, Address};
 ghost use Rattle.machine.specs.declared.state.Pointer.TheVariants as pointers;
-ghost use Rattle.machine.specs.State.{held, operand, filled};
+ghost use Rattle.machine.specs.State.{held, operand, with_register};
 ghost use Rattle.machine.specs.Label.{Silent};
 ghost use Rattle.machine.specs.Steps.{Fills, result_of, on_number, map_of};
 ghost use Rattle.machine.specs.Faults.{operation_reads};
@@ -62,7 +63,7 @@ fn number_in(state: &State, register: Register) -> Result<u64, Fault>
 /// NEG.
 pub(crate) fn negate(state: &mut State, width: Width, target: Register) -> Result<(), Fault>
     requires { state.old.slot < 4096 }
-    ensures ok { OnOk result (Fills state.old target (on_number (negated width)
+    ensures ok { OnOk result (Fills state.old target (on_number (negated_number width)
         (held state.old target)) Silent state.new) }
     ensures err { IfErr result (λ fault. fault_of_change (held state.old target) target
         ≡ Some fault) }
@@ -88,7 +89,7 @@ pub(crate) fn sign_extend(
     source: Register,
 ) -> Result<(), Fault>
     requires { state.old.slot < 4096 }
-    ensures ok { OnOk result (Fills state.old target (on_number (extended extension)
+    ensures ok { OnOk result (Fills state.old target (on_number (sign_extended extension)
         (held state.old source)) Silent state.new) }
     ensures err { IfErr result (λ fault. fault_of_change (held state.old source) target
         ≡ Some fault) }
@@ -114,7 +115,7 @@ pub(crate) fn reorder(
     target: Register,
 ) -> Result<(), Fault>
     requires { state.old.slot < 4096 }
-    ensures ok { OnOk result (Fills state.old target (on_number (reordered order width)
+    ensures ok { OnOk result (Fills state.old target (on_number (in_byte_order order width)
         (held state.old target)) Silent state.new) }
     ensures err { IfErr result (λ fault. fault_of_change (held state.old target) target
         ≡ Some fault) }
@@ -136,7 +137,7 @@ pub(crate) fn reorder(
 pub(crate) fn load_number(state: &mut State, target: Register, number: u64) -> Result<(), Fault>
     requires { state.old.slot < 4096 }
     ensures ok { OnOk result ((target ≢ 10)
-        × (state.new ≡ record (filled state.old target (Number number)) {
+        × (state.new ≡ record (with_register state.old target (Number number)) {
           slot = state.old.slot + 2;
         })) }
     ensures err { IfErr result (λ fault. fault_of_target target ≡ Some fault) }
@@ -169,8 +170,8 @@ pub(crate) fn load_map(
 ) -> Result<(), Fault>
     requires { state.old.slot < 4096 }
     ensures ok { OnOk result ((m : Map) × (map_of map ≡ Some m) × (target ≢ 10)
-        × (state.new ≡ record (filled state.old target
-        (Address (pointers.Map m (widened offset)))) { slot = state.old.slot + 2 })) }
+        × (state.new ≡ record (with_register state.old target
+        (Address (pointers.Map m (widened_immediate offset)))) { slot = state.old.slot + 2 })) }
     ensures err { IfErr result (λ fault. fault_of_map (map_of map) target ≡ Some fault) }
     ensures still { OnErr result (state.new ≡ state.old) }
 {

@@ -1,7 +1,8 @@
 //! What instructions make of numbers and pointers.
 ghost use Rattle.std.specs.Prelude.{◌≡◌, ◌<◌, ◌^◌};
 ghost use Rattle.machine.specs.Memory.{at_distance};
-ghost use Rattle.machine.specs.Steps.{displaced, combined, copied, result_of, tested};
+ghost use Rattle.machine.specs.Steps.{moved_pointer, combined_content};
+ghost use Rattle.machine.specs.Steps.{copied_content, result_of, test_result};
 ghost use Rattle.machine.specs.Faults.{has, is_nothing, operation_reads, is_same_pointer};
 
 use isa::{Map, Operation, Test, Width, arithmetic};
@@ -40,7 +41,7 @@ pub(crate) fn is_same_pointer(a: Pointer, b: Pointer) -> bool
 
 /// A pointer with a number added or subtracted, if it may be.
 fn displaced(operation: Operation, pointer: Pointer, number: u64) -> Option<Content>
-    ensures { result ≡ displaced operation pointer number }
+    ensures { result ≡ moved_pointer operation pointer number }
 {
     match operation {
         Operation::Add => Some(Content::Address(at_distance(pointer, number))),
@@ -53,7 +54,7 @@ fn displaced(operation: Operation, pointer: Pointer, number: u64) -> Option<Cont
 
 /// What an operation but a move makes of two contents, if it may.
 fn combined(width: Width, operation: Operation, left: Content, right: Content) -> Option<Content>
-    ensures { result ≡ combined width operation left right }
+    ensures { result ≡ combined_content width operation left right }
 {
     match (left, right) {
         (Content::Number(a), Content::Number(b)) => {
@@ -69,7 +70,7 @@ fn combined(width: Width, operation: Operation, left: Content, right: Content) -
 
 /// What a move copies, if it may.
 fn copied(width: Width, content: Content) -> Option<Content>
-    ensures { result ≡ copied width content }
+    ensures { result ≡ copied_content width content }
 {
     match content {
         Content::Nothing => None,
@@ -108,7 +109,7 @@ pub(crate) fn reads_nothing(operation: Operation, left: Content, right: Content)
 
 /// Whether a test of two contents holds, if it may be made.
 pub(crate) fn tested(width: Width, test: Test, left: Content, right: Content) -> Option<bool>
-    ensures { result ≡ tested width test left right }
+    ensures { result ≡ test_result width test left right }
 {
     match (left, right) {
         (Content::Number(a), Content::Number(b)) => Some(arithmetic::test_holds(width, test, a, b)),

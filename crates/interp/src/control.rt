@@ -4,7 +4,7 @@ ghost use Rattle.machine.specs.declared.state.Content.TheVariants.{Number};
 ghost use Rattle.machine.specs.Given.{given_by};
 ghost use Rattle.machine.specs.State.{Setting, held, operand};
 ghost use Rattle.machine.specs.Label.{Label, Silent};
-ghost use Rattle.machine.specs.Steps.{Branches, tested};
+ghost use Rattle.machine.specs.Steps.{Branches, test_result};
 ghost use Rattle.machine.specs.Helpers.{helper_of};
 ghost use Rattle.helpers.specs.Calls.{fault_of_call};
 ghost use Rattle.helpers.specs.Seats.{Makes};
@@ -26,7 +26,7 @@ pub(crate) fn branch(
     distance: i16,
 ) -> Result<(), Fault>
     requires { state.old.slot < 4096 }
-    ensures ok { OnOk result (Branches state.old (tested width test (held state.old left)
+    ensures ok { OnOk result (Branches state.old (test_result width test (held state.old left)
         (operand state.old right)) distance Silent state.new) }
     ensures err { IfErr result (λ fault. fault_of_test (held state.old left)
         (operand state.old right) ≡ Some fault) }

@@ -1,7 +1,7 @@
 //! What registers hold, and how the machine goes on.
 ghost use Rattle.std.specs.Prelude.{◌≡◌, ◌<◌, ◌+◌};
-ghost use Rattle.machine.specs.State.{held, operand, filled, moved_on, jumped};
-ghost use Rattle.machine.specs.Helpers.{called};
+ghost use Rattle.machine.specs.State.{held, operand, with_register, moved_on, after_jump};
+ghost use Rattle.machine.specs.Helpers.{state_after_call};
 
 use isa::{Register, Source};
 use machine::{Content, State};
@@ -26,7 +26,7 @@ pub(crate) fn operand(state: &State, source: Source) -> Content
 /// Fills a register, and goes on to the next slot.
 pub(crate) fn fill(state: &mut State, target: Register, content: Content)
     requires { state.old.slot < 4096 }
-    ensures { state.new ≡ filled state.old target content }
+    ensures { state.new ≡ with_register state.old target content }
 {
     state.registers[target.index()] = content;
     state.slot += 1;
@@ -35,7 +35,8 @@ pub(crate) fn fill(state: &mut State, target: Register, content: Content)
 /// Fills a register, and goes on past a wide instruction.
 pub(crate) fn fill_wide(state: &mut State, target: Register, content: Content)
     requires { state.old.slot < 4096 }
-    ensures { state.new ≡ record (filled state.old target content) { slot = state.old.slot + 2 } }
+    ensures { state.new
+        ≡ record (with_register state.old target content) { slot = state.old.slot + 2 } }
 {
     state.registers[target.index()] = content;
     state.slot += 2;
@@ -52,7 +53,7 @@ pub(crate) fn move_on(state: &mut State)
 /// Goes to the slot at a distance from the next one. The slot is a word and wraps.
 pub(crate) fn jump(state: &mut State, distance: i32)
     requires { state.old.slot < 4096 }
-    ensures { state.new ≡ jumped state.old distance }
+    ensures { state.new ≡ after_jump state.old distance }
 {
     state.slot = (state.slot + 1).wrapping_add(i64::from(distance).cast_unsigned());
 }
@@ -60,7 +61,7 @@ pub(crate) fn jump(state: &mut State, distance: i32)
 /// Puts a helper's answer into r0, empties r1 to r5, and goes on to the next slot.
 pub(crate) fn take_answer(state: &mut State, answer: u64)
     requires { state.old.slot < 4096 }
-    ensures { state.new ≡ called state.old answer }
+    ensures { state.new ≡ state_after_call state.old answer }
 {
     state.registers[0] = Content::Number(answer);
     state.registers[1] = Content::Nothing;

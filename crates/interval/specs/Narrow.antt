@@ -10,7 +10,7 @@ use Rattle.interval.specs.declared.value.Interval.{Interval}
 use Rattle.interval.specs.Bounds.{Bounds, bounds_of, cut_bounds, IsInside}
 use Rattle.interval.specs.Results.{IsNarrowResult}
 use Rattle.interval.specs.Order.{IsTrimmed, IsTightAnswer, StaysInside}
-use Rattle.interval.specs.Signs.{biased, IsNarrowSigned, TrimsSigned}
+use Rattle.interval.specs.Signs.{biased_number, IsNarrowSigned, TrimsSigned}
 use Rattle.interval.specs.Members.{IsMember}
 
 -- the unsigned bounds of a result
@@ -39,7 +39,7 @@ pub record IsTrimmedSigned (test : Test) (w : Width) (left right : Span)
     (answer : Option (Span × Span)) : Type 0 where
   pub inside : StaysInside left right answer
   pub tight : TrimsSigned w test
-      → IsTightAnswer (λ a b. test_holds w test (low w (biased a)) (low w (biased b)))
+      → IsTightAnswer (λ a b. test_holds w test (low w (biased_number a)) (low w (biased_number b)))
       left right answer
 
 -- what is left is inside of what unsigned and signed bounds are trimmed to

@@ -12,11 +12,11 @@ use Rattle.isa.specs.declared.instruction.Test.TheVariants.{SignedLessOrEqual}
 use Rattle.interval.specs.Bounds.{Bounds}
 
 -- The biased number of what a register holds, and what it holds for a biased number.
-abbrev pub biased : ℕ → ℕ
-biased n = (n + 2 ^ 63) % 2 ^ 64
+abbrev pub biased_number : ℕ → ℕ
+biased_number n = (n + 2 ^ 63) % 2 ^ 64
 
 abbrev pub biased_bounds : Bounds → Bounds
-biased_bounds b = record { low = biased b.low; high = biased b.high }
+biased_bounds b = record { low = biased_number b.low; high = biased_number b.high }
 
 -- The numbers lie on one side of 2^63: all have a sign or none has, so biased they are a span too.
 abbrev pub IsOnOneSide : Bounds → Type 0

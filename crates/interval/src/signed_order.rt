@@ -4,7 +4,7 @@ ghost use Rattle.isa.specs.declared.instruction.Width.{Width};
 ghost use Rattle.isa.specs.declared.instruction.Width.TheVariants.{Bits64};
 ghost use Rattle.isa.specs.Arithmetic.{low, test_holds};
 ghost use Rattle.interval.specs.Order.{KeepsPairs, IsUnsigned};
-ghost use Rattle.interval.specs.Signs.{biased, TrimsSigned};
+ghost use Rattle.interval.specs.Signs.{biased_number, TrimsSigned};
 ghost use Rattle.interval.specs.Narrow.{IsTrimmedSigned};
 
 use crate::order::met_unsigned;
@@ -15,8 +15,8 @@ use isa::{Test, Width};
 /// that does not go by the signed order.
 fn of_biased(test: Test) -> Option<Test>
     ensures same { IfSome result (λ other. (width : Width) (a b : ℕ) → a < 2 ^ 64 → b < 2 ^ 64
-        → test_holds width other a b ≡ test_holds Bits64 test (low Bits64 (biased a))
-        (low Bits64 (biased b))) }
+        → test_holds width other a b ≡ test_holds Bits64 test (low Bits64 (biased_number a))
+        (low Bits64 (biased_number b))) }
     ensures unsigned { IfSome result IsUnsigned }
     ensures some { TrimsSigned Bits64 test → IsSome result }
 {
@@ -39,8 +39,8 @@ pub(crate) fn assumed_signed(
     left: Span,
     right: Span,
 ) -> Option<(Span, Span)>
-    ensures holds { KeepsPairs (λ a b. test_holds width test (low width (biased a))
-        (low width (biased b))) left right result }
+    ensures holds { KeepsPairs (λ a b. test_holds width test (low width (biased_number a))
+        (low width (biased_number b))) left right result }
     ensures trimmed { IsTrimmedSigned test width left right result }
 {
     match (width, of_biased(test)) {

@@ -4,7 +4,7 @@ ghost use Rattle.isa.specs.declared.instruction.Operation.TheVariants.{Add, Subt
 ghost use Rattle.isa.specs.declared.instruction.Width.TheVariants.{Bits64};
 ghost use Rattle.isa.specs.Arithmetic.{low, operate};
 ghost use Rattle.interval.specs.Bounds.{IsIn, bounds_of};
-ghost use Rattle.interval.specs.Signs.{biased, IsNarrowSigned};
+ghost use Rattle.interval.specs.Signs.{biased_number, IsNarrowSigned};
 
 use crate::bounds::{every, wrapped};
 use crate::span::Span;
@@ -15,8 +15,8 @@ const BIAS: u128 = 1 << 63;
 
 /// The sums. One bias of two is taken away by the third, modulo 2^64.
 fn signed_sum(left: Span, right: Span) -> Span
-    ensures holds { (a b : ℕ) → IsIn left (biased a) → IsIn right (biased b)
-        → IsIn result (biased (low Bits64 (a + b))) }
+    ensures holds { (a b : ℕ) → IsIn left (biased_number a) → IsIn right (biased_number b)
+        → IsIn result (biased_number (low Bits64 (a + b))) }
     ensures narrow { IsNarrowSigned Bits64 Add (bounds_of left) (bounds_of right)
         (bounds_of result) }
 {
@@ -29,8 +29,9 @@ fn signed_sum(left: Span, right: Span) -> Span
 
 /// The differences. The two biases cancel out, so it is added once more.
 fn signed_difference(left: Span, right: Span) -> Span
-    ensures holds { (a b : ℕ) → b < 2 ^ 64 → IsIn left (biased a) → IsIn right (biased b)
-        → IsIn result (biased (low Bits64 (a + (2 ^ 64 - b)))) }
+    ensures holds { (a b : ℕ) → b < 2 ^ 64 → IsIn left (biased_number a)
+        → IsIn right (biased_number b)
+        → IsIn result (biased_number (low Bits64 (a + (2 ^ 64 - b)))) }
     ensures narrow { IsNarrowSigned Bits64 Subtract (bounds_of left) (bounds_of right)
         (bounds_of result) }
 {
@@ -43,8 +44,9 @@ fn signed_difference(left: Span, right: Span) -> Span
 
 /// The results of an operation. Of others than these every number may be one.
 pub(crate) fn signed_results(width: Width, operation: Operation, left: Span, right: Span) -> Span
-    ensures holds { (a b : ℕ) → a < 2 ^ 64 → b < 2 ^ 64 → IsIn left (biased a)
-        → IsIn right (biased b) → IsIn result (biased (operate width operation (low width a)
+    ensures holds { (a b : ℕ) → a < 2 ^ 64 → b < 2 ^ 64 → IsIn left (biased_number a)
+        → IsIn right (biased_number b)
+            → IsIn result (biased_number (operate width operation (low width a)
         (low width b))) }
     ensures narrow { IsNarrowSigned width operation (bounds_of left) (bounds_of right)
         (bounds_of result) }

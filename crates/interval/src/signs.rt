@@ -2,7 +2,7 @@
 ghost use Rattle.std.specs.Prelude.{◌≡◌, ℕ, ◌+◌, ◌%◌, ◌<◌, ◌≤◌, ◌^◌, ◌⊎◌, ◌↔◌, IsTrue, IsSomeAnd};
 ghost use Rattle.std.specs.Prelude.{IfSome, max, min};
 ghost use Rattle.interval.specs.Bounds.{IsIn, bounds_of, IsInside};
-ghost use Rattle.interval.specs.Signs.{biased, biased_bounds, IsOnOneSide};
+ghost use Rattle.interval.specs.Signs.{biased_number, biased_bounds, IsOnOneSide};
 ghost use Rattle.interval.specs.Members.{IsMember};
 
 use crate::bounds::{between, every};
@@ -24,8 +24,8 @@ fn is_on_one_side(span: Span) -> bool
 fn turned(span: Span) -> Span
     requires { IsOnOneSide (bounds_of span) }
     ensures bounds { bounds_of result ≡ biased_bounds (bounds_of span) }
-    ensures biased { (n : ℕ) → IsIn span n → IsIn result (biased n) }
-    ensures plain { (n : ℕ) → n < 2 ^ 64 → IsIn span (biased n) → IsIn result n }
+    ensures biased { (n : ℕ) → IsIn span n → IsIn result (biased_number n) }
+    ensures plain { (n : ℕ) → n < 2 ^ 64 → IsIn span (biased_number n) → IsIn result n }
 {
     Span {
         low: span.low.wrapping_add(BIAS),
@@ -45,7 +45,7 @@ fn common(left: Span, right: Span) -> Option<Span>
 /// The numbers that lie between the unsigned bounds and, biased, between the signed ones. Bounds
 /// that do not cross 2^63 narrow the others.
 pub(crate) fn narrowed(unsigned: Span, signed: Span) -> Option<Interval>
-    ensures holds { (n : ℕ) → IsIn unsigned n → IsIn signed (biased n)
+    ensures holds { (n : ℕ) → IsIn unsigned n → IsIn signed (biased_number n)
         → IsSomeAnd result (λ interval. IsMember interval n) }
     ensures unsigned { IfSome result (λ interval. IsInside (bounds_of interval.unsigned)
         (bounds_of unsigned)) }
@@ -84,9 +84,9 @@ pub(crate) fn of(unsigned: Span) -> Interval
 
 /// The numbers that lie between both bounds; where there are none, those of the unsigned bounds.
 pub(crate) fn between_both(unsigned: Span, signed: Span) -> Interval
-    ensures holds { (n : ℕ) → IsIn unsigned n → IsIn signed (biased n) → IsMember result n }
+    ensures holds { (n : ℕ) → IsIn unsigned n → IsIn signed (biased_number n) → IsMember result n }
     ensures unsigned { IsInside (bounds_of result.unsigned) (bounds_of unsigned) }
-    ensures signed { (n : ℕ) → IsIn unsigned n → IsIn signed (biased n)
+    ensures signed { (n : ℕ) → IsIn unsigned n → IsIn signed (biased_number n)
         → IsInside (bounds_of result.signed) (bounds_of signed) }
 {
     match narrowed(unsigned, signed) {

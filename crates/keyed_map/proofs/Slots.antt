@@ -15,7 +15,7 @@ use Rattle.keyed_map.specs.declared.slot.Slot.TheVariants.{Gone, Holds}
 use Rattle.keyed_map.specs.declared.slot.Edit.{Edit}
 use Rattle.keyed_map.specs.Keys.{ByKey}
 use Rattle.keyed_map.specs.Keys.{key_cmp}
-use Rattle.keyed_map.specs.Slots.{AllFit, Fits, HasPlace, counted, holds, kept, live, put_back, put_live, slots_of, undo, undone}
+use Rattle.keyed_map.specs.Slots.{AllFit, Fits, HasPlace, count_after_change, holds, kept, live, put_back, put_live, slots_of, undo, undone}
 use Rattle.keyed_map.proofs.Keys.{keys_exact, keys_total}
 
 first : (a b : Bool) → T (a && b) → T a
@@ -94,7 +94,7 @@ module _ {X : Type 0} where
   live_put m k Gone = same _ _ (λ q. get-live _ q ∙ ap held_in (map.get-insert keys_total m k Gone q) ∙ spread (eq_by_cmp key_cmp q k) Gone (map.get m q) ∙ ap (cond (eq_by_cmp key_cmp q k) None) (sym (get-live m q)) ∙ sym (map.get-remove keys_total (live m) k q))
   live_put m k (Holds x) = same _ _ (λ q. get-live _ q ∙ ap held_in (map.get-insert keys_total m k (Holds x) q) ∙ spread (eq_by_cmp key_cmp q k) (Holds x) (map.get m q) ∙ ap (cond (eq_by_cmp key_cmp q k) (Some x)) (sym (get-live m q)) ∙ sym (map.get-insert keys_total (live m) k x q))
 
-  pub len_put : (m : ByKey X) (k : Key) (s : Slot X) → map.len (put_live m k s) ≡ counted (map.contains_key m k) (holds s) (map.len m)
+  pub len_put : (m : ByKey X) (k : Key) (s : Slot X) → map.len (put_live m k s) ≡ count_after_change (map.contains_key m k) (holds s) (map.len m)
   len_put m k Gone = map.len-remove keys_total m k
   len_put m k (Holds x) = map.len-insert keys_total m k x
 

@@ -67,9 +67,9 @@ module _ {X : Type 0} where
       AllFit es m × (len ≡ map.len (live m)) × (settled ≡ map.len (live (undone es m)))
 
 -- so many keys, once one that was held or not was set or taken out
-abbrev pub counted : Bool → Bool → ℕ → ℕ
-counted held true n = if held then n else n + 1
-counted held false n = if held then n - 1 else n
+abbrev pub count_after_change : Bool → Bool → ℕ → ℕ
+count_after_change held true n = if held then n else n + 1
+count_after_change held false n = if held then n - 1 else n
 
 -- the keys from this one on
 abbrev pub keys_from : Key → List Key → List Key

@@ -5,7 +5,8 @@ ghost use Rattle.std.specs.List.{Contains};
 ghost use Rattle.words.specs.declared.key.Key.{Key as KeyValue};
 ghost use Rattle.keyed_map.specs.declared.slot.Edit.{Edit as EditValue};
 ghost use Rattle.keyed_map.specs.Keys.{key_cmp};
-ghost use Rattle.keyed_map.specs.Slots.{Fits, counted, holds, keys_from, keys_where, live};
+ghost use Rattle.keyed_map.specs.Slots.{Fits, count_after_change, holds};
+ghost use Rattle.keyed_map.specs.Slots.{keys_from, keys_where, live};
 ghost use Rattle.keyed_map.specs.Slots.{put_live, slots_of, undo};
 ghost use Rattle.keyed_map.specs.Changes.{IsFirst, held_before};
 
@@ -63,7 +64,7 @@ fn holds<X>(slot: &Slot<X>) -> bool
 
 // How many keys there are, once a slot was written: there are no more than slots.
 fn count<X>(slots: &BTreeMap<Key, Slot<X>>, len: usize, held: bool, holds: bool) -> usize
-    requires { map.len (live (slots_of slots.now.entries)) ≡ counted held holds len }
+    requires { map.len (live (slots_of slots.now.entries)) ≡ count_after_change held holds len }
     ensures { result ≡ map.len (live (slots_of slots.now.entries)) }
 {
     let _slots = slots.len();

@@ -2,7 +2,7 @@
 use Rattle.std.proofs.Common.{◌≡◌, ◌≢◌, ℕ, zero, suc, ◌+◌, ◌<◌, ◌≤◌, List, [], ◌∷◌, length, get_or, set, refl, sym, ◌∙◌, subst, arith, ⊎_elim, get_or-set_other, get_or-set_same, length-set}
 use Rattle.std.proofs.lemmas.Bool.{cases_lt}
 use Rattle.machine.specs.declared.state.StackByte.{StackByte}
-use Rattle.machine.specs.Memory.{overwritten}
+use Rattle.machine.specs.Memory.{overwritten_stack}
 use Rattle.kinds.specs.declared.state.Entry.{Entry}
 use Rattle.kinds.specs.declared.state.Entry.TheVariants.{Unknown}
 use Rattle.kinds.specs.Filled.{StaysFilledAt}
@@ -42,13 +42,13 @@ module _ {D : Type 0} (contains : D → ℕ → Type 0) (first now : List (Entry
 
   pub known_after : KnowsEntryOverwritten contains entry at start end inside after
       → ((old bytes : List StackByte) → StackHolds contains first old → start + length bytes ≡ end → end ≤ length old
-      → ((k : ℕ) → start ≤ k → k < end → EntryHolds contains inside (overwritten old start bytes) k)
-      → (k : ℕ) → k < at → EntryHolds contains (get_or now k Unknown) (overwritten old start bytes) k)
+      → ((k : ℕ) → start ≤ k → k < end → EntryHolds contains inside (overwritten_stack old start bytes) k)
+      → (k : ℕ) → k < at → EntryHolds contains (get_or now k Unknown) (overwritten_stack old start bytes) k)
       → (old bytes : List StackByte) → StackHolds contains first old → start + length bytes ≡ end → end ≤ length old
-      → ((k : ℕ) → start ≤ k → k < end → EntryHolds contains inside (overwritten old start bytes) k)
-      → (k : ℕ) → k < at + 1 → EntryHolds contains (get_or (set now at after) k Unknown) (overwritten old start bytes) k
+      → ((k : ℕ) → start ≤ k → k < end → EntryHolds contains inside (overwritten_stack old start bytes) k)
+      → (k : ℕ) → k < at + 1 → EntryHolds contains (get_or (set now at after) k Unknown) (overwritten_stack old start bytes) k
   known_after knows before old bytes known size fits puts =
-      one_more (λ k e. EntryHolds contains e (overwritten old start bytes) k)
+      one_more (λ k e. EntryHolds contains e (overwritten_stack old start bytes) k)
       (knows old bytes (subst (λ (e : Entry D). EntryHolds contains e old at) entry_is (known at)) size fits (puts at))
       (before old bytes known size fits puts)
 

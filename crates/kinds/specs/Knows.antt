@@ -7,7 +7,7 @@ use Rattle.machine.specs.declared.state.Content.{Content}
 use Rattle.machine.specs.declared.state.Content.TheVariants as contents
 use Rattle.machine.specs.declared.state.StackByte.{StackByte}
 use Rattle.machine.specs.declared.state.State.{State as Machine}
-use Rattle.machine.specs.Memory.{overwritten}
+use Rattle.machine.specs.Memory.{overwritten_stack}
 use Rattle.kinds.specs.declared.state.Kind.{Kind}
 use Rattle.kinds.specs.declared.state.Entry.{Entry}
 use Rattle.kinds.specs.declared.state.Fact.{Fact}
@@ -55,7 +55,8 @@ MovesFact contains value becomes fact after =
 abbrev pub PutsInside : {D : Type 0} → (D → ℕ → Type 0) → Entry D → ℕ → ℕ
     → List StackByte → List StackByte → Type 0
 PutsInside contains inside start end old bytes =
-    (at : ℕ) → start ≤ at → at < end → EntryHolds contains inside (overwritten old start bytes) at
+    (at : ℕ) → start ≤ at → at < end
+    → EntryHolds contains inside (overwritten_stack old start bytes) at
 
 -- after bytes are put from start to end, of each of which `inside` is known, the entries hold
 abbrev pub KnowsOverwritten : {D : Type 0} → (D → ℕ → Type 0) → List (Entry D) → ℕ → ℕ → Entry D
@@ -64,7 +65,7 @@ KnowsOverwritten contains entries start end inside after =
     (old bytes : List StackByte) → StackHolds contains entries old
     → start + length bytes ≡ end → end ≤ length old
     → PutsInside contains inside start end old bytes
-    → StackHolds contains after (overwritten old start bytes)
+    → StackHolds contains after (overwritten_stack old start bytes)
 
 -- the same of the entry at one byte
 abbrev pub KnowsEntryOverwritten : {D : Type 0} → (D → ℕ → Type 0) → Entry D → ℕ → ℕ → ℕ → Entry D
@@ -72,5 +73,5 @@ abbrev pub KnowsEntryOverwritten : {D : Type 0} → (D → ℕ → Type 0) → E
 KnowsEntryOverwritten contains entry at start end inside after =
     (old bytes : List StackByte) → EntryHolds contains entry old at
     → start + length bytes ≡ end → end ≤ length old
-    → (start ≤ at → at < end → EntryHolds contains inside (overwritten old start bytes) at)
-    → EntryHolds contains after (overwritten old start bytes) at
+    → (start ≤ at → at < end → EntryHolds contains inside (overwritten_stack old start bytes) at)
+    → EntryHolds contains after (overwritten_stack old start bytes) at

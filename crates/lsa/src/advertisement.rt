@@ -3,7 +3,7 @@ ghost use Rattle.std.specs.Prelude.{◌≡◌, ◌≢◌, ◌≤◌, ◌⊎◌, 
 ghost use Rattle.lsa.specs.Text.{IsBody, LsaText, Parts, body_text, reserved_sequence};
 ghost use Rattle.words.specs.Constants.{max_age};
 ghost use Rattle.lsa.specs.Text.{text};
-ghost use Rattle.lsa.specs.Origination.{aged, sealed_lsa};
+ghost use Rattle.lsa.specs.Origination.{with_age, sealed_lsa};
 ghost use Rattle.lsa.specs.Outcome.{Reads};
 ghost use Rattle.lsa.specs.Ranges.{BodyFits};
 
@@ -66,7 +66,7 @@ impl Lsa {
     /// The same instance at another age, in seconds: its checksum doesn't cover the age.
     pub fn set_age(&mut self, age: u16)
         requires { age ≤ max_age }
-        ensures { self.new ≡ aged age self.old }
+        ensures { self.new ≡ with_age age self.old }
     {
         self.header.age = age;
     }
@@ -160,8 +160,8 @@ pub fn write(alloc: Global, lsa: &Lsa) -> Result<Vec<u8>, AllocError>
 /// The LSA's text at another age, in seconds, as it is sent.
 pub fn write_at_age(alloc: Global, lsa: &Lsa, age: u16) -> Result<Vec<u8>, AllocError>
     requires { age ≤ max_age }
-    ensures written { IfOk result (λ bytes. bytes.items ≡ text (aged age lsa.now)) }
-    ensures text { IfOk result (λ bytes. LsaText bytes.items (aged age lsa.now)) }
+    ensures written { IfOk result (λ bytes. bytes.items ≡ text (with_age age lsa.now)) }
+    ensures text { IfOk result (λ bytes. LsaText bytes.items (with_age age lsa.now)) }
 {
     let header = Header { age, ..lsa.header };
     written(alloc, &header, &lsa.body)

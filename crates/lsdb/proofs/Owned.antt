@@ -2,14 +2,14 @@
 use Rattle.std.proofs.Common.{◌≡◌, ℕ, ◌+◌, ◌-◌, ◌≤◌, Bool, true, false, cond, not, nat_lt, List, [], ◌∷◌, Some, None, ◌&&◌, ◌||◌, length, map, refl, sym, ap, ◌∙◌, arith}
 use Rattle.std.specs.Prelude.{Option, is_some}
 use Rattle.std.specs.declared.cmp.Ordering.TheVariants.{Equal}
-use Rattle.keyed_map.specs.Slots.{counted}
+use Rattle.keyed_map.specs.Slots.{count_after_change}
 use Rattle.std.specs.List.{filter, list_any}
 use Rattle.std.specs.FinMap as finite
 use Rattle.std.specs.FinMap.Entries.{find-where_key, is_sorted-where_key, where_key}
 use Rattle.std.specs.Ordering.{eq_by_cmp}
 use Rattle.words.specs.declared.key.Key.{Key}
 use Rattle.lsdb.specs.Headers.{Lsa}
-use Rattle.lsdb.specs.Joined.{HaveTimes, joined, owned}
+use Rattle.lsdb.specs.Joined.{HaveTimes, joined, count_own_externals}
 use Rattle.lsdb.specs.Keys.{ByKey, key_cmp}
 use Rattle.lsdb.specs.Limits.{exceeds, has_room, is_own_external, own_externals}
 use Rattle.lsdb.specs.declared.times.Times.{Times}
@@ -96,7 +96,7 @@ module _ {X : Type 0} (p : Key → Bool) where
 
   len_put_kept : (m : ByKey X) (k : Key) (x : X) (b : Bool) → p k ≡ b
       → finite.len (cond b (finite.insert (finite.retain_keys m p) k x) (finite.retain_keys m p))
-      ≡ cond b (counted (finite.contains_key m k) true (finite.len (finite.retain_keys m p))) (finite.len (finite.retain_keys m p))
+      ≡ cond b (count_after_change (finite.contains_key m k) true (finite.len (finite.retain_keys m p))) (finite.len (finite.retain_keys m p))
   len_put_kept m k x true is =
       finite.len-insert keys_total (finite.retain_keys m p) k x
       ∙ ap (λ c. cond c (finite.len (finite.retain_keys m p)) (finite.len (finite.retain_keys m p) + 1))
@@ -105,12 +105,12 @@ module _ {X : Type 0} (p : Key → Bool) where
 
   pub count_put : (m : ByKey X) (k : Key) (x : X)
       → finite.len (finite.retain_keys (finite.insert m k x) p)
-      ≡ cond (p k) (counted (finite.contains_key m k) true (finite.len (finite.retain_keys m p))) (finite.len (finite.retain_keys m p))
+      ≡ cond (p k) (count_after_change (finite.contains_key m k) true (finite.len (finite.retain_keys m p))) (finite.len (finite.retain_keys m p))
   count_put m k x = ap finite.len (put_kept m k x (p k) refl) ∙ len_put_kept m k x (p k) refl
 
   pub count_remove : (m : ByKey X) (k : Key)
       → finite.len (finite.retain_keys (finite.remove m k) p)
-      ≡ cond (p k) (counted (finite.contains_key m k) false (finite.len (finite.retain_keys m p))) (finite.len (finite.retain_keys m p))
+      ≡ cond (p k) (count_after_change (finite.contains_key m k) false (finite.len (finite.retain_keys m p))) (finite.len (finite.retain_keys m p))
   count_remove m k =
       ap finite.len (remove_kept m k) ∙ finite.len-remove keys_total (finite.retain_keys m p) k
       ∙ ap (λ c. cond c (finite.len (finite.retain_keys m p) - 1) (finite.len (finite.retain_keys m p))) (contains_kept m k)
@@ -145,7 +145,7 @@ count_empty X p = ap finite.len (retained_none p) ∙ finite.len-empty key_cmp X
 
 -- the own externals of the database are those of its LSAs
 pub own_joined : (router : ℕ) (lsas : ByKey Lsa) (times : ByKey Times) → HaveTimes lsas times
-    → owned router lsas ≡ own_externals router (joined lsas times)
+    → count_own_externals router lsas ≡ own_externals router (joined lsas times)
 own_joined router lsas times has =
     sym (ap (λ ks. length (filter (is_own_external router) ks)) (keys_joined lsas times has) ∙ count_keys (is_own_external router) lsas)
 
@@ -173,7 +173,7 @@ module _ (c l o x : Bool) (new : c ≡ false) where
   room_own free own = either_false o x own ∙ sym (λ i. new i || (free i && (o || x)))
 
 module _ (router : ℕ) (lsas : ByKey Lsa) (times : ByKey Times) (has : HaveTimes lsas times) (n e : ℕ)
-    (number : n ≡ finite.len lsas) (externals : e ≡ owned router lsas) where
+    (number : n ≡ finite.len lsas) (externals : e ≡ count_own_externals router lsas) where
   pub exceeds_joined : (nat_lt 16384 n || nat_lt 4096 e) ≡ exceeds router (joined lsas times)
   exceeds_joined =
       let all = number ∙ sym (len_joined lsas times has) in

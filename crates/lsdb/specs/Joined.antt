@@ -48,5 +48,5 @@ aged_at moment None = false
 aged_at moment (Some t) = is_max_age (age_at t.age t.stored moment)
 
 -- how many of the keys are those of own externals
-abbrev pub owned : {X : Type 0} → RouterNumber → ByKey X → ℕ
-owned router m = finite.len (finite.retain_keys m (is_own_external router))
+abbrev pub count_own_externals : {X : Type 0} → RouterNumber → ByKey X → ℕ
+count_own_externals router m = finite.len (finite.retain_keys m (is_own_external router))

@@ -4,7 +4,7 @@ use Rattle.keyed_map.specs.Held.{Held}
 use Rattle.words.specs.Numbers.{RouterNumber}
 use Rattle.lsdb.specs.Foresight.{ForeseesAll}
 use Rattle.lsdb.specs.Headers.{Lsa}
-use Rattle.lsdb.specs.Joined.{HaveTimes, owned}
+use Rattle.lsdb.specs.Joined.{HaveTimes, count_own_externals}
 use Rattle.lsdb.specs.declared.ages.Ages.{Ages}
 use Rattle.lsdb.specs.declared.times.Times.{Times}
 
@@ -14,7 +14,7 @@ pub record AreKept (router : RouterNumber) (lsas : Held Lsa) (times : Held Times
     (externals settled_externals : ℕ) (ages : Ages) : Type 0 where
   pub present : HaveTimes lsas.present times.present
   pub settled : HaveTimes lsas.settled times.settled
-  pub counted : externals ≡ owned router lsas.present
-  pub settled_counted : settled_externals ≡ owned router lsas.settled
+  pub counted : externals ≡ count_own_externals router lsas.present
+  pub settled_counted : settled_externals ≡ count_own_externals router lsas.settled
   pub foreseen : ForeseesAll ages times.present
   pub settled_foreseen : ForeseesAll ages times.settled

@@ -1,7 +1,7 @@
 //! How many LSAs the database may hold.
 ghost use Rattle.std.specs.Prelude.{◌≡◌, if◌then◌else◌};
-ghost use Rattle.keyed_map.specs.Slots.{counted};
-ghost use Rattle.lsdb.specs.Joined.{owned};
+ghost use Rattle.keyed_map.specs.Slots.{count_after_change};
+ghost use Rattle.lsdb.specs.Joined.{count_own_externals};
 ghost use Rattle.lsdb.specs.Limits.{is_own_external};
 
 use crate::stored::StoredLsa;
@@ -32,9 +32,10 @@ pub fn recount(
     holds: bool,
     externals: usize,
 ) -> usize
-    requires { owned router lsas.now.present
-        ≡ (if is_own_external router key.now then counted held holds externals else externals) }
-    ensures { result ≡ owned router lsas.now.present }
+    requires { count_own_externals router lsas.now.present
+        ≡ (if is_own_external router key.now then count_after_change held holds externals
+            else externals) }
+    ensures { result ≡ count_own_externals router lsas.now.present }
 {
     let _lsas = lsas.len();
     if !is_own_external(router, key) {

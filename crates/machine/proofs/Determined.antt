@@ -16,9 +16,9 @@ use Rattle.machine.specs.declared.state.StackByte.{StackByte}
 use Rattle.machine.specs.declared.state.StackByte.TheVariants as stack_bytes
 use Rattle.machine.specs.declared.state.State.{State}
 use Rattle.machine.specs.Label.{Label}
-use Rattle.machine.specs.State.{Setting, held, operand, filled}
+use Rattle.machine.specs.State.{Setting, held, operand, with_register}
 use Rattle.machine.specs.Memory.{Loads, Stores, StackGives, pieces}
-use Rattle.machine.specs.Helpers.{Answers, arguments, called}
+use Rattle.machine.specs.Helpers.{Answers, arguments, state_after_call}
 use Rattle.machine.specs.Steps.{Does, Step, Fills}
 
 same_bytes : (xs ys : List ℕ) → map stack_bytes.Byte xs ≡ map stack_bytes.Byte ys → xs ≡ ys
@@ -94,7 +94,7 @@ one_answer helpers.TableCost input a b label m n h k = cost_one_answer input lab
 
 fills_one : (s : State) (t : ℕ) (content : Option Content) (label : Label) (a b : State) → Fills s t content label a → Fills s t content label b → a ≡ b
 fills_one s t content label a b h k =
-    let same : h.filling ≡ k.filling = cc (h.gives, k.gives) in h.after ∙ ap (filled s t) same ∙ sym k.after
+    let same : h.filling ≡ k.filling = cc (h.gives, k.gives) in h.after ∙ ap (with_register s t) same ∙ sym k.after
 
 one_next : (i : Instruction) (setting : Setting) (s : State) (label : Label) (a b : State) → Does i setting s label a → Does i setting s label b → a ≡ b
 one_next (instructions.Arithmetic w op t src) setting s l a b h k = fills_one s t _ l a b h k
@@ -109,12 +109,12 @@ one_next (instructions.Call number) setting s l a b h k =
     let same : h.answered.helper ≡ k.answered.helper = cc (h.answered.known, k.answered.known) in
     let mine = rw same at h.answered.answers in
     let answer = one_answer k.answered.helper setting.input (held s 1) (held s 2) l h.answer k.answer mine k.answered.answers in
-    h.after ∙ ap (called s) answer ∙ sym k.after
+    h.after ∙ ap (state_after_call s) answer ∙ sym k.after
 one_next instructions.Exit setting s l a b h k = elim h [ ]
 one_next (instructions.Load size t base offset) setting s l a b (p, at, c, loads, _, after) (q, at', d, loads', _, after') =
     let same : p ≡ q = cc in
     let one = loads_one size _ setting.input s l c d (rw same at loads) loads' in
-    after ∙ ap (filled s t) one ∙ sym after'
+    after ∙ ap (with_register s t) one ∙ sym after'
 one_next (instructions.Store size base offset src) setting s l a b (p, at, x, stores, after) (q, at', y, stores', after') =
     let same : p ≡ q = cc in
     let one = stores_one size _ (operand s src) s l x y (rw same at stores) stores' in

@@ -13,10 +13,10 @@ use Rattle.machine.specs.declared.state.Pointer.{Pointer}
 use Rattle.machine.specs.declared.state.Pointer.TheVariants as pointers
 use Rattle.machine.specs.declared.state.StackByte.TheVariants as stack_bytes
 use Rattle.machine.specs.Memory.{pieces}
-use Rattle.machine.specs.Steps.{combined, copied, result_of, on_number, tested}
+use Rattle.machine.specs.Steps.{combined_content, copied_content, result_of, on_number, test_result}
 use Rattle.machine.specs.Faults.{is_nothing, is_address, has, operation_reads, is_nothing_byte, is_byte, is_same_pointer, is_whole_pointer}
 
-combined_reads : (w : Width) (op : Operation) (a b v : Content) → combined w op a b ≡ Some v → has is_nothing (a ∷ b ∷ []) ≡ false
+combined_reads : (w : Width) (op : Operation) (a b v : Content) → combined_content w op a b ≡ Some v → has is_nothing (a ∷ b ∷ []) ≡ false
 combined_reads w op (Number a) (Number b) v e = refl
 combined_reads w op (Address p) (Number b) v e = refl
 combined_reads w op (Number a) Nothing v e = cc
@@ -27,7 +27,7 @@ combined_reads Bits32 op (Address p) (Address q) v e = cc
 combined_reads Bits64 op (Address p) (Address q) v e = cc
 combined_reads w op Nothing b v e = cc
 
-copied_reads : (w : Width) (b v : Content) → copied w b ≡ Some v → has is_nothing (b ∷ []) ≡ false
+copied_reads : (w : Width) (b v : Content) → copied_content w b ≡ Some v → has is_nothing (b ∷ []) ≡ false
 copied_reads w (Number b) v e = refl
 copied_reads w (Address p) v e = refl
 copied_reads Bits32 Nothing v e = cc
@@ -55,7 +55,7 @@ number_reads f (Number n) v e = (refl, refl)
 number_reads f Nothing v e = cc
 number_reads f (Address p) v e = cc
 
-pub tested_reads : (w : Width) (test : Test) (a b : Content) (v : Bool) → tested w test a b ≡ Some v → (has is_nothing (a ∷ b ∷ []) ≡ false) × (has is_address (a ∷ b ∷ []) ≡ false)
+pub tested_reads : (w : Width) (test : Test) (a b : Content) (v : Bool) → test_result w test a b ≡ Some v → (has is_nothing (a ∷ b ∷ []) ≡ false) × (has is_address (a ∷ b ∷ []) ≡ false)
 tested_reads w test (Number a) (Number b) v e = (refl, refl)
 tested_reads w test (Number a) Nothing v e = cc
 tested_reads w test (Number a) (Address q) v e = cc

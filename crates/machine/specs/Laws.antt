@@ -17,7 +17,7 @@ use Rattle.machine.specs.declared.fault.Fault.TheVariants.{Helper}
 use Rattle.machine.specs.declared.state.State.{State}
 use Rattle.machine.specs.Input.{IsInput}
 use Rattle.machine.specs.Label.{Label, Silent, Add}
-use Rattle.isa.specs.Arithmetic.{widened}
+use Rattle.isa.specs.Arithmetic.{widened_immediate}
 use Rattle.isa.specs.Flow.{registers_read, numbers_read, register_written, slot_after, jump_target}
 use Rattle.machine.specs.declared.state.Content.{Content}
 use Rattle.machine.specs.declared.state.Content.TheVariants.{Number}
@@ -126,7 +126,7 @@ abbrev pub EmptyExitIsUnsafe : Type 0
 EmptyExitIsUnsafe = (hook : Hook) (most : ℕ) → Safe (Start Exit ∷ []) hook most → ⊥
 
 abbrev pub number_content : ℤ → Content
-number_content number = Number (widened number)
+number_content number = Number (widened_immediate number)
 
 -- What an instruction reads is what its registers hold, and then its number, if it has one. A CALL
 -- reads the arguments of its helper.

@@ -7,7 +7,8 @@ ghost use mathlib.Core.Option.{some};
 ghost use lib.ListN.{get_elem?};
 ghost use Rattle.maps.specs.declared.access.Access.TheVariants.{Add, Read, Cell, SetCell};
 ghost use Rattle.maps.specs.Access.{adds_to, adds_made, floor, last_stored};
-ghost use Rattle.maps.specs.Words.{IsOf, grown, fresh, history_of, blank_lists, IsSized, IsLawful};
+ghost use Rattle.maps.specs.Words.{IsOf, seat_after, fresh};
+ghost use Rattle.maps.specs.Words.{history_of, blank_lists, IsSized, IsLawful};
 
 use crate::access::View;
 use crate::error::MapsError;
@@ -90,7 +91,7 @@ impl Shared {
         requires index { index < 256 }
         requires amount { amount < 2 ^ 24 }
         ensures added { adds_made seat.old.accesses < 2 ^ 31 → (result ≡ 0)
-            × (seat.new ≡ grown seat.old (Add index amount)) }
+            × (seat.new ≡ seat_after seat.old (Add index amount)) }
         ensures spent { 2 ^ 31 ≤ adds_made seat.old.accesses → (result ≡ 1)
             × (seat.new ≡ seat.old) }
     {
@@ -108,7 +109,7 @@ impl Shared {
     pub fn read(&self, seat: &mut Seat, index: usize) -> u64
         requires table { IsOf self.now seat.old }
         requires index { index < 256 }
-        ensures noted { seat.new ≡ grown seat.old (Read index result) }
+        ensures noted { seat.new ≡ seat_after seat.old (Read index result) }
         ensures floor { floor index seat.old.accesses ≤ result }
         ensures small { result < 2 ^ 61 }
     {
@@ -119,7 +120,7 @@ impl Shared {
     pub fn cell(&self, seat: &mut Seat, index: usize) -> u64
         requires table { IsOf self.now seat.old }
         requires index { index < 64 }
-        ensures noted { seat.new ≡ grown seat.old (Cell index result) }
+        ensures noted { seat.new ≡ seat_after seat.old (Cell index result) }
         ensures value { result ≡ last_stored index seat.old.accesses }
     {
         let word = COUNTERS + CELLS * seat.number + index;
@@ -130,7 +131,7 @@ impl Shared {
     pub fn set_cell(&self, seat: &mut Seat, index: usize, value: u64)
         requires table { IsOf self.now seat.old }
         requires index { index < 64 }
-        ensures { seat.new ≡ grown seat.old (SetCell index value) }
+        ensures { seat.new ≡ seat_after seat.old (SetCell index value) }
     {
         let word = COUNTERS + CELLS * seat.number + index;
         let words = &self.table.shared;

@@ -19,7 +19,7 @@ use Rattle.routes.specs.Said.{Said, said_at}
 use Rattle.routes.specs.declared.node.Node.TheVariants.{ARouter}
 use Rattle.routes.specs.declared.offer.Offer.{Offer}
 use Rattle.routes.specs.declared.root.Root.{Root}
-use Rattle.route_laws.specs.Worked.{database, dotted, router_lsa}
+use Rattle.route_laws.specs.Worked.{database, ipv4, router_lsa}
 use Rattle.route_laws.proofs.Alone.{Known, StubOffer, is_stub}
 use Rattle.route_laws.proofs.Entries.{links_of, sayings}
 use Rattle.route_laws.proofs.Labels.{AreChecked}
@@ -51,7 +51,7 @@ abbrev IsWayTo : ℕ → Way → Type 0
 IsWayTo router w = IsWay (Leads anew_says root) (ARouter middle_id) (ARouter router) w
 
 by_link : LeadsTo anew_says root (ARouter middle_id) (ARouter left_id) 5 1
-by_link = (from_root anew root (lsa_of anew_links) its_says left_id (dotted 10 0 0 1) 5 0 (0, omega arith, refl) (omega arith) refl, back anew left_id (lsa_of left_links) left_says middle_id (dotted 192 0 3 1) 5 (0, omega arith, refl))
+by_link = (from_root anew root (lsa_of anew_links) its_says left_id (ipv4 10 0 0 1) 5 0 (0, omega arith, refl) (omega arith) refl, back anew left_id (lsa_of left_links) left_says middle_id (ipv4 192 0 3 1) 5 (0, omega arith, refl))
 
 to_left : IsWayTo left_id (way 5 2)
 to_left = way_to anew root (by_router 5 0) (by_router 2 0) is_checked left_id (to left_id 1 ∷ []) (by_link, refl) refl (λ i t. (to left_id 1, [], (by_link, refl), refl, sym (only_one i t)))
@@ -120,8 +120,8 @@ is_up_to_date = up_to_date anew middle_id anew_links anew_routes its_says refl r
 are_joined : AreJoined differing
 are_joined =
     two_places (λ place f. EachJoined differing place f.router.area.links) left it
-    (one_joined differing 0 (interface_at (dotted 192 0 3 1) 23) (full middle_id) (record { other = 1; is_across = refl; forwarder = it; stands = refl; is = refl }))
-    (first_joined differing 1 (interface_at (dotted 10 0 0 1) 24) (interface_at (dotted 10 0 0 2) 24) (full left_id) (record { other = 0; is_across = refl; forwarder = left; stands = refl; is = refl }))
+    (one_joined differing 0 (interface_at (ipv4 192 0 3 1) 23) (full middle_id) (record { other = 1; is_across = refl; forwarder = it; stands = refl; is = refl }))
+    (first_joined differing 1 (interface_at (ipv4 10 0 0 1) 24) (interface_at (ipv4 10 0 0 2) 24) (full left_id) (record { other = 0; is_across = refl; forwarder = left; stands = refl; is = refl }))
 
 -- nothing is announced
 silent : (place : ℕ) → IsAnnouncedAt differing address place → ⊥
@@ -137,7 +137,7 @@ wide_longest : IsLongest anew_routes address (wide 10 2)
 wide_longest = record {
   among = (1, omega arith, refl);
   under = refl;
-  longest = of_two IsAtMost23 (between 5 1) (wide 10 2) (λ under. absurd (let at : dotted 192 0 2 0 ≡ dotted 10 0 0 0 = under in omega (arith, at))) (λ under. (let low : 23 ≤ 23 = omega arith in low));
+  longest = of_two IsAtMost23 (between 5 1) (wide 10 2) (λ under. absurd (let at : ipv4 192 0 2 0 ≡ ipv4 10 0 0 0 = under in omega (arith, at))) (λ under. (let low : 23 ≤ 23 = omega arith in low));
 }
 
 pub differing_databases : DifferingDatabasesMayLoop

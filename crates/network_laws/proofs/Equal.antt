@@ -12,7 +12,7 @@ use Rattle.routes.specs.declared.node.Node.{Node}
 use Rattle.routes.specs.declared.node.Node.TheVariants.{ARouter}
 use Rattle.routes.specs.declared.offer.Offer.{Offer}
 use Rattle.routes.specs.declared.root.Root.{Root}
-use Rattle.route_laws.specs.Worked.{database, dotted, router_lsa}
+use Rattle.route_laws.specs.Worked.{database, ipv4, router_lsa}
 use Rattle.route_laws.proofs.Entries.{sayings}
 use Rattle.route_laws.proofs.Labels.{AreChecked}
 use Rattle.route_laws.proofs.Made.{back, from_other, from_root, one_or_two, only_one, says}
@@ -54,28 +54,28 @@ abbrev IsWayFrom : Root → ℕ → Way → Type 0
 IsWayFrom root router w = IsWay (Leads equal_says root) (ARouter root.router) (ARouter router) w
 
 left_to_middle : LeadsTo equal_says at_left (ARouter left_id) (ARouter middle_id) 5 1
-left_to_middle = (from_root equal at_left (lsa_of left_links) left_says middle_id (dotted 192 0 3 1) 5 0 (0, omega arith, refl) (omega arith) refl, back equal middle_id (lsa_of equal_links) middle_says left_id (dotted 10 0 0 1) 5 (0, omega arith, refl))
+left_to_middle = (from_root equal at_left (lsa_of left_links) left_says middle_id (ipv4 192 0 3 1) 5 0 (0, omega arith, refl) (omega arith) refl, back equal middle_id (lsa_of equal_links) middle_says left_id (ipv4 10 0 0 1) 5 (0, omega arith, refl))
 
 right_to_middle : LeadsTo equal_says at_right (ARouter right_id) (ARouter middle_id) 5 1
-right_to_middle = (from_root equal at_right (lsa_of right_links) right_says middle_id (dotted 192 0 2 1) 5 0 (0, omega arith, refl) (omega arith) refl, back equal middle_id (lsa_of equal_links) middle_says right_id (dotted 10 0 0 1) 5 (2, omega arith, refl))
+right_to_middle = (from_root equal at_right (lsa_of right_links) right_says middle_id (ipv4 192 0 2 1) 5 0 (0, omega arith, refl) (omega arith) refl, back equal middle_id (lsa_of equal_links) middle_says right_id (ipv4 10 0 0 1) 5 (2, omega arith, refl))
 
 -- the middle router's link to the left one, and that to the right one, leave by each interface of this address
-middle_to_left : (n : ℕ) → slice_get at_middle.addresses n ≡ Some (dotted 10 0 0 1) → LeadsTo equal_says at_middle (ARouter middle_id) (ARouter left_id) 5 (n + 1)
-middle_to_left n at = (from_root equal at_middle (lsa_of equal_links) middle_says left_id (dotted 10 0 0 1) 5 n (0, omega arith, refl) (omega arith) at, back equal left_id (lsa_of left_links) left_says middle_id (dotted 192 0 3 1) 5 (0, omega arith, refl))
+middle_to_left : (n : ℕ) → slice_get at_middle.addresses n ≡ Some (ipv4 10 0 0 1) → LeadsTo equal_says at_middle (ARouter middle_id) (ARouter left_id) 5 (n + 1)
+middle_to_left n at = (from_root equal at_middle (lsa_of equal_links) middle_says left_id (ipv4 10 0 0 1) 5 n (0, omega arith, refl) (omega arith) at, back equal left_id (lsa_of left_links) left_says middle_id (ipv4 192 0 3 1) 5 (0, omega arith, refl))
 
-middle_to_right : (n : ℕ) → slice_get at_middle.addresses n ≡ Some (dotted 10 0 0 1) → LeadsTo equal_says at_middle (ARouter middle_id) (ARouter right_id) 5 (n + 1)
-middle_to_right n at = (from_root equal at_middle (lsa_of equal_links) middle_says right_id (dotted 10 0 0 1) 5 n (2, omega arith, refl) (omega arith) at, back equal right_id (lsa_of right_links) right_says middle_id (dotted 192 0 2 1) 5 (0, omega arith, refl))
+middle_to_right : (n : ℕ) → slice_get at_middle.addresses n ≡ Some (ipv4 10 0 0 1) → LeadsTo equal_says at_middle (ARouter middle_id) (ARouter right_id) 5 (n + 1)
+middle_to_right n at = (from_root equal at_middle (lsa_of equal_links) middle_says right_id (ipv4 10 0 0 1) 5 n (2, omega arith, refl) (omega arith) at, back equal right_id (lsa_of right_links) right_says middle_id (ipv4 192 0 2 1) 5 (0, omega arith, refl))
 
 left_over_middle : Walk at_left (to middle_id 1 ∷ to right_id 0 ∷ []) right_id
 left_over_middle = (
   left_to_middle,
-  ((from_other equal at_left middle_id (lsa_of equal_links) middle_says (λ e. omega (arith, e)) right_id (dotted 10 0 0 1) 5 (2, omega arith, refl) (omega arith), back equal right_id (lsa_of right_links) right_says middle_id (dotted 192 0 2 1) 5 (0, omega arith, refl)), refl),
+  ((from_other equal at_left middle_id (lsa_of equal_links) middle_says (λ e. omega (arith, e)) right_id (ipv4 10 0 0 1) 5 (2, omega arith, refl) (omega arith), back equal right_id (lsa_of right_links) right_says middle_id (ipv4 192 0 2 1) 5 (0, omega arith, refl)), refl),
 )
 
 right_over_middle : Walk at_right (to middle_id 1 ∷ to left_id 0 ∷ []) left_id
 right_over_middle = (
   right_to_middle,
-  ((from_other equal at_right middle_id (lsa_of equal_links) middle_says (λ e. omega (arith, e)) left_id (dotted 10 0 0 1) 5 (0, omega arith, refl) (omega arith), back equal left_id (lsa_of left_links) left_says middle_id (dotted 192 0 3 1) 5 (0, omega arith, refl)), refl),
+  ((from_other equal at_right middle_id (lsa_of equal_links) middle_says (λ e. omega (arith, e)) left_id (ipv4 10 0 0 1) 5 (0, omega arith, refl) (omega arith), back equal left_id (lsa_of left_links) left_says middle_id (ipv4 192 0 3 1) 5 (0, omega arith, refl)), refl),
 )
 
 left_checked : AreChecked at_left (sayings equal) (by_router 0 5 10) (by_router 0 2 2)
@@ -168,10 +168,10 @@ all_say = three_places (λ place f. says_of f.router ≡ equal_says) left equal_
 are_joined : AreJoined with_equal_addresses
 are_joined =
     three_places (λ place f. EachJoined with_equal_addresses place f.router.area.links) left equal_middle right
-    (one_joined with_equal_addresses 0 (interface_at (dotted 192 0 3 1) 23) (full middle_id) (record { other = 1; is_across = refl; forwarder = equal_middle; stands = refl; is = refl }))
-    (two_joined with_equal_addresses 1 (interface_at (dotted 10 0 0 1) 24) (interface_at (dotted 10 0 0 1) 24) (full left_id) (full right_id) (record { other = 0; is_across = refl; forwarder = left; stands = refl; is = refl })
+    (one_joined with_equal_addresses 0 (interface_at (ipv4 192 0 3 1) 23) (full middle_id) (record { other = 1; is_across = refl; forwarder = equal_middle; stands = refl; is = refl }))
+    (two_joined with_equal_addresses 1 (interface_at (ipv4 10 0 0 1) 24) (interface_at (ipv4 10 0 0 1) 24) (full left_id) (full right_id) (record { other = 0; is_across = refl; forwarder = left; stands = refl; is = refl })
     (record { other = 2; is_across = refl; forwarder = right; stands = refl; is = refl }))
-    (one_joined with_equal_addresses 2 (interface_at (dotted 192 0 2 1) 24) (full middle_id) (record { other = 1; is_across = refl; forwarder = equal_middle; stands = refl; is = refl }))
+    (one_joined with_equal_addresses 2 (interface_at (ipv4 192 0 2 1) 24) (full middle_id) (record { other = 1; is_across = refl; forwarder = equal_middle; stands = refl; is = refl }))
 
 -- ---- the packet
 

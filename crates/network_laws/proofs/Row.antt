@@ -27,7 +27,7 @@ use Rattle.routes.specs.declared.node.Node.{Node}
 use Rattle.routes.specs.declared.node.Node.TheVariants.{ARouter}
 use Rattle.routes.specs.declared.offer.Offer.{Offer}
 use Rattle.routes.specs.declared.root.Root.{Root}
-use Rattle.route_laws.specs.Worked.{Entries, database, dotted, network_24, router_lsa}
+use Rattle.route_laws.specs.Worked.{Entries, database, ipv4, network_24, router_lsa}
 use Rattle.route_laws.proofs.Alone.{Known, StubOffer, each_within, is_stub}
 use Rattle.route_laws.proofs.Entries.{is_no_network, links_of, mapped, sayings}
 use Rattle.route_laws.proofs.Labels.{AreChecked}
@@ -37,7 +37,7 @@ use Rattle.forwarding_premises.specs.Laws.{HaveCosts, HaveOwnAddresses}
 use Rattle.network_laws.specs.Laws.IsAttached.{ToNetwork}
 use Rattle.network_laws.specs.Laws.IsThere.{Attached}
 use Rattle.network_laws.specs.Topologies.{AreJoined, Forwarder, HandsTo, IsAcross, IsAnnouncedAt, IsCurrentForwarder, IsUpToDate, Topology, says_of}
-use Rattle.network_laws.specs.Worked.{CrossedLinksMayLoop, WorkedTopology, address, between, crossed, forwarder, full, in_a_row, interface_at, left, left_id, left_links, left_routes, link_with, middle, middle_id, middle_links, middle_routes, narrow, right, right_id, right_links, right_routes, row, wide, wide_network}
+use Rattle.network_laws.specs.Worked.{CrossedLinksMayLoop, WorkedTopology, address, between, crossed_row, forwarder, full, in_a_row, interface_at, left, left_id, left_links, left_routes, link_with, middle, middle_id, middle_links, middle_routes, narrow, right, right_id, right_links, right_routes, row, wide, wide_network}
 use Rattle.network_laws.proofs.Found.{candidates_of, no_external, stub_offered, three_in_order, way_to}
 
 -- ---- lists of three
@@ -124,27 +124,27 @@ abbrev IsWayFrom : Root → ℕ → Way → Type 0
 IsWayFrom root router w = IsWay (Leads row_says root) (ARouter root.router) (ARouter router) w
 
 left_to_middle : LeadsTo row_says at_left (ARouter left_id) (ARouter middle_id) 5 1
-left_to_middle = (from_root row at_left (lsa_of left_links) left_says middle_id (dotted 192 0 3 1) 5 0 (0, omega arith, refl) (omega arith) refl, back row middle_id (lsa_of middle_links) middle_says left_id (dotted 10 0 0 1) 5 (0, omega arith, refl))
+left_to_middle = (from_root row at_left (lsa_of left_links) left_says middle_id (ipv4 192 0 3 1) 5 0 (0, omega arith, refl) (omega arith) refl, back row middle_id (lsa_of middle_links) middle_says left_id (ipv4 10 0 0 1) 5 (0, omega arith, refl))
 
 right_to_middle : LeadsTo row_says at_right (ARouter right_id) (ARouter middle_id) 5 1
-right_to_middle = (from_root row at_right (lsa_of right_links) right_says middle_id (dotted 192 0 2 1) 5 0 (0, omega arith, refl) (omega arith) refl, back row middle_id (lsa_of middle_links) middle_says right_id (dotted 10 0 0 2) 5 (2, omega arith, refl))
+right_to_middle = (from_root row at_right (lsa_of right_links) right_says middle_id (ipv4 192 0 2 1) 5 0 (0, omega arith, refl) (omega arith) refl, back row middle_id (lsa_of middle_links) middle_says right_id (ipv4 10 0 0 2) 5 (2, omega arith, refl))
 
 middle_to_left : LeadsTo row_says at_middle (ARouter middle_id) (ARouter left_id) 5 1
-middle_to_left = (from_root row at_middle (lsa_of middle_links) middle_says left_id (dotted 10 0 0 1) 5 0 (0, omega arith, refl) (omega arith) refl, back row left_id (lsa_of left_links) left_says middle_id (dotted 192 0 3 1) 5 (0, omega arith, refl))
+middle_to_left = (from_root row at_middle (lsa_of middle_links) middle_says left_id (ipv4 10 0 0 1) 5 0 (0, omega arith, refl) (omega arith) refl, back row left_id (lsa_of left_links) left_says middle_id (ipv4 192 0 3 1) 5 (0, omega arith, refl))
 
 middle_to_right : LeadsTo row_says at_middle (ARouter middle_id) (ARouter right_id) 5 2
-middle_to_right = (from_root row at_middle (lsa_of middle_links) middle_says right_id (dotted 10 0 0 2) 5 1 (2, omega arith, refl) (omega arith) refl, back row right_id (lsa_of right_links) right_says middle_id (dotted 192 0 2 1) 5 (0, omega arith, refl))
+middle_to_right = (from_root row at_middle (lsa_of middle_links) middle_says right_id (ipv4 10 0 0 2) 5 1 (2, omega arith, refl) (omega arith) refl, back row right_id (lsa_of right_links) right_says middle_id (ipv4 192 0 2 1) 5 (0, omega arith, refl))
 
 left_over_middle : Walk at_left (to middle_id 1 ∷ to right_id 0 ∷ []) right_id
 left_over_middle = (
   left_to_middle,
-  ((from_other row at_left middle_id (lsa_of middle_links) middle_says (λ e. omega (arith, e)) right_id (dotted 10 0 0 2) 5 (2, omega arith, refl) (omega arith), back row right_id (lsa_of right_links) right_says middle_id (dotted 192 0 2 1) 5 (0, omega arith, refl)), refl),
+  ((from_other row at_left middle_id (lsa_of middle_links) middle_says (λ e. omega (arith, e)) right_id (ipv4 10 0 0 2) 5 (2, omega arith, refl) (omega arith), back row right_id (lsa_of right_links) right_says middle_id (ipv4 192 0 2 1) 5 (0, omega arith, refl)), refl),
 )
 
 right_over_middle : Walk at_right (to middle_id 1 ∷ to left_id 0 ∷ []) left_id
 right_over_middle = (
   right_to_middle,
-  ((from_other row at_right middle_id (lsa_of middle_links) middle_says (λ e. omega (arith, e)) left_id (dotted 10 0 0 1) 5 (0, omega arith, refl) (omega arith), back row left_id (lsa_of left_links) left_says middle_id (dotted 192 0 3 1) 5 (0, omega arith, refl)), refl),
+  ((from_other row at_right middle_id (lsa_of middle_links) middle_says (λ e. omega (arith, e)) left_id (ipv4 10 0 0 1) 5 (0, omega arith, refl) (omega arith), back row left_id (lsa_of left_links) left_says middle_id (ipv4 192 0 3 1) 5 (0, omega arith, refl)), refl),
 )
 
 left_checked : AreChecked at_left (sayings row) (by_router 0 5 10) (by_router 0 2 2)
@@ -205,16 +205,16 @@ abbrev pub narrow_offer : ℕ → ℕ → Offer
 narrow_offer cost hops = intra (network_24 192 0 2) cost hops
 
 abbrev pub wide_stub : ℕ → RouterLink
-wide_stub cost = stub (record (interface_at (dotted 192 0 3 1) 23) { cost = cost })
+wide_stub cost = stub (record (interface_at (ipv4 192 0 3 1) 23) { cost = cost })
 
 abbrev pub first_stub : RouterLink
-first_stub = stub (interface_at (dotted 10 0 0 1) 24)
+first_stub = stub (interface_at (ipv4 10 0 0 1) 24)
 
 abbrev pub second_stub : RouterLink
-second_stub = stub (interface_at (dotted 10 0 0 2) 24)
+second_stub = stub (interface_at (ipv4 10 0 0 2) 24)
 
 abbrev pub narrow_stub : RouterLink
-narrow_stub = stub (interface_at (dotted 192 0 2 1) 24)
+narrow_stub = stub (interface_at (ipv4 192 0 2 1) 24)
 
 -- databases of the three routers' LSAs, where the interface of the left one has this cost, and with these links of the middle one
 abbrev pub row_stubs : ℕ → List (ℕ × RouterLink)
@@ -377,10 +377,10 @@ module _ (topology : Topology) (place : ℕ) where
 row_joined : AreJoined in_a_row
 row_joined =
     three_places (λ place f. EachJoined in_a_row place f.router.area.links) left middle right
-    (one_joined in_a_row 0 (interface_at (dotted 192 0 3 1) 23) (full middle_id) (record { other = 1; is_across = refl; forwarder = middle; stands = refl; is = refl }))
-    (two_joined in_a_row 1 (interface_at (dotted 10 0 0 1) 24) (interface_at (dotted 10 0 0 2) 24) (full left_id) (full right_id) (record { other = 0; is_across = refl; forwarder = left; stands = refl; is = refl })
+    (one_joined in_a_row 0 (interface_at (ipv4 192 0 3 1) 23) (full middle_id) (record { other = 1; is_across = refl; forwarder = middle; stands = refl; is = refl }))
+    (two_joined in_a_row 1 (interface_at (ipv4 10 0 0 1) 24) (interface_at (ipv4 10 0 0 2) 24) (full left_id) (full right_id) (record { other = 0; is_across = refl; forwarder = left; stands = refl; is = refl })
     (record { other = 2; is_across = refl; forwarder = right; stands = refl; is = refl }))
-    (one_joined in_a_row 2 (interface_at (dotted 192 0 2 1) 24) (full middle_id) (record { other = 1; is_across = refl; forwarder = middle; stands = refl; is = refl }))
+    (one_joined in_a_row 2 (interface_at (ipv4 192 0 2 1) 24) (full middle_id) (record { other = 1; is_across = refl; forwarder = middle; stands = refl; is = refl }))
 
 -- ---- packets
 
@@ -413,5 +413,5 @@ pub crossed_links : CrossedLinksMayLoop
 crossed_links = record {
   up_to_date = row_is;
   agree = λ place other a b p q key. ap (λ (s : Said). s key) (says_row place a p ∙ sym (says_row other b q));
-  comes_back = (left_to_1 crossed.across refl, silent_row crossed.across 0, (middle_to crossed.across 0 refl, silent_row crossed.across 1, tt));
+  comes_back = (left_to_1 crossed_row.across refl, silent_row crossed_row.across 0, (middle_to crossed_row.across 0 refl, silent_row crossed_row.across 1, tt));
 }

@@ -32,7 +32,7 @@ use Rattle.routes.specs.declared.node.Node.TheVariants.{ANetwork, ARouter}
 use Rattle.routes.specs.declared.offer.Offer.{Offer}
 use Rattle.routes.specs.declared.root.Root.{Root}
 use Rattle.route_laws.specs.Laws.{ForwardingIsDetermined}
-use Rattle.route_laws.specs.Worked.{database, dotted, mask_24, network_24, router_lsa}
+use Rattle.route_laws.specs.Worked.{database, ipv4, mask_24, network_24, router_lsa}
 use Rattle.route_laws.proofs.Alone.{alone_among, is_stub, kind_is_stub, route_of}
 use Rattle.route_laws.proofs.Entries.{all_pass, has_link, is_no_network, is_said, kept, links_of, sayings}
 use Rattle.route_laws.proofs.Labels.{AreChecked, either_true, is_point, not_both}
@@ -61,7 +61,7 @@ right_says : IsRouterLsa zero_says right_id (router_lsa (lsa_of right_links))
 right_says = says zero_cost (router_key right_id) (router_body right_links) refl
 
 abbrev abroad_key : Key
-abroad_key = external_key (dotted 203 0 113 0) right_id
+abroad_key = external_key (ipv4 203 0 113 0) right_id
 
 abroad_says : Says zero_says abroad_key (body.External abroad_lsa)
 abroad_says = says zero_cost abroad_key (body.External abroad_lsa) refl
@@ -103,18 +103,18 @@ abbrev IsWayFrom : Root → ℕ → Way → Type 0
 IsWayFrom root router w = IsWay (Leads zero_says root) (ARouter root.router) (ARouter router) w
 
 middle_to_left : LeadsTo zero_says at_middle (ARouter middle_id) (ARouter left_id) 5 1
-middle_to_left = (from_root zero_cost at_middle (lsa_of middle_links) middle_says left_id (dotted 10 0 0 1) 5 0 (0, omega arith, refl) (omega arith) refl, back zero_cost left_id (lsa_of zero_links) left_says middle_id (dotted 192 0 3 1) 0 (0, omega arith, refl))
+middle_to_left = (from_root zero_cost at_middle (lsa_of middle_links) middle_says left_id (ipv4 10 0 0 1) 5 0 (0, omega arith, refl) (omega arith) refl, back zero_cost left_id (lsa_of zero_links) left_says middle_id (ipv4 192 0 3 1) 0 (0, omega arith, refl))
 
 middle_to_right : LeadsTo zero_says at_middle (ARouter middle_id) (ARouter right_id) 5 2
-middle_to_right = (from_root zero_cost at_middle (lsa_of middle_links) middle_says right_id (dotted 10 0 0 2) 5 1 (2, omega arith, refl) (omega arith) refl, back zero_cost right_id (lsa_of right_links) right_says middle_id (dotted 192 0 2 1) 5 (0, omega arith, refl))
+middle_to_right = (from_root zero_cost at_middle (lsa_of middle_links) middle_says right_id (ipv4 10 0 0 2) 5 1 (2, omega arith, refl) (omega arith) refl, back zero_cost right_id (lsa_of right_links) right_says middle_id (ipv4 192 0 2 1) 5 (0, omega arith, refl))
 
 right_to_middle : LeadsTo zero_says at_right (ARouter right_id) (ARouter middle_id) 5 1
-right_to_middle = (from_root zero_cost at_right (lsa_of right_links) right_says middle_id (dotted 192 0 2 1) 5 0 (0, omega arith, refl) (omega arith) refl, back zero_cost middle_id (lsa_of middle_links) middle_says right_id (dotted 10 0 0 2) 5 (2, omega arith, refl))
+right_to_middle = (from_root zero_cost at_right (lsa_of right_links) right_says middle_id (ipv4 192 0 2 1) 5 0 (0, omega arith, refl) (omega arith) refl, back zero_cost middle_id (lsa_of middle_links) middle_says right_id (ipv4 10 0 0 2) 5 (2, omega arith, refl))
 
 right_over_middle : IsWalk (Leads zero_says at_right) (ARouter right_id) (to middle_id 1 ∷ to left_id 0 ∷ []) (ARouter left_id)
 right_over_middle = (
   right_to_middle,
-  ((from_other zero_cost at_right middle_id (lsa_of middle_links) middle_says (λ e. omega (arith, e)) left_id (dotted 10 0 0 1) 5 (0, omega arith, refl) (omega arith), back zero_cost left_id (lsa_of zero_links) left_says middle_id (dotted 192 0 3 1) 0 (0, omega arith, refl)), refl),
+  ((from_other zero_cost at_right middle_id (lsa_of middle_links) middle_says (λ e. omega (arith, e)) left_id (ipv4 10 0 0 1) 5 (0, omega arith, refl) (omega arith), back zero_cost left_id (lsa_of zero_links) left_says middle_id (ipv4 192 0 3 1) 0 (0, omega arith, refl)), refl),
 )
 
 -- the label of the middle router is below its distance, since it has none
@@ -268,7 +268,7 @@ wide_there = record {
 }
 
 abbrev forwarding : ℕ
-forwarding = dotted 192 0 3 9
+forwarding = ipv4 192 0 3 9
 
 nearby_in_order : AllPairs (λ (a : Offer) (b : Offer). IsBefore a.prefix b.prefix) nearby
 nearby_in_order = three_in_order (λ (o : Offer). o.prefix) (between_offer 5 1) (wide_offer 5 2) (narrow_offer 10 4) (ByAddress (omega arith)) (ByAddress (omega arith)) (ByLength refl (omega arith))
@@ -293,7 +293,7 @@ to_forwarding = record {
 }
 
 some_forwarding : abroad_lsa.forwarding ≢ 0
-some_forwarding e = let z : dotted 192 0 3 9 ≡ 0 = e in omega (arith, z)
+some_forwarding e = let z : ipv4 192 0 3 9 ≡ 0 = e in omega (arith, z)
 
 -- ---- all that the middle router is offered
 
@@ -302,7 +302,7 @@ abroad_offer = external_offer Type1 (network_24 203 0 113) abroad_lsa right_id (
 
 abroad_offered : Offers zero_says at_middle abroad_offer
 abroad_offered = External (record {
-  id = dotted 203 0 113 0;
+  id = ipv4 203 0 113 0;
   originator = right_id;
   lsa = abroad_lsa;
   its = abroad_says;
@@ -324,14 +324,14 @@ module _ (determined : ForwardingIsDetermined) where
   abroad_alone : (o : Offer) → OffersExternal zero_says at_middle o → abroad_offer ≡ o
   abroad_alone o x =
       let one = the_one _ x.lsa x.its in
-      let id : x.id ≡ dotted 203 0 113 0 = ap (λ (k : Key). k.link_state_id) one.0 in
+      let id : x.id ≡ ipv4 203 0 113 0 = ap (λ (k : Key). k.link_state_id) one.0 in
       let by : right_id ≡ x.originator = sym (ap (λ (k : Key). k.advertising_router) one.0) in
       let lsa : abroad_lsa ≡ x.lsa = sym one.1 in
       let F : ExternalLsa → Type 0 = λ l. l.forwarding ≢ 0 → IsForwarded (OffersInside zero_says at_middle) l.forwarding x.way in
       let w : way 5 2 ≡ x.way = determined zero_says at_middle forwarding (way 5 2) x.way to_forwarding (subst F one.1 x.is_way.forwarded some_forwarding) in
       let P : ExternalLsa → Type 0 = λ l. IsPrefix x.id l.mask x.prefix in
       let Q : ℕ → Type 0 = λ n. IsPrefix n mask_24 x.prefix in
-      let p : network_24 203 0 113 ≡ x.prefix = one_prefix (dotted 203 0 113 0) mask_24 24 x.prefix (omega arith) refl (subst Q id (subst P one.1 x.is_prefix)) in
+      let p : network_24 203 0 113 ≡ x.prefix = one_prefix (ipv4 203 0 113 0) mask_24 24 x.prefix (omega arith) refl (subst Q id (subst P one.1 x.is_prefix)) in
       (λ i. external_offer (lsa i).kind (p i) (lsa i) (by i) (w i)) ∙ sym x.is
 
   abbrev all : List Offer
@@ -374,10 +374,10 @@ all_say = three_places (λ place f. says_of f.router ≡ zero_says) zero_left ze
 are_joined : AreJoined with_zero_cost
 are_joined =
     three_places (λ place f. EachJoined with_zero_cost place f.router.area.links) zero_left zero_middle zero_right
-    (one_joined with_zero_cost 0 (record (interface_at (dotted 192 0 3 1) 23) { cost = 0 }) (full middle_id) (record { other = 1; is_across = refl; forwarder = zero_middle; stands = refl; is = refl }))
-    (two_joined with_zero_cost 1 (interface_at (dotted 10 0 0 1) 24) (interface_at (dotted 10 0 0 2) 24) (full left_id) (full right_id) (record { other = 0; is_across = refl; forwarder = zero_left; stands = refl; is = refl })
+    (one_joined with_zero_cost 0 (record (interface_at (ipv4 192 0 3 1) 23) { cost = 0 }) (full middle_id) (record { other = 1; is_across = refl; forwarder = zero_middle; stands = refl; is = refl }))
+    (two_joined with_zero_cost 1 (interface_at (ipv4 10 0 0 1) 24) (interface_at (ipv4 10 0 0 2) 24) (full left_id) (full right_id) (record { other = 0; is_across = refl; forwarder = zero_left; stands = refl; is = refl })
     (record { other = 2; is_across = refl; forwarder = zero_right; stands = refl; is = refl }))
-    (one_joined with_zero_cost 2 (interface_at (dotted 192 0 2 1) 24) (full middle_id) (record { other = 1; is_across = refl; forwarder = zero_middle; stands = refl; is = refl }))
+    (one_joined with_zero_cost 2 (interface_at (ipv4 192 0 2 1) 24) (full middle_id) (record { other = 1; is_across = refl; forwarder = zero_middle; stands = refl; is = refl }))
 
 -- ---- the packet
 

@@ -21,7 +21,7 @@ use Rattle.events.specs.Originations.{router_body, router_key}
 use Rattle.forwarding_premises.specs.Laws.{HaveCosts, HaveOwnAddresses}
 use Rattle.offers.specs.Borders.{IsLongest}
 use Rattle.received.specs.Links.{Link}
-use Rattle.route_laws.specs.Worked.{Entries, copy_of, database, dotted, network_24, of_external}
+use Rattle.route_laws.specs.Worked.{Entries, copy_of, database, ipv4, network_24, of_external}
 use Rattle.route_laws.specs.WorkedExternals.{external}
 use Rattle.network_laws.specs.Laws.{IsThere}
 use Rattle.network_laws.specs.Topologies.{AreJoined, AreUpToDate, Forwarder, HandsTo, HasConverged}
@@ -55,24 +55,24 @@ link_with interface neighbor = record {
 }
 
 abbrev pub left_id : RouterNumber
-left_id = dotted 1 1 1 1
+left_id = ipv4 1 1 1 1
 
 abbrev pub middle_id : RouterNumber
-middle_id = dotted 2 2 2 2
+middle_id = ipv4 2 2 2 2
 
 abbrev pub right_id : RouterNumber
-right_id = dotted 3 3 3 3
+right_id = ipv4 3 3 3 3
 
 abbrev pub left_links : List Link
-left_links = link_with (interface_at (dotted 192 0 3 1) 23) (Some (full middle_id)) ∷ []
+left_links = link_with (interface_at (ipv4 192 0 3 1) 23) (Some (full middle_id)) ∷ []
 
 abbrev pub middle_links : List Link
 middle_links =
-    link_with (interface_at (dotted 10 0 0 1) 24) (Some (full left_id))
-    ∷ link_with (interface_at (dotted 10 0 0 2) 24) (Some (full right_id)) ∷ []
+    link_with (interface_at (ipv4 10 0 0 1) 24) (Some (full left_id))
+    ∷ link_with (interface_at (ipv4 10 0 0 2) 24) (Some (full right_id)) ∷ []
 
 abbrev pub right_links : List Link
-right_links = link_with (interface_at (dotted 192 0 2 1) 24) (Some (full middle_id)) ∷ []
+right_links = link_with (interface_at (ipv4 192 0 2 1) 24) (Some (full middle_id)) ∷ []
 
 -- the copy of the router-LSA that these links make
 abbrev pub its_copy : RouterNumber → List Link → Key × DatabaseCopy
@@ -90,7 +90,7 @@ within network cost hops =
     record { prefix = network; kind = Intra; cost = cost; distance = 0; hops = hops; tag = 0 }
 
 abbrev pub wide_network : Network
-wide_network = record { address = dotted 192 0 2 0; length = 23 }
+wide_network = record { address = ipv4 192 0 2 0; length = 23 }
 
 abbrev pub between : ℕ → ℕ → Route
 between = within (network_24 10 0 0)
@@ -154,7 +154,7 @@ in_a_row = record { routers = left ∷ middle ∷ right ∷ []; across = across_
 
 -- an address in both networks
 abbrev pub address : ℕ
-address = dotted 192 0 2 5
+address = ipv4 192 0 2 5
 
 pub record WorkedTopology : Type 0 where
   pub converged : HasConverged in_a_row
@@ -163,23 +163,23 @@ pub record WorkedTopology : Type 0 where
 
 -- ---- the same routers, where the second interface of the middle one is joined to the left one
 
-abbrev pub crossed : Topology
-crossed = record in_a_row { across = across_row 0 }
+abbrev pub crossed_row : Topology
+crossed_row = record in_a_row { across = across_row 0 }
 
 -- the middle router sends the packet by the interface on which it knows the right one, and it
 -- comes back to the left one
 pub record CrossedLinksMayLoop : Type 0 where
-  pub up_to_date : AreUpToDate crossed
-  pub agree : SayTheSame crossed
-  pub comes_back : IsHandedAlong crossed address (0 ∷ 1 ∷ 0 ∷ [])
+  pub up_to_date : AreUpToDate crossed_row
+  pub agree : SayTheSame crossed_row
+  pub comes_back : IsHandedAlong crossed_row address (0 ∷ 1 ∷ 0 ∷ [])
 
 -- ---- the left and the middle router, where the middle one has begun anew, and hasn't met the
 -- right one yet
 
 abbrev pub anew_links : List Link
 anew_links =
-    link_with (interface_at (dotted 10 0 0 1) 24) (Some (full left_id))
-    ∷ link_with (interface_at (dotted 10 0 0 2) 24) None ∷ []
+    link_with (interface_at (ipv4 10 0 0 1) 24) (Some (full left_id))
+    ∷ link_with (interface_at (ipv4 10 0 0 2) 24) None ∷ []
 
 -- the new router-LSA hasn't come to the left router yet, nor that of the right one to the middle
 abbrev pub anew : Entries
@@ -205,8 +205,8 @@ pub record DifferingDatabasesMayLoop : Type 0 where
 
 abbrev pub equal_links : List Link
 equal_links =
-    link_with (interface_at (dotted 10 0 0 1) 24) (Some (full left_id))
-    ∷ link_with (interface_at (dotted 10 0 0 1) 24) (Some (full right_id)) ∷ []
+    link_with (interface_at (ipv4 10 0 0 1) 24) (Some (full left_id))
+    ∷ link_with (interface_at (ipv4 10 0 0 1) 24) (Some (full right_id)) ∷ []
 
 abbrev pub equal : Entries
 equal =
@@ -244,18 +244,18 @@ pub record EqualAddressesMayLoop : Type 0 where
 
 abbrev pub zero_links : List Link
 zero_links =
-    link_with (record (interface_at (dotted 192 0 3 1) 23) { cost = 0 }) (Some (full middle_id))
+    link_with (record (interface_at (ipv4 192 0 3 1) 23) { cost = 0 }) (Some (full middle_id))
     ∷ []
 
 -- 203.0.113.0/24 of metric 20, which the right router announces with a forwarding address in the
 -- network of the left one
 abbrev pub abroad_lsa : ExternalLsa
-abroad_lsa = external Type1 20 (dotted 192 0 3 9) 0
+abroad_lsa = external Type1 20 (ipv4 192 0 3 9) 0
 
 abbrev pub zero_cost : Entries
 zero_cost =
     its_copy left_id zero_links ∷ its_copy middle_id middle_links ∷ its_copy right_id right_links
-    ∷ of_external (dotted 203 0 113 0) right_id abroad_lsa ∷ []
+    ∷ of_external (ipv4 203 0 113 0) right_id abroad_lsa ∷ []
 
 -- its one link has metric 0, which doesn't count: the left router knows its own network alone
 abbrev pub zero_left : Forwarder
@@ -286,7 +286,7 @@ with_zero_cost =
 
 -- an address in 203.0.113.0/24
 abbrev pub address_abroad : ℕ
-address_abroad = dotted 203 0 113 5
+address_abroad = ipv4 203 0 113 5
 
 -- the middle router sends the packet to the left one, toward the forwarding address; that one has
 -- no way to the right router, so no route for the packet, though the forwarding address lies in its

@@ -4,35 +4,35 @@ use Rattle.std.specs.Prelude.{nat_eq}
 use Rattle.std.specs.Int.{bit_at}
 use Rattle.std.proofs.lemmas.List.{get_or-drop, take-append-drop, take-take, drop-take}
 use Rattle.std.proofs.lemmas.List.Edits.{fill_by_more}
-use Rattle.object.specs.Packing.{bit, packed}
+use Rattle.object.specs.Packing.{bit, packed_bits}
 
-pub packed-append : (n : ℕ) (xs ys : List Bool) → length xs ≡ 8 * n → packed (xs ++ ys) ≡ packed xs ++ packed ys
+pub packed-append : (n : ℕ) (xs ys : List Bool) → length xs ≡ 8 * n → packed_bits (xs ++ ys) ≡ packed_bits xs ++ packed_bits ys
 packed-append zero [] ys l = refl
 packed-append zero (x ∷ xs) ys l = absurd (omega arith)
 packed-append (suc n) (a ∷ b ∷ c ∷ d ∷ e ∷ f ∷ g ∷ h ∷ xs) ys l =
     ap (λ t. (bit a + 2 * bit b + 4 * bit c + 8 * bit d + 16 * bit e + 32 * bit f + 64 * bit g + 128 * bit h) ∷ t) (packed-append n xs ys (omega arith))
 packed-append (suc n) other ys l = absurd (omega arith)
 
-pub length-packed : (n : ℕ) (xs : List Bool) → length xs ≡ 8 * n → length (packed xs) ≡ n
+pub length-packed : (n : ℕ) (xs : List Bool) → length xs ≡ 8 * n → length (packed_bits xs) ≡ n
 length-packed zero [] l = refl
 length-packed zero (x ∷ xs) l = absurd (omega arith)
 length-packed (suc n) (a ∷ b ∷ c ∷ d ∷ e ∷ f ∷ g ∷ h ∷ xs) l = ap suc (length-packed n xs (omega arith))
 length-packed (suc n) other l = absurd (omega arith)
 
 pub eight_packed : (xs : List Bool) → length xs ≡ 8
-    → (bit (get_or xs 0 false) + 2 * bit (get_or xs 1 false) + 4 * bit (get_or xs 2 false) + 8 * bit (get_or xs 3 false) + 16 * bit (get_or xs 4 false) + 32 * bit (get_or xs 5 false) + 64 * bit (get_or xs 6 false) + 128 * bit (get_or xs 7 false)) ∷ [] ≡ packed xs
+    → (bit (get_or xs 0 false) + 2 * bit (get_or xs 1 false) + 4 * bit (get_or xs 2 false) + 8 * bit (get_or xs 3 false) + 16 * bit (get_or xs 4 false) + 32 * bit (get_or xs 5 false) + 64 * bit (get_or xs 6 false) + 128 * bit (get_or xs 7 false)) ∷ [] ≡ packed_bits xs
 eight_packed (a ∷ b ∷ c ∷ d ∷ e ∷ f ∷ g ∷ h ∷ []) l = refl
 eight_packed other l = absurd (omega arith)
 
 -- eight more
-pub packed-more : (i : ℕ) (xs : List Bool) → 8 * i + 8 ≤ length xs → packed (take (8 * (i + 1)) xs) ≡ packed (take (8 * i) xs) ++ packed (take 8 (drop (8 * i) xs))
+pub packed-more : (i : ℕ) (xs : List Bool) → 8 * i + 8 ≤ length xs → packed_bits (take (8 * (i + 1)) xs) ≡ packed_bits (take (8 * i) xs) ++ packed_bits (take 8 (drop (8 * i) xs))
 packed-more i xs le =
     let more : 8 * (i + 1) ≡ 8 * i + 8 = omega arith in
     let cut : take (8 * i + 8) xs ≡ take (8 * i) xs ++ take 8 (drop (8 * i) xs) =
     sym (take-append-drop (8 * i) (take (8 * i + 8) xs))
     ∙ ap (λ t. t ++ drop (8 * i) (take (8 * i + 8) xs)) (take-take (8 * i) (8 * i + 8) xs (omega arith))
     ∙ ap (λ t. take (8 * i) xs ++ t) (drop-take (8 * i) 8 xs) in
-    ap (λ n. packed (take n xs)) more ∙ ap packed cut ∙ packed-append i (take (8 * i) xs) (take 8 (drop (8 * i) xs)) (omega (arith, length-take (8 * i) xs))
+    ap (λ n. packed_bits (take n xs)) more ∙ ap packed_bits cut ∙ packed-append i (take (8 * i) xs) (take 8 (drop (8 * i) xs)) (omega (arith, length-take (8 * i) xs))
 
 -- ---- from bytes
 
@@ -64,7 +64,7 @@ bits_more bits bytes k b lt h e =
     let f : ℕ → Bool = λ j. nat_eq (bit_at (get_or bytes (j / 8) 0) (j % 8)) 1 in
     rw e (fill_by_more f bits k false lt h)
 
-pub bits_packed : (bytes : List ℕ) (bits : List Bool) → ((i : ℕ) → get_or bytes i 0 < 256) → length bits ≡ 8 * length bytes → AreBitsOf bits bytes (8 * length bytes) → packed bits ≡ bytes
+pub bits_packed : (bytes : List ℕ) (bits : List Bool) → ((i : ℕ) → get_or bytes i 0 < 256) → length bits ≡ 8 * length bytes → AreBitsOf bits bytes (8 * length bytes) → packed_bits bits ≡ bytes
 bits_packed [] [] small l h = refl
 bits_packed [] (x ∷ xs) small l h = absurd (omega arith)
 bits_packed (n ∷ ns) (a ∷ b ∷ c ∷ d ∷ e ∷ f ∷ g ∷ i ∷ rest) small l h =
@@ -77,7 +77,7 @@ bits_packed (n ∷ ns) (a ∷ b ∷ c ∷ d ∷ e ∷ f ∷ g ∷ i ∷ rest) sm
     get_or-drop 8 whole k false ∙ h (8 + k) (omega arith) ∙ ap (λ m. nat_eq (bit_at (get_or (n ∷ ns) m 0) ((8 + k) % 8)) 1) q
     ∙ ap (λ m. nat_eq (bit_at (get_or (n ∷ ns) (1 + k / 8) 0) m) 1) r ∙ ap (λ m. nat_eq (bit_at m (k % 8)) 1) (sym (get_or-drop 1 (n ∷ ns) (k / 8) 0)) in
     let small' : (j : ℕ) → get_or ns j 0 < 256 = λ j. rw (get_or-drop 1 (n ∷ ns) j 0) (small (1 + j)) in
-    ap (λ m. m ∷ packed rest) head ∙ ap (λ t. n ∷ t) (bits_packed ns rest small' (omega arith) tail)
+    ap (λ m. m ∷ packed_bits rest) head ∙ ap (λ t. n ∷ t) (bits_packed ns rest small' (omega arith) tail)
 bits_packed (n ∷ ns) other small l h = absurd (omega arith)
 
 -- ---- the bytes tell the truth values
@@ -107,7 +107,7 @@ eight_bits a b c d e f g h a' b' c' d' e' f' g' h' la lb lc ld le lf lg lh la' l
     let eh : h ≡ h' = omega arith in
     (ea, eb, ec, ed, ee, ef, eg, eh)
 
-pub same_packed : (n : ℕ) (xs ys : List Bool) → length xs ≡ 8 * n → length ys ≡ 8 * n → packed xs ≡ packed ys → xs ≡ ys
+pub same_packed : (n : ℕ) (xs ys : List Bool) → length xs ≡ 8 * n → length ys ≡ 8 * n → packed_bits xs ≡ packed_bits ys → xs ≡ ys
 same_packed zero [] [] l m s = refl
 same_packed zero (x ∷ xs) ys l m s = absurd (omega arith)
 same_packed zero [] (y ∷ ys) l m s = absurd (omega arith)

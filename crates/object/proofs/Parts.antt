@@ -14,7 +14,7 @@ use Rattle.std.proofs.lemmas.Nat.{from_le_bytes-to_le_bytes_4}
 use Rattle.std.proofs.lemmas.List.{take_at, drop_at}
 use Rattle.object.specs.declared.rank.Rank.{Rank}
 use Rattle.object.specs.Sets.{IsStackBytes}
-use Rattle.object.specs.Packing.{packed}
+use Rattle.object.specs.Packing.{packed_bits}
 use Rattle.object.specs.declared.fields.RankFields.{RankFields}
 use Rattle.object.specs.Fields.{AreRank}
 use Rattle.object.specs.Statements.{StatementParts, IsStatement, IsRank, IsRankOver}
@@ -96,27 +96,27 @@ read_same read bytes i h le ks all ten e = ext_get_or Empty read ks (h.count ∙
 -- what its 484 bytes are
 pub record ArePartsOf (s : StatementParts) (bytes : List ℕ) : Type 0 where
   pub front : take 20 bytes ≡ rank_bytes (fields_of_rank s.slot s.rank)
-  pub middle : take 64 (drop 20 bytes) ≡ packed s.stack
+  pub middle : take 64 (drop 20 bytes) ≡ packed_bits s.stack
   pub back : drop 84 bytes ≡ flat_map kind_text s.kinds
 
 pub parts_of : (s : StatementParts) (bytes : List ℕ) → IsStackBytes s.stack → statement_text s ≡ bytes → ArePartsOf s bytes
 parts_of s bytes set e =
     let front = rank_bytes (fields_of_rank s.slot s.rank) in
     let back = flat_map kind_text s.kinds in
-    let long : length (packed s.stack) ≡ 64 = length-packed 64 s.stack (set ∙ omega arith) in
-    let behind : drop 20 bytes ≡ packed s.stack ++ back = ap (λ t. drop 20 t) (sym e ∙ append_assoc front (packed s.stack) back) in
+    let long : length (packed_bits s.stack) ≡ 64 = length-packed 64 s.stack (set ∙ omega arith) in
+    let behind : drop 20 bytes ≡ packed_bits s.stack ++ back = ap (λ t. drop 20 t) (sym e ∙ append_assoc front (packed_bits s.stack) back) in
     record {
-      front = ap (λ t. take 20 t) (sym e ∙ append_assoc front (packed s.stack) back);
-      middle = ap (λ t. take 64 t) behind ∙ take_at (packed s.stack) back 64 long;
-      back = sym (drop-drop 64 20 bytes) ∙ ap (λ t. drop 64 t) behind ∙ drop_at (packed s.stack) back 64 long;
+      front = ap (λ t. take 20 t) (sym e ∙ append_assoc front (packed_bits s.stack) back);
+      middle = ap (λ t. take 64 t) behind ∙ take_at (packed_bits s.stack) back 64 long;
+      back = sym (drop-drop 64 20 bytes) ∙ ap (λ t. drop 64 t) behind ∙ drop_at (packed_bits s.stack) back 64 long;
     }
 
-pub text_of : (s : StatementParts) (bytes : List ℕ) → length bytes ≡ 484 → rank_bytes (fields_of_rank s.slot s.rank) ≡ take 20 bytes → packed s.stack ≡ take 64 (drop 20 bytes)
+pub text_of : (s : StatementParts) (bytes : List ℕ) → length bytes ≡ 484 → rank_bytes (fields_of_rank s.slot s.rank) ≡ take 20 bytes → packed_bits s.stack ≡ take 64 (drop 20 bytes)
     → flat_map kind_text s.kinds ≡ drop 84 bytes → statement_text s ≡ bytes
 text_of s bytes l a b c =
     let front = rank_bytes (fields_of_rank s.slot s.rank) in
-    append_assoc front (packed s.stack) (flat_map kind_text s.kinds)
-    ∙ ap (λ t. front ++ (packed s.stack ++ t)) (c ∙ sym (drop-drop 64 20 bytes))
+    append_assoc front (packed_bits s.stack) (flat_map kind_text s.kinds)
+    ∙ ap (λ t. front ++ (packed_bits s.stack ++ t)) (c ∙ sym (drop-drop 64 20 bytes))
     ∙ ap (λ t. front ++ (t ++ drop 64 (drop 20 bytes))) b
     ∙ ap (λ t. front ++ t) (take-append-drop 64 (drop 20 bytes))
     ∙ ap (λ t. t ++ drop 20 bytes) a
@@ -124,17 +124,17 @@ text_of s bytes l a b c =
 
 pub length-statement : (s : StatementParts) → IsStatement s → length (statement_text s) ≡ 484
 length-statement s h =
-    let long : length (packed s.stack) ≡ 64 = length-packed 64 s.stack (h.stack ∙ omega arith) in
+    let long : length (packed_bits s.stack) ≡ 64 = length-packed 64 s.stack (h.stack ∙ omega arith) in
     let count = h.count in
     let front = rank_bytes (fields_of_rank s.slot s.rank) in
     let twenty : length front ≡ 20 = refl in
-    length-append (front ++ packed s.stack) (flat_map kind_text s.kinds)
-    ∙ omega (arith, length-append front (packed s.stack), long, twenty, length-kinds s.kinds)
+    length-append (front ++ packed_bits s.stack) (flat_map kind_text s.kinds)
+    ∙ omega (arith, length-append front (packed_bits s.stack), long, twenty, length-kinds s.kinds)
 
 -- the slot stands in front
 pub slot_in_front : (s : StatementParts) (bytes : List ℕ) → IsStatement s → statement_text s ≡ bytes → from_le_bytes w32 (take 4 bytes) ≡ s.slot
 slot_in_front s bytes h e =
-    sym (ap (λ t. from_le_bytes w32 (take 4 t)) (sym (append_assoc (rank_bytes (fields_of_rank s.slot s.rank)) (packed s.stack) (flat_map kind_text s.kinds)) ∙ e)) ∙ from_le_bytes-to_le_bytes_4 s.slot h.slot
+    sym (ap (λ t. from_le_bytes w32 (take 4 t)) (sym (append_assoc (rank_bytes (fields_of_rank s.slot s.rank)) (packed_bits s.stack) (flat_map kind_text s.kinds)) ∙ e)) ∙ from_le_bytes-to_le_bytes_4 s.slot h.slot
 
 pub same_statement : (s t : StatementParts) → IsStatement s → IsStatement t → statement_text s ≡ statement_text t → s ≡ t
 same_statement s t h g e =
@@ -163,7 +163,7 @@ rank_again s bytes f h e small read =
 pub statement_told : (s : StatementParts) (bytes : List ℕ) (f : RankFields) (rank : Rank) (kinds : List Kind) (stack : List Bool) → IsStatement s → statement_text s ≡ bytes → AreRank f
     → rank_bytes f ≡ take 20 bytes → ((r : Rank) → IsRank r → fields_of_rank f.slot r ≡ f → rank ≡ r)
     → ((ks : List Kind) → All IsKind ks → length ks ≡ 10 → flat_map kind_text ks ≡ drop 84 bytes → kinds ≡ ks)
-    → packed stack ≡ take 64 (drop 20 bytes) → IsStackBytes stack → s ≡ record { slot = f.slot; rank = rank; kinds = kinds; stack = stack }
+    → packed_bits stack ≡ take 64 (drop 20 bytes) → IsStackBytes stack → s ≡ record { slot = f.slot; rank = rank; kinds = kinds; stack = stack }
 statement_told s bytes f rank kinds stack h e small read only_rank only_kinds middle set =
     let p = parts_of s bytes h.stack e in
     let slot_is : s.slot ≡ f.slot = ap (λ g. g.slot) (rank_told s bytes f h e small read) in

@@ -15,7 +15,7 @@ use Rattle.object.specs.Fields.{AreHeader}
 use Rattle.object.specs.Statements.{StatementParts}
 use Rattle.object.specs.Objects.{AreStatements, IsObject, ObjectParts, slots_of}
 use Rattle.object.specs.Spelling.{Spells, fields_of_header, header_bytes, magic, statement_text, text}
-use Rattle.object.specs.Refusals.{AreFieldsOf, AreSpelled, FailsAt, FailsBehind, HasSize, Refuses, StatementsFail, announced, count_in, slots_in}
+use Rattle.object.specs.Refusals.{AreFieldsOf, AreSpelled, FailsAt, FailsBehind, HasSize, Refuses, StatementsFail, announced_size, count_in, slots_in}
 use Rattle.object.proofs.Orders.{few_statements}
 use Rattle.object.proofs.Same.{same_header_fields}
 use Rattle.object.proofs.Behind.{length-statements, not_behind, same_statements}

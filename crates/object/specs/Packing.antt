@@ -6,8 +6,8 @@ bit true = 1
 bit false = 0
 
 -- eight to a byte
-abbrev pub packed : List Bool → List ℕ
-packed (a ∷ b ∷ c ∷ d ∷ e ∷ f ∷ g ∷ h ∷ rest) =
+abbrev pub packed_bits : List Bool → List ℕ
+packed_bits (a ∷ b ∷ c ∷ d ∷ e ∷ f ∷ g ∷ h ∷ rest) =
     (bit a + 2 * bit b + 4 * bit c + 8 * bit d + 16 * bit e + 32 * bit f + 64 * bit g + 128 * bit h)
-    ∷ packed rest
-packed other = []
+    ∷ packed_bits rest
+packed_bits other = []

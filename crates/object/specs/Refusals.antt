@@ -32,8 +32,8 @@ count_in bytes = from_le_bytes w16 (take 2 (drop 6 bytes))
 abbrev pub slots_in : List ℕ → ℕ
 slots_in bytes = from_le_bytes w32 (take 4 (drop 12 bytes))
 
-abbrev pub announced : List ℕ → ℕ
-announced bytes = 16 + 8 * slots_in bytes + 484 * count_in bytes
+abbrev pub announced_size : List ℕ → ℕ
+announced_size bytes = 16 + 8 * slots_in bytes + 484 * count_in bytes
 
 -- ---- the tests that come before, each with those before it
 
@@ -57,7 +57,7 @@ pub record HasSlots (bytes : List ℕ) : Type 0 where
 
 pub record HasSize (bytes : List ℕ) : Type 0 where
   pub begins : HasSlots bytes
-  pub size : length bytes ≡ announced bytes
+  pub size : length bytes ≡ announced_size bytes
 
 -- what the fields behind the first four bytes say
 pub record AreFieldsOf (bytes : List ℕ) (f : HeaderFields) : Type 0 where
@@ -116,7 +116,7 @@ pub record FailsAt (bytes : List ℕ) (error : ReadError) : Type 0 where
 -- Why no object is read of the bytes. Want of memory is told only of bytes that spell an object.
 abbrev pub Refuses : List ℕ → ReadError → Type 0
 Refuses bytes errors.Short = (length bytes < 16)
-    ⊎ (HasSlots bytes × (length bytes < announced bytes))
+    ⊎ (HasSlots bytes × (length bytes < announced_size bytes))
 Refuses bytes errors.Magic = (16 ≤ length bytes) × (take 4 bytes ≢ magic)
 Refuses bytes errors.Version = HasMagic bytes × (slice_index bytes 4 ≢ 1)
 Refuses bytes errors.Hook = HasVersion bytes
@@ -124,5 +124,5 @@ Refuses bytes errors.Hook = HasVersion bytes
 Refuses bytes errors.Order = FailsAt bytes errors.Order
 Refuses bytes errors.Field = (HasHook bytes × ((slots_in bytes ≡ 0) ⊎ (4096 < slots_in bytes)))
     ⊎ FailsAt bytes errors.Field
-Refuses bytes errors.Trailing = HasSlots bytes × (announced bytes < length bytes)
+Refuses bytes errors.Trailing = HasSlots bytes × (announced_size bytes < length bytes)
 Refuses bytes errors.Memory = (object : ObjectParts) × Spells bytes object

@@ -13,7 +13,7 @@ use Rattle.object.specs.declared.fields.RankFields.{RankFields}
 use Rattle.object.specs.declared.fields.HeaderFields.{HeaderFields}
 use Rattle.object.specs.Numbers.{Numbers, Term}
 use Rattle.object.specs.Statements.{StatementParts}
-use Rattle.object.specs.Packing.{packed}
+use Rattle.object.specs.Packing.{packed_bits}
 use Rattle.object.specs.Objects.{ObjectParts, IsObject, slots_of}
 
 -- ---- a register: 40 bytes
@@ -85,7 +85,7 @@ fields_of_rank slot rank = record {
 -- ---- a statement: 484 bytes
 
 abbrev pub statement_text : StatementParts → List ℕ
-statement_text s = rank_bytes (fields_of_rank s.slot s.rank) ++ packed s.stack
+statement_text s = rank_bytes (fields_of_rank s.slot s.rank) ++ packed_bits s.stack
     ++ flat_map kind_text s.kinds
 
 -- ---- the header: 16 bytes

@@ -2,7 +2,7 @@
 ghost use Rattle.std.specs.Prelude.{◌≡◌, ◌≤◌, ◌<◌, ◌∷◌, [], ◌++◌, length, nat_eq, OnOk};
 ghost use Rattle.std.specs.Int.{bit_at};
 ghost use Rattle.object.specs.Sets.{IsStackBytes, has_byte, no_bytes, with_range};
-ghost use Rattle.object.specs.Packing.{bit, packed};
+ghost use Rattle.object.specs.Packing.{bit, packed_bits};
 
 use std::alloc::AllocError;
 use std::marker::Model;
@@ -48,7 +48,7 @@ fn bit(is_set: bool) -> u8
 /// The byte whose bits these eight are, bit 0 first.
 fn packed_byte(bits: &[bool]) -> u8
     requires { length bits.now ≡ 8 }
-    ensures { result ∷ [] ≡ packed bits.now }
+    ensures { result ∷ [] ≡ packed_bits bits.now }
 {
     bit(bits[0])
         + 2 * bit(bits[1])
@@ -64,7 +64,7 @@ impl StackBytes {
     /// The set in 64 bytes: bit i of byte j is stack byte 8 * j + i.
     pub(crate) fn unpack(bytes: &[u8]) -> StackBytes
         requires { length bytes.now ≡ 64 }
-        ensures packed { packed result ≡ bytes.now }
+        ensures packed { packed_bits result ≡ bytes.now }
         ensures are { IsStackBytes result }
     {
         let mut set = [false; 512];
@@ -76,7 +76,7 @@ impl StackBytes {
 
     /// Adds the 64 bytes of the set.
     pub(crate) fn pack(&self, out: &mut Vec<u8>) -> Result<(), AllocError>
-        ensures { OnOk result (out.new.items ≡ out.old.items ++ packed self.now) }
+        ensures { OnOk result (out.new.items ≡ out.old.items ++ packed_bits self.now) }
     {
         for byte in 0..64 {
             out.push(packed_byte(&self.bytes[8 * byte..8 * byte + 8]))?;

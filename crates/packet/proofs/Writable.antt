@@ -5,11 +5,11 @@ use Rattle.packet.specs.declared.model.Body.{Body}
 use Rattle.packet.specs.declared.model.Body.TheVariants as body
 use Rattle.packet.specs.declared.model.Packet.{Packet}
 use Rattle.packet.specs.declared.refusal.ReadError.{ReadError}
-use Rattle.packet.specs.Text.{IsBody, Open, PacketText, body_text, closed, lsa_count, text}
+use Rattle.packet.specs.Text.{IsBody, Open, PacketText, body_text, closed_fields, lsa_count, text}
 use Rattle.packet.proofs.Again.{lsas_room}
 
 -- what a text leaves open is as long as zeros there
-same_length : (o : Open) (b : Body) → length (body_text o b) ≡ length (body_text closed b)
+same_length : (o : Open) (b : Body) → length (body_text o b) ≡ length (body_text closed_fields b)
 same_length o (body.Hello h) = refl
 same_length o (body.Description d) = refl
 same_length o (body.Request keys) = refl
@@ -24,13 +24,13 @@ few o (body.Update lsas) is le = omega (arith, lsas_room lsas is, le)
 few o (body.Acknowledgment headers) is le = omega arith
 
 abbrev pub IsWritable : Packet → Type 0
-IsWritable p = (length (text closed 0 p) ≤ 8192) × (lsa_count p.body < 2 ^ 32)
+IsWritable p = (length (text closed_fields 0 p) ≤ 8192) × (lsa_count p.body < 2 ^ 32)
 
 pub text_is_writable : (bytes : List ℕ) (p : Packet) → PacketText bytes p → IsWritable p
 text_is_writable bytes p t =
     let long : length bytes ≡ 24 + length (body_text t.filler p.body) = omega (arith, ap length t.spelled) in
     let same = same_length t.filler p.body in
-    let whole : length (text closed 0 p) ≡ 24 + length (body_text closed p.body) = omega arith in
+    let whole : length (text closed_fields 0 p) ≡ 24 + length (body_text closed_fields p.body) = omega arith in
     (omega (arith, t.size, long, same, whole), few t.filler p.body t.is_packet.body (omega (arith, t.size, long)))
 
 pub is_writable : (bytes : List ℕ) (r : Result Packet ReadError) → IfOk r (λ p. PacketText bytes p) → IfOk r (λ p. IsWritable p)

@@ -2,7 +2,7 @@
 ghost use Rattle.std.specs.Prelude.{◌≡◌, ◌≤◌, ◌<◌, ◌+◌, ◌*◌, ◌/◌, ◌^◌, ◌⊎◌, true, length, drop};
 ghost use Rattle.std.specs.Prelude.{IfOk};
 ghost use Rattle.lsa.specs.Headers.{header_at};
-ghost use Rattle.packet.specs.Text.{PacketText, closed, lsa_count, text};
+ghost use Rattle.packet.specs.Text.{PacketText, closed_fields, lsa_count, text};
 ghost use Rattle.packet.specs.Reading.{are_lsas, body_of, description_of, hello_of, is_filled};
 ghost use Rattle.packet.specs.Reading.{key_at, least_length, lsas_of, router_at};
 ghost use Rattle.words.specs.Records.{records};
@@ -173,7 +173,7 @@ pub fn read(alloc: Global, bytes: &[u8]) -> Result<Packet, ReadError>
     // Which fault it is; want of memory comes only where there is none.
     ensures exact { Reads bytes.now result }
     // What is read can be written.
-    ensures writable { IfOk result (λ p. (length (text closed 0 p) ≤ 8192)
+    ensures writable { IfOk result (λ p. (length (text closed_fields 0 p) ≤ 8192)
         × (lsa_count p.body < 2 ^ 32)) }
 {
     outcome(alloc, bytes)

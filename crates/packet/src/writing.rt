@@ -6,7 +6,8 @@ ghost use Rattle.byteorder.specs.Endian.{big_bytes};
 ghost use Rattle.words.specs.Fields.{fields};
 ghost use Rattle.lsa.specs.Headers.{header_text};
 ghost use Rattle.packet.specs.Ranges.{LsasAreWhole};
-ghost use Rattle.packet.specs.Text.{PacketText, body_text, canonical, closed, description, flags};
+ghost use Rattle.packet.specs.Text.{PacketText, body_text, canonical};
+ghost use Rattle.packet.specs.Text.{closed_fields, description, flags};
 ghost use Rattle.packet.specs.Text.{header, hello, key_text, lsa_count, router_text, text};
 ghost use Rattle.packet.specs.Text.{type_number, type_of};
 
@@ -97,7 +98,7 @@ fn put_lsas(out: &mut Vec<u8>, lsas: &[Sequence<u8>]) -> Result<(), AllocError>
 }
 
 fn put_intervals(out: &mut Vec<u8>, h: &Hello) -> Result<(), AllocError>
-    ensures { OnOk result (out.new.items ≡ out.old.items ++ fields (hello closed h.now)) }
+    ensures { OnOk result (out.new.items ≡ out.old.items ++ fields (hello closed_fields h.now)) }
 {
     put_u32(out, h.mask)?;
     put_u16(out, h.hello_interval)?;
@@ -124,7 +125,7 @@ fn put_sequence(out: &mut Vec<u8>, d: &Description) -> Result<(), AllocError>
 
 #[tactic(auto, using(crate::proofs::Sizes::two_parts))]
 fn put_hello(out: &mut Vec<u8>, h: &Hello) -> Result<(), AllocError>
-    ensures { OnOk result (out.new.items ≡ out.old.items ++ (fields (hello closed h.now)
+    ensures { OnOk result (out.new.items ≡ out.old.items ++ (fields (hello closed_fields h.now)
         ++ flat_map router_text h.now.neighbors)) }
 {
     put_intervals(out, h)?;
@@ -152,7 +153,7 @@ fn put_update(out: &mut Vec<u8>, lsas: &[Sequence<u8>]) -> Result<(), AllocError
 
 fn put_body(out: &mut Vec<u8>, body: &Body) -> Result<(), AllocError>
     requires { lsa_count body.now < 2 ^ 32 }
-    ensures { OnOk result (out.new.items ≡ out.old.items ++ body_text closed body.now) }
+    ensures { OnOk result (out.new.items ≡ out.old.items ++ body_text closed_fields body.now) }
 {
     match body {
         Body::Hello(h) => put_hello(out, h),
@@ -191,7 +192,7 @@ fn draft(alloc: Global, packet: &Packet) -> Result<Vec<u8>, AllocError>
     requires { lsa_count packet.now.body < 2 ^ 32 }
     ensures { IfOk result (λ bytes. bytes.items
         ≡ fields (header (type_of packet.now.body) 0 packet.now.router 0 0)
-        ++ body_text closed packet.now.body) }
+        ++ body_text closed_fields packet.now.body) }
 {
     let mut out = Vec::with_capacity(alloc, likely_length(&packet.body).min(8192))?;
     put_start(&mut out, type_of(&packet.body), packet.router)?;
@@ -205,7 +206,7 @@ fn draft(alloc: Global, packet: &Packet) -> Result<Vec<u8>, AllocError>
 #[tactic(auto, unfolding(crate::specs::Text::canonical))]
 pub fn write(alloc: Global, packet: &Packet) -> Result<Vec<u8>, AllocError>
     // A packet has at most 8,192 bytes.
-    requires size { length (text closed 0 packet.now) ≤ 8192 }
+    requires size { length (text closed_fields 0 packet.now) ≤ 8192 }
     // An Update's number of LSAs has 32 bits.
     requires count { lsa_count packet.now.body < 2 ^ 32 }
     ensures canonical { IfOk result (λ bytes. bytes.items ≡ canonical packet.now) }

@@ -14,7 +14,7 @@ use Rattle.adjacency.specs.Rooms.{HasRoom}
 use Rattle.adjacency.specs.declared.draft.Update.{Update}
 use Rattle.received.specs.Links.{Link}
 use Rattle.received.specs.Outcomes.{Send}
-use Rattle.events.specs.Packing.{acknowledgments, at_interface, bodies, descriptions, first_key, header_size, hellos, in_key_order, is_after, lsa_size, packed_groups, put, requests, sent_lsa, update_of, updates}
+use Rattle.events.specs.Packing.{acknowledgments, at_interface, bodies, descriptions, first_key, header_size, hellos, in_key_order, is_after, lsa_size, packed_groups, insert_by_key, requests, sent_lsa, update_of, updates}
 use Rattle.event_rooms.specs.PackingLaws.{HasPacketRoom}
 use Rattle.event_rooms.proofs.Rooms.{order_all, ordered_and_packed, there}
 use Rattle.packing.specs.Bodies.{IsShort, drafted_bodies, text_size, texts, update_bodies, update_key}
@@ -73,18 +73,18 @@ module _ (delay : ℕ) where
 -- ---- ordered, and then mapped
 
 module _ {X Y : Type 0} (f : X → Y) (key : Y → Key) where
-  put_map : (x : X) (xs : List X) → put key (f x) (map f xs) ≡ map f (put (λ y. key (f y)) x xs)
+  put_map : (x : X) (xs : List X) → insert_by_key key (f x) (map f xs) ≡ map f (insert_by_key (λ y. key (f y)) x xs)
   put_map x [] = refl
   put_map x (y ∷ ys) = by_test (is_after (key (f x)) (key (f y))) (put_map x ys)
     where
-      by_test : (b : Bool) → put key (f x) (map f ys) ≡ map f (put (λ z. key (f z)) x ys)
-          → cond b (f y ∷ put key (f x) (map f ys)) (f x ∷ (f y ∷ map f ys)) ≡ map f (cond b (y ∷ put (λ z. key (f z)) x ys) (x ∷ (y ∷ ys)))
+      by_test : (b : Bool) → insert_by_key key (f x) (map f ys) ≡ map f (insert_by_key (λ z. key (f z)) x ys)
+          → cond b (f y ∷ insert_by_key key (f x) (map f ys)) (f x ∷ (f y ∷ map f ys)) ≡ map f (cond b (y ∷ insert_by_key (λ z. key (f z)) x ys) (x ∷ (y ∷ ys)))
       by_test true rest = ap (λ zs. f y ∷ zs) rest
       by_test false rest = refl
 
   order_map : (xs : List X) → in_key_order key (map f xs) ≡ map f (in_key_order (λ y. key (f y)) xs)
   order_map [] = refl
-  order_map (x ∷ xs) = ap (λ zs. put key (f x) zs) (order_map xs) ∙ put_map x (in_key_order (λ y. key (f y)) xs)
+  order_map (x ∷ xs) = ap (λ zs. insert_by_key key (f x) zs) (order_map xs) ∙ put_map x (in_key_order (λ y. key (f y)) xs)
 
 map_twice : {X Y Z : Type 0} (g : Y → Z) (f : X → Y) (xs : List X) → map g (map f xs) ≡ map (λ x. g (f x)) xs
 map_twice g f [] = refl

@@ -16,7 +16,7 @@ use Rattle.segments.specs.Places.{goes_on}
 use Rattle.segments.specs.Stated.{statement_at}
 use Rattle.segments.specs.Refusals.{FallsOff, IsBadTarget, IsFirst, IsStray, IsUnreached, IsUnstated, IsWellMade, JumpsNowhere, LacksHelperAt, MayRefuse}
 use Rattle.segments.proofs.Plain.{never}
-use Rattle.verifier.specs.Examples.{ended, says, seven, test_on}
+use Rattle.verifier.specs.Examples.{then_exit, says, seven, test_on}
 use Rattle.program_laws.specs.Refusals.{HelpersAndBoundAreNamedAptly, IsOfSound, LaterRulesDontCount, RulesCountInTheirOrder, SoundCodeIsNotNamed, astray_code, cut_code, jumping_code, jumping_statements, open_code, test_by, unstated_code}
 
 none_is_some : {A : Type 0} {x : A} → None ≡ Some x → ⊥
@@ -31,45 +31,45 @@ started i j is = cc
 -- ---- `r0 = 7; exit`
 
 -- what holds of its two instructions holds wherever one begins
-each : (P : ℕ → Instruction → Type 0) → P 0 seven → P 1 Exit → (slot : ℕ) (i : Instruction) → BeginsAt i (ended seven) slot → P slot i
+each : (P : ℕ → Instruction → Type 0) → P 0 seven → P 1 Exit → (slot : ℕ) (i : Instruction) → BeginsAt i (then_exit seven) slot → P slot i
 each P first second zero i at = subst (λ k. P 0 k) (started seven i at) first
 each P first second (suc zero) i at = subst (λ k. P 1 k) (started Exit i at) second
 each P first second (suc (suc slot)) i at = absurd (none_is_some at)
 
-jumps_not : (slot : ℕ) (i : Instruction) → BeginsAt i (ended seven) slot → (to : ℕ) → jump_target slot i ≡ Some to → ⊥
+jumps_not : (slot : ℕ) (i : Instruction) → BeginsAt i (then_exit seven) slot → (to : ℕ) → jump_target slot i ≡ Some to → ⊥
 jumps_not = each (λ slot i. (to : ℕ) → jump_target slot i ≡ Some to → ⊥) (λ to is. none_is_some is) (λ to is. none_is_some is)
 
-target_is_well : (slot : ℕ) → IsBadTarget (ended seven) [] slot → ⊥
+target_is_well : (slot : ℕ) → IsBadTarget (then_exit seven) [] slot → ⊥
 target_is_well slot =
     ⊎_elim
-    (λ (jump : JumpsNowhere (ended seven) slot). jumps_not slot jump.instruction jump.at jump.to jump.jumps)
-    (λ (stray : IsStray (ended seven) [] slot). never stray.stated)
+    (λ (jump : JumpsNowhere (then_exit seven) slot). jumps_not slot jump.instruction jump.at jump.to jump.jumps)
+    (λ (stray : IsStray (then_exit seven) [] slot). never stray.stated)
 
-end_is_well : (slot : ℕ) → FallsOff (ended seven) slot → ⊥
+end_is_well : (slot : ℕ) → FallsOff (then_exit seven) slot → ⊥
 end_is_well slot off =
     each (λ at i. slot_after at i ≡ 2 → goes_on i ≡ true → ⊥) (λ last on. omega (arith, last)) (λ last on. never on) slot off.instruction off.at off.last off.on
 
-third_is_none : Begins (ended seven) 2 → ⊥
+third_is_none : Begins (then_exit seven) 2 → ⊥
 third_is_none begins = none_is_some begins.1
 
-reached_is_well : (slot : ℕ) → IsUnreached (ended seven) [] slot → ⊥
+reached_is_well : (slot : ℕ) → IsUnreached (then_exit seven) [] slot → ⊥
 reached_is_well slot unreached =
     let cut = unreached.cut_off in
-    each (λ before i. (to : ℕ) → slot_after before i ≡ to → goes_on i ≡ false → Begins (ended seven) to → ⊥)
+    each (λ before i. (to : ℕ) → slot_after before i ≡ to → goes_on i ≡ false → Begins (then_exit seven) to → ⊥)
     (λ to behind leaves begins. never (sym leaves))
-    (λ to behind leaves begins. third_is_none (subst (λ n. Begins (ended seven) n) (sym behind) begins))
+    (λ to behind leaves begins. third_is_none (subst (λ n. Begins (then_exit seven) n) (sym behind) begins))
     cut.before cut.instruction cut.at slot cut.behind cut.leaves unreached.begins
 
-calls_not : (slot : ℕ) (i : Instruction) → BeginsAt i (ended seven) slot → (number : ℤ) → i ≡ Call number → ⊥
+calls_not : (slot : ℕ) (i : Instruction) → BeginsAt i (then_exit seven) slot → (number : ℤ) → i ≡ Call number → ⊥
 calls_not = each (λ slot i. (number : ℤ) → i ≡ Call number → ⊥) (λ number is. cc) (λ number is. cc)
 
-writes_not : (slot : ℕ) (i : Instruction) → BeginsAt i (ended seven) slot → writes_frame i ≡ true → ⊥
+writes_not : (slot : ℕ) (i : Instruction) → BeginsAt i (then_exit seven) slot → writes_frame i ≡ true → ⊥
 writes_not = each (λ slot i. writes_frame i ≡ true → ⊥) (λ is. never is) (λ is. never is)
 
-within_code : (slot : ℕ) (i : Instruction) → BeginsAt i (ended seven) slot → slot < 2
+within_code : (slot : ℕ) (i : Instruction) → BeginsAt i (then_exit seven) slot → slot < 2
 within_code = each (λ slot i. slot < 2) (omega arith) (omega arith)
 
-named_of_straight : (hook : Hook) (slot : ℕ) (rule : Rule) → MayRefuse hook (ended seven) 0 [] slot rule → IsOfSound 2 slot rule
+named_of_straight : (hook : Hook) (slot : ℕ) (rule : Rule) → MayRefuse hook (then_exit seven) 0 [] slot rule → IsOfSound 2 slot rule
 named_of_straight hook slot rules.Target may = target_is_well slot may
 named_of_straight hook slot rules.FallsOff may = end_is_well slot may
 named_of_straight hook slot rules.Unreached may = reached_is_well slot may
@@ -182,7 +182,7 @@ named_of_sound = record { straight = named_of_straight; jumping = named_of_jumpi
 
 -- ---- `call 1; exit`, and the bound
 
-of_call : (P : Instruction → Type 0) → P (Call (pos 1)) → P Exit → (slot : ℕ) (i : Instruction) → BeginsAt i (ended (Call (pos 1))) slot → P i
+of_call : (P : Instruction → Type 0) → P (Call (pos 1)) → P Exit → (slot : ℕ) (i : Instruction) → BeginsAt i (then_exit (Call (pos 1))) slot → P i
 of_call P first second zero i at = subst P (started (Call (pos 1)) i at) first
 of_call P first second (suc zero) i at = subst P (started Exit i at) second
 of_call P first second (suc (suc slot)) i at = absurd (none_is_some at)
@@ -193,7 +193,7 @@ call_is a b is = cc
 exit_is_no_call : (number : ℤ) → Exit ≡ Call number → ⊥
 exit_is_no_call number is = cc
 
-helper_is_there : (hook : Hook) (slot : ℕ) (lacks : LacksHelperAt (ended (Call (pos 1))) hook slot) → ⊥
+helper_is_there : (hook : Hook) (slot : ℕ) (lacks : LacksHelperAt (then_exit (Call (pos 1))) hook slot) → ⊥
 helper_is_there hook slot lacks =
     of_call (λ i. (number : ℤ) → i ≡ Call number → helper_of hook number ≡ None → ⊥)
     (λ number is none. none_is_some (sym (subst (λ n. helper_of hook n ≡ None) (sym (call_is (pos 1) number is)) none)))

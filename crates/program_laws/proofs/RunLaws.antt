@@ -17,7 +17,7 @@ use Rattle.machine.specs.declared.state.StackByte.TheVariants as stack_bytes
 use Rattle.machine.specs.declared.state.State.{State}
 use Rattle.machine.specs.Given.{blank}
 use Rattle.machine.specs.Label.{Silent}
-use Rattle.machine.specs.State.{filled, setting_of, start}
+use Rattle.machine.specs.State.{with_register, setting_of, start}
 use Rattle.machine.specs.Runs.{Run}
 use Rattle.object.specs.declared.kind.Kind.TheVariants.{Context, Empty}
 use Rattle.object.specs.Sets.{no_bytes, with_range}
@@ -25,7 +25,7 @@ use Rattle.kinds.specs.Stated.{GivesStated, any_number}
 use Rattle.regions.specs.declared.Region.{Region}
 use Rattle.regions.specs.declared.Region.TheVariants as regions
 use Rattle.regions.specs.Regions.{AreKeptRegions}
-use Rattle.verifier.specs.Examples.{ended, says, seven}
+use Rattle.verifier.specs.Examples.{then_exit, says, seven}
 use Rattle.program_laws.specs.Runs.{LaterSlotsAreAsStated, LoadsAreOfTheirMap, StartsAsStated, loads_context, loads_of_map, says_first, stores_on_stack}
 
 -- the run of no steps
@@ -41,7 +41,7 @@ stores_on_its_stack hook kept are =
 
 -- the state behind the pointer to a map
 abbrev with_map : Map → State
-with_map map = record (filled start 1 (contents.Address (pointers.Map map 0))) { slot = 2 }
+with_map map = record (with_register start 1 (contents.Address (pointers.Map map 0))) { slot = 2 }
 
 one_is_writable : ◌≡◌ {A = ℕ} 1 10 → ⊥
 one_is_writable is = omega (arith, is)
@@ -66,12 +66,12 @@ loads_of_its_map = record {
 
 -- the state behind `r0 = 7`
 abbrev behind_seven : State
-behind_seven = filled start 0 (contents.Number 7)
+behind_seven = with_register start 0 (contents.Number 7)
 
 zero_is_writable : ◌≡◌ {A = ℕ} 0 10 → ⊥
 zero_is_writable is = omega (arith, is)
 
-seven_step : (hook : Hook) → Run (setting_of (ended seven) hook blank) 1 (Silent ∷ []) behind_seven
+seven_step : (hook : Hook) → Run (setting_of (then_exit seven) hook blank) 1 (Silent ∷ []) behind_seven
 seven_step hook = record {
   steps = refl;
   leads = (

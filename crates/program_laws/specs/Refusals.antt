@@ -13,7 +13,7 @@ use Rattle.kinds.specs.Stated.{any_number}
 use Rattle.transfer.specs.declared.rule.Rule.{Rule}
 use Rattle.transfer.specs.declared.rule.Rule.TheVariants as rules
 use Rattle.segments.specs.Refusals.{IsFirst, MayRefuse}
-use Rattle.verifier.specs.Examples.{ended, says, seven, test_on}
+use Rattle.verifier.specs.Examples.{then_exit, says, seven, test_on}
 
 -- Of a sound program: want of memory at slot 0, and at its slots a rule of which only the domain
 -- can tell whether it is broken; none on jumps, statements, the code's end, helpers, the bound and
@@ -44,7 +44,7 @@ jumping_statements = says 3 any_number 0 ∷ []
 -- neither `r0 = 7; exit`, nor one that jumps to a statement
 pub record SoundCodeIsNotNamed : Type 0 where
   pub straight : (hook : Hook) (slot : ℕ) (rule : Rule)
-      → MayRefuse hook (ended seven) 0 [] slot rule → IsOfSound 2 slot rule
+      → MayRefuse hook (then_exit seven) 0 [] slot rule → IsOfSound 2 slot rule
   pub jumping : (hook : Hook) (slot : ℕ) (rule : Rule)
       → MayRefuse hook jumping_code 0 jumping_statements slot rule → IsOfSound 4 slot rule
 
@@ -53,13 +53,15 @@ pub record SoundCodeIsNotNamed : Type 0 where
 -- `r0 = 7; exit` may execute just 1,000,000 instructions, which is within the bound; with the next
 -- rank it is over, and that is told at slot 0.
 pub record HelpersAndBoundAreNamedAptly : Type 0 where
-  pub helper : (hook : Hook) (slot : ℕ) → MayRefuse hook (ended (Call (pos 1))) 0 [] slot
+  pub helper : (hook : Hook) (slot : ℕ) → MayRefuse hook (then_exit (Call (pos 1))) 0 [] slot
       rules.Helper
       → ⊥
-  pub within : (hook : Hook) (slot : ℕ) → MayRefuse hook (ended seven) 499999 [] slot rules.Budget
+  pub within : (hook : Hook) (slot : ℕ)
+      → MayRefuse hook (then_exit seven) 499999 [] slot rules.Budget
       → ⊥
-  pub over : (hook : Hook) → MayRefuse hook (ended seven) 500000 [] 0 rules.Budget
-  pub there : (hook : Hook) (slot : ℕ) → MayRefuse hook (ended seven) 500000 [] slot rules.Budget
+  pub over : (hook : Hook) → MayRefuse hook (then_exit seven) 500000 [] 0 rules.Budget
+  pub there : (hook : Hook) (slot : ℕ)
+      → MayRefuse hook (then_exit seven) 500000 [] slot rules.Budget
       → slot ≡ 0
 
 -- `r0 = 7; if r0 == 0 goto L; L: exit`, of which nothing is stated at L

@@ -15,12 +15,12 @@ use Rattle.kinds.specs.Stated.{GivesStated, any_number}
 use Rattle.regions.specs.declared.Region.{Region}
 use Rattle.regions.specs.declared.Region.TheVariants as regions
 use Rattle.regions.specs.Regions.{AreKeptRegions}
-use Rattle.verifier.specs.Examples.{constant_rank, ended, says, seven}
+use Rattle.verifier.specs.Examples.{constant_rank, then_exit, says, seven}
 use Rattle.verifier.specs.Stated.{RunsMeetStatements}
 
 -- `r0 = *u64 r1 0; exit`
 abbrev pub loads_context : List Slot
-loads_context = ended (Load Unsigned64 0 1 (pos 0))
+loads_context = then_exit (Load Unsigned64 0 1 (pos 0))
 
 -- its load goes into the context
 abbrev pub LoadsAreOfTheContext : Type 0
@@ -30,7 +30,7 @@ LoadsAreOfTheContext =
 
 -- `*u64 r10 -8 = r1; exit`
 abbrev pub stores_on_stack : List Slot
-stores_on_stack = ended (Store stored.Bits64 10 (negsuc 7) (Register 1))
+stores_on_stack = then_exit (Store stored.Bits64 10 (negsuc 7) (Register 1))
 
 -- its store goes to the stack
 abbrev pub StoresAreOfTheStack : Type 0
@@ -41,7 +41,7 @@ StoresAreOfTheStack =
 -- `r1 = map; r0 = *u64 r1 0; exit`, the map by its number
 abbrev pub loads_of_map : ℕ → List Slot
 loads_of_map number =
-    Start (LoadMap 1 (pos number) (pos 0)) ∷ SecondHalf ∷ ended (Load Unsigned64 0 1 (pos 0))
+    Start (LoadMap 1 (pos number) (pos 0)) ∷ SecondHalf ∷ then_exit (Load Unsigned64 0 1 (pos 0))
 
 -- its load, which comes after a step, goes into that map
 pub record LoadsAreOfTheirMap : Type 0 where
@@ -74,4 +74,4 @@ pub record StartsAsStated {D : Type 0} (contains : D → ℕ → Type 0) (gives 
 -- it.
 abbrev pub LaterSlotsAreAsStated : {D : Type 0} → (D → ℕ → Type 0) → GivesStated D → Hook → Type 0
 LaterSlotsAreAsStated contains gives hook =
-    RunsMeetStatements contains gives (ended seven) hook (says 1 (Context 0) 0 ∷ []) → ⊥
+    RunsMeetStatements contains gives (then_exit seven) hook (says 1 (Context 0) 0 ∷ []) → ⊥

@@ -19,8 +19,8 @@ use Rattle.routes.specs.Offers.{IsPrefix, OffersWithin, ReachesBoundaryRouter}
 use Rattle.routes.specs.declared.offer.Offer.{Offer}
 use Rattle.routes.specs.Routes.IsNoWorse.{ByCost, ByKind}
 use Rattle.routes.specs.Paths.{Way}
-use Rattle.route_laws.specs.Worked.{Entries, database, dotted, far_links, key, mask_24, near_router, network_24, next_network, own_network, router_lsa}
-use Rattle.route_laws.specs.WorkedExternals.{WorkedExternals, announced, by_next_network, by_own_network, destinations, external, of_first_type, passed_over}
+use Rattle.route_laws.specs.Worked.{Entries, database, ipv4, far_links, key, mask_24, near_router, network_24, next_network, own_network, router_lsa}
+use Rattle.route_laws.specs.WorkedExternals.{WorkedExternals, announced_entries, by_next_network, by_own_network, destinations, external, of_first_type, passed_over}
 use Rattle.route_laws.proofs.Alone.{IsAlone, all_candidates, alone, alone_among, each_within, route_of}
 use Rattle.routes.proofs.Prefixes.{one_prefix}
 use Rattle.routes.proofs.Determined.{one_way}
@@ -37,7 +37,7 @@ use Rattle.routes.specs.Summaries.IsBoundaryWay.{Inside}
 use Rattle.routes.specs.Summaries.{IsBoundaryWay, OffersInside}
 
 abbrev others : Entries
-others = announced ++ passed_over
+others = announced_entries ++ passed_over
 
 abbrev said : Said
 said = said_at 0 (database destinations)
@@ -93,7 +93,7 @@ lengths r k =
     let same : k.first.prefix.length ≡ r.prefix.length = ap (λ (n : Network). n.length) k.is_best.is_for in
     omega (arith, fits, same)
 
-next_forwarded : IsForwarded (OffersInside said near_router) (dotted 10 0 2 9) next_way
+next_forwarded : IsForwarded (OffersInside said near_router) (ipv4 10 0 2 9) next_way
 next_forwarded = record {
   by = route_of next_offer;
   is_route =
@@ -105,7 +105,7 @@ next_forwarded = record {
   is = refl;
 }
 
-own_forwarded : IsForwarded (OffersInside said near_router) (dotted 10 0 1 9) own_way
+own_forwarded : IsForwarded (OffersInside said near_router) (ipv4 10 0 1 9) own_way
 own_forwarded = record {
   by = route_of own_offer;
   is_route =
@@ -117,14 +117,14 @@ own_forwarded = record {
   is = refl;
 }
 
-not_under : (n : Network) → not (nat_eq (network_address n.length (dotted 172 16 0 1)) n.address) ≡ true → IsUnder (dotted 172 16 0 1) n → ⊥
-not_under n other u = not_both (nat_eq (network_address n.length (dotted 172 16 0 1)) n.address) other (eq-eqb (network_address n.length (dotted 172 16 0 1)) n.address u)
+not_under : (n : Network) → not (nat_eq (network_address n.length (ipv4 172 16 0 1)) n.address) ≡ true → IsUnder (ipv4 172 16 0 1) n → ⊥
+not_under n other u = not_both (nat_eq (network_address n.length (ipv4 172 16 0 1)) n.address) other (eq-eqb (network_address n.length (ipv4 172 16 0 1)) n.address u)
 
-no_forward : (way : Way) → IsForwarded (OffersInside said near_router) (dotted 172 16 0 1) way → ⊥
+no_forward : (way : Way) → IsForwarded (OffersInside said near_router) (ipv4 172 16 0 1) way → ⊥
 no_forward way f =
     let k = f.is_route in
-    let P : Network → Type 0 = λ n. IsUnder (dotted 172 16 0 1) n in
-    one_of (λ (x : Offer). IsUnder (dotted 172 16 0 1) x.prefix → ⊥) nearby (not_under near_net refl, (not_under near_net refl, (not_under next_net refl, tt)))
+    let P : Network → Type 0 = λ n. IsUnder (ipv4 172 16 0 1) n in
+    one_of (λ (x : Offer). IsUnder (ipv4 172 16 0 1) x.prefix → ⊥) nearby (not_under near_net refl, (not_under near_net refl, (not_under next_net refl, tt)))
     k.first (nearby_inside k.first k.is_best.offered) (subst P (sym k.is_best.is_for) f.under)
 
 -- ---- what an external LSA offers
@@ -165,10 +165,10 @@ abbrev first_lsa : ExternalLsa
 first_lsa = external Type1 20 0 4
 
 abbrev next_lsa : ExternalLsa
-next_lsa = external Type1 20 (dotted 10 0 2 9) 5
+next_lsa = external Type1 20 (ipv4 10 0 2 9) 5
 
 abbrev own_lsa : ExternalLsa
-own_lsa = external Type2 20 (dotted 10 0 1 9) 6
+own_lsa = external Type2 20 (ipv4 10 0 1 9) 6
 
 abbrev cheap_offer : Offer
 cheap_offer = external_offer Type2 (network_24 203 0 113) cheap_lsa far far_way
@@ -195,24 +195,24 @@ IsKnown k (body.External lsa) = Says said k (body.External lsa) → (o : Offer) 
 -- ---- those that offer nothing
 
 abbrev lost_lsa : ExternalLsa
-lost_lsa = external Type1 20 (dotted 172 16 0 1) 0
+lost_lsa = external Type1 20 (ipv4 172 16 0 1) 0
 
-unforwarded : IsKnown (key 5 (dotted 198 18 0 0) far) (body.External lost_lsa)
-unforwarded s o g = absurd (no_forward g.way (g.is_way.forwarded (λ e. let z : dotted 172 16 0 1 ≡ 0 = e in omega (arith, z))))
+unforwarded : IsKnown (key 5 (ipv4 198 18 0 0) far) (body.External lost_lsa)
+unforwarded s o g = absurd (no_forward g.way (g.is_way.forwarded (λ e. let z : ipv4 172 16 0 1 ≡ 0 = e in omega (arith, z))))
 
-unreachable : IsKnown (key 5 (dotted 198 18 1 0) far) (body.External (external Type1 16777215 0 0))
+unreachable : IsKnown (key 5 (ipv4 198 18 1 0) far) (body.External (external Type1 16777215 0 0))
 unreachable s o g = absurd (let less : 16777215 < 16777215 = g.reachable in omega (arith, less))
 
-by_itself : IsKnown (key 5 (dotted 198 18 2 0) near) (body.External (external Type1 20 0 0))
+by_itself : IsKnown (key 5 (ipv4 198 18 2 0) near) (body.External (external Type1 20 0 0))
 by_itself s o g = absurd (g.of_another refl)
 
 abbrev nobody_id : ℕ
-nobody_id = dotted 9 9 9 9
+nobody_id = ipv4 9 9 9 9
 
 abbrev is_of_another : Key × Body → Bool
 is_of_another s = not (nat_eq s.0.ls_type 1 && nat_eq s.0.link_state_id nobody_id)
 
-by_nobody : IsKnown (key 5 (dotted 198 18 3 0) nobody_id) (body.External (external Type1 20 0 0))
+by_nobody : IsKnown (key 5 (ipv4 198 18 3 0) nobody_id) (body.External (external Type1 20 0 0))
 by_nobody s o g =
     let reaches = reached_inside nobody_id g.is_way.boundary g.is_way.reaches in
     absurd (let e : false ≡ true = all_pass is_of_another (sayings destinations) refl (key 1 nobody_id nobody_id, body.Router reaches.lsa) (is_said 0 destinations _ (body.Router reaches.lsa) reaches.its) in cc)
@@ -220,33 +220,33 @@ by_nobody s o g =
 abbrev old_lsa : ExternalLsa
 old_lsa = external Type1 20 0 0
 
-too_old : IsKnown (key 5 (dotted 198 18 4 0) far) (body.External old_lsa)
+too_old : IsKnown (key 5 (ipv4 198 18 4 0) far) (body.External old_lsa)
 too_old s o g =
-    let e : None ≡ Some (body.External old_lsa) = sym (ap (said_by 0) (finite.get-from_entries keys_total destinations (key 5 (dotted 198 18 4 0) far))) ∙ s in
+    let e : None ≡ Some (body.External old_lsa) = sym (ap (said_by 0) (finite.get-from_entries keys_total destinations (key 5 (ipv4 198 18 4 0) far))) ∙ s in
     absurd (cc)
 
 abbrev is_no_mask : ℕ → Bool
-is_no_mask n = not (nat_eq (dotted 255 0 255 0) (mask_of n))
+is_no_mask n = not (nat_eq (ipv4 255 0 255 0) (mask_of n))
 
-unmasked : IsKnown (key 5 (dotted 198 18 5 0) far) (body.External (record (external Type1 20 0 0) { mask = dotted 255 0 255 0 }))
+unmasked : IsKnown (key 5 (ipv4 198 18 5 0) far) (body.External (record (external Type1 20 0 0) { mask = ipv4 255 0 255 0 }))
 unmasked s o g =
     let n : ℕ = g.prefix.length in
     let few : n ≤ 32 = g.is_prefix.0 in
-    absurd (not_both (nat_eq (dotted 255 0 255 0) (mask_of n)) (one_below is_no_mask 33 refl n (omega (arith, few))) (eq-eqb (dotted 255 0 255 0) (mask_of n) g.is_prefix.1))
+    absurd (not_both (nat_eq (ipv4 255 0 255 0) (mask_of n)) (one_below is_no_mask 33 refl n (omega (arith, few))) (eq-eqb (ipv4 255 0 255 0) (mask_of n) g.is_prefix.1))
 
 -- ---- each of them
 
-cheap_known : IsKnown (key 5 (dotted 203 0 113 0) far) (body.External cheap_lsa)
-cheap_known s o g = (3, omega arith, direct_known (dotted 203 0 113 0) cheap_lsa refl refl o g)
+cheap_known : IsKnown (key 5 (ipv4 203 0 113 0) far) (body.External cheap_lsa)
+cheap_known s o g = (3, omega arith, direct_known (ipv4 203 0 113 0) cheap_lsa refl refl o g)
 
-first_known : IsKnown (key 5 (dotted 203 0 113 1) far) (body.External first_lsa)
-first_known s o g = (4, omega arith, direct_known (dotted 203 0 113 1) first_lsa refl refl o g)
+first_known : IsKnown (key 5 (ipv4 203 0 113 1) far) (body.External first_lsa)
+first_known s o g = (4, omega arith, direct_known (ipv4 203 0 113 1) first_lsa refl refl o g)
 
-next_known : IsKnown (key 5 (dotted 198 51 100 0) far) (body.External next_lsa)
-next_known s o g = (5, omega arith, forward_known (dotted 198 51 100 0) next_lsa next_way refl (λ e. let z : dotted 10 0 2 9 ≡ 0 = e in omega (arith, z)) next_forwarded o g)
+next_known : IsKnown (key 5 (ipv4 198 51 100 0) far) (body.External next_lsa)
+next_known s o g = (5, omega arith, forward_known (ipv4 198 51 100 0) next_lsa next_way refl (λ e. let z : ipv4 10 0 2 9 ≡ 0 = e in omega (arith, z)) next_forwarded o g)
 
-own_known : IsKnown (key 5 (dotted 192 0 2 0) far) (body.External own_lsa)
-own_known s o g = (6, omega arith, forward_known (dotted 192 0 2 0) own_lsa own_way refl (λ e. let z : dotted 10 0 1 9 ≡ 0 = e in omega (arith, z)) own_forwarded o g)
+own_known : IsKnown (key 5 (ipv4 192 0 2 0) far) (body.External own_lsa)
+own_known s o g = (6, omega arith, forward_known (ipv4 192 0 2 0) own_lsa own_way refl (λ e. let z : ipv4 10 0 1 9 ≡ 0 = e in omega (arith, z)) own_forwarded o g)
 
 all_known : AllByRecursion (λ (s : Key × Body). IsKnown s.0 s.1) (sayings destinations)
 all_known = (tt, (tt, (cheap_known, (first_known, (next_known, (own_known, (unforwarded, (unreachable, (by_itself, (by_nobody, (too_old, (unmasked, tt))))))))))))
@@ -265,10 +265,10 @@ reaches_far = record { lsa = router_lsa far_links; its = far_says others labels;
 
 first_offered : Offers said near_router first_offer
 first_offered = External (record {
-  id = dotted 203 0 113 1;
+  id = ipv4 203 0 113 1;
   originator = far;
   lsa = first_lsa;
-  its = says destinations (key 5 (dotted 203 0 113 1) far) (body.External first_lsa) refl;
+  its = says destinations (key 5 (ipv4 203 0 113 1) far) (body.External first_lsa) refl;
   reachable = omega arith;
   of_another = λ e. omega (arith, e);
   prefix = network_24 203 0 113;
@@ -280,31 +280,31 @@ first_offered = External (record {
 
 by_next_offered : Offers said near_router by_next_offer
 by_next_offered = External (record {
-  id = dotted 198 51 100 0;
+  id = ipv4 198 51 100 0;
   originator = far;
   lsa = next_lsa;
-  its = says destinations (key 5 (dotted 198 51 100 0) far) (body.External next_lsa) refl;
+  its = says destinations (key 5 (ipv4 198 51 100 0) far) (body.External next_lsa) refl;
   reachable = omega arith;
   of_another = λ e. omega (arith, e);
   prefix = network_24 198 51 100;
   is_prefix = (omega arith, refl, refl);
   way = next_way;
-  is_way = record { boundary = far_way; reaches = Inside reaches_far; direct = λ e. absurd (let z : dotted 10 0 2 9 ≡ 0 = e in omega (arith, z)); forwarded = λ _. next_forwarded };
+  is_way = record { boundary = far_way; reaches = Inside reaches_far; direct = λ e. absurd (let z : ipv4 10 0 2 9 ≡ 0 = e in omega (arith, z)); forwarded = λ _. next_forwarded };
   is = refl;
 })
 
 by_own_offered : Offers said near_router by_own_offer
 by_own_offered = External (record {
-  id = dotted 192 0 2 0;
+  id = ipv4 192 0 2 0;
   originator = far;
   lsa = own_lsa;
-  its = says destinations (key 5 (dotted 192 0 2 0) far) (body.External own_lsa) refl;
+  its = says destinations (key 5 (ipv4 192 0 2 0) far) (body.External own_lsa) refl;
   reachable = omega arith;
   of_another = λ e. omega (arith, e);
   prefix = network_24 192 0 2;
   is_prefix = (omega arith, refl, refl);
   way = own_way;
-  is_way = record { boundary = far_way; reaches = Inside reaches_far; direct = λ e. absurd (let z : dotted 10 0 1 9 ≡ 0 = e in omega (arith, z)); forwarded = λ _. own_forwarded };
+  is_way = record { boundary = far_way; reaches = Inside reaches_far; direct = λ e. absurd (let z : ipv4 10 0 1 9 ≡ 0 = e in omega (arith, z)); forwarded = λ _. own_forwarded };
   is = refl;
 })
 

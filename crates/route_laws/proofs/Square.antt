@@ -15,7 +15,7 @@ use Rattle.routes.specs.Offers.{intra}
 use Rattle.routes.specs.declared.offer.Offer.{Offer}
 use Rattle.routes.specs.Paths.{IsWalk, IsWay, Step}
 use Rattle.routes.specs.Tables.{IsLetIn}
-use Rattle.route_laws.specs.Worked.{WorkedSquare, across, database, dotted, key, mask_24, network_24, router_lsa, square, square_corner, square_far, square_left, square_right, square_root, stub}
+use Rattle.route_laws.specs.Worked.{WorkedSquare, across, database, ipv4, key, mask_24, network_24, router_lsa, square, square_corner, square_far, square_left, square_right, square_root, stub}
 use Rattle.route_laws.proofs.Alone.{Known, all_candidates, alone, each_within, is_stub}
 use Rattle.route_laws.proofs.Entries.{all_pass, links_of, is_said, sayings}
 use Rattle.route_laws.proofs.Labels.{AreChecked, at_node, checked, way_by}
@@ -25,16 +25,16 @@ use Rattle.routes.specs.Said.{said_at}
 use Rattle.route_laws.proofs.NoSummaries.{nothing_between}
 
 abbrev corner : ℕ
-corner = dotted 1 1 1 1
+corner = ipv4 1 1 1 1
 
 abbrev left : ℕ
-left = dotted 2 2 2 2
+left = ipv4 2 2 2 2
 
 abbrev right : ℕ
-right = dotted 3 3 3 3
+right = ipv4 3 3 3 3
 
 abbrev far : ℕ
-far = dotted 4 4 4 4
+far = ipv4 4 4 4 4
 
 abbrev distance : ℕ → ℕ
 distance r = cond (nat_eq r left || nat_eq r right) 5 (cond (nat_eq r far) 10 0)
@@ -62,14 +62,14 @@ step router exit = record { target = ARouter router; price = 5; exit = exit }
 
 by_left : IsWalk (Leads (said_at 0 (database square)) square_root) (ARouter corner) (step left 1 ∷ step far 0 ∷ []) (ARouter far)
 by_left = (
-  (from_root square square_root square_corner corner_says left (dotted 10 0 1 1) 5 0 (0, omega arith, refl) (omega arith) refl, back square left square_left left_says corner (dotted 10 0 1 2) 5 (0, omega arith, refl)),
-  ((from_other square square_root left square_left left_says (λ e. omega (arith, e)) far (dotted 10 0 3 1) 5 (1, omega arith, refl) (omega arith), back square far square_far far_says left (dotted 10 0 3 2) 5 (0, omega arith, refl)), refl),
+  (from_root square square_root square_corner corner_says left (ipv4 10 0 1 1) 5 0 (0, omega arith, refl) (omega arith) refl, back square left square_left left_says corner (ipv4 10 0 1 2) 5 (0, omega arith, refl)),
+  ((from_other square square_root left square_left left_says (λ e. omega (arith, e)) far (ipv4 10 0 3 1) 5 (1, omega arith, refl) (omega arith), back square far square_far far_says left (ipv4 10 0 3 2) 5 (0, omega arith, refl)), refl),
 )
 
 by_right : IsWalk (Leads (said_at 0 (database square)) square_root) (ARouter corner) (step right 2 ∷ step far 0 ∷ []) (ARouter far)
 by_right = (
-  (from_root square square_root square_corner corner_says right (dotted 10 0 2 1) 5 1 (1, omega arith, refl) (omega arith) refl, back square right square_right right_says corner (dotted 10 0 2 2) 5 (0, omega arith, refl)),
-  ((from_other square square_root right square_right right_says (λ e. omega (arith, e)) far (dotted 10 0 4 1) 5 (1, omega arith, refl) (omega arith), back square far square_far far_says right (dotted 10 0 4 2) 5 (1, omega arith, refl)), refl),
+  (from_root square square_root square_corner corner_says right (ipv4 10 0 2 1) 5 1 (1, omega arith, refl) (omega arith) refl, back square right square_right right_says corner (ipv4 10 0 2 2) 5 (0, omega arith, refl)),
+  ((from_other square square_root right square_right right_says (λ e. omega (arith, e)) far (ipv4 10 0 4 1) 5 (1, omega arith, refl) (omega arith), back square far square_far far_says right (ipv4 10 0 4 2) 5 (1, omega arith, refl)), refl),
 )
 
 way_far : IsWay (Leads (said_at 0 (database square)) square_root) (ARouter corner) (ARouter far) (record { distance = 10; hops = 6 })
@@ -84,7 +84,7 @@ abbrev offer : Offer
 offer = intra (network_24 192 0 2) 20 6
 
 abbrev far_stub : Link
-far_stub = stub (dotted 192 0 2 0) mask_24 10
+far_stub = stub (ipv4 192 0 2 0) mask_24 10
 
 known : (router : ℕ) (l : Link) → Contains (filter is_stub (links_of (sayings square))) (router, l) → Known 0 square square_root (λ o. offer ≡ o) router l
 known router l t =

@@ -27,9 +27,9 @@ use Rattle.routes.specs.declared.node.Node.TheVariants.{ARouter}
 use Rattle.routes.specs.declared.offer.Offer.{Offer}
 use Rattle.routes.proofs.Determined.{one_way}
 use Rattle.routes.proofs.Lists.{of_cons, of_empty}
-use Rattle.route_laws.specs.Worked.{database, dotted, key, mask_24, network_24, point_to_point, router_lsa}
+use Rattle.route_laws.specs.Worked.{database, ipv4, key, mask_24, network_24, point_to_point, router_lsa}
 use Rattle.route_laws.specs.WorkedExternals.{external}
-use Rattle.route_laws.specs.WorkedSummaries.{WorkedSummaries, between_route, beyond_1, beyond_2, border_links, distant_links, distant_route, summaries_links, summaries_root, summary, told}
+use Rattle.route_laws.specs.WorkedSummaries.{WorkedSummaries, between_route, beyond_1, beyond_2, border_links, distant_links, distant_route, summaries_links, summaries_root, summary, told_entries}
 use Rattle.route_laws.proofs.Alone.{IsAlone, all_candidates, alone, each_within}
 use Rattle.routes.proofs.Prefixes.{one_prefix}
 use Rattle.route_laws.proofs.Entries.{all_pass, is_said, sayings}
@@ -43,16 +43,16 @@ use Rattle.std.specs.Int.{bit_at}
 use Rattle.std.proofs.Common.{zero, suc}
 
 abbrev near : ℕ
-near = dotted 1 1 1 1
+near = ipv4 1 1 1 1
 
 abbrev border : ℕ
-border = dotted 2 2 2 2
+border = ipv4 2 2 2 2
 
 abbrev distant : ℕ
-distant = dotted 3 3 3 3
+distant = ipv4 3 3 3 3
 
 abbrev beyond : ℕ
-beyond = dotted 9 9 9 9
+beyond = ipv4 9 9 9 9
 
 abbrev distance : ℕ → ℕ
 distance r = cond (nat_eq r border) 10 (cond (nat_eq r distant) 100 0)
@@ -102,19 +102,19 @@ is_of_another s = not (nat_eq s.0.ls_type 1 && nat_eq s.0.link_state_id beyond)
 
 module _ (flags distant_flags : ℕ) (has_e : bit_and distant_flags 2 ≡ 2) where
   abbrev said : Said
-  said = said_at 0 (database (told flags distant_flags))
+  said = said_at 0 (database (told_entries flags distant_flags))
 
-  labels : AreChecked summaries_root (sayings (told flags distant_flags)) distance hops
+  labels : AreChecked summaries_root (sayings (told_entries flags distant_flags)) distance hops
   labels = record { start = refl; routers = refl; links = refl }
 
   near_says : IsRouterLsa said near (router_lsa summaries_links)
-  near_says = says (told flags distant_flags) (key 1 near near) (body.Router (router_lsa summaries_links)) refl
+  near_says = says (told_entries flags distant_flags) (key 1 near near) (body.Router (router_lsa summaries_links)) refl
 
   border_says : IsRouterLsa said border (flagged flags border_links)
-  border_says = says (told flags distant_flags) (key 1 border border) (body.Router (flagged flags border_links)) refl
+  border_says = says (told_entries flags distant_flags) (key 1 border border) (body.Router (flagged flags border_links)) refl
 
   distant_says : IsRouterLsa said distant (flagged distant_flags distant_links)
-  distant_says = says (told flags distant_flags) (key 1 distant distant) (body.Router (flagged distant_flags distant_links)) refl
+  distant_says = says (told_entries flags distant_flags) (key 1 distant distant) (body.Router (flagged distant_flags distant_links)) refl
 
   abbrev to_border : Step Node
   to_border = record { target = ARouter border; price = 10; exit = 1 }
@@ -125,8 +125,8 @@ module _ (flags distant_flags : ℕ) (has_e : bit_and distant_flags 2 ≡ 2) whe
   border_walk : IsWalk (Leads said summaries_root) (ARouter near) (to_border ∷ []) (ARouter border)
   border_walk = (
     (
-      from_root (told flags distant_flags) summaries_root summaries_links near_says border (dotted 10 0 1 1) 10 0 (0, omega arith, refl) (omega arith) refl,
-      (point_to_point near (dotted 10 0 1 2) 10, record { lsa = flagged flags border_links; its = border_says; among = (0, omega arith, refl) }, refl, refl),
+      from_root (told_entries flags distant_flags) summaries_root summaries_links near_says border (ipv4 10 0 1 1) 10 0 (0, omega arith, refl) (omega arith) refl,
+      (point_to_point near (ipv4 10 0 1 2) 10, record { lsa = flagged flags border_links; its = border_says; among = (0, omega arith, refl) }, refl, refl),
     ),
     refl,
   )
@@ -134,25 +134,25 @@ module _ (flags distant_flags : ℕ) (has_e : bit_and distant_flags 2 ≡ 2) whe
   distant_walk : IsWalk (Leads said summaries_root) (ARouter near) (to_distant ∷ []) (ARouter distant)
   distant_walk = (
     (
-      from_root (told flags distant_flags) summaries_root summaries_links near_says distant (dotted 10 0 2 1) 100 1 (1, omega arith, refl) (omega arith) refl,
-      (point_to_point near (dotted 10 0 2 2) 100, record { lsa = flagged distant_flags distant_links; its = distant_says; among = (0, omega arith, refl) }, refl, refl),
+      from_root (told_entries flags distant_flags) summaries_root summaries_links near_says distant (ipv4 10 0 2 1) 100 1 (1, omega arith, refl) (omega arith) refl,
+      (point_to_point near (ipv4 10 0 2 2) 100, record { lsa = flagged distant_flags distant_links; its = distant_says; among = (0, omega arith, refl) }, refl, refl),
     ),
     refl,
   )
 
   border_is : IsWay (Leads said summaries_root) (ARouter near) (ARouter border) border_way
   border_is =
-      way_by (Leads said summaries_root) (ARouter near) (at_node distance) (at_node hops) (checked summaries_root 0 (told flags distant_flags) distance hops labels) (ARouter border) (to_border ∷ []) border_walk refl
+      way_by (Leads said summaries_root) (ARouter near) (at_node distance) (at_node hops) (checked summaries_root 0 (told_entries flags distant_flags) distance hops labels) (ARouter border) (to_border ∷ []) border_walk refl
       (λ i t. (to_border, [], border_walk, refl, sym (only_one i t)))
 
   distant_is : IsWay (Leads said summaries_root) (ARouter near) (ARouter distant) distant_way
   distant_is =
-      way_by (Leads said summaries_root) (ARouter near) (at_node distance) (at_node hops) (checked summaries_root 0 (told flags distant_flags) distance hops labels) (ARouter distant) (to_distant ∷ []) distant_walk refl
+      way_by (Leads said summaries_root) (ARouter near) (at_node distance) (at_node hops) (checked summaries_root 0 (told_entries flags distant_flags) distance hops labels) (ARouter distant) (to_distant ∷ []) distant_walk refl
       (λ i t. (to_distant, [], distant_walk, refl, sym (only_two i t)))
 
   -- there are no stub networks
   no_within : (o : Offer) → OffersWithin said summaries_root o → ⊥
-  no_within o x = each_within 0 (told flags distant_flags) summaries_root (λ _. ⊥) refl (λ router l t. absurd (of_empty (router, l) t)) o x
+  no_within o x = each_within 0 (told_entries flags distant_flags) summaries_root (λ _. ⊥) refl (λ router l t. absurd (of_empty (router, l) t)) o x
 
   -- the routers of a summary that counts are the neighbors
   border_alone : (way : Way) → IsWay (Leads said summaries_root) (ARouter near) (ARouter border) way → border_way ≡ way
@@ -171,7 +171,7 @@ module _ (flags distant_flags : ℕ) (has_e : bit_and distant_flags 2 ≡ 2) whe
   -- 9.9.9.9 has no router-LSA
   none_beyond : (way : Way) → ReachesBoundaryRouter said summaries_root beyond way → ⊥
   none_beyond way x =
-      let e : false ≡ true = all_pass is_of_another (sayings (told flags distant_flags)) refl (key 1 beyond beyond, body.Router x.lsa) (is_said 0 (told flags distant_flags) (key 1 beyond beyond) (body.Router x.lsa) x.its) in
+      let e : false ≡ true = all_pass is_of_another (sayings (told_entries flags distant_flags)) refl (key 1 beyond beyond, body.Router x.lsa) (is_said 0 (told_entries flags distant_flags) (key 1 beyond beyond) (body.Router x.lsa) x.its) in
       cc
 
   -- ---- what is told
@@ -179,15 +179,15 @@ module _ (flags distant_flags : ℕ) (has_e : bit_and distant_flags 2 ≡ 2) whe
   abbrev IsTold : Key → Body → Type 0
   IsTold k (body.Router r) = Unit {0}
   IsTold k (body.Network n) = Unit {0}
-  IsTold k (body.NetworkSummary s) = (k.advertising_router ≡ border) × (s.metric < 16777215 → (k.link_state_id ≡ dotted 198 51 100 0) × (s ≡ summary 5))
+  IsTold k (body.NetworkSummary s) = (k.advertising_router ≡ border) × (s.metric < 16777215 → (k.link_state_id ≡ ipv4 198 51 100 0) × (s ≡ summary 5))
   IsTold k (body.RouterSummary s) = ((k.advertising_router ≡ border) × (s ≡ summary 7)) ⊎ ((k.advertising_router ≡ distant) × (s ≡ summary 1))
   IsTold k (body.External lsa) = Unit {0}
 
-  all_told : AllByRecursion (λ (s : Key × Body). IsTold s.0 s.1) (sayings (told flags distant_flags))
+  all_told : AllByRecursion (λ (s : Key × Body). IsTold s.0 s.1) (sayings (told_entries flags distant_flags))
   all_told = (tt, (tt, (tt, ((refl, (λ _. (refl, refl))), ((refl, (λ low. absurd (omega (arith, low)))), (inl (refl, refl), (inl (refl, refl), (inr (refl, refl), (tt, (tt, (tt, tt)))))))))))
 
   told_of : (k : Key) (says_so : Body) → said k ≡ Some says_so → IsTold k says_so
-  told_of k says_so e = one_of (λ (s : Key × Body). IsTold s.0 s.1) (sayings (told flags distant_flags)) all_told (k, says_so) (is_said 0 (told flags distant_flags) k says_so e)
+  told_of k says_so e = one_of (λ (s : Key × Body). IsTold s.0 s.1) (sayings (told_entries flags distant_flags)) all_told (k, says_so) (is_said 0 (told_entries flags distant_flags) k says_so e)
 
   -- the flags of a router-LSA of a neighbor
   border_flags : (lsa : RouterLsa) → IsRouterLsa said border lsa → flagged flags border_links ≡ lsa
@@ -277,9 +277,9 @@ module _ (flags distant_flags : ℕ) (has_e : bit_and distant_flags 2 ≡ 2) whe
 
   -- what an external LSA of a kind offers, if P holds of the offers of each
   module _ (P : Offer → Type 0)
-      (first : (o : Offer) → Given (dotted 203 0 113 0) beyond (external Type1 20 0 0) o → P o)
-      (second : (o : Offer) → Given (dotted 203 0 114 0) beyond (external Type2 20 0 0) o → P o)
-      (third : (o : Offer) → Given (dotted 203 0 115 0) distant (external Type1 20 0 0) o → P o) where
+      (first : (o : Offer) → Given (ipv4 203 0 113 0) beyond (external Type1 20 0 0) o → P o)
+      (second : (o : Offer) → Given (ipv4 203 0 114 0) beyond (external Type2 20 0 0) o → P o)
+      (third : (o : Offer) → Given (ipv4 203 0 115 0) distant (external Type1 20 0 0) o → P o) where
     abbrev IsKnown : Key → Body → Type 0
     IsKnown k (body.Router r) = Unit {0}
     IsKnown k (body.Network n) = Unit {0}
@@ -287,21 +287,21 @@ module _ (flags distant_flags : ℕ) (has_e : bit_and distant_flags 2 ≡ 2) whe
     IsKnown k (body.RouterSummary s) = Unit {0}
     IsKnown k (body.External lsa) = (o : Offer) → Given k.link_state_id k.advertising_router lsa o → P o
 
-    all_known : AllByRecursion (λ (s : Key × Body). IsKnown s.0 s.1) (sayings (told flags distant_flags))
+    all_known : AllByRecursion (λ (s : Key × Body). IsKnown s.0 s.1) (sayings (told_entries flags distant_flags))
     all_known = (tt, (tt, (tt, (tt, (tt, (tt, (tt, (tt, (first, (second, (third, tt)))))))))))
 
     each_external : (o : Offer) → OffersExternal said summaries_root o → P o
     each_external o x =
-        one_of (λ (s : Key × Body). IsKnown s.0 s.1) (sayings (told flags distant_flags)) all_known (key 5 x.id x.originator, body.External x.lsa)
-        (is_said 0 (told flags distant_flags) (key 5 x.id x.originator) (body.External x.lsa) x.its) o
+        one_of (λ (s : Key × Body). IsKnown s.0 s.1) (sayings (told_entries flags distant_flags)) all_known (key 5 x.id x.originator, body.External x.lsa)
+        (is_said 0 (told_entries flags distant_flags) (key 5 x.id x.originator) (body.External x.lsa) x.its) o
         (record { prefix = x.prefix; is_prefix = x.is_prefix; way = x.way; is_way = x.is_way; is = x.is })
 
   distant_offered : Offers said summaries_root of_distant
   distant_offered = External (record {
-    id = dotted 203 0 115 0;
+    id = ipv4 203 0 115 0;
     originator = distant;
     lsa = external Type1 20 0 0;
-    its = says (told flags distant_flags) (key 5 (dotted 203 0 115 0) distant) (body.External (external Type1 20 0 0)) refl;
+    its = says (told_entries flags distant_flags) (key 5 (ipv4 203 0 115 0) distant) (body.External (external Type1 20 0 0)) refl;
     reachable = omega arith;
     of_another = λ e. omega (arith, e);
     prefix = network_24 203 0 115;
@@ -328,7 +328,7 @@ Before a b = IsBefore a.prefix b.prefix
 -- ---- without flag B
 
 abbrev plain : Said
-plain = said_at 0 (database (told 0 2))
+plain = said_at 0 (database (told_entries 0 2))
 
 no_flag : bit_and 0 1 ≡ 1 → ⊥
 no_flag e = omega (arith, e)
@@ -341,7 +341,7 @@ only_distant o (Within x) = absurd (no_within 0 2 refl o x)
 only_distant o (Between x) = absurd (no_flag (between_is 0 2 refl o x).1)
 only_distant o (External x) =
     each_external 0 2 refl (λ y. of_distant ≡ y) (λ y g. absurd (not_beyond 0 2 refl no_flag nor_flag g.is_way.boundary g.is_way.reaches)) (λ y g. absurd (not_beyond 0 2 refl no_flag nor_flag g.is_way.boundary g.is_way.reaches))
-    (λ y g. external_is 0 2 refl (dotted 203 0 115 0) distant (external Type1 20 0 0) distant_way (distant_alone 0 2 refl) refl refl y g) o x
+    (λ y g. external_is 0 2 refl (ipv4 203 0 115 0) distant (external Type1 20 0 0) distant_way (distant_alone 0 2 refl) refl refl y g) o x
 
 without : AreCandidates plain summaries_root (distant_route ∷ [])
 without =
@@ -357,7 +357,7 @@ without =
 -- ---- with flag B
 
 abbrev said_b : Said
-said_b = said_at 0 (database (told 1 3))
+said_b = said_at 0 (database (told_entries 1 3))
 
 reaches_border : ReachesBorderRouter said_b summaries_root border border_way
 reaches_border = record { lsa = flagged 1 border_links; its = border_says 1 3 refl; has_b = refl; reached = border_is 1 3 refl }
@@ -372,7 +372,7 @@ told_beyond : IsToldOf said_b summaries_root beyond 17 border_way
 told_beyond = record {
   originator = border;
   lsa = summary 7;
-  its = says (told 1 3) (key 4 beyond border) (body.RouterSummary (summary 7)) refl;
+  its = says (told_entries 1 3) (key 4 beyond border) (body.RouterSummary (summary 7)) refl;
   counts = counts_7;
   is = refl;
 }
@@ -416,17 +416,17 @@ complete o (Within x) = absurd (no_within 1 3 refl o x)
 complete o (Between x) = in_offers of_summary (0, omega arith, refl) o (between_is 1 3 refl o x).0
 complete o (External x) =
     each_external 1 3 refl (Contains offers)
-    (λ y g. in_offers of_beyond_1 (1, omega arith, refl) y (external_is 1 3 refl (dotted 203 0 113 0) beyond (external Type1 20 0 0) beyond_way beyond_alone refl refl y g))
-    (λ y g. in_offers of_beyond_2 (2, omega arith, refl) y (external_is 1 3 refl (dotted 203 0 114 0) beyond (external Type2 20 0 0) beyond_way beyond_alone refl refl y g))
-    (λ y g. in_offers of_distant (3, omega arith, refl) y (external_is 1 3 refl (dotted 203 0 115 0) distant (external Type1 20 0 0) distant_way (distant_alone 1 3 refl) refl refl y g))
+    (λ y g. in_offers of_beyond_1 (1, omega arith, refl) y (external_is 1 3 refl (ipv4 203 0 113 0) beyond (external Type1 20 0 0) beyond_way beyond_alone refl refl y g))
+    (λ y g. in_offers of_beyond_2 (2, omega arith, refl) y (external_is 1 3 refl (ipv4 203 0 114 0) beyond (external Type2 20 0 0) beyond_way beyond_alone refl refl y g))
+    (λ y g. in_offers of_distant (3, omega arith, refl) y (external_is 1 3 refl (ipv4 203 0 115 0) distant (external Type1 20 0 0) distant_way (distant_alone 1 3 refl) refl refl y g))
     o x
 
 summary_offered : Offers said_b summaries_root of_summary
 summary_offered = Between (record {
-  id = dotted 198 51 100 0;
+  id = ipv4 198 51 100 0;
   originator = border;
   lsa = summary 5;
-  its = says (told 1 3) (key 3 (dotted 198 51 100 0) border) (body.NetworkSummary (summary 5)) refl;
+  its = says (told_entries 1 3) (key 3 (ipv4 198 51 100 0) border) (body.NetworkSummary (summary 5)) refl;
   border = border_way;
   counts = counts_5;
   prefix = network_24 198 51 100;
@@ -436,10 +436,10 @@ summary_offered = Between (record {
 
 beyond_1_offered : Offers said_b summaries_root of_beyond_1
 beyond_1_offered = External (record {
-  id = dotted 203 0 113 0;
+  id = ipv4 203 0 113 0;
   originator = beyond;
   lsa = external Type1 20 0 0;
-  its = says (told 1 3) (key 5 (dotted 203 0 113 0) beyond) (body.External (external Type1 20 0 0)) refl;
+  its = says (told_entries 1 3) (key 5 (ipv4 203 0 113 0) beyond) (body.External (external Type1 20 0 0)) refl;
   reachable = omega arith;
   of_another = λ e. omega (arith, e);
   prefix = network_24 203 0 113;
@@ -451,10 +451,10 @@ beyond_1_offered = External (record {
 
 beyond_2_offered : Offers said_b summaries_root of_beyond_2
 beyond_2_offered = External (record {
-  id = dotted 203 0 114 0;
+  id = ipv4 203 0 114 0;
   originator = beyond;
   lsa = external Type2 20 0 0;
-  its = says (told 1 3) (key 5 (dotted 203 0 114 0) beyond) (body.External (external Type2 20 0 0)) refl;
+  its = says (told_entries 1 3) (key 5 (ipv4 203 0 114 0) beyond) (body.External (external Type2 20 0 0)) refl;
   reachable = omega arith;
   of_another = λ e. omega (arith, e);
   prefix = network_24 203 0 114;

@@ -20,7 +20,7 @@ use Rattle.routes.specs.declared.node.Node.TheVariants.{ANetwork, ARouter}
 use Rattle.routes.specs.Offers.{IsPrefix, OffersWithin, ReachesBoundaryRouter, intra}
 use Rattle.routes.specs.declared.offer.Offer.{Offer}
 use Rattle.routes.specs.Paths.{IsWay, Step, Way}
-use Rattle.route_laws.specs.Worked.{database, dotted, key, mask_24, network_24, router_lsa, stub}
+use Rattle.route_laws.specs.Worked.{database, ipv4, key, mask_24, network_24, router_lsa, stub}
 use Rattle.route_laws.specs.WorkedExternals.{external}
 use Rattle.route_laws.specs.WorkedTransit.{WorkedTransit, behind_route, designated_links, inner_lsa, longest_route, network_8, network_lsa, other_links, root_links, shared_route, transit, transit_entries, transit_root, transit_route, wide_route}
 use Rattle.route_laws.proofs.Alone.{IsAlone, all_candidates, alone, alone_among, is_stub, no_worse_itself, route_of}
@@ -42,22 +42,22 @@ abbrev said : Said
 said = said_at 0 (database transit_entries)
 
 abbrev root : ℕ
-root = dotted 1 1 1 1
+root = ipv4 1 1 1 1
 
 abbrev designated : ℕ
-designated = dotted 2 2 2 2
+designated = ipv4 2 2 2 2
 
 abbrev other : ℕ
-other = dotted 3 3 3 3
+other = ipv4 3 3 3 3
 
 abbrev unlinked : ℕ
-unlinked = dotted 4 4 4 4
+unlinked = ipv4 4 4 4 4
 
 abbrev inner : ℕ
-inner = dotted 5 5 5 5
+inner = ipv4 5 5 5 5
 
 abbrev network : ℕ
-network = dotted 10 1 0 2
+network = ipv4 10 1 0 2
 
 abbrev dr : ℕ → ℕ
 dr r = cond (nat_eq r designated) 10 (cond (nat_eq r other || nat_eq r inner) 15 0)
@@ -107,19 +107,19 @@ abbrev over_network : ℕ → Step Node
 over_network router = record { target = ARouter router; price = 0; exit = 0 }
 
 first_link : leads (ARouter root) to_designated
-first_link = (from_root transit_entries transit_root root_links root_says designated (dotted 10 0 1 1) 10 0 (0, omega arith, refl) (omega arith) refl, back transit_entries designated designated_links designated_says root (dotted 10 0 1 2) 10 (0, omega arith, refl))
+first_link = (from_root transit_entries transit_root root_links root_says designated (ipv4 10 0 1 1) 10 0 (0, omega arith, refl) (omega arith) refl, back transit_entries designated designated_links designated_says root (ipv4 10 0 1 2) 10 (0, omega arith, refl))
 
 second_link : leads (ARouter root) to_other
-second_link = (from_root transit_entries transit_root root_links root_says other (dotted 10 0 2 1) 15 1 (1, omega arith, refl) (omega arith) refl, back transit_entries other other_links other_says root (dotted 10 0 2 2) 15 (0, omega arith, refl))
+second_link = (from_root transit_entries transit_root root_links root_says other (ipv4 10 0 2 1) 15 1 (1, omega arith, refl) (omega arith) refl, back transit_entries other other_links other_says root (ipv4 10 0 2 2) 15 (0, omega arith, refl))
 
 abbrev designated_link : Link
-designated_link = transit network (dotted 10 1 0 2) 5
+designated_link = transit network (ipv4 10 1 0 2) 5
 
 abbrev other_link : Link
-other_link = transit network (dotted 10 1 0 3) 1
+other_link = transit network (ipv4 10 1 0 3) 1
 
 abbrev inner_link : Link
-inner_link = transit network (dotted 10 1 0 5) 1
+inner_link = transit network (ipv4 10 1 0 5) 1
 
 network_link : leads (ARouter designated) to_network
 network_link = (
@@ -187,10 +187,10 @@ abbrev IsNearby : Offer → Type 0
 IsNearby o = Contains nearby o
 
 abbrev wide_stub : Link
-wide_stub = stub (dotted 10 0 0 0) (dotted 255 0 0 0) 1
+wide_stub = stub (ipv4 10 0 0 0) (ipv4 255 0 0 0) 1
 
 abbrev behind_stub : Link
-behind_stub = stub (dotted 192 0 2 0) mask_24 10
+behind_stub = stub (ipv4 192 0 2 0) mask_24 10
 
 stubs_known : AllByRecursion (λ (x : ℕ × Link). IsStubKnown 0 transit_entries transit_root IsNearby x.0 x.1) (filter is_stub (links_of (sayings transit_entries)))
 stubs_known = (
@@ -286,7 +286,7 @@ reached_inside = is_inside 0 transit_entries refl transit_root
 -- ---- the forwarding address, which lies in both of the nearer networks
 
 abbrev forwarding : ℕ
-forwarding = dotted 10 1 0 9
+forwarding = ipv4 10 1 0 9
 
 abbrev forward_way : Way
 forward_way = record { distance = 15; hops = 2 }
@@ -374,17 +374,17 @@ IsKnown k (body.NetworkSummary s) = Unit {0}
 IsKnown k (body.RouterSummary s) = Unit {0}
 IsKnown k (body.External lsa) = (o : Offer) → Given k.link_state_id k.advertising_router lsa o → Contains offers o
 
-designated_known : IsKnown (key 5 (dotted 203 0 113 0) designated) (body.External designated_lsa)
-designated_known o g = (3, omega arith, direct_known (dotted 203 0 113 0) designated designated_lsa (record { distance = 10; hops = 2 }) designated_way refl refl o g)
+designated_known : IsKnown (key 5 (ipv4 203 0 113 0) designated) (body.External designated_lsa)
+designated_known o g = (3, omega arith, direct_known (ipv4 203 0 113 0) designated designated_lsa (record { distance = 10; hops = 2 }) designated_way refl refl o g)
 
-other_known : IsKnown (key 5 (dotted 203 0 113 0) other) (body.External other_lsa)
-other_known o g = (4, omega arith, direct_known (dotted 203 0 113 0) other other_lsa (record { distance = 15; hops = 6 }) other_way refl refl o g)
+other_known : IsKnown (key 5 (ipv4 203 0 113 0) other) (body.External other_lsa)
+other_known o g = (4, omega arith, direct_known (ipv4 203 0 113 0) other other_lsa (record { distance = 15; hops = 6 }) other_way refl refl o g)
 
 is_forwarded : forwarding ≡ 0 → ⊥
 is_forwarded e = omega (arith, e)
 
-forwarded_known : IsKnown (key 5 (dotted 203 0 114 0) designated) (body.External forwarded_lsa)
-forwarded_known o g = (5, omega arith, forward_known (dotted 203 0 114 0) designated forwarded_lsa forward_way refl is_forwarded forwarded_way o g)
+forwarded_known : IsKnown (key 5 (ipv4 203 0 114 0) designated) (body.External forwarded_lsa)
+forwarded_known o g = (5, omega arith, forward_known (ipv4 203 0 114 0) designated forwarded_lsa forward_way refl is_forwarded forwarded_way o g)
 
 -- the router-LSA of the inner router hasn't flag E
 abbrev has_no_e : Body → Bool
@@ -397,7 +397,7 @@ has_no_e (body.External e) = true
 abbrev is_plain : Key × Body → Bool
 is_plain s = not (nat_eq s.0.link_state_id inner) || has_no_e s.1
 
-by_inner : IsKnown (key 5 (dotted 203 0 115 0) inner) (body.External plain_lsa)
+by_inner : IsKnown (key 5 (ipv4 203 0 115 0) inner) (body.External plain_lsa)
 by_inner o g =
     let reaches = reached_inside inner g.is_way.boundary g.is_way.reaches in
     let lsa = reaches.lsa in
@@ -407,7 +407,7 @@ by_inner o g =
     let with : bit_and lsa.flags 2 ≡ 2 = reaches.has_e in
     absurd (omega (arith, without, with))
 
-by_unlinked : IsKnown (key 5 (dotted 203 0 116 0) unlinked) (body.External plain_lsa)
+by_unlinked : IsKnown (key 5 (ipv4 203 0 116 0) unlinked) (body.External plain_lsa)
 by_unlinked o g = absurd (never_unlinked g.is_way.boundary (reached_inside unlinked g.is_way.boundary g.is_way.reaches).reached)
 
 all_known : AllByRecursion (λ (s : Key × Body). IsKnown s.0 s.1) (sayings transit_entries)
@@ -424,10 +424,10 @@ complete o (External x) =
 
 designated_offered : Offers said transit_root designated_offer
 designated_offered = External (record {
-  id = dotted 203 0 113 0;
+  id = ipv4 203 0 113 0;
   originator = designated;
   lsa = designated_lsa;
-  its = says transit_entries (key 5 (dotted 203 0 113 0) designated) (body.External designated_lsa) refl;
+  its = says transit_entries (key 5 (ipv4 203 0 113 0) designated) (body.External designated_lsa) refl;
   reachable = omega arith;
   of_another = λ e. omega (arith, e);
   prefix = shared_net;
@@ -444,10 +444,10 @@ designated_offered = External (record {
 
 other_offered : Offers said transit_root other_offer
 other_offered = External (record {
-  id = dotted 203 0 113 0;
+  id = ipv4 203 0 113 0;
   originator = other;
   lsa = other_lsa;
-  its = says transit_entries (key 5 (dotted 203 0 113 0) other) (body.External other_lsa) refl;
+  its = says transit_entries (key 5 (ipv4 203 0 113 0) other) (body.External other_lsa) refl;
   reachable = omega arith;
   of_another = λ e. omega (arith, e);
   prefix = shared_net;
@@ -464,10 +464,10 @@ other_offered = External (record {
 
 forwarded_offered : Offers said transit_root forwarded_offer
 forwarded_offered = External (record {
-  id = dotted 203 0 114 0;
+  id = ipv4 203 0 114 0;
   originator = designated;
   lsa = forwarded_lsa;
-  its = says transit_entries (key 5 (dotted 203 0 114 0) designated) (body.External forwarded_lsa) refl;
+  its = says transit_entries (key 5 (ipv4 203 0 114 0) designated) (body.External forwarded_lsa) refl;
   reachable = omega arith;
   of_another = λ e. omega (arith, e);
   prefix = network_24 203 0 114;

@@ -23,7 +23,7 @@ use Rattle.routes.specs.Offers.{OffersWithin, intra}
 use Rattle.routes.specs.declared.offer.Offer.{Offer}
 use Rattle.routes.specs.Routes.IsNoWorse.{ByCost, ByDistance, ByKind}
 use Rattle.routes.specs.Paths.{IsWalk, IsWay, Way}
-use Rattle.route_laws.specs.Worked.{Entries, WorkedTwoRouters, abroad, abroad_1, abroad_2, abroad_lsa, database, dotted, far_links, key, mask_24, near_links, near_router, network_24, next_network, own_network, router_lsa, stub, two_routers}
+use Rattle.route_laws.specs.Worked.{Entries, WorkedTwoRouters, abroad, abroad_1, abroad_2, abroad_lsa, database, ipv4, far_links, key, mask_24, near_links, near_router, network_24, next_network, own_network, router_lsa, stub, two_routers}
 use Rattle.route_laws.proofs.Alone.{IsAlone, Known, all_candidates, alone, each_within, route_of}
 use Rattle.routes.proofs.Prefixes.{one_prefix}
 use Rattle.routes.proofs.Determined.{bit_of_member, one_way}
@@ -37,10 +37,10 @@ use Rattle.route_laws.proofs.NoSummaries.{is_inside, nothing_between}
 use Rattle.routes.specs.Summaries.IsBoundaryWay.{Inside}
 
 abbrev pub near : ℕ
-near = dotted 1 1 1 1
+near = ipv4 1 1 1 1
 
 abbrev pub far : ℕ
-far = dotted 2 2 2 2
+far = ipv4 2 2 2 2
 
 abbrev pub distance : ℕ → ℕ
 distance r = cond (nat_eq r far) 10 0
@@ -68,10 +68,10 @@ abbrev pub IsWithin : Offer → Type 0
 IsWithin o = (own_offer ≡ o) ⊎ ((other_offer ≡ o) ⊎ (next_offer ≡ o))
 
 abbrev own_stub : Link
-own_stub = stub (dotted 10 0 1 0) mask_24 10
+own_stub = stub (ipv4 10 0 1 0) mask_24 10
 
 abbrev next_stub : Link
-next_stub = stub (dotted 10 0 2 0) mask_24 5
+next_stub = stub (ipv4 10 0 2 0) mask_24 5
 
 no_hop : (i : ℕ) → IsTrue (has_interface 0 i) → ⊥
 no_hop i t = omega (arith, bit_at-zero i, bit_of_member 0 i t)
@@ -92,7 +92,7 @@ module _ (others : Entries) (labels : AreChecked near_router (sayings (two_route
   far_says = says (two_routers others) (key 1 far far) (body.Router (router_lsa far_links)) refl
 
   across_link : IsWalk (Leads (said_at 0 (database (two_routers others))) near_router) (ARouter near) (record { target = ARouter far; price = 10; exit = 1 } ∷ []) (ARouter far)
-  across_link = ((from_root (two_routers others) near_router near_links near_says far (dotted 10 0 1 1) 10 0 (0, omega arith, refl) (omega arith) refl, back (two_routers others) far far_links far_says near (dotted 10 0 1 2) 10 (0, omega arith, refl)), refl)
+  across_link = ((from_root (two_routers others) near_router near_links near_says far (ipv4 10 0 1 1) 10 0 (0, omega arith, refl) (omega arith) refl, back (two_routers others) far far_links far_says near (ipv4 10 0 1 2) 10 (0, omega arith, refl)), refl)
 
   near_way : IsWay (Leads (said_at 0 (database (two_routers others))) near_router) (ARouter near) (ARouter near) (record { distance = 0; hops = 0 })
   near_way =
@@ -260,20 +260,20 @@ module _ (t : ExternalType) where
 
   -- what an external LSA of the database is
   record Abroad (id originator : ℕ) (lsa : ExternalLsa) : Type 0 where
-    id_is : dotted 203 0 113 0 ≡ id
+    id_is : ipv4 203 0 113 0 ≡ id
     originator_is : far ≡ originator
     lsa_is : abroad_lsa t ≡ lsa
 
   which : (id originator : ℕ) (lsa : ExternalLsa) → Contains (sayings (two_routers (abroad t))) (key 5 id originator, body.External lsa) → Abroad id originator lsa
   which id originator lsa among =
       let its : Key × Body = (key 5 id originator, body.External lsa) in
-      elim (of_cons {X = Key × Body} (key 1 near near, body.Router (router_lsa near_links)) ((key 1 far far, body.Router (router_lsa far_links)) ∷ (key 5 (dotted 203 0 113 0) far, body.External (abroad_lsa t)) ∷ []) its among) [
+      elim (of_cons {X = Key × Body} (key 1 near near, body.Router (router_lsa near_links)) ((key 1 far far, body.Router (router_lsa far_links)) ∷ (key 5 (ipv4 203 0 113 0) far, body.External (abroad_lsa t)) ∷ []) its among) [
         | inl e ↦ absurd (let says : body.Router (router_lsa near_links) ≡ body.External lsa = ap (λ (x : Key × Body). x.1) e in cc)
         | inr later ↦
-            elim (of_cons {X = Key × Body} (key 1 far far, body.Router (router_lsa far_links)) ((key 5 (dotted 203 0 113 0) far, body.External (abroad_lsa t)) ∷ []) its later) [
+            elim (of_cons {X = Key × Body} (key 1 far far, body.Router (router_lsa far_links)) ((key 5 (ipv4 203 0 113 0) far, body.External (abroad_lsa t)) ∷ []) its later) [
               | inl e ↦ absurd (let says : body.Router (router_lsa far_links) ≡ body.External lsa = ap (λ (x : Key × Body). x.1) e in cc)
               | inr last ↦
-                  elim (of_cons {X = Key × Body} (key 5 (dotted 203 0 113 0) far, body.External (abroad_lsa t)) [] its last) [
+                  elim (of_cons {X = Key × Body} (key 5 (ipv4 203 0 113 0) far, body.External (abroad_lsa t)) [] its last) [
                     | inl e ↦
                         let says : body.External (abroad_lsa t) ≡ body.External lsa = ap (λ (x : Key × Body). x.1) e in
                         record { id_is = ap (λ (x : Key × Body). x.0.link_state_id) e; originator_is = ap (λ (x : Key × Body). x.0.advertising_router) e; lsa_is = cc }
@@ -314,10 +314,10 @@ module _ (t : ExternalType) where
 
   abroad_offered : Offers (said_at 0 (database (two_routers (abroad t)))) near_router (abroad_offer t)
   abroad_offered = External (record {
-    id = dotted 203 0 113 0;
+    id = ipv4 203 0 113 0;
     originator = far;
     lsa = abroad_lsa t;
-    its = says (two_routers (abroad t)) (key 5 (dotted 203 0 113 0) far) (body.External (abroad_lsa t)) refl;
+    its = says (two_routers (abroad t)) (key 5 (ipv4 203 0 113 0) far) (body.External (abroad_lsa t)) refl;
     reachable = omega arith;
     of_another = λ e. omega (arith, e);
     prefix = network_24 203 0 113;

@@ -15,8 +15,8 @@ use Rattle.routes.specs.declared.node.Node.TheVariants.{ANetwork, ARouter}
 use Rattle.routes.specs.Offers.{OffersWithin, intra}
 use Rattle.routes.specs.declared.offer.Offer.{Offer}
 use Rattle.routes.specs.Paths.{IsWalk, IsWay, Step, Way}
-use Rattle.route_laws.specs.Worked.{Entries, database, dotted, key, mask_24, near_router, network_24, router_lsa, stub}
-use Rattle.route_laws.specs.WorkedUncounted.{WorkedUncounted, counting_links, neighbor_links, neighbor_route, uncounted}
+use Rattle.route_laws.specs.Worked.{Entries, database, ipv4, key, mask_24, near_router, network_24, router_lsa, stub}
+use Rattle.route_laws.specs.WorkedUncounted.{WorkedUncounted, counting_links, neighbor_links, neighbor_route, uncounted_entries}
 use Rattle.routes.specs.declared.root.Root.{Root}
 use Rattle.route_laws.proofs.Alone.{all_candidates, alone, is_stub}
 use Rattle.route_laws.proofs.Entries.{all_pass, both_true, has_link, is_no_network, links_of, is_said, sayings}
@@ -107,17 +107,17 @@ module _ (root : Root) (es : Entries) (inside : ℕ → Bool) (routers : list_al
 -- ---- the way to the neighbor
 
 abbrev said : Said
-said = said_at 0 (database uncounted)
+said = said_at 0 (database uncounted_entries)
 
 abbrev near : ℕ
-near = dotted 1 1 1 1
+near = ipv4 1 1 1 1
 
 abbrev neighbor : ℕ
-neighbor = dotted 2 2 2 2
+neighbor = ipv4 2 2 2 2
 
 -- of the routers that aren't reached any will do that no link undercuts
 abbrev dr : ℕ → ℕ
-dr r = cond (nat_eq r neighbor) 10 (cond (nat_eq r (dotted 4 4 4 4)) 9 0)
+dr r = cond (nat_eq r neighbor) 10 (cond (nat_eq r (ipv4 4 4 4 4)) 9 0)
 
 abbrev hr : ℕ → ℕ
 hr r = cond (nat_eq r neighbor) 2 0
@@ -125,26 +125,26 @@ hr r = cond (nat_eq r neighbor) 2 0
 abbrev none_of : ℕ → ℕ → ℕ
 none_of id by = 0
 
-labels : AreRising near_router (sayings uncounted) dr hr none_of none_of
+labels : AreRising near_router (sayings uncounted_entries) dr hr none_of none_of
 labels = record { start = refl; points = refl; enters = refl; leaves = refl }
 
 abbrev leads : Node → Step Node → Type 0
 leads = Leads said near_router
 
 near_says : IsRouterLsa said near (router_lsa counting_links)
-near_says = says uncounted (key 1 near near) (body.Router (router_lsa counting_links)) refl
+near_says = says uncounted_entries (key 1 near near) (body.Router (router_lsa counting_links)) refl
 
 neighbor_says : IsRouterLsa said neighbor (router_lsa neighbor_links)
-neighbor_says = says uncounted (key 1 neighbor neighbor) (body.Router (router_lsa neighbor_links)) refl
+neighbor_says = says uncounted_entries (key 1 neighbor neighbor) (body.Router (router_lsa neighbor_links)) refl
 
 abbrev to_neighbor : Step Node
 to_neighbor = record { target = ARouter neighbor; price = 10; exit = 1 }
 
 link : leads (ARouter near) to_neighbor
-link = (from_root uncounted near_router counting_links near_says neighbor (dotted 10 0 1 1) 10 0 (0, omega arith, refl) (omega arith) refl, back uncounted neighbor neighbor_links neighbor_says near (dotted 10 0 1 2) 10 (0, omega arith, refl))
+link = (from_root uncounted_entries near_router counting_links near_says neighbor (ipv4 10 0 1 1) 10 0 (0, omega arith, refl) (omega arith) refl, back uncounted_entries neighbor neighbor_links neighbor_says near (ipv4 10 0 1 2) 10 (0, omega arith, refl))
 
 are : AreLabels leads (ARouter near) (at dr none_of) (at hr none_of)
-are = rising near_router 0 uncounted dr hr none_of none_of labels
+are = rising near_router 0 uncounted_entries dr hr none_of none_of labels
 
 neighbor_way : IsWay leads (ARouter near) (ARouter neighbor) (record { distance = 10; hops = 2 })
 neighbor_way = way_by leads (ARouter near) (at dr none_of) (at hr none_of) are (ARouter neighbor) (to_neighbor ∷ []) (link, refl) refl (λ i t. (to_neighbor, [], (link, refl), refl, sym (only_one i t)))
@@ -153,7 +153,7 @@ abbrev is_counted : ℕ → Bool
 is_counted r = nat_eq r near || nat_eq r neighbor
 
 never : (router : ℕ) → is_counted router ≡ false → (way : Way) → IsWay leads (ARouter near) (ARouter router) way → ⊥
-never router e = outside near_router uncounted is_counted refl refl refl router e
+never router e = outside near_router uncounted_entries is_counted refl refl refl router e
 
 -- ---- the one offer
 
@@ -164,22 +164,22 @@ abbrev IsOffer : Offer → Type 0
 IsOffer o = offer ≡ o
 
 abbrev neighbor_stub : Link
-neighbor_stub = stub (dotted 192 0 2 0) mask_24 1
+neighbor_stub = stub (ipv4 192 0 2 0) mask_24 1
 
 abbrev IsKnown : ℕ × Link → Type 0
-IsKnown x = IsStubKnown 0 uncounted near_router IsOffer x.0 x.1
+IsKnown x = IsStubKnown 0 uncounted_entries near_router IsOffer x.0 x.1
 
-stubs_known : AllByRecursion IsKnown (filter is_stub (links_of (sayings uncounted)))
+stubs_known : AllByRecursion IsKnown (filter is_stub (links_of (sayings uncounted_entries)))
 stubs_known = (
   inr (24, offer, record { way = record { distance = 10; hops = 2 }; reached = neighbor_way; within = omega arith; mask = refl; hops = 2; by_root = λ e. absurd (omega (arith, e)); by_others = λ _. refl; is = refl }, refl),
-  (inl (never (dotted 3 3 3 3) refl), (inl (never (dotted 4 4 4 4) refl), (inl (never (dotted 5 5 5 5) refl), (inl (never (dotted 6 6 6 6) refl), tt)))),
+  (inl (never (ipv4 3 3 3 3) refl), (inl (never (ipv4 4 4 4 4) refl), (inl (never (ipv4 5 5 5 5) refl), (inl (never (ipv4 6 6 6 6) refl), tt)))),
 )
 
 within : (o : Offer) → OffersWithin said near_router o → offer ≡ o
 within o x =
-    each_offer 0 uncounted near_router IsOffer
-    (λ router l t. one_of IsKnown (filter is_stub (links_of (sayings uncounted))) stubs_known (router, l) t)
-    (λ id by lsa t. absurd (let e : false ≡ true = all_pass is_no_network (sayings uncounted) refl (record { ls_type = 2; link_state_id = id; advertising_router = by }, body.Network lsa) t in cc)) o x
+    each_offer 0 uncounted_entries near_router IsOffer
+    (λ router l t. one_of IsKnown (filter is_stub (links_of (sayings uncounted_entries))) stubs_known (router, l) t)
+    (λ id by lsa t. absurd (let e : false ≡ true = all_pass is_no_network (sayings uncounted_entries) refl (record { ls_type = 2; link_state_id = id; advertising_router = by }, body.Network lsa) t in cc)) o x
 
 abbrev is_router : Key × Body → Bool
 is_router (k, body.Router r) = true
@@ -190,15 +190,15 @@ is_router (k, body.External e) = false
 
 only_offer : (o : Offer) → Offers said near_router o → offer ≡ o
 only_offer o (Within x) = within o x
-only_offer o (Between x) = absurd (nothing_between 0 uncounted refl near_router o x)
-only_offer o (External x) = absurd (let e : false ≡ true = all_pass is_router (sayings uncounted) refl (key 5 x.id x.originator, body.External x.lsa) (is_said 0 uncounted _ (body.External x.lsa) x.its) in cc)
+only_offer o (Between x) = absurd (nothing_between 0 uncounted_entries refl near_router o x)
+only_offer o (External x) = absurd (let e : false ≡ true = all_pass is_router (sayings uncounted_entries) refl (key 5 x.id x.originator, body.External x.lsa) (is_said 0 uncounted_entries _ (body.External x.lsa) x.its) in cc)
 
 offered : Offers said near_router offer
 offered = Within (record {
   node = ARouter neighbor;
   prefix = network_24 192 0 2;
   more = 1;
-  attached = (neighbor_stub, linked uncounted neighbor neighbor_links neighbor_says neighbor_stub (4, omega arith, refl), refl, (omega arith, refl, refl), refl);
+  attached = (neighbor_stub, linked uncounted_entries neighbor neighbor_links neighbor_says neighbor_stub (4, omega arith, refl), refl, (omega arith, refl, refl), refl);
   way = record { distance = 10; hops = 2 };
   reached = neighbor_way;
   hops = 2;

@@ -23,8 +23,8 @@ use Rattle.routes.specs.Said.{said_at}
 
 -- ---- words for the examples
 
-abbrev pub dotted : ℕ → ℕ → ℕ → ℕ → ℕ
-dotted a b c d = ((a * 256 + b) * 256 + c) * 256 + d
+abbrev pub ipv4 : ℕ → ℕ → ℕ → ℕ → ℕ
+ipv4 a b c d = ((a * 256 + b) * 256 + c) * 256 + d
 
 abbrev pub Entries : Type 0
 Entries = List (Key × DatabaseCopy)
@@ -77,40 +77,40 @@ stub network mask cost =
     record { link_id = network; link_data = mask; kind = Stub; metric = cost; tos = [] }
 
 abbrev pub mask_24 : ℕ
-mask_24 = dotted 255 255 255 0
+mask_24 = ipv4 255 255 255 0
 
 abbrev pub network_24 : ℕ → ℕ → ℕ → Network
-network_24 a b c = record { address = dotted a b c 0; length = 24 }
+network_24 a b c = record { address = ipv4 a b c 0; length = 24 }
 
 -- ---- a square: from the root by either of two neighbors at the same cost
 
 abbrev pub square_root : Root
-square_root = record { router = dotted 1 1 1 1; addresses = dotted 10 0 1 1 ∷ dotted 10 0 2 1 ∷ [] }
+square_root = record { router = ipv4 1 1 1 1; addresses = ipv4 10 0 1 1 ∷ ipv4 10 0 2 1 ∷ [] }
 
 abbrev pub square_corner : List Link
 square_corner =
-    point_to_point (dotted 2 2 2 2) (dotted 10 0 1 1) 5
-    ∷ point_to_point (dotted 3 3 3 3) (dotted 10 0 2 1) 5 ∷ []
+    point_to_point (ipv4 2 2 2 2) (ipv4 10 0 1 1) 5
+    ∷ point_to_point (ipv4 3 3 3 3) (ipv4 10 0 2 1) 5 ∷ []
 
 abbrev pub square_left : List Link
 square_left =
-    point_to_point (dotted 1 1 1 1) (dotted 10 0 1 2) 5
-    ∷ point_to_point (dotted 4 4 4 4) (dotted 10 0 3 1) 5 ∷ []
+    point_to_point (ipv4 1 1 1 1) (ipv4 10 0 1 2) 5
+    ∷ point_to_point (ipv4 4 4 4 4) (ipv4 10 0 3 1) 5 ∷ []
 
 abbrev pub square_right : List Link
 square_right =
-    point_to_point (dotted 1 1 1 1) (dotted 10 0 2 2) 5
-    ∷ point_to_point (dotted 4 4 4 4) (dotted 10 0 4 1) 5 ∷ []
+    point_to_point (ipv4 1 1 1 1) (ipv4 10 0 2 2) 5
+    ∷ point_to_point (ipv4 4 4 4 4) (ipv4 10 0 4 1) 5 ∷ []
 
 abbrev pub square_far : List Link
 square_far =
-    point_to_point (dotted 2 2 2 2) (dotted 10 0 3 2) 5
-    ∷ point_to_point (dotted 3 3 3 3) (dotted 10 0 4 2) 5 ∷ stub (dotted 192 0 2 0) mask_24 10 ∷ []
+    point_to_point (ipv4 2 2 2 2) (ipv4 10 0 3 2) 5
+    ∷ point_to_point (ipv4 3 3 3 3) (ipv4 10 0 4 2) 5 ∷ stub (ipv4 192 0 2 0) mask_24 10 ∷ []
 
 abbrev pub square : Entries
 square =
-    of_router (dotted 1 1 1 1) square_corner ∷ of_router (dotted 2 2 2 2) square_left
-    ∷ of_router (dotted 3 3 3 3) square_right ∷ of_router (dotted 4 4 4 4) square_far ∷ []
+    of_router (ipv4 1 1 1 1) square_corner ∷ of_router (ipv4 2 2 2 2) square_left
+    ∷ of_router (ipv4 3 3 3 3) square_right ∷ of_router (ipv4 4 4 4 4) square_far ∷ []
 
 -- 192.0.2.0/24 at cost 20 by interfaces 1 and 2
 abbrev pub across : Route
@@ -125,20 +125,20 @@ pub record WorkedSquare : Type 0 where
 -- ---- two routers on one link, the other one with a further network and an external destination
 
 abbrev pub near_router : Root
-near_router = record { router = dotted 1 1 1 1; addresses = dotted 10 0 1 1 ∷ [] }
+near_router = record { router = ipv4 1 1 1 1; addresses = ipv4 10 0 1 1 ∷ [] }
 
 abbrev pub near_links : List Link
 near_links =
-    point_to_point (dotted 2 2 2 2) (dotted 10 0 1 1) 10 ∷ stub (dotted 10 0 1 0) mask_24 10 ∷ []
+    point_to_point (ipv4 2 2 2 2) (ipv4 10 0 1 1) 10 ∷ stub (ipv4 10 0 1 0) mask_24 10 ∷ []
 
 abbrev pub far_links : List Link
 far_links =
-    point_to_point (dotted 1 1 1 1) (dotted 10 0 1 2) 10 ∷ stub (dotted 10 0 1 0) mask_24 10
-    ∷ stub (dotted 10 0 2 0) mask_24 5 ∷ []
+    point_to_point (ipv4 1 1 1 1) (ipv4 10 0 1 2) 10 ∷ stub (ipv4 10 0 1 0) mask_24 10
+    ∷ stub (ipv4 10 0 2 0) mask_24 5 ∷ []
 
 abbrev pub two_routers : Entries → Entries
 two_routers others =
-    of_router (dotted 1 1 1 1) near_links ∷ of_router (dotted 2 2 2 2) far_links ∷ others
+    of_router (ipv4 1 1 1 1) near_links ∷ of_router (ipv4 2 2 2 2) far_links ∷ others
 
 abbrev pub abroad_lsa : ExternalType → ExternalLsa
 abroad_lsa kind =
@@ -146,7 +146,7 @@ abroad_lsa kind =
 
 -- 203.0.113.0/24 of metric 20, announced by the other router
 abbrev pub abroad : ExternalType → Entries
-abroad kind = of_external (dotted 203 0 113 0) (dotted 2 2 2 2) (abroad_lsa kind) ∷ []
+abroad kind = of_external (ipv4 203 0 113 0) (ipv4 2 2 2 2) (abroad_lsa kind) ∷ []
 
 abbrev pub own_network : Route
 own_network =

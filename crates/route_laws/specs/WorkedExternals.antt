@@ -10,7 +10,7 @@ use Rattle.lsa.specs.declared.body.ExternalLsa.{ExternalLsa}
 use Rattle.lsdb.specs.Copies.{DatabaseCopy}
 use Rattle.lsdb.specs.Headers.{lsa_aged}
 use Rattle.routes.specs.Candidates.{AreCandidates}
-use Rattle.route_laws.specs.Worked.{Entries, database, dotted, mask_24, near_router, network_24}
+use Rattle.route_laws.specs.Worked.{Entries, database, ipv4, mask_24, near_router, network_24}
 use Rattle.route_laws.specs.Worked.{next_network, of_external, own_network, two_routers}
 use Rattle.routes.specs.Said.{said_at}
 
@@ -26,7 +26,7 @@ external kind metric forwarding tag = record {
 
 -- announced by the other of the two routers
 abbrev pub by_other : ℕ → ExternalLsa → Key × DatabaseCopy
-by_other id lsa = of_external id (dotted 2 2 2 2) lsa
+by_other id lsa = of_external id (ipv4 2 2 2 2) lsa
 
 -- the same copy at MaxAge
 abbrev pub at_max_age : Key × DatabaseCopy → Key × DatabaseCopy
@@ -35,28 +35,28 @@ at_max_age e = (e.0, record e.1 { lsa = lsa_aged 3600 e.1.lsa })
 -- one network of both types, told apart by the host bits of their Link State IDs; a forwarding
 -- address in 10.0.2.0/24, which the other router offers at 15; one in 10.0.1.0/24, which both
 -- offer, the nearer router itself at 10
-abbrev pub announced : Entries
-announced =
-    by_other (dotted 203 0 113 0) (external Type2 1 0 3)
-    ∷ by_other (dotted 203 0 113 1) (external Type1 20 0 4)
-    ∷ by_other (dotted 198 51 100 0) (external Type1 20 (dotted 10 0 2 9) 5)
-    ∷ by_other (dotted 192 0 2 0) (external Type2 20 (dotted 10 0 1 9) 6)
+abbrev pub announced_entries : Entries
+announced_entries =
+    by_other (ipv4 203 0 113 0) (external Type2 1 0 3)
+    ∷ by_other (ipv4 203 0 113 1) (external Type1 20 0 4)
+    ∷ by_other (ipv4 198 51 100 0) (external Type1 20 (ipv4 10 0 2 9) 5)
+    ∷ by_other (ipv4 192 0 2 0) (external Type2 20 (ipv4 10 0 1 9) 6)
     ∷ []
 
 -- nobody offers the forwarding address; the metric is LSInfinity; it is this router's own; its
 -- originator has no router-LSA; the copy is at MaxAge; the ones of the mask aren't in front
 abbrev pub passed_over : Entries
 passed_over =
-    by_other (dotted 198 18 0 0) (external Type1 20 (dotted 172 16 0 1) 0)
-    ∷ by_other (dotted 198 18 1 0) (external Type1 16777215 0 0)
-    ∷ of_external (dotted 198 18 2 0) (dotted 1 1 1 1) (external Type1 20 0 0)
-    ∷ of_external (dotted 198 18 3 0) (dotted 9 9 9 9) (external Type1 20 0 0)
-    ∷ at_max_age (by_other (dotted 198 18 4 0) (external Type1 20 0 0))
-    ∷ by_other (dotted 198 18 5 0) (record (external Type1 20 0 0) { mask = dotted 255 0 255 0 })
+    by_other (ipv4 198 18 0 0) (external Type1 20 (ipv4 172 16 0 1) 0)
+    ∷ by_other (ipv4 198 18 1 0) (external Type1 16777215 0 0)
+    ∷ of_external (ipv4 198 18 2 0) (ipv4 1 1 1 1) (external Type1 20 0 0)
+    ∷ of_external (ipv4 198 18 3 0) (ipv4 9 9 9 9) (external Type1 20 0 0)
+    ∷ at_max_age (by_other (ipv4 198 18 4 0) (external Type1 20 0 0))
+    ∷ by_other (ipv4 198 18 5 0) (record (external Type1 20 0 0) { mask = ipv4 255 0 255 0 })
     ∷ []
 
 abbrev pub destinations : Entries
-destinations = two_routers (announced ++ passed_over)
+destinations = two_routers (announced_entries ++ passed_over)
 
 -- of type 2: the metric is the cost, and the distance that to the forwarding address, by the
 -- router's own interface

@@ -7,7 +7,7 @@ use Rattle.words.specs.declared.route.RouteKind.{RouteKind}
 use Rattle.words.specs.declared.route.RouteKind.TheVariants.{External1, External2, Inter, Intra}
 use Rattle.routes.specs.Routes.{AreRoutesAmong}
 use Rattle.routes.specs.declared.offer.Offer.{Offer}
-use Rattle.route_laws.specs.Worked.{dotted, network_24}
+use Rattle.route_laws.specs.Worked.{ipv4, network_24}
 
 -- an offer for 203.0.113.0/24 of cost 20 by router 2.2.2.2
 abbrev pub offer_of : RouteKind → ℕ → ℕ → ℕ → Offer
@@ -16,7 +16,7 @@ offer_of kind distance hops tag = record {
   kind = kind;
   cost = 20;
   distance = distance;
-  originator = dotted 2 2 2 2;
+  originator = ipv4 2 2 2 2;
   tag = tag;
   hops = hops;
 }

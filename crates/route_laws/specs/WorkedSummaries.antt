@@ -12,7 +12,7 @@ use Rattle.lsdb.specs.Copies.{DatabaseCopy}
 use Rattle.routes.specs.Candidates.{AreCandidates}
 use Rattle.routes.specs.Said.{said_at}
 use Rattle.routes.specs.declared.root.Root.{Root}
-use Rattle.route_laws.specs.Worked.{Entries, copy_of, database, dotted, key, mask_24, network_24}
+use Rattle.route_laws.specs.Worked.{Entries, copy_of, database, ipv4, key, mask_24, network_24}
 use Rattle.route_laws.specs.Worked.{of_external, of_router, point_to_point}
 use Rattle.route_laws.specs.WorkedExternals.{external}
 
@@ -22,8 +22,8 @@ summary metric = record { mask = mask_24; metric = metric; tos = [] }
 -- told by the neighbor 2.2.2.2
 abbrev pub of_network_summary : ℕ → ℕ → Key × DatabaseCopy
 of_network_summary id metric = (
-  key 3 id (dotted 2 2 2 2),
-  copy_of (key 3 id (dotted 2 2 2 2)) (body.NetworkSummary (summary metric)),
+  key 3 id (ipv4 2 2 2 2),
+  copy_of (key 3 id (ipv4 2 2 2 2)) (body.NetworkSummary (summary metric)),
 )
 
 -- told by this router
@@ -41,35 +41,35 @@ of_flagged flags router links = (
 
 abbrev pub summaries_root : Root
 summaries_root =
-    record { router = dotted 1 1 1 1; addresses = dotted 10 0 1 1 ∷ dotted 10 0 2 1 ∷ [] }
+    record { router = ipv4 1 1 1 1; addresses = ipv4 10 0 1 1 ∷ ipv4 10 0 2 1 ∷ [] }
 
 abbrev pub summaries_links : List Link
 summaries_links =
-    point_to_point (dotted 2 2 2 2) (dotted 10 0 1 1) 10
-    ∷ point_to_point (dotted 3 3 3 3) (dotted 10 0 2 1) 100 ∷ []
+    point_to_point (ipv4 2 2 2 2) (ipv4 10 0 1 1) 10
+    ∷ point_to_point (ipv4 3 3 3 3) (ipv4 10 0 2 1) 100 ∷ []
 
 abbrev pub border_links : List Link
-border_links = point_to_point (dotted 1 1 1 1) (dotted 10 0 1 2) 10 ∷ []
+border_links = point_to_point (ipv4 1 1 1 1) (ipv4 10 0 1 2) 10 ∷ []
 
 abbrev pub distant_links : List Link
-distant_links = point_to_point (dotted 1 1 1 1) (dotted 10 0 2 2) 100 ∷ []
+distant_links = point_to_point (ipv4 1 1 1 1) (ipv4 10 0 2 2) 100 ∷ []
 
 -- 2.2.2.2 and 3.3.3.3 have these flags. The first tells of a network at 5, of one that can't be
 -- reached, of the AS boundary router 9.9.9.9 at 7, and of 3.3.3.3 at 7, which is dearer within the
 -- area; the second tells of 9.9.9.9 at 1, but is itself farther.
-abbrev pub told : (flags : ℕ) → (distant_flags : ℕ) → Entries
-told flags distant_flags =
-    of_router (dotted 1 1 1 1) summaries_links
-    ∷ of_flagged flags (dotted 2 2 2 2) border_links
-    ∷ of_flagged distant_flags (dotted 3 3 3 3) distant_links
-    ∷ of_network_summary (dotted 198 51 100 0) 5
-    ∷ of_network_summary (dotted 198 18 0 0) 16777215
-    ∷ of_router_summary (dotted 2 2 2 2) (dotted 3 3 3 3) 7
-    ∷ of_router_summary (dotted 2 2 2 2) (dotted 9 9 9 9) 7
-    ∷ of_router_summary (dotted 3 3 3 3) (dotted 9 9 9 9) 1
-    ∷ of_external (dotted 203 0 113 0) (dotted 9 9 9 9) (external Type1 20 0 0)
-    ∷ of_external (dotted 203 0 114 0) (dotted 9 9 9 9) (external Type2 20 0 0)
-    ∷ of_external (dotted 203 0 115 0) (dotted 3 3 3 3) (external Type1 20 0 0)
+abbrev pub told_entries : (flags : ℕ) → (distant_flags : ℕ) → Entries
+told_entries flags distant_flags =
+    of_router (ipv4 1 1 1 1) summaries_links
+    ∷ of_flagged flags (ipv4 2 2 2 2) border_links
+    ∷ of_flagged distant_flags (ipv4 3 3 3 3) distant_links
+    ∷ of_network_summary (ipv4 198 51 100 0) 5
+    ∷ of_network_summary (ipv4 198 18 0 0) 16777215
+    ∷ of_router_summary (ipv4 2 2 2 2) (ipv4 3 3 3 3) 7
+    ∷ of_router_summary (ipv4 2 2 2 2) (ipv4 9 9 9 9) 7
+    ∷ of_router_summary (ipv4 3 3 3 3) (ipv4 9 9 9 9) 1
+    ∷ of_external (ipv4 203 0 113 0) (ipv4 9 9 9 9) (external Type1 20 0 0)
+    ∷ of_external (ipv4 203 0 114 0) (ipv4 9 9 9 9) (external Type2 20 0 0)
+    ∷ of_external (ipv4 203 0 115 0) (ipv4 3 3 3 3) (external Type1 20 0 0)
     ∷ []
 
 -- ---- the candidates
@@ -118,8 +118,8 @@ distant_route = record {
 
 pub record WorkedSummaries : Type 0 where
   -- both neighbors are area border routers, and the second one is an AS boundary router
-  pub with_b : AreCandidates (said_at 0 (database (told 1 3))) summaries_root
+  pub with_b : AreCandidates (said_at 0 (database (told_entries 1 3))) summaries_root
       (between_route ∷ beyond_1 ∷ beyond_2 ∷ distant_route ∷ [])
   -- neither is an area border router
-  pub without_b : AreCandidates (said_at 0 (database (told 0 2))) summaries_root
+  pub without_b : AreCandidates (said_at 0 (database (told_entries 0 2))) summaries_root
       (distant_route ∷ [])

@@ -13,7 +13,7 @@ use Rattle.lsa.specs.declared.body.NetworkLsa.{NetworkLsa}
 use Rattle.lsa.specs.declared.body.RouterLsa.{RouterLsa}
 use Rattle.lsdb.specs.Copies.{DatabaseCopy}
 use Rattle.routes.specs.Candidates.{AreCandidates}
-use Rattle.route_laws.specs.Worked.{Entries, copy_of, database, dotted, key, mask_24, network_24}
+use Rattle.route_laws.specs.Worked.{Entries, copy_of, database, ipv4, key, mask_24, network_24}
 use Rattle.route_laws.specs.Worked.{of_external, of_router, point_to_point, stub}
 use Rattle.route_laws.specs.WorkedExternals.{external}
 use Rattle.routes.specs.declared.root.Root.{Root}
@@ -32,38 +32,38 @@ of_network id router lsa = (key 2 id router, copy_of (key 2 id router) (body.Net
 
 abbrev pub transit_root : Root
 transit_root =
-    record { router = dotted 1 1 1 1; addresses = dotted 10 0 1 1 ∷ dotted 10 0 2 1 ∷ [] }
+    record { router = ipv4 1 1 1 1; addresses = ipv4 10 0 1 1 ∷ ipv4 10 0 2 1 ∷ [] }
 
 abbrev pub root_links : List Link
 root_links =
-    point_to_point (dotted 2 2 2 2) (dotted 10 0 1 1) 10
-    ∷ point_to_point (dotted 3 3 3 3) (dotted 10 0 2 1) 15 ∷ []
+    point_to_point (ipv4 2 2 2 2) (ipv4 10 0 1 1) 10
+    ∷ point_to_point (ipv4 3 3 3 3) (ipv4 10 0 2 1) 15 ∷ []
 
 -- the Designated Router; its stub network contains the transit network, and is nearer
 abbrev pub designated_links : List Link
 designated_links =
-    point_to_point (dotted 1 1 1 1) (dotted 10 0 1 2) 10
-    ∷ transit (dotted 10 1 0 2) (dotted 10 1 0 2) 5 ∷ stub (dotted 10 0 0 0) (dotted 255 0 0 0) 1
+    point_to_point (ipv4 1 1 1 1) (ipv4 10 0 1 2) 10
+    ∷ transit (ipv4 10 1 0 2) (ipv4 10 1 0 2) 5 ∷ stub (ipv4 10 0 0 0) (ipv4 255 0 0 0) 1
     ∷ []
 
 -- as near over the network as by its own link
 abbrev pub other_links : List Link
 other_links =
-    point_to_point (dotted 1 1 1 1) (dotted 10 0 2 2) 15
-    ∷ transit (dotted 10 1 0 2) (dotted 10 1 0 3) 1 ∷ stub (dotted 192 0 2 0) mask_24 10 ∷ []
+    point_to_point (ipv4 1 1 1 1) (ipv4 10 0 2 2) 15
+    ∷ transit (ipv4 10 1 0 2) (ipv4 10 1 0 3) 1 ∷ stub (ipv4 192 0 2 0) mask_24 10 ∷ []
 
 -- listed by the network, but without a link to it
 abbrev pub unlinked_links : List Link
-unlinked_links = stub (dotted 198 51 100 0) mask_24 1 ∷ []
+unlinked_links = stub (ipv4 198 51 100 0) mask_24 1 ∷ []
 
 -- on the network, and no AS boundary router
 abbrev pub inner_lsa : RouterLsa
-inner_lsa = record { flags = 0; links = transit (dotted 10 1 0 2) (dotted 10 1 0 5) 1 ∷ [] }
+inner_lsa = record { flags = 0; links = transit (ipv4 10 1 0 2) (ipv4 10 1 0 5) 1 ∷ [] }
 
 abbrev pub network_lsa : NetworkLsa
 network_lsa = record {
   mask = mask_24;
-  attached = dotted 2 2 2 2 ∷ dotted 3 3 3 3 ∷ dotted 4 4 4 4 ∷ dotted 5 5 5 5 ∷ [];
+  attached = ipv4 2 2 2 2 ∷ ipv4 3 3 3 3 ∷ ipv4 4 4 4 4 ∷ ipv4 5 5 5 5 ∷ [];
 }
 
 -- 203.0.113.0/24 is announced by two routers, to which it costs the same in all; 203.0.114.0/24
@@ -71,27 +71,27 @@ network_lsa = record {
 -- router and by the one that isn't reached
 abbrev pub transit_entries : Entries
 transit_entries =
-    of_router (dotted 1 1 1 1) root_links
-    ∷ of_router (dotted 2 2 2 2) designated_links
-    ∷ of_router (dotted 3 3 3 3) other_links
-    ∷ of_router (dotted 4 4 4 4) unlinked_links
+    of_router (ipv4 1 1 1 1) root_links
+    ∷ of_router (ipv4 2 2 2 2) designated_links
+    ∷ of_router (ipv4 3 3 3 3) other_links
+    ∷ of_router (ipv4 4 4 4 4) unlinked_links
     ∷ (
-      key 1 (dotted 5 5 5 5) (dotted 5 5 5 5),
-      copy_of (key 1 (dotted 5 5 5 5) (dotted 5 5 5 5))
+      key 1 (ipv4 5 5 5 5) (ipv4 5 5 5 5),
+      copy_of (key 1 (ipv4 5 5 5 5) (ipv4 5 5 5 5))
           (body.Router inner_lsa),
     )
-    ∷ of_network (dotted 10 1 0 2) (dotted 2 2 2 2) network_lsa
-    ∷ of_external (dotted 203 0 113 0) (dotted 2 2 2 2) (external Type1 25 0 9)
-    ∷ of_external (dotted 203 0 113 0) (dotted 3 3 3 3) (external Type1 20 0 1)
-    ∷ of_external (dotted 203 0 114 0) (dotted 2 2 2 2) (external Type1 20 (dotted 10 1 0 9) 0)
-    ∷ of_external (dotted 203 0 115 0) (dotted 5 5 5 5) (external Type1 20 0 0)
-    ∷ of_external (dotted 203 0 116 0) (dotted 4 4 4 4) (external Type1 20 0 0)
+    ∷ of_network (ipv4 10 1 0 2) (ipv4 2 2 2 2) network_lsa
+    ∷ of_external (ipv4 203 0 113 0) (ipv4 2 2 2 2) (external Type1 25 0 9)
+    ∷ of_external (ipv4 203 0 113 0) (ipv4 3 3 3 3) (external Type1 20 0 1)
+    ∷ of_external (ipv4 203 0 114 0) (ipv4 2 2 2 2) (external Type1 20 (ipv4 10 1 0 9) 0)
+    ∷ of_external (ipv4 203 0 115 0) (ipv4 5 5 5 5) (external Type1 20 0 0)
+    ∷ of_external (ipv4 203 0 116 0) (ipv4 4 4 4 4) (external Type1 20 0 0)
     ∷ []
 
 -- ---- the candidates
 
 abbrev pub network_8 : ℕ → Network
-network_8 a = record { address = dotted a 0 0 0; length = 8 }
+network_8 a = record { address = ipv4 a 0 0 0; length = 8 }
 
 abbrev pub wide_route : Route
 wide_route =

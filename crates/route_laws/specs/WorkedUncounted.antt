@@ -6,7 +6,7 @@ use Rattle.words.specs.declared.route.RouteKind.TheVariants.{Intra}
 use Rattle.lsa.specs.declared.body.Link.{Link}
 use Rattle.lsa.specs.declared.body.LinkKind.TheVariants.{Virtual}
 use Rattle.routes.specs.Candidates.{AreCandidates}
-use Rattle.route_laws.specs.Worked.{Entries, database, dotted, mask_24, near_router, network_24}
+use Rattle.route_laws.specs.Worked.{Entries, database, ipv4, mask_24, near_router, network_24}
 use Rattle.route_laws.specs.Worked.{of_router, point_to_point, stub}
 use Rattle.routes.specs.Said.{said_at}
 
@@ -17,32 +17,32 @@ virtual neighbor address cost =
 -- to the neighbor; and to 3.3.3.3 by an address that no interface of this router has
 abbrev pub counting_links : List Link
 counting_links =
-    point_to_point (dotted 2 2 2 2) (dotted 10 0 1 1) 10
-    ∷ point_to_point (dotted 3 3 3 3) (dotted 10 0 9 1) 1 ∷ []
+    point_to_point (ipv4 2 2 2 2) (ipv4 10 0 1 1) 10
+    ∷ point_to_point (ipv4 3 3 3 3) (ipv4 10 0 9 1) 1 ∷ []
 
 -- to 4.4.4.4 at metric 0, to 5.5.5.5 by a virtual link, and to 6.6.6.6, which has no link back
 abbrev pub neighbor_links : List Link
 neighbor_links =
-    point_to_point (dotted 1 1 1 1) (dotted 10 0 1 2) 10
-    ∷ point_to_point (dotted 4 4 4 4) (dotted 10 0 4 1) 0
-    ∷ virtual (dotted 5 5 5 5) (dotted 10 0 5 1) 1
-    ∷ point_to_point (dotted 6 6 6 6) (dotted 10 0 6 1) 1
-    ∷ stub (dotted 192 0 2 0) mask_24 1
+    point_to_point (ipv4 1 1 1 1) (ipv4 10 0 1 2) 10
+    ∷ point_to_point (ipv4 4 4 4 4) (ipv4 10 0 4 1) 0
+    ∷ virtual (ipv4 5 5 5 5) (ipv4 10 0 5 1) 1
+    ∷ point_to_point (ipv4 6 6 6 6) (ipv4 10 0 6 1) 1
+    ∷ stub (ipv4 192 0 2 0) mask_24 1
     ∷ []
 
-abbrev pub uncounted : Entries
-uncounted =
-    of_router (dotted 1 1 1 1) counting_links
-    ∷ of_router (dotted 2 2 2 2) neighbor_links
-    ∷ of_router (dotted 3 3 3 3)
-    (point_to_point (dotted 1 1 1 1) (dotted 10 0 9 2) 1 ∷ stub (dotted 198 51 100 0) mask_24 1
+abbrev pub uncounted_entries : Entries
+uncounted_entries =
+    of_router (ipv4 1 1 1 1) counting_links
+    ∷ of_router (ipv4 2 2 2 2) neighbor_links
+    ∷ of_router (ipv4 3 3 3 3)
+    (point_to_point (ipv4 1 1 1 1) (ipv4 10 0 9 2) 1 ∷ stub (ipv4 198 51 100 0) mask_24 1
     ∷ [])
-    ∷ of_router (dotted 4 4 4 4)
-    (point_to_point (dotted 2 2 2 2) (dotted 10 0 4 2) 5 ∷ stub (dotted 203 0 113 0) mask_24 1
+    ∷ of_router (ipv4 4 4 4 4)
+    (point_to_point (ipv4 2 2 2 2) (ipv4 10 0 4 2) 5 ∷ stub (ipv4 203 0 113 0) mask_24 1
     ∷ [])
-    ∷ of_router (dotted 5 5 5 5)
-    (virtual (dotted 2 2 2 2) (dotted 10 0 5 2) 1 ∷ stub (dotted 203 0 114 0) mask_24 1 ∷ [])
-    ∷ of_router (dotted 6 6 6 6) (stub (dotted 203 0 115 0) mask_24 1 ∷ [])
+    ∷ of_router (ipv4 5 5 5 5)
+    (virtual (ipv4 2 2 2 2) (ipv4 10 0 5 2) 1 ∷ stub (ipv4 203 0 114 0) mask_24 1 ∷ [])
+    ∷ of_router (ipv4 6 6 6 6) (stub (ipv4 203 0 115 0) mask_24 1 ∷ [])
     ∷ []
 
 abbrev pub neighbor_route : Route
@@ -50,4 +50,5 @@ neighbor_route =
     record { prefix = network_24 192 0 2; kind = Intra; cost = 11; distance = 0; hops = 2; tag = 0 }
 
 abbrev pub WorkedUncounted : Type 0
-WorkedUncounted = AreCandidates (said_at 0 (database uncounted)) near_router (neighbor_route ∷ [])
+WorkedUncounted =
+    AreCandidates (said_at 0 (database uncounted_entries)) near_router (neighbor_route ∷ [])

@@ -165,7 +165,8 @@ fn first_wrong_of_two(alloc: Global, steps: &[Step]) -> Result<Option<usize>, Fa
 
 #[test]
 fn what_makes_lsas_say_something_else(rt: HostRuntime) -> Result<(), Fail> {
-    assert_eq!(rt; first_wrong_of_two(rt.alloc(), &STEPS)?, None);
+    let wrong = first_wrong_of_two(rt.alloc(), &STEPS)?;
+    assert!(rt; wrong.is_none(), "{wrong:?}");
     Ok(())
 }
 

@@ -285,7 +285,8 @@ fn are_above(counts: &[u32], least: u32) -> bool {
 fn candidates_are_those_of_the_definitions(rt: HostRuntime) -> Result<(), Fail> {
     let root = root(rt.alloc(), 1, &ADDRESSES)?;
     let mut counts = [0; 5];
-    assert_eq!(rt; first_wrong(rt.alloc(), &root, &mut counts)?, None);
+    let wrong = first_wrong(rt.alloc(), &root, &mut counts)?;
+    assert!(rt; wrong.is_none(), "{wrong:?}");
     assert!(rt; are_above(&counts, 9), "{counts:?}");
     Ok(())
 }

@@ -258,8 +258,18 @@ fn rich_answer(alloc: Global, accepted: &Accepted, code: &Code) -> Result<Option
 /// Whether the accepted program gives by `run` what it gives by `run_checked`, within its bound, on
 /// a hundred inputs: a packet of up to 20 bytes, one row or none, and contexts that differ.
 pub fn runs_agree(alloc: Global, accepted: &Accepted, code: &Code) -> Result<bool, Fail> {
-    let hook = accepted.hook();
     let rows = rows(alloc)?;
+    runs_agree_beside(alloc, accepted, code, &rows)
+}
+
+// The same with these rows, where there are some.
+fn runs_agree_beside(
+    alloc: Global,
+    accepted: &Accepted,
+    code: &Code,
+    rows: &[TableRow],
+) -> Result<bool, Fail> {
+    let hook = accepted.hook();
     for number in 0..100u8 {
         let input = Input {
             context: varied_context(hook, number),

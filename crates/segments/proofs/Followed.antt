@@ -13,7 +13,7 @@ use Rattle.isa.specs.declared.instruction.Source.{Source}
 use Rattle.machine.specs.declared.fault.Fault.{Fault}
 use Rattle.machine.specs.declared.state.State.{State as Machine}
 use Rattle.machine.specs.Label.{Label, Silent}
-use Rattle.machine.specs.State.{held, operand, jumped, moved_on}
+use Rattle.machine.specs.State.{held, operand, after_jump, moved_on}
 use Rattle.machine.specs.Steps.{IsAt, Does, Goes}
 use Rattle.machine.specs.Faults.{Stuck}
 use Rattle.kinds.specs.declared.state.State.{State}
@@ -87,7 +87,7 @@ module _ {D : Type 0} (contains : D → ℕ → Type 0) (code : List Slot) (hook
 
   -- the two outcomes of a test
   branch_goes : (width : Width) (test : Test) (left : ℕ) (right : Source) (distance : ℤ) (start now next : Machine) → now.slot ≡ slot → IsWellPlaced code targets slot (Branch width test left right distance)
-      → (taken : Bool) → next ≡ (if taken then jumped now distance else moved_on now)
+      → (taken : Bool) → next ≡ (if taken then after_jump now distance else moved_on now)
       → (taken ≡ true → next ≡ record now { slot = slot_at_distance slot distance } → EntersNext contains targets segment slot start next)
       → (taken ≡ false → next ≡ record now { slot = slot + 1 } → EntersNext contains targets segment slot start next ⊎ ((target_at targets (slot + 1) ≡ None) × Knows contains segment after start next))
       → GoesOn contains code targets segment slot (Branch width test left right distance) after start next
@@ -106,7 +106,7 @@ module _ {D : Type 0} (contains : D → ℕ → Type 0) (code : List Slot) (hook
   goes_by_test width test left right distance state edges never here placed is_tested enters passes = record {
     free = λ input start now fault at holds stuck.
         let outcome = is_tested.goes start now holds in
-        let can : CanStep (Branch width test left right distance) (setting_of code hook blank) now = (Silent, (if outcome.0 then jumped now distance else moved_on now), record { taken = outcome.0; gives = outcome.1; silent = refl; after = refl }) in
+        let can : CanStep (Branch width test left right distance) (setting_of code hook blank) now = (Silent, (if outcome.0 then after_jump now distance else moved_on now), record { taken = outcome.0; gives = outcome.1; silent = refl; after = refl }) in
         never code hook (Branch width test left right distance) now (rw at here) can input fault stuck;
     goes_on = λ input start now next label at is_known does.
         let known = besides contains left right state start now is_known.holds in
@@ -123,7 +123,7 @@ module _ {D : Type 0} (contains : D → ℕ → Type 0) (code : List Slot) (hook
       → IsFollowed contains code hook targets segment slot i state after
   goes_by_jump i distance state never here begins does_goes goes_does enters = record {
     free = λ input start now fault at holds stuck.
-        let can : CanStep i (setting_of code hook blank) now = (Silent, jumped now distance, goes_does blank now (jumped now distance) Silent (record { silent = refl; after = refl })) in
+        let can : CanStep i (setting_of code hook blank) now = (Silent, after_jump now distance, goes_does blank now (after_jump now distance) Silent (record { silent = refl; after = refl })) in
         never code hook i now (rw at here) can input fault stuck;
     goes_on = λ input start now next label at is_known does.
         let goes = does_goes input now next label does in

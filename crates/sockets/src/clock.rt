@@ -1,5 +1,5 @@
 //! The clock of a thread.
-ghost use Rattle.std.specs.Prelude.{◌≤◌};
+ghost use Rattle.std.specs.Prelude.{◌≡◌, ◌≤◌};
 
 use links::Seconds;
 use std::time::{Clock, SystemTime, UNIX_EPOCH};
@@ -14,7 +14,9 @@ pub struct SystemSeconds<'a, R: Clock> {
 
 impl<'a, R: Clock> SystemSeconds<'a, R> {
     /// A clock that has shown 0.
-    pub fn new(rt: &'a R) -> SystemSeconds<'a, R> {
+    pub fn new(rt: &'a R) -> SystemSeconds<'a, R>
+        ensures { result.last ≡ 0 }
+    {
         SystemSeconds { rt, last: 0 }
     }
 }

@@ -1,9 +1,11 @@
 //! A socket of datagrams.
-ghost use Rattle.std.specs.Prelude.{ℕ, ◌≤◌, List, IfOk, take, ⊤};
+ghost use Rattle.std.specs.Prelude.{◌≡◌, ℕ, ◌≤◌, List, [], ◌∷◌, IfOk, take, ⊤};
+ghost use Rattle.std.specs.Net.Socket.{socket_ip, socket_port};
+ghost use Rattle.sockets.specs.Addresses.{octets};
 
 use mio::net::UdpSocket;
 use std::io;
-use std::net::{Ipv4Addr, SocketAddr};
+use std::net::{IpAddr, Ipv4Addr, SocketAddr};
 
 /// A socket of datagrams whose calls don't wait.
 ///
@@ -42,6 +44,9 @@ impl DatagramSocket for UdpSocket {
 }
 
 /// A port of 127.0.0.1.
-pub fn address_of(port: u16) -> SocketAddr {
-    SocketAddr::from((Ipv4Addr::LOCALHOST, port))
+pub fn address_of(port: u16) -> SocketAddr
+    ensures address { octets (socket_ip result) ≡ 127 ∷ 0 ∷ 0 ∷ 1 ∷ [] }
+    ensures port { socket_port result ≡ port }
+{
+    SocketAddr::new(IpAddr::V4(Ipv4Addr::new(127, 0, 0, 1)), port)
 }

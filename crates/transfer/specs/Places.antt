@@ -1,6 +1,6 @@
 -- Where pointers lead once a number is added.
 use Rattle.std.specs.Prelude.{◌≡◌, ℕ, ℤ}
-use Rattle.isa.specs.Arithmetic.{widened}
+use Rattle.isa.specs.Arithmetic.{widened_immediate}
 use Rattle.machine.specs.declared.state.Content.{Content}
 use Rattle.machine.specs.declared.state.Content.TheVariants as contents
 use Rattle.machine.specs.declared.state.Pointer.{Pointer}
@@ -21,4 +21,4 @@ abbrev pub Reaches : {D : Type 0} → (D → ℕ → Type 0) → Kind D → ℤ 
 Reaches contains base offset place =
     (content : Content) → KindHolds contains base content
     → (p : Pointer) × (content ≡ contents.Address p)
-    × PlaceHolds contains place (at_distance p (widened offset))
+    × PlaceHolds contains place (at_distance p (widened_immediate offset))

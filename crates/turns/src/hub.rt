@@ -4,7 +4,7 @@ ghost use mathlib.Core.List.{IsPrefix};
 ghost use Rattle.words.specs.Constants.{clock_end};
 ghost use Rattle.words.specs.declared.route.TableRow.{TableRow};
 ghost use Rattle.maps.specs.Access.{floor};
-ghost use Rattle.maps.specs.Words.{grown};
+ghost use Rattle.maps.specs.Words.{seat_after};
 ghost use Rattle.maps.specs.declared.access.Access.TheVariants.{Read};
 ghost use Rattle.hooks.specs.Known.{known_to};
 ghost use Rattle.turns.specs.Turns.{AreNeighbors, IsInstalling};
@@ -110,7 +110,7 @@ impl<L: Site, B: Taker<L>> Hub<L, B> {
     /// at least what the seat's programs have read there and added since.
     pub fn counter(&self, port: &mut Port<L>, index: usize) -> u64
         requires { index < 256 }
-        ensures read { port.new.seat ≡ grown port.old.seat (Read index result) }
+        ensures read { port.new.seat ≡ seat_after port.old.seat (Read index result) }
         ensures floor { floor index port.old.seat.accesses ≤ result }
         ensures share { port.new.share ≡ port.old.share }
         ensures number { port.new.number ≡ port.old.number }

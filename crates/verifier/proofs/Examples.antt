@@ -22,7 +22,7 @@ use Rattle.segments.specs.Plain.{LeadsTo}
 use Rattle.segments.specs.Refusals.{IsStray, IsWellMade, JumpsNowhere}
 use Rattle.segments.specs.Stated.{statement_at}
 use Rattle.segments.proofs.Plain.{never}
-use Rattle.verifier.specs.Examples.{ended, endless_code, moved, only_seven, says, says_byte, says_term, seven, test_on, tested_code}
+use Rattle.verifier.specs.Examples.{then_exit, endless_code, move_of, only_seven, says, says_byte, says_term, seven, test_on, tested_code}
 use Rattle.verifier.specs.Plain.{IsFilledAt, is_stated, is_written, IsNumberIn, IsPlain, IsPlainStatement, at_entry, at_statement, said_of}
 use Rattle.verifier.proofs.Plain.{nothing_filled}
 
@@ -143,25 +143,25 @@ tested_is_plain = record {
 
 -- ---- programs that aren't plain
 
-pub calls : IsPlain (ended (instructions.Call (pos 3))) 0 [] → ⊥
+pub calls : IsPlain (then_exit (instructions.Call (pos 3))) 0 [] → ⊥
 calls plain = plain.instructions 0 (instructions.Call (pos 3)) refl
 
-pub reads_empty : IsPlain (ended (moved 0 (Register 2))) 0 [] → ⊥
-reads_empty plain = nothing_filled (ended (moved 0 (Register 2))) [] refl 0 2 refl (plain.reads 0 (moved 0 (Register 2)) refl).0
+pub reads_empty : IsPlain (then_exit (move_of 0 (Register 2))) 0 [] → ⊥
+reads_empty plain = nothing_filled (then_exit (move_of 0 (Register 2))) [] refl 0 2 refl (plain.reads 0 (move_of 0 (Register 2)) refl).0
 
-pub writes_r10 : IsPlain (Start (moved 10 (Immediate (pos 7))) ∷ ended seven) 0 [] → ⊥
-writes_r10 plain = plain.frame 0 (record { instruction = moved 10 (Immediate (pos 7)); at = refl; writes = refl })
+pub writes_r10 : IsPlain (Start (move_of 10 (Immediate (pos 7))) ∷ then_exit seven) 0 [] → ⊥
+writes_r10 plain = plain.frame 0 (record { instruction = move_of 10 (Immediate (pos 7)); at = refl; writes = refl })
 
 pub is_open : IsPlain (Start seven ∷ []) 0 [] → ⊥
 is_open plain = (plain.made 0).ends (record { instruction = seven; at = refl; last = refl; on = refl })
 
-pub is_long : IsPlain (ended seven) 500000 [] → ⊥
+pub is_long : IsPlain (then_exit seven) 500000 [] → ⊥
 is_long plain = plain.budget (record { first = refl; over = omega arith })
 
 pub jumps_unstated : IsPlain tested_code 0 [] → ⊥
 jumps_unstated plain = (plain.made 1).stated (record { instruction = test_on; at = refl; to = 2; jumps = refl; unstated = refl })
 
-pub is_unreached : IsPlain (Start seven ∷ ended instructions.Exit) 0 [] → ⊥
+pub is_unreached : IsPlain (Start seven ∷ then_exit instructions.Exit) 0 [] → ⊥
 is_unreached plain = (plain.made 2).reached (record {
   begins = (instructions.Exit, refl);
   cut_off = record { before = 1; instruction = instructions.Exit; at = refl; behind = refl; leaves = refl };
@@ -170,7 +170,7 @@ is_unreached plain = (plain.made 2).reached (record {
 
 -- ---- statements that aren't plain
 
-pub is_stray : IsPlain (ended seven) 0 (says 5 kinds.Empty 0 ∷ []) → ⊥
+pub is_stray : IsPlain (then_exit seven) 0 (says 5 kinds.Empty 0 ∷ []) → ⊥
 is_stray plain = (plain.made 5).target (inr (record { stated = refl; nowhere = λ begins. none_is_some begins.1 }))
 
 only_is_empty : only_seven ≡ kinds.Empty → ⊥
@@ -180,19 +180,19 @@ abbrev low_of : Kind → ℕ
 low_of (kinds.Number numbers) = numbers.low
 low_of other = 0
 
-pub says_seven : IsPlain (ended seven) 0 (says 1 only_seven 0 ∷ []) → ⊥
+pub says_seven : IsPlain (then_exit seven) 0 (says 1 only_seven 0 ∷ []) → ⊥
 says_seven plain =
     ⊎_elim
     (λ (empty : only_seven ≡ kinds.Empty). only_is_empty empty)
     (λ (any : only_seven ≡ any_number). let low : 7 ≡ 0 = ap low_of any in omega (arith, low))
     ((plain.states 1 (says 1 only_seven 0) refl).registers 0 (omega arith))
 
-pub says_a_byte : IsPlain (ended seven) 0 (says_byte ∷ []) → ⊥
+pub says_a_byte : IsPlain (then_exit seven) 0 (says_byte ∷ []) → ⊥
 says_a_byte plain =
     let same : true ≡ false = ap (λ stack. get_or stack 0 false) (plain.states 1 says_byte refl).stack in
     never (sym same)
 
-pub says_a_term : IsPlain (ended seven) 0 (says_term ∷ []) → ⊥
+pub says_a_term : IsPlain (then_exit seven) 0 (says_term ∷ []) → ⊥
 says_a_term plain = some_is_none (plain.states 1 says_term refl).rank.first
 
 -- ---- edges that aren't plain
@@ -200,23 +200,23 @@ says_a_term plain = some_is_none (plain.states 1 says_term refl).rank.first
 first_number : (s : StatementParts) → said_of s 0 ≡ any_number → IsNumberIn s 0
 first_number s says = record { low = omega arith; numbers = record { low = 0; high = 2 ^ 64 - 1; mask = 0; value = 0 }; says = says }
 
-pub asks_unfilled : IsPlain (Start (moved 1 (Immediate (pos 7))) ∷ ended seven) 0 (says 1 any_number 0 ∷ []) → ⊥
+pub asks_unfilled : IsPlain (Start (move_of 1 (Immediate (pos 7))) ∷ then_exit seven) 0 (says 1 any_number 0 ∷ []) → ⊥
 asks_unfilled plain =
-    let code = Start (moved 1 (Immediate (pos 7))) ∷ ended seven in
+    let code = Start (move_of 1 (Immediate (pos 7))) ∷ then_exit seven in
     ⊎_elim
     (λ (filled : IsFilledAt code (says 1 any_number 0 ∷ []) 0 0). nothing_filled code (says 1 any_number 0 ∷ []) refl 0 0 refl filled)
     (λ (written : Some 1 ≡ Some 0). let one = some_is_one written in omega (arith, one))
-    (plain.filled 0 (moved 1 (Immediate (pos 7))) 1 (says 1 any_number 0) (record { at = refl; leads = inr (refl, refl); stated = refl }) 0 (first_number (says 1 any_number 0) refl))
+    (plain.filled 0 (move_of 1 (Immediate (pos 7))) 1 (says 1 any_number 0) (record { at = refl; leads = inr (refl, refl); stated = refl }) 0 (first_number (says 1 any_number 0) refl))
 
-pub asks_at_entry : IsPlain (ended seven) 0 (says 0 any_number 0 ∷ []) → ⊥
+pub asks_at_entry : IsPlain (then_exit seven) 0 (says 0 any_number 0 ∷ []) → ⊥
 asks_at_entry plain = plain.entry_filled (says 0 any_number 0) refl 0 (first_number (says 0 any_number 0) refl)
 
-pub rises : IsPlain (ended seven) 0 (says 1 any_number 1 ∷ []) → ⊥
+pub rises : IsPlain (then_exit seven) 0 (says 1 any_number 1 ∷ []) → ⊥
 rises plain =
     let falls = plain.falls 0 seven 1 (says 1 any_number 1) (record { at = refl; leads = inr (refl, refl); stated = refl }) 0 (at_entry refl refl refl) in
     omega (arith, falls)
 
-pub rises_at_entry : IsPlain (ended seven) 0 (says 0 kinds.Empty 1 ∷ []) → ⊥
+pub rises_at_entry : IsPlain (then_exit seven) 0 (says 0 kinds.Empty 1 ∷ []) → ⊥
 rises_at_entry plain = let falls = plain.entry_falls (says 0 kinds.Empty 1) refl in omega (arith, falls)
 
 pub stays_equal : IsPlain endless_code 0 (says 0 kinds.Empty 0 ∷ []) → ⊥

@@ -19,12 +19,12 @@ use Rattle.kinds.specs.Stated.{any_number}
 -- ---- instructions
 
 -- a move of 64 bits
-abbrev pub moved : ℕ → Source → Instruction
-moved target source = instructions.Arithmetic Bits64 Move target source
+abbrev pub move_of : ℕ → Source → Instruction
+move_of target source = instructions.Arithmetic Bits64 Move target source
 
 -- `r0 = 7`
 abbrev pub seven : Instruction
-seven = moved 0 (Immediate (pos 7))
+seven = move_of 0 (Immediate (pos 7))
 
 -- `if r0 == 0 goto +0`
 abbrev pub test_on : Instruction
@@ -33,8 +33,8 @@ test_on = instructions.Branch Bits64 Equal 0 (Immediate (pos 0)) (pos 0)
 -- ---- codes
 
 -- the instruction, and EXIT
-abbrev pub ended : Instruction → List Slot
-ended i = Start i ∷ Start instructions.Exit ∷ []
+abbrev pub then_exit : Instruction → List Slot
+then_exit i = Start i ∷ Start instructions.Exit ∷ []
 
 -- `r0 = 7; if r0 == 0 goto L; L: exit`
 abbrev pub tested_code : List Slot

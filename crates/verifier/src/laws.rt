@@ -5,7 +5,8 @@ ghost use Rattle.isa.specs.declared.instruction.Instruction.TheVariants.{Call, E
 ghost use Rattle.isa.specs.declared.instruction.Source.TheVariants.{Immediate, Register};
 ghost use Rattle.object.specs.declared.kind.Kind.TheVariants.{Empty};
 ghost use Rattle.kinds.specs.Stated.{any_number};
-ghost use Rattle.verifier.specs.Examples.{ended, endless_code, moved, only_seven, says, says_byte};
+ghost use Rattle.verifier.specs.Examples.{then_exit, endless_code, move_of};
+ghost use Rattle.verifier.specs.Examples.{only_seven, says, says_byte};
 ghost use Rattle.verifier.specs.Examples.{says_term, seven, tested_code};
 ghost use Rattle.verifier.specs.Plain.{IsPlain};
 
@@ -18,31 +19,31 @@ pub fn a_test_of_a_number_is_plain()
 /// bound that is too large, a jump to where nothing is stated, and an instruction that nothing
 /// leads to.
 pub fn these_codes_are_not_plain()
-    ensures call { IsPlain (ended (Call (pos 3))) 0 [] → ⊥ }
-    ensures empty { IsPlain (ended (moved 0 (Register 2))) 0 [] → ⊥ }
-    ensures frame { IsPlain (Start (moved 10 (Immediate (pos 7))) ∷ ended seven) 0 [] → ⊥ }
+    ensures call { IsPlain (then_exit (Call (pos 3))) 0 [] → ⊥ }
+    ensures empty { IsPlain (then_exit (move_of 0 (Register 2))) 0 [] → ⊥ }
+    ensures frame { IsPlain (Start (move_of 10 (Immediate (pos 7))) ∷ then_exit seven) 0 [] → ⊥ }
     ensures ends { IsPlain (Start seven ∷ []) 0 [] → ⊥ }
-    ensures budget { IsPlain (ended seven) 500000 [] → ⊥ }
+    ensures budget { IsPlain (then_exit seven) 500000 [] → ⊥ }
     ensures unstated { IsPlain tested_code 0 [] → ⊥ }
-    ensures unreached { IsPlain (Start seven ∷ ended Exit) 0 [] → ⊥ }
+    ensures unreached { IsPlain (Start seven ∷ then_exit Exit) 0 [] → ⊥ }
 {}
 
 /// Not plain is a program with a statement where no instruction begins, or one that says which
 /// numbers a register may hold, which bytes the stack has or a rank that isn't a constant.
 pub fn these_statements_are_not_plain()
-    ensures stray { IsPlain (ended seven) 0 (says 5 Empty 0 ∷ []) → ⊥ }
-    ensures numbers { IsPlain (ended seven) 0 (says 1 only_seven 0 ∷ []) → ⊥ }
-    ensures bytes { IsPlain (ended seven) 0 (says_byte ∷ []) → ⊥ }
-    ensures term { IsPlain (ended seven) 0 (says_term ∷ []) → ⊥ }
+    ensures stray { IsPlain (then_exit seven) 0 (says 5 Empty 0 ∷ []) → ⊥ }
+    ensures numbers { IsPlain (then_exit seven) 0 (says 1 only_seven 0 ∷ []) → ⊥ }
+    ensures bytes { IsPlain (then_exit seven) 0 (says_byte ∷ []) → ⊥ }
+    ensures term { IsPlain (then_exit seven) 0 (says_term ∷ []) → ⊥ }
 {}
 
 /// Not plain is a program where a statement asks for a register that nothing filled, or has a
 /// rank above the one before, or on a back jump one that isn't less.
 pub fn these_edges_are_not_plain()
-    ensures unfilled { IsPlain (Start (moved 1 (Immediate (pos 7))) ∷ ended seven) 0
+    ensures unfilled { IsPlain (Start (move_of 1 (Immediate (pos 7))) ∷ then_exit seven) 0
         (says 1 any_number 0 ∷ []) → ⊥ }
-    ensures entry_unfilled { IsPlain (ended seven) 0 (says 0 any_number 0 ∷ []) → ⊥ }
-    ensures rises { IsPlain (ended seven) 0 (says 1 any_number 1 ∷ []) → ⊥ }
-    ensures entry_rises { IsPlain (ended seven) 0 (says 0 Empty 1 ∷ []) → ⊥ }
+    ensures entry_unfilled { IsPlain (then_exit seven) 0 (says 0 any_number 0 ∷ []) → ⊥ }
+    ensures rises { IsPlain (then_exit seven) 0 (says 1 any_number 1 ∷ []) → ⊥ }
+    ensures entry_rises { IsPlain (then_exit seven) 0 (says 0 Empty 1 ∷ []) → ⊥ }
     ensures stays { IsPlain endless_code 0 (says 0 Empty 0 ∷ []) → ⊥ }
 {}

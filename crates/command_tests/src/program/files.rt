@@ -43,70 +43,76 @@ fn a_text_is_assembled_listed_and_run(rt: HostRuntime) -> Result<(), Fail> {
     play(&rt, process::id(rt.process()), &steps)
 }
 
+const BYTE_BY_BYTE: &[Step<'_>] = &[
+    Step::Write("bytes.s", SEVEN),
+    Step::Run(&["asm", "@bytes.s", "@bytes.o"], 0, "ok 2\n"),
+    Step::Holds("bytes.o", &SEVEN_OBJECT),
+    Step::Run(&["run", "@bytes.o", "-", "-"], 0, "answer 7 used 2\n"),
+    Step::Remove("bytes.s"),
+    Step::Remove("bytes.o"),
+];
+
 #[test]
 fn a_text_becomes_its_object_byte_by_byte(rt: HostRuntime) -> Result<(), Fail> {
-    let steps = [
-        Step::Write("bytes.s", SEVEN),
-        Step::Run(&["asm", "@bytes.s", "@bytes.o"], 0, "ok 2\n"),
-        Step::Holds("bytes.o", &SEVEN_OBJECT),
-        Step::Run(&["run", "@bytes.o", "-", "-"], 0, "answer 7 used 2\n"),
-        Step::Remove("bytes.s"),
-        Step::Remove("bytes.o"),
-    ];
-    play(&rt, process::id(rt.process()), &steps)
+    play(&rt, process::id(rt.process()), BYTE_BY_BYTE)
 }
+
+const NO_TARGETS: &[Step<'_>] = &[
+    Step::Write("seven.s", SEVEN),
+    Step::Folder("folder.o"),
+    Step::Run(
+        &["asm", "@seven.s", "@folder.o"],
+        3,
+        "cannot write @folder.o\n",
+    ),
+    Step::Nothing("folder.o.part"),
+    Step::RemoveFolder("folder.o"),
+    Step::Run(
+        &["asm", "@seven.s", "@none/a.o"],
+        3,
+        "cannot write @none/a.o\n",
+    ),
+    Step::Remove("seven.s"),
+];
 
 #[test]
 fn a_target_that_cant_be_written_is_told(rt: HostRuntime) -> Result<(), Fail> {
-    let steps = [
-        Step::Write("seven.s", SEVEN),
-        Step::Folder("folder.o"),
-        Step::Run(
-            &["asm", "@seven.s", "@folder.o"],
-            3,
-            "cannot write @folder.o\n",
-        ),
-        Step::Nothing("folder.o.part"),
-        Step::RemoveFolder("folder.o"),
-        Step::Run(
-            &["asm", "@seven.s", "@none/a.o"],
-            3,
-            "cannot write @none/a.o\n",
-        ),
-        Step::Remove("seven.s"),
-    ];
-    play(&rt, process::id(rt.process()), &steps)
+    play(&rt, process::id(rt.process()), NO_TARGETS)
 }
+
+const REFUSED_TEXT: &[Step<'_>] = &[
+    Step::Write("refused.s", TOO_LARGE),
+    Step::Write("refused.o", b"as it was"),
+    Step::Run(&["asm", "@refused.s", "@refused.o"], 1, TOO_LARGE_TOLD),
+    Step::Holds("refused.o", b"as it was"),
+    Step::Nothing("refused.o.part"),
+    Step::Remove("refused.s"),
+    Step::Remove("refused.o"),
+];
 
 #[test]
 fn a_refused_text_leaves_the_target(rt: HostRuntime) -> Result<(), Fail> {
-    let steps = [
-        Step::Write("refused.s", TOO_LARGE),
-        Step::Write("refused.o", b"as it was"),
-        Step::Run(&["asm", "@refused.s", "@refused.o"], 1, TOO_LARGE_TOLD),
-        Step::Holds("refused.o", b"as it was"),
-        Step::Nothing("refused.o.part"),
-        Step::Remove("refused.s"),
-        Step::Remove("refused.o"),
-    ];
-    play(&rt, process::id(rt.process()), &steps)
+    play(&rt, process::id(rt.process()), REFUSED_TEXT)
 }
+
+const MISSING: &str = "cannot read @missing\n";
+
+const FOLDER: &str = "cannot read @folder\n";
+
+const NO_FILES: &[Step<'_>] = &[
+    Step::Run(&["asm", "@missing", "o"], 3, MISSING),
+    Step::Run(&["list", "@missing"], 3, MISSING),
+    Step::Folder("folder"),
+    Step::Run(&["raw", "count", "@folder", "1"], 3, FOLDER),
+    Step::Run(&["asm", "@folder", "o"], 3, FOLDER),
+    Step::Run(&["list", "@folder"], 3, FOLDER),
+    Step::Run(&["run", "@folder", "-", "-"], 3, FOLDER),
+    Step::RemoveFolder("folder"),
+];
 
 #[test]
 fn what_is_no_file_cant_be_read(rt: HostRuntime) -> Result<(), Fail> {
-    let missing = "cannot read @missing\n";
-    let folder = "cannot read @folder\n";
-    let steps = [
-        Step::Run(&["asm", "@missing", "o"], 3, missing),
-        Step::Run(&["list", "@missing"], 3, missing),
-        Step::Folder("folder"),
-        Step::Run(&["raw", "count", "@folder", "1"], 3, folder),
-        Step::Run(&["asm", "@folder", "o"], 3, folder),
-        Step::Run(&["list", "@folder"], 3, folder),
-        Step::Run(&["run", "@folder", "-", "-"], 3, folder),
-        Step::RemoveFolder("folder"),
-    ];
-    play(&rt, process::id(rt.process()), &steps)
+    play(&rt, process::id(rt.process()), NO_FILES)
 }
 
 #[test]

@@ -40,9 +40,8 @@ fn expect_status<R: Files + AllocGlobal + Threads + Sync + Abort>(rt: &R, path: 
     };
     let words = ["routerd", "route", path];
     let got = program(rt, &router, &words, &mut input, &mut output, &mut errors);
-    assert_eq!(rt; got, status);
-    assert!(rt; output.as_slice() == b"router 1.1.1.1\nquit\n".as_slice());
-    assert!(rt; errors.is_empty());
+    let printed = output.as_slice() == b"router 1.1.1.1\nquit\n".as_slice();
+    assert!(rt; got == status && printed && errors.is_empty(), "{got}");
 }
 
 #[test]
@@ -56,14 +55,16 @@ fn a_router_has_its_configuration_and_the_console(rt: HostRuntime) -> Result<(),
     Ok(())
 }
 
+const ROUTE_BYTES: Step<'_> = Step::Run(&["route", "@bytes.conf"], 3, "cannot read @bytes.conf\n");
+
+const NO_TEXT: &[Step<'_>] = &[
+    ROUTE_BYTES,
+    Step::Write("bytes.conf", &[0xff, 0xfe]),
+    ROUTE_BYTES,
+    Step::Remove("bytes.conf"),
+];
+
 #[test]
 fn a_configuration_that_is_no_text_cant_be_read(rt: HostRuntime) -> Result<(), Fail> {
-    let words = ["route", "@bytes.conf"];
-    let steps = [
-        Step::Run(&words, 3, "cannot read @bytes.conf\n"),
-        Step::Write("bytes.conf", &[0xff, 0xfe]),
-        Step::Run(&words, 3, "cannot read @bytes.conf\n"),
-        Step::Remove("bytes.conf"),
-    ];
-    play(&rt, process::id(rt.process()), &steps)
+    play(&rt, process::id(rt.process()), NO_TEXT)
 }

@@ -1,9 +1,9 @@
 //! A link whose socket refuses sends, as by a rule of a firewall, for some calls.
-use links::Link;
+use links::{Link, LinkFault};
 use sockets::{DatagramSocket, Sockets, Wire, came, sent};
 use std::io;
+use std::process::Abort;
 use std::sync::atomic::{AtomicUsize, Ordering};
-use std::test::Fail;
 
 // EPERM, EACCES, EAGAIN, ENOMEM, EMSGSIZE, EADDRNOTAVAIL, ENETDOWN, ENETUNREACH, ENETRESET,
 // ENOBUFS, ECONNREFUSED, EHOSTDOWN and EHOSTUNREACH of Linux, and at last EINVAL, which a route
@@ -58,53 +58,72 @@ impl<'a> DatagramSocket for Refusing<'a> {
     }
 }
 
-// Each refused send is lost, and the next one goes out, at the interface whose peer is 7002.
+// Whether a send at the interface is sent, or lost, as it is to be.
+fn goes<L: Link>(link: &mut L, interface: u16, bytes: &[u8], is_sent: bool) -> bool {
+    link.send(interface, bytes) == Ok(is_sent)
+}
+
+// Each refused send is lost, and one at the other interface goes out.
+fn loses_each<L: Link>(rt: &impl Abort, link: &mut L) {
+    for number in &OF_A_SEND {
+        let is_so = goes(link, 2, b"lost", false) && goes(link, 1, b"at 1", true);
+        assert!(rt; is_so, "{number}");
+    }
+}
+
+// Whether the next send goes out, and none at an interface that there isn't.
+fn goes_on<L: Link>(link: &mut L) -> bool {
+    goes(link, 2, b"sent", true) && goes(link, 0, b"none", false) && goes(link, 3, b"none", false)
+}
+
+// At the interface whose peer is 7002.
 #[test]
-fn a_send_that_is_refused_is_a_lost_packet(rt: HostRuntime) -> Result<(), Fail> {
+fn a_send_that_is_refused_is_a_lost_packet(rt: HostRuntime) {
     let wires = [
         Wire::new(Refusing::new(&[]), 7001),
         Wire::new(Refusing::new(&OF_A_SEND), 7002),
     ];
     let mut link = Sockets::of_console(&wires);
-    for number in OF_A_SEND {
-        assert_eq!(rt; link.send(2, b"lost"), Ok(false), "{number}");
-        assert_eq!(rt; link.send(1, b"at 1"), Ok(true), "{number}");
-    }
-    assert_eq!(rt; link.send(2, b"sent"), Ok(true));
-    assert_eq!(rt;
-        (link.send(0, b"none"), link.send(3, b"none")),
-        (Ok(false), Ok(false))
-    );
-    assert_eq!(rt; wires[1].socket().handed.load(Ordering::SeqCst), 4);
-    Ok(())
+    loses_each(&rt, &mut link);
+    assert!(rt; goes_on(&mut link));
+    assert!(rt; wires[1].socket().handed.load(Ordering::SeqCst) == 4);
 }
 
-// After a fault the link sends nothing more.
+// Whether the first send is a fault, and the link sends nothing more.
+fn ends<L: Link>(link: &mut L) -> bool {
+    link.send(1, b"fault").is_err() && goes(link, 1, b"none", false)
+}
+
+// Whether this number of the system is a fault, after which the socket is handed nothing.
+fn is_a_fault(number: i32) -> bool {
+    let numbers = [number];
+    let wires = [Wire::new(Refusing::new(&numbers), 7002)];
+    let mut link = Sockets::of_console(&wires);
+    let has_ended = ends(&mut link);
+    has_ended && wires[0].socket().handed.load(Ordering::SeqCst) == 0
+}
+
 #[test]
-fn a_socket_of_no_use_is_a_fault(rt: HostRuntime) -> Result<(), Fail> {
-    for number in OF_A_SOCKET {
-        let numbers = [number];
-        let wires = [Wire::new(Refusing::new(&numbers), 7002)];
-        let mut link = Sockets::of_console(&wires);
-        assert!(rt; link.send(1, b"fault").is_err(), "{number}");
-        assert_eq!(rt; link.send(1, b"none"), Ok(false), "{number}");
-        assert_eq!(rt; wires[0].socket().handed.load(Ordering::SeqCst), 0);
+fn a_socket_of_no_use_is_a_fault(rt: HostRuntime) {
+    for number in &OF_A_SOCKET {
+        assert!(rt; is_a_fault(*number), "{number}");
     }
-    Ok(())
+}
+
+// What a receive gives that is refused with this number of the system.
+fn received(number: i32) -> Result<Option<usize>, LinkFault> {
+    came(Err(io::Error::from_raw_os_error(number)))
 }
 
 // To receive, nearly the same.
 #[test]
-fn a_receive_that_is_refused_gives_nothing(rt: HostRuntime) -> Result<(), Fail> {
-    for number in OF_A_RECEIVE {
-        let outcome = Err(io::Error::from_raw_os_error(number));
-        assert_eq!(rt; came(outcome), Ok(None), "{number}");
+fn a_receive_that_is_refused_gives_nothing(rt: HostRuntime) {
+    for number in &OF_A_RECEIVE {
+        assert!(rt; received(*number) == Ok(None), "{number}");
     }
-    for number in OF_A_SOCKET {
-        let outcome = Err(io::Error::from_raw_os_error(number));
-        assert!(rt; came(outcome).is_err(), "{number}");
+    for number in &OF_A_SOCKET {
+        assert!(rt; received(*number).is_err(), "{number}");
     }
-    assert!(rt; came(Err(io::Error::from_raw_os_error(22))).is_err());
-    assert_eq!(rt; (came(Ok(44)), sent(Ok(44))), (Ok(Some(44)), Ok(true)));
-    Ok(())
+    assert!(rt; received(22).is_err());
+    assert!(rt; came(Ok(44)) == Ok(Some(44)) && sent(Ok(44)) == Ok(true));
 }

@@ -5,6 +5,7 @@ use std::alloc::{AllocError, Global};
 use std::fs;
 use std::io::{self, BufReader, Cursor, ErrorKind, Read};
 use std::net::Net;
+use std::process::Abort;
 use std::rt::Files;
 use std::sync::Wait;
 use std::test::Fail;
@@ -92,18 +93,42 @@ fn routed<R: Net + Threads + Wait + Clock + Log + Files + AllocGlobal + Sync + D
     (status, output)
 }
 
+// A router with this configuration is answered so, and ends with this status.
+fn answers<R: Net + Threads + Wait + Clock + Log + Files + AllocGlobal + Sync + Drop + Abort>(
+    rt: &R,
+    configuration: &str,
+    lines: &[u8],
+    wanted: &[u8],
+    status: u8,
+) {
+    let (ended, printed) = routed(rt, configuration, lines);
+    let is_so = ended == status && printed.as_slice() == wanted;
+    assert!(rt; is_so, "{ended}: {printed:?}");
+}
+
+/// The files that the lines name.
+const FILES: &[(&str, &[u8])] = &[
+    ("vetoing", VETOING),
+    ("counting", COUNTING),
+    ("unknown", UNKNOWN),
+    ("empty", EMPTY),
+    ("prose", b"r0 = 1; exit"),
+    ("withholding", WITHHOLDING),
+];
+
+fn write_files<R: Files + AllocGlobal>(rt: &R) -> io::Result<()> {
+    for file in FILES {
+        let (name, bytes) = *file;
+        fs::write(rt, name, bytes)?;
+    }
+    Ok(())
+}
+
 #[test]
 fn each_line_is_answered(rt: HostRuntime) -> Result<(), Fail> {
-    fs::write(&rt, "vetoing", VETOING)?;
-    fs::write(&rt, "counting", COUNTING)?;
-    fs::write(&rt, "unknown", UNKNOWN)?;
-    fs::write(&rt, "empty", EMPTY)?;
-    fs::write(&rt, "prose", "r0 = 1; exit")?;
-    fs::write(&rt, "withholding", WITHHOLDING)?;
+    write_files(&rt)?;
     for session in SESSIONS {
-        let (status, printed) = routed(&rt, ONE, session.lines);
-        assert_eq!(rt; printed.as_slice(), session.answers);
-        assert_eq!(rt; status, 0);
+        answers(&rt, ONE, session.lines, session.answers, 0);
     }
     Ok(())
 }
@@ -122,14 +147,15 @@ fn long_line(alloc: Global, length: usize) -> Result<Vec<u8>, AllocError> {
     Ok(lines)
 }
 
+const LENGTHS: [usize; 6] = [4_095, 4_096, 4_097, 4_098, 8_193, 100_000];
+
 // A line is answered once, however long it is.
 #[test]
 fn a_long_line_is_answered_once(rt: HostRuntime) -> Result<(), Fail> {
-    for length in [4_095, 4_096, 4_097, 4_098, 8_193, 100_000] {
-        let (status, printed) = routed(&rt, LONG, &long_line(rt.alloc(), length)?);
-        let answers = b"unknown\n10.0.1.0/24 intra 10 via 0\nend\n";
-        assert_eq!(rt; printed.as_slice(), answers.as_slice(), "{length}");
-        assert_eq!(rt; status, 0);
+    for length in &LENGTHS {
+        let lines = long_line(rt.alloc(), *length)?;
+        let wanted = b"unknown\n10.0.1.0/24 intra 10 via 0\nend\n";
+        answers(&rt, LONG, &lines, wanted, 0);
     }
     Ok(())
 }
@@ -161,9 +187,8 @@ fn an_input_that_fails_ends_it_with_status_3(rt: HostRuntime) -> Result<(), Fail
     let mut input = BufReader::new(rt.alloc(), Broken { is_read: false })?;
     let mut output = Vec::new(rt.alloc());
     let status = route(&rt, BROKEN, &mut input, &mut output);
-    let answers = b"10.0.1.0/24 intra 10 via 0\nend\n";
-    assert_eq!(rt; output.as_slice(), answers.as_slice());
-    assert_eq!(rt; status, 3);
+    let is_answered = output.as_slice() == b"10.0.1.0/24 intra 10 via 0\nend\n".as_slice();
+    assert!(rt; is_answered && status == 3, "{status}");
     Ok(())
 }
 
@@ -174,7 +199,5 @@ const TWICE: &str = "router 1.1.1.1\n\
 
 #[test]
 fn a_port_that_is_taken_ends_it(rt: HostRuntime) {
-    let (status, printed) = routed(&rt, TWICE, b"quit\n");
-    assert_eq!(rt; printed.as_slice(), b"cannot bind 27103\n".as_slice());
-    assert_eq!(rt; status, 3);
+    answers(&rt, TWICE, b"quit\n", b"cannot bind 27103\n", 3);
 }

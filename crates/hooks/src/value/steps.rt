@@ -5,7 +5,7 @@ ghost use Rattle.machine.specs.Label.{Label};
 ghost use Rattle.maps.specs.Words.{IsOf};
 ghost use Rattle.helpers.specs.Seats.{Makes};
 ghost use Rattle.hooks.specs.Operations.{leaves, Answers, IsAsked};
-ghost use Rattle.hooks.specs.Shown.{listed, Stands, changed, vacant};
+ghost use Rattle.hooks.specs.Shown.{published_operations, Stands, after_operation, vacant};
 ghost use Rattle.hooks.specs.Vacant.{AreVacancies};
 
 use super::{Entry, Programs, Vacancies};
@@ -33,7 +33,7 @@ impl Programs {
 
     fn slot(&self, hook: Hook) -> &Slot
         requires { Stands self.now }
-        ensures { result.now ≡ leaves hook (listed self.now) }
+        ensures { result.now ≡ leaves hook (published_operations self.now) }
     {
         match hook {
             Hook::Count => &self.count,
@@ -46,7 +46,7 @@ impl Programs {
     /// At which hooks no program stands.
     pub fn vacancies(&self) -> Vacancies
         requires { Stands self.now }
-        ensures { AreVacancies (listed self.now) result }
+        ensures { AreVacancies (published_operations self.now) result }
     {
         Vacancies {
             tag: self.tag.is_vacant(),
@@ -61,7 +61,7 @@ impl Programs {
         requires stands { Stands self.now }
         requires table { IsOf shared.now seat.old }
         ensures answered { (labels : List Label) × Makes seat.old labels seat.new
-            × Answers (listed self.now) (given_by input.now) labels result }
+            × Answers (published_operations self.now) (given_by input.now) labels result }
         ensures table { IsOf shared.now seat.new }
     {
         let hook = hook_of(input);
@@ -82,7 +82,7 @@ impl Absorb<Entry> for Programs {
 
     ghost state = { λ p. p };
 
-    ghost applied = { changed };
+    ghost applied = { after_operation };
 
     ghost never_fails = { Unit {0} };
 

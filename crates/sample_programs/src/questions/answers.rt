@@ -240,18 +240,32 @@ fn price_of(asker: &mut Asker, external: &External, shared: &Shared, seat: &mut 
     Some(answer.word())
 }
 
-// The words of three questions at the first seat of a new table, and of one at the second.
+// The words of three questions at the first seat, and of one at the second.
+fn words_at(
+    asker: &mut Asker,
+    external: &External,
+    shared: &Shared,
+    first: &mut Seat,
+    second: &mut Seat,
+) -> [Option<u64>; 4]
+    requires first { IsOf shared.now first.old }
+    requires second { IsOf shared.now second.old }
+{
+    [
+        price_of(asker, external, shared, first),
+        price_of(asker, external, shared, first),
+        price_of(asker, external, shared, first),
+        price_of(asker, external, shared, second),
+    ]
+}
+
+// The same at the seats of a new table.
 fn words(alloc: Global, asker: &mut Asker) -> Result<[Option<u64>; 4], Fail> {
     let external = external()?;
     let (shared, mut seats) = table(alloc, 2)?;
     let mut second = seats.pop().ok_or("no second seat")?;
     let mut first = seats.pop().ok_or("no first seat")?;
-    Ok([
-        price_of(asker, &external, &shared, &mut first),
-        price_of(asker, &external, &shared, &mut first),
-        price_of(asker, &external, &shared, &mut first),
-        price_of(asker, &external, &shared, &mut second),
-    ])
+    Ok(words_at(asker, &external, &shared, &mut first, &mut second))
 }
 
 // Of these, once the program that counts is attached.

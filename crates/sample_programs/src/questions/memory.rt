@@ -8,27 +8,36 @@ use std::sync::Wait;
 use std::test::Fail;
 use verifier::Accepted;
 
-// Whether a program is attached and detached by a new loader of three askers.
-fn is_attached_and_detached<R: Wait + Drop + Copy>(alloc: Global, rt: R) -> Result<bool, Fail> {
+// Whether the program is attached and detached.
+fn attach_and_detach<R: Wait + Drop>(loader: &mut Loader<R>, program: Accepted) -> bool {
+    loader.attach(program).is_ok() && loader.detach(Hook::Price).is_ok()
+}
+
+// Whether it is by a new loader of three askers.
+fn is_attached_and_detached<R: Wait + Drop + Copy>(
+    alloc: Global,
+    rt: R,
+    program: Accepted,
+) -> Result<bool, Fail> {
     let (mut loader, askers) = loader_and_askers(alloc, rt, 3)?;
-    let program = accepted(alloc, SEVEN).ok_or("refused")?;
-    Ok(askers.len() == 3 && loader.attach(program).is_ok() && loader.detach(Hook::Price).is_ok())
+    let done = attach_and_detach(&mut loader, program);
+    Ok(done && askers.len() == 3)
 }
 
 // The call that was refused memory answers in full the next time.
 #[test]
 fn programs_are_made_after_a_refusal(rt: HostRuntime) -> Result<(), Fail> {
-    assert!(rt; is_attached_and_detached(rt.alloc(), &rt)?);
+    let program = accepted(rt.alloc(), SEVEN).ok_or("refused")?;
+    assert!(rt; is_attached_and_detached(rt.alloc(), &rt, program)?);
     Ok(())
 }
 
 // Whether both are attached, and then `price` is detached nine times.
 fn attach_both_and_detach<R: Wait + Drop>(
-    loader: Loader<R>,
+    loader: &mut Loader<R>,
     first: Accepted,
     second: Accepted,
 ) -> bool {
-    let mut loader = loader;
     let mut done = loader.attach(first).is_ok();
     done = loader.attach(second).is_ok() && done;
     for _turn in 0..9 {
@@ -43,8 +52,8 @@ fn are_attached_and_detached<R: Wait + Drop + Copy>(
     first: Accepted,
     second: Accepted,
 ) -> Result<bool, Fail> {
-    let (loader, _askers) = loader_and_askers(alloc, rt, 1)?;
-    Ok(attach_both_and_detach(loader, first, second))
+    let (mut loader, _askers) = loader_and_askers(alloc, rt, 1)?;
+    Ok(attach_both_and_detach(&mut loader, first, second))
 }
 
 // All memory that attaching and detaching ever need is taken at the start.

@@ -1,6 +1,6 @@
 use Rattle.std.proofs.Common.{◌∙◌, ap, codes}
 use Rattle.clap.specs.declared.builder.value_parser.ValueParser.{ValueParser}
-use Rattle.command_line.specs.CommandLine.{checked}
+use Rattle.command_line.specs.CommandLine.{checked_word}
 use Rattle.command_line.proofs.commands.hook.Goals as goal
 
 pub returns-clause-rule : goal.returns-clause-rule
@@ -12,5 +12,5 @@ returns-clause-rule c =
       names.3,
       names.4,
       names.5,
-      c.checked.ensures.rule ∙ ap (λ (parser : ValueParser). checked (codes "HOOK") parser) names.6,
+      c.checked.ensures.rule ∙ ap (λ (parser : ValueParser). checked_word (codes "HOOK") parser) names.6,
     )

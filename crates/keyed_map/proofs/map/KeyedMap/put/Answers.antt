@@ -1,7 +1,7 @@
 use Rattle.std.proofs.Common.{◌≡◌, [], ◌∷◌, ◌++◌, ap, sym, subst, ◌∙◌, arith}
 use Rattle.std.specs.FinMap as map
 use Rattle.keyed_map.specs.declared.slot.Edit.{Edit}
-use Rattle.keyed_map.specs.Slots.{AllFit, counted, live, put_live, slots_of, undone}
+use Rattle.keyed_map.specs.Slots.{AllFit, count_after_change, live, put_live, slots_of, undone}
 use Rattle.keyed_map.proofs.Slots.{AllFit-push, get-slots, has_place, len_put, live_put, put_back_is, slots_insert, undone-push}
 use Rattle.keyed_map.proofs.Helds.{when_ok}
 use Rattle.keyed_map.proofs.map.KeyedMap.put.Goals as goal
@@ -46,4 +46,4 @@ pub count-self-inside-requires : goal.count-self-inside-requires
 count-self-inside-requires g c =
     let slots = slots_of c.self.inside.slots.entries in
     let now = slots_insert c.self.inside.slots.entries c.insert.new.self.entries c.args.key c.args.slot c.in_ok-before.ensures.updates.0 in
-    ap (λ m. map.len (live m)) now ∙ ap map.len (live_put slots c.args.key c.args.slot) ∙ len_put (live slots) c.args.key c.args.slot ∙ (λ i. counted ((sym c.contains-held.ensures) i) ((sym c.holds-holds.ensures) i) ((sym c.self.invariant.1) i))
+    ap (λ m. map.len (live m)) now ∙ ap map.len (live_put slots c.args.key c.args.slot) ∙ len_put (live slots) c.args.key c.args.slot ∙ (λ i. count_after_change ((sym c.contains-held.ensures) i) ((sym c.holds-holds.ensures) i) ((sym c.self.invariant.1) i))

@@ -1,10 +1,10 @@
 use Rattle.std.proofs.Common.{None, true, cond, ap, sym, subst, ◌∙◌}
 use Rattle.std.specs.FinMap as finite
-use Rattle.keyed_map.specs.Slots.{counted}
+use Rattle.keyed_map.specs.Slots.{count_after_change}
 use Rattle.lsdb.specs.Headers.{key_of}
 use Rattle.lsdb.specs.Foresight.{ForeseesAll}
 use Rattle.lsdb.proofs.Foresight.{foresees_put}
-use Rattle.lsdb.specs.Joined.{HaveTimes, copy_of, joined, owned}
+use Rattle.lsdb.specs.Joined.{HaveTimes, copy_of, joined, count_own_externals}
 use Rattle.lsdb.specs.Limits.{is_own_external}
 use Rattle.lsdb.specs.declared.times.Times.{Times}
 use Rattle.lsdb.proofs.Joins.{have_both, have_more, joined_insert}
@@ -16,9 +16,9 @@ recount-self-inside-requires c =
     let router = c.self.inside.router in
     let key = c.key-name.result in
     let own = is_own_external router key in
-    ap (owned router) c.in_ok-insert-2.ensures.ok
+    ap (count_own_externals router) c.in_ok-insert-2.ensures.ok
     ∙ count_put (is_own_external router) c.self.inside.lsas.present key c.new.result
-    ∙ sym (λ i. cond own (counted (c.contains-held.ensures i) true (c.self.invariant.counted i)) (c.self.invariant.counted i))
+    ∙ sym (λ i. cond own (count_after_change (c.contains-held.ensures i) true (c.self.invariant.counted i)) (c.self.invariant.counted i))
 
 -- without memory for the LSA its times alone are new
 pub invariant_of-self-in_err-insert-2 : goal.invariant_of-self-in_err-insert-2
@@ -33,8 +33,8 @@ invariant_of-self-in_err-insert-2 c =
           (subst (HaveTimes lsas) (sym c.in_ok-insert.ensures.ok) (have_more lsas times key c.self.invariant.present t));
       settled = subst (λ l. HaveTimes l c.insert.new.self.settled) (sym c.insert-2.ensures.settled)
           (subst (HaveTimes c.self.inside.lsas.settled) (sym c.insert.ensures.settled) c.self.invariant.settled);
-      counted = c.self.invariant.counted ∙ sym (ap (owned router) c.in_err-insert-2.ensures.err);
-      settled_counted = c.self.invariant.settled_counted ∙ sym (ap (owned router) c.insert-2.ensures.settled);
+      counted = c.self.invariant.counted ∙ sym (ap (count_own_externals router) c.in_err-insert-2.ensures.err);
+      settled_counted = c.self.invariant.settled_counted ∙ sym (ap (count_own_externals router) c.insert-2.ensures.settled);
       foreseen = subst (ForeseesAll ages) (sym c.in_ok-insert.ensures.ok)
           (foresees_put ages times key (λ q. c.note.ensures.more q (finite.get times q) (c.self.invariant.foreseen q)) t c.in_ok-note.ensures.there);
       settled_foreseen = subst (ForeseesAll ages) (sym c.insert.ensures.settled)
@@ -55,7 +55,7 @@ invariant_of-self-2 c =
       settled = subst (λ l. HaveTimes l c.insert.new.self.settled) (sym c.insert-2.ensures.settled)
           (subst (HaveTimes c.self.inside.lsas.settled) (sym c.insert.ensures.settled) c.self.invariant.settled);
       counted = c.recount-self-inside.ensures;
-      settled_counted = c.self.invariant.settled_counted ∙ sym (ap (owned router) c.insert-2.ensures.settled);
+      settled_counted = c.self.invariant.settled_counted ∙ sym (ap (count_own_externals router) c.insert-2.ensures.settled);
       foreseen = subst (ForeseesAll ages) (sym c.in_ok-insert.ensures.ok)
           (foresees_put ages times key (λ q. c.note.ensures.more q (finite.get times q) (c.self.invariant.foreseen q)) t c.in_ok-note.ensures.there);
       settled_foreseen = subst (ForeseesAll ages) (sym c.insert.ensures.settled)

@@ -1,10 +1,10 @@
 use Rattle.std.proofs.Common.{false, cond, ap, sym, subst, ◌∙◌}
 use Rattle.std.specs.FinMap as finite
-use Rattle.keyed_map.specs.Slots.{counted}
+use Rattle.keyed_map.specs.Slots.{count_after_change}
 use Rattle.keyed_map.proofs.Helds.{after, on_ok}
 use Rattle.lsdb.specs.Foresight.{ForeseesAll}
 use Rattle.lsdb.proofs.Foresight.{foresees_taken}
-use Rattle.lsdb.specs.Joined.{HaveTimes, joined, owned}
+use Rattle.lsdb.specs.Joined.{HaveTimes, joined, count_own_externals}
 use Rattle.lsdb.specs.Limits.{is_own_external}
 use Rattle.lsdb.proofs.Joins.{have_neither, have_without, joined_remove}
 use Rattle.lsdb.proofs.Owned.{count_remove}
@@ -15,9 +15,9 @@ recount-self-inside-requires c =
     let router = c.self.inside.router in
     let key = c.args.key.now in
     let own = is_own_external router key in
-    ap (owned router) c.in_ok-remove.ensures.ok
+    ap (count_own_externals router) c.in_ok-remove.ensures.ok
     ∙ count_remove (is_own_external router) c.self.inside.lsas.present key
-    ∙ sym (λ i. cond own (counted (c.contains-held.ensures i) false (c.self.invariant.counted i)) (c.self.invariant.counted i))
+    ∙ sym (λ i. cond own (count_after_change (c.contains-held.ensures i) false (c.self.invariant.counted i)) (c.self.invariant.counted i))
 
 pub returns-clause-ok : goal.returns-clause-ok
 returns-clause-ok c =
@@ -41,7 +41,7 @@ invariant_of-self-2 c =
       settled = subst (HaveTimes c.remove.new.self.settled) (sym c.remove-2.ensures.settled)
           (subst (λ l. HaveTimes l c.self.inside.times.settled) (sym c.remove.ensures.settled) c.self.invariant.settled);
       counted = c.recount-self-inside.ensures;
-      settled_counted = c.self.invariant.settled_counted ∙ sym (ap (owned c.self.inside.router) c.remove.ensures.settled);
+      settled_counted = c.self.invariant.settled_counted ∙ sym (ap (count_own_externals c.self.inside.router) c.remove.ensures.settled);
       foreseen = after c.remove-2.result (ForeseesAll ages) c.remove-2.new.self.present times (finite.remove times key) c.remove-2.ensures.ok c.remove-2.ensures.err
           (foresees_taken ages times key c.self.invariant.foreseen) c.self.invariant.foreseen;
       settled_foreseen = subst (ForeseesAll ages) (sym c.remove-2.ensures.settled) c.self.invariant.settled_foreseen;

@@ -1,7 +1,7 @@
 use Rattle.std.proofs.Common.{◌∙◌, List, ap, subst}
 use Rattle.std.specs.List.{list_any}
 use Rattle.std.specs.Prelude.{is_err}
-use Rattle.hooktool_commands.proofs.trying.trial_of.Goals as goal
+use Rattle.hooktool_commands.proofs.trying.told_of.Goals as goal
 use Rattle.trial_runs.specs.Trials.{IsTrialOn}
 use Rattle.trial_runs.specs.declared.runs.Ending.{Ending}
 use Rattle.words.specs.declared.route.TableRow.{TableRow}
