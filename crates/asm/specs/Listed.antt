@@ -100,8 +100,12 @@ AddsCode old new code = (hook : Hook) (rank : ℕ) → Listed old (code_sketch h
     → Listed new (code_sketch hook rank code) Any
 
 abbrev pub statement_parts : ℕ → Rank → List Kind → List Bool → StatementParts
-statement_parts slot rank kinds stack = record { slot = slot; rank = rank; kinds = kinds; stack =
-    stack }
+statement_parts slot rank kinds stack = record {
+  slot = slot;
+  rank = rank;
+  kinds = kinds;
+  stack = stack;
+}
 
 abbrev pub AddsKinds : List ℕ → List ℕ → List Kind → Type 0
 AddsKinds old new kinds = (f : Front) (slot : ℕ) (rank : Rank)

@@ -88,7 +88,7 @@ fn read_setting(words: (&str, &str), name: &str, least: u64, most: u64) -> Optio
 fn read_router_id(word: &str) -> Option<RouterId>
     ensures { MatchOption result
         ((r : ℕ) → IsRouter r → word.now ≢ dotted_address r) (λ r. (word.now ≡ dotted_address r)
-            × IsRouter r) }
+        × IsRouter r) }
 {
     let Some(id) = read_address(word) else {
         return None;

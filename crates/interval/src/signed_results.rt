@@ -46,7 +46,7 @@ fn signed_difference(left: Span, right: Span) -> Span
 pub(crate) fn signed_results(width: Width, operation: Operation, left: Span, right: Span) -> Span
     ensures holds { (a b : ℕ) → a < 2 ^ 64 → b < 2 ^ 64 → IsIn left (biased_number a)
         → IsIn right (biased_number b)
-            → IsIn result (biased_number (operate width operation (low width a)
+        → IsIn result (biased_number (operate width operation (low width a)
         (low width b))) }
     ensures narrow { IsNarrowSigned width operation (bounds_of left) (bounds_of right)
         (bounds_of result) }

@@ -34,7 +34,7 @@ pub fn recount(
 ) -> usize
     requires { count_own_externals router lsas.now.present
         ≡ (if is_own_external router key.now then count_after_change held holds externals
-            else externals) }
+        else externals) }
     ensures { result ≡ count_own_externals router lsas.now.present }
 {
     let _lsas = lsas.len();
