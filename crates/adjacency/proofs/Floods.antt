@@ -4,7 +4,7 @@ use Rattle.lsdb.specs.Headers.{Lsa}
 use Rattle.adjacency.specs.Contents.{Content, no_sends}
 use Rattle.adjacency.specs.Neighbors.{Neighbor, is_exchange_or_later}
 use Rattle.adjacency.specs.Drafts.{Drafted, adds, drafting}
-use Rattle.adjacency.specs.Floods.{flooded, flooded_in_exchange}
+use Rattle.adjacency.specs.Floods.{flood_step, flooded_in_exchange}
 
 pub drafting-none : (delay : ℕ) (d : Drafted) → d ≡ drafting delay [] d
 unfolding drafting
@@ -14,10 +14,10 @@ pub drafting-one : (delay : ℕ) (c : Content) (d : Drafted) → adds delay d c 
 unfolding drafting
 drafting-one delay c d = refl
 
-pub floods : (moment : ℕ) (from : Bool) (lsa : Lsa) (n : Neighbor) → is_exchange_or_later n.state ≡ true → flooded_in_exchange moment from lsa n ≡ flooded moment from lsa n
-unfolding flooded
+pub floods : (moment : ℕ) (from : Bool) (lsa : Lsa) (n : Neighbor) → is_exchange_or_later n.state ≡ true → flooded_in_exchange moment from lsa n ≡ flood_step moment from lsa n
+unfolding flood_step
 floods moment from lsa n is = ap (λ b. cond b (flooded_in_exchange moment from lsa n) (no_sends n)) (sym is)
 
-pub rests : (moment : ℕ) (from : Bool) (lsa : Lsa) (n : Neighbor) → is_exchange_or_later n.state ≡ false → no_sends n ≡ flooded moment from lsa n
-unfolding flooded
+pub rests : (moment : ℕ) (from : Bool) (lsa : Lsa) (n : Neighbor) → is_exchange_or_later n.state ≡ false → no_sends n ≡ flood_step moment from lsa n
+unfolding flood_step
 rests moment from lsa n is = ap (λ b. cond b (flooded_in_exchange moment from lsa n) (no_sends n)) (sym is)

@@ -64,13 +64,13 @@ standing_of n = record {
 }
 
 -- the verdict under a name that contracts use
-unfoldable pub judged : RouterNumber → Neighbor → Description → Verdict
-judged own n d = verdict own n d
+unfoldable pub verdict_of_description : RouterNumber → Neighbor → Description → Verdict
+verdict_of_description own n d = verdict own n d
 
 -- the verdict on a Description from the neighbor that is there, if one is
 abbrev pub judged_on : RouterNumber → Option Neighbor → Description → Verdict
 judged_on own None d = Verdict.Discarded
-judged_on own (Some n) d = judged own n d
+judged_on own (Some n) d = verdict_of_description own n d
 
 -- the other side follows: it has the larger Router ID and opens the exchange
 abbrev pub follows : RouterNumber → RouterNumber → Description → Bool
@@ -97,8 +97,8 @@ starts_over Verdict.Accepted d = not (knows_types d)
 starts_over Verdict.Mismatch d = true
 
 -- a Description whose headers are all of known types is accepted
-unfoldable pub accepted : Moment → Database → Description → Neighbor → Step
-accepted moment db d n =
+unfoldable pub accept_description : Moment → Database → Description → Neighbor → Step
+accept_description moment db d n =
     let m : Neighbor =
     with_requests moment db d.headers (record n { received = Some (as_received d) }) in
     if m.is_master then master_goes_on moment d m else slave_replies moment d m
@@ -107,11 +107,11 @@ accepted moment db d n =
 unfoldable pub proceeding : Verdict → Moment → Database → Description → Neighbor → Step
 proceeding Verdict.Discarded moment db d n = no_sends n
 proceeding Verdict.NegotiatedAsSlave moment db d n =
-    accepted moment db d (negotiated_neighbor false d.sequence moment db n)
+    accept_description moment db d (negotiated_neighbor false d.sequence moment db n)
 proceeding Verdict.NegotiatedAsMaster moment db d n =
-    accepted moment db d (negotiated_neighbor true n.sequence moment db n)
+    accept_description moment db d (negotiated_neighbor true n.sequence moment db n)
 proceeding Verdict.Repeated moment db d n = repeat moment n
-proceeding Verdict.Accepted moment db d n = accepted moment db d n
+proceeding Verdict.Accepted moment db d n = accept_description moment db d n
 proceeding Verdict.Mismatch moment db d n = no_sends n
 
 -- the whole under a name that contracts use

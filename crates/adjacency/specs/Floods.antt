@@ -43,8 +43,8 @@ flooding moment from lsa n =
     if is_exchange_or_later n.state then flooded_in_exchange moment from lsa n else no_sends n
 
 -- the same under a name that contracts use
-unfoldable pub flooded : ℕ → Bool → Lsa → Neighbor → Step
-flooded moment from lsa n = flooding moment from lsa n
+unfoldable pub flood_step : ℕ → Bool → Lsa → Neighbor → Step
+flood_step moment from lsa n = flooding moment from lsa n
 
 abbrev pub is_any : {A : Type 0} → List A → Bool
 is_any [] = false

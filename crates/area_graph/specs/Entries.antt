@@ -4,15 +4,18 @@ use Rattle.std.specs.List.{Contains}
 use Rattle.std.specs.List.Sorted.{IsSorted}
 use Rattle.std.specs.Ordering.{nat_cmp, ordering_then}
 use Rattle.std.specs.declared.cmp.Ordering.{Ordering}
+use Rattle.lsa.specs.declared.body.Body.{Body}
 use Rattle.lsa.specs.declared.body.Link.{Link}
 use Rattle.lsa.specs.declared.body.LinkKind.{LinkKind}
 use Rattle.lsa.specs.declared.body.LinkKind.TheVariants as kinds
+use Rattle.lsdb.specs.Bodies.{AreBodies}
 use Rattle.routes.specs.Links.{HasLink, ListsRouter}
 use Rattle.routes.specs.Said.{Said}
 use Rattle.routes.specs.declared.node.Node.{Node}
 use Rattle.routes.specs.declared.node.Node.TheVariants.{ANetwork, ARouter}
+use Rattle.words.specs.declared.key.Key.{Key}
 use Rattle.area_graph.specs.Graphs.{StandsAt}
-use Rattle.area_graph.specs.Nodes.{Ascend}
+use Rattle.area_graph.specs.Nodes.{AreNodes, Ascend}
 use Rattle.area_graph.specs.declared.entry.Entry.{Entry}
 use Rattle.area_graph.specs.declared.entry.EntryKind.{EntryKind}
 use Rattle.area_graph.specs.declared.entry.EntryKind.TheVariants.{Attached, PointToPoint, Transit}
@@ -90,6 +93,13 @@ IsToldAs said nodes Attached entry =
 pub record AreEntries (said : Said) (nodes : List Node) (entries : List Entry) : Type 0 where
   pub each : (entry : Entry) → Contains entries entry ↔ IsToldAs said nodes entry.kind entry
   pub sorted : IsSorted entry_cmp entries
+
+-- what is known of an area: the bodies that its LSAs have, its nodes, and what LSAs tell of them
+pub record IsArea (said : Said) (bodies : List (Key × Body)) (nodes : List Node)
+    (entries : List Entry) : Type 0 where
+  pub are_bodies : AreBodies (Some 2) said bodies
+  pub are_nodes : AreNodes said nodes
+  pub are_entries : AreEntries said nodes entries
 
 -- nodes and entries are in order, and each router that has an entry for a link is a node
 pub record AreOrdered (nodes : List Node) (entries : List Entry) : Type 0 where

@@ -2,13 +2,11 @@
 ghost use Rattle.std.specs.Prelude.{◌≡◌, ◌<◌, ◌≤◌, ◌↔◌, length, IfOk, IsTrue, OnOk};
 ghost use Rattle.std.specs.List.{All};
 ghost use Rattle.std.specs.List.Sorted.{IsSorted};
-ghost use Rattle.lsdb.specs.Bodies.{AreBodies};
 ghost use Rattle.routes.specs.Said.{said_at};
-ghost use Rattle.area_graph.specs.Entries.{AreEntries, AreOrdered, entry_cmp, rank};
+ghost use Rattle.area_graph.specs.Entries.{AreOrdered, IsArea, entry_cmp, rank};
 ghost use Rattle.area_graph.specs.Graphs.{Adds, AreLinksFrom, CostFits, OfEach};
 ghost use Rattle.area_graph.specs.Links.{IsCheapest, IsExitTo, IsNeighborAt, IsOwnTo, IsOwnTransit};
 ghost use Rattle.area_graph.specs.Links.{IsToListed, IsToNetwork, IsToRouter, IsToSomeNetwork};
-ghost use Rattle.area_graph.specs.Nodes.{AreNodes};
 
 use crate::advertised::{Advertised, network_lsa, router_lsa};
 use crate::entry::{Entry, EntryKind, of_list};
@@ -40,11 +38,7 @@ pub fn links_from(
     from: &Node,
     place: usize,
 ) -> Result<Vec<Link>, AllocError>
-    requires bodies { AreBodies (Some 2)
-        (said_at told.now.moment told.now.db.now.present) told.now.bodies.now }
-    requires nodes { AreNodes (said_at told.now.moment told.now.db.now.present)
-        area.now.nodes.now }
-    requires entries { AreEntries (said_at told.now.moment told.now.db.now.present)
+    requires area { IsArea (said_at told.now.moment told.now.db.now.present) told.now.bodies.now
         area.now.nodes.now area.now.entries.now }
     requires interfaces { length root.now.addresses ≤ 63 }
     ensures links { IfOk result (λ links. AreLinksFrom

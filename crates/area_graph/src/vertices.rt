@@ -2,9 +2,8 @@
 ghost use Rattle.std.specs.Prelude.{◌≡◌, ◌≤◌, ℕ, length, IfOk};
 ghost use Rattle.routes.specs.Graphs.{IsGraph, IsGraphOf};
 ghost use Rattle.routes.specs.Links.{Leads};
-ghost use Rattle.lsdb.specs.Bodies.{AreBodies};
 ghost use Rattle.routes.specs.Said.{said_at};
-ghost use Rattle.area_graph.specs.Entries.{AreEntries};
+ghost use Rattle.area_graph.specs.Entries.{IsArea};
 ghost use Rattle.area_graph.specs.Graphs.{AreVertices, IsVertexOf, StandsAt, kind_of};
 ghost use Rattle.area_graph.specs.Nodes.{AreNodes};
 
@@ -69,11 +68,7 @@ fn vertices_of(
     root: &Root,
     area: &Area<'_>,
 ) -> Result<Vec<Vertex>, AllocError>
-    requires bodies { AreBodies (Some 2)
-        (said_at told.now.moment told.now.db.now.present) told.now.bodies.now }
-    requires nodes { AreNodes (said_at told.now.moment told.now.db.now.present)
-        area.now.nodes.now }
-    requires entries { AreEntries (said_at told.now.moment told.now.db.now.present)
+    requires area { IsArea (said_at told.now.moment told.now.db.now.present) told.now.bodies.now
         area.now.nodes.now area.now.entries.now }
     requires interfaces { length root.now.addresses ≤ 63 }
     ensures { IfOk result (λ graph. AreVertices (said_at told.now.moment told.now.db.now.present)
@@ -97,11 +92,7 @@ fn vertex_of(
     node: &Node,
     place: usize,
 ) -> Result<Vertex, AllocError>
-    requires bodies { AreBodies (Some 2)
-        (said_at told.now.moment told.now.db.now.present) told.now.bodies.now }
-    requires nodes { AreNodes (said_at told.now.moment told.now.db.now.present)
-        area.now.nodes.now }
-    requires entries { AreEntries (said_at told.now.moment told.now.db.now.present)
+    requires area { IsArea (said_at told.now.moment told.now.db.now.present) told.now.bodies.now
         area.now.nodes.now area.now.entries.now }
     requires interfaces { length root.now.addresses ≤ 63 }
     ensures { IfOk result (λ vertex. IsVertexOf (said_at told.now.moment told.now.db.now.present)

@@ -7,7 +7,7 @@ use Rattle.lsdb.specs.Headers.{Lsa, lsa_key}
 use Rattle.adjacency.specs.Contents.{Content, Step, Updates, no_sends}
 use Rattle.adjacency.specs.Contents as neighbor
 use Rattle.adjacency.specs.Drafts.{Drafted, drafting}
-use Rattle.adjacency.specs.Floods.{flooded, is_any}
+use Rattle.adjacency.specs.Floods.{flood_step, is_any}
 use Rattle.adjacency.specs.Kept.{Kept}
 use Rattle.adjacency.specs.Neighbors.{Neighbor, is_exchange_or_later}
 use Rattle.adjacency.specs.Retransmissions.{add_retransmission, remove_retransmission}
@@ -23,17 +23,17 @@ use Rattle.flooding.proofs.Marks.{marks_all}
 -- ---- a neighbor's step is the definition's, by whether the link is the sender's
 
 pub flooded_to : (moment : ℕ) (sender : Option ℕ) (lsa : Lsa) (number : ℕ) (link : Link) (n : Neighbor)
-    → flood_to moment sender lsa number link n ≡ flooded moment (is_sender sender number) lsa n
-unfolding flooded
+    → flood_to moment sender lsa number link n ≡ flood_step moment (is_sender sender number) lsa n
+unfolding flood_step
 flooded_to moment sender lsa number link n = refl
 
 pub step_is : (moment : ℕ) (sender : Option ℕ) (lsa : Lsa) (number : ℕ) (link : Link) (o : Option Neighbor)
-    → neighbor.step_on (flooded moment (is_sender sender number) lsa) o ≡ step_on (flood_to moment sender lsa number link) o
+    → neighbor.step_on (flood_step moment (is_sender sender number) lsa) o ≡ step_on (flood_to moment sender lsa number link) o
 step_is moment sender lsa number link None = refl
 step_is moment sender lsa number link (Some n) = ap (λ (s : Step). Some s.neighbor) (sym (flooded_to moment sender lsa number link n))
 
 pub sent_is : (moment : ℕ) (sender : Option ℕ) (lsa : Lsa) (number : ℕ) (link : Link) (o : Option Neighbor)
-    → neighbor.sent_on (flooded moment (is_sender sender number) lsa) o ≡ sent_on (flood_to moment sender lsa number link) o
+    → neighbor.sent_on (flood_step moment (is_sender sender number) lsa) o ≡ sent_on (flood_to moment sender lsa number link) o
 sent_is moment sender lsa number link None = refl
 sent_is moment sender lsa number link (Some n) = ap (λ (s : Step). s.sends) (sym (flooded_to moment sender lsa number link n))
 

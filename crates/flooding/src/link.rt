@@ -5,7 +5,7 @@ ghost use Rattle.lsdb.specs.Copies.{lsa_now};
 ghost use Rattle.adjacency.specs.Adjacencies.{mismatch_step};
 ghost use Rattle.adjacency.specs.Contents.{no_sends, sent_on, step_on};
 ghost use Rattle.adjacency.specs.Drafts.{drafting};
-ghost use Rattle.adjacency.specs.Floods.{flooded, is_any};
+ghost use Rattle.adjacency.specs.Floods.{flood_step, is_any};
 ghost use Rattle.adjacency.specs.Asked.{any_exchange_or_loading, has_instance, was_requested};
 ghost use Rattle.adjacency.specs.Requests.{request_next};
 ghost use Rattle.adjacency.specs.Retransmissions.{remove_retransmission};
@@ -109,15 +109,15 @@ impl Link {
         draft: &mut Draft,
     ) -> Result<bool, AllocError>
         ensures ok { IfOk result (λ _. self.new.present
-            ≡ with_neighbor (step_on (flooded moment from (lsa_now moment copy.now))
+            ≡ with_neighbor (step_on (flood_step moment from (lsa_now moment copy.now))
             self.old.present.neighbor)
             self.old.present) }
         ensures draft { IfOk result (λ _. draft.new
             ≡ drafting self.old.present.interface.delay
-            (sent_on (flooded moment from (lsa_now moment copy.now)) self.old.present.neighbor)
+            (sent_on (flood_step moment from (lsa_now moment copy.now)) self.old.present.neighbor)
             draft.old) }
         ensures sent { IfOk result (λ sent. sent
-            ≡ is_any (sent_on (flooded moment from (lsa_now moment copy.now))
+            ≡ is_any (sent_on (flood_step moment from (lsa_now moment copy.now))
             self.old.present.neighbor)) }
         ensures settled { self.new.settled ≡ self.old.settled }
     {

@@ -19,7 +19,7 @@ use Rattle.lsdb.specs.Bodies.{AreBodies}
 use Rattle.lsdb.specs.Changes.{IsUpTo}
 use Rattle.lsdb.specs.Copies.{said_by}
 use Rattle.lsdb.specs.Headers.{Lsa}
-use Rattle.lsdb.specs.Joined.{HaveTimes, aged_at, joined}
+use Rattle.lsdb.specs.Joined.{HaveTimes, aged_at, copies_of}
 use Rattle.lsdb.specs.Keys.{ByKey, key_cmp}
 use Rattle.lsdb.specs.declared.times.Times.{Times}
 use Rattle.lsdb.proofs.Joins.{len_joined, tied}
@@ -202,7 +202,7 @@ module _ (moment : ℕ) (times : ByKey Times) where
 
   module _ (lsas : ByKey Lsa) (has : HaveTimes lsas times) where
     abbrev said : Key → Option Body
-    said key = said_by moment (finite.get (joined lsas times) key)
+    said key = said_by moment (finite.get (copies_of lsas times) key)
 
     all_said : (x : Key × Body) → Contains (told (finite.entries lsas)) x → said x.0 ≡ Some x.1
     all_said x t =
@@ -298,15 +298,15 @@ module _ (last : Option ℕ) (moment : ℕ) (times : ByKey Times) (lsas : ByKey 
           ];
     }
 
-    pub stops : HaveTimes lsas times → (IsUpTo last key → ⊥) → AreBodies last (λ q. said_by moment (finite.get (joined lsas times) q)) done
+    pub stops : HaveTimes lsas times → (IsUpTo last key → ⊥) → AreBodies last (λ q. said_by moment (finite.get (copies_of lsas times) q)) done
     stops has beyond =
         are_bodies moment times lsas has last done ahead walk.whole walk.count
         (λ x among. none_beyond last (key, l) rest (subst (λ es. T (is_sorted key_cmp es)) next walk.sorted) beyond x (subst (λ es. Contains es x) next among))
 
-  pub ends : (ahead : List (Key × Lsa)) (done : List (Key × Body)) → ahead ≡ [] → Walk ahead done → HaveTimes lsas times → AreBodies last (λ q. said_by moment (finite.get (joined lsas times) q)) done
+  pub ends : (ahead : List (Key × Lsa)) (done : List (Key × Body)) → ahead ≡ [] → Walk ahead done → HaveTimes lsas times → AreBodies last (λ q. said_by moment (finite.get (copies_of lsas times) q)) done
   ends ahead done none walk has = are_bodies moment times lsas has last done ahead walk.whole walk.count (λ x among. none_left last x (subst (λ es. Contains es x) none among))
 
-  pub few : (ahead : List (Key × Lsa)) (done : List (Key × Body)) → Walk ahead done → HaveTimes lsas times → length done ≤ finite.len (joined lsas times)
+  pub few : (ahead : List (Key × Lsa)) (done : List (Key × Body)) → Walk ahead done → HaveTimes lsas times → length done ≤ finite.len (copies_of lsas times)
   few ahead done walk has =
       let all = tells moment times (finite.entries lsas) in
       let parts : length done ≤ length all = omega (arith, length-append done (tells moment times ahead), ap length walk.whole) in

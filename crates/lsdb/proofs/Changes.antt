@@ -3,7 +3,7 @@ use Rattle.std.proofs.Common.{◌≡◌, ℕ, inl, Bool, true, false, MatchBool,
 use Rattle.std.specs.Prelude.{Option, is_some, IsTrue, ◌↔◌}
 use Rattle.lsdb.specs.Changes.{CountsAlike, IsSameBody, SaysTheSame}
 use Rattle.lsdb.specs.Headers.{Lsa}
-use Rattle.lsdb.specs.Joined.{both, joined}
+use Rattle.lsdb.specs.Joined.{both, copies_of}
 use Rattle.lsdb.specs.Keys.{ByKey}
 use Rattle.lsdb.specs.declared.times.Times.{Times}
 use Rattle.lsdb.proofs.Joins.{get-joined}
@@ -56,16 +56,16 @@ same_body_itself (Some l) = refl
 -- what holds of LSAs and times at a key holds of the copies there, and the other way round
 module _ (moment : ℕ) (l m : ByKey Lsa) (t u : ByKey Times) (key : Key) where
   pub in_joined : SaysTheSame moment (both (finite.get l key) (finite.get t key)) (both (finite.get m key) (finite.get u key))
-      → SaysTheSame moment (finite.get (joined l t) key) (finite.get (joined m u) key)
+      → SaysTheSame moment (finite.get (copies_of l t) key) (finite.get (copies_of m u) key)
   in_joined same =
-      subst (SaysTheSame moment (finite.get (joined l t) key)) (sym (get-joined m u key))
+      subst (SaysTheSame moment (finite.get (copies_of l t) key)) (sym (get-joined m u key))
       (subst (λ o. SaysTheSame moment o (both (finite.get m key) (finite.get u key))) (sym (get-joined l t key)) same)
 
-  pub of_joined : SaysTheSame moment (finite.get (joined l t) key) (finite.get (joined m u) key)
+  pub of_joined : SaysTheSame moment (finite.get (copies_of l t) key) (finite.get (copies_of m u) key)
       → SaysTheSame moment (both (finite.get l key) (finite.get t key)) (both (finite.get m key) (finite.get u key))
   of_joined same =
       subst (SaysTheSame moment (both (finite.get l key) (finite.get t key))) (get-joined m u key)
-      (subst (λ o. SaysTheSame moment o (finite.get (joined m u) key)) (get-joined l t key) same)
+      (subst (λ o. SaysTheSame moment o (finite.get (copies_of m u) key)) (get-joined l t key) same)
 
 -- what a test of two values tells
 pub by_test : (r : Bool) (P : Type 0) → MatchBool r P (P → ⊥) → IsTrue r ↔ P

@@ -19,7 +19,7 @@ use Rattle.lsdb.specs.Keys.{ByKey, key_cmp}
 use Rattle.lsdb.proofs.Keys.{keys_exact, keys_total}
 use Rattle.lsdb.specs.declared.times.Times.{Times}
 use Rattle.lsdb.specs.Kept.{RouterDatabase}
-use Rattle.lsdb.specs.Joined.{HaveTimes, aged_at, both, copy_of, entry_of, joined, with_times}
+use Rattle.lsdb.specs.Joined.{HaveTimes, aged_at, both, copy_of, entry_of, copies_of, with_times}
 
 equal : (r : Ordering) → is_eq r ≡ true → r ≡ Equal
 equal Less p = absurd (subst T (sym p) tt)
@@ -50,8 +50,8 @@ find-joined q times [] = refl
 find-joined q times (e ∷ es) =
     find-entry q e.0 e.1 times (finite.find key_cmp q es) (with_times times es) (finite.get times e.0) (eq_by_cmp key_cmp q e.0) refl refl (find-joined q times es)
 
-pub get-joined : (lsas : ByKey Lsa) (times : ByKey Times) (q : Key) → finite.get (joined lsas times) q ≡ both (finite.get lsas q) (finite.get times q)
-unfolding joined
+pub get-joined : (lsas : ByKey Lsa) (times : ByKey Times) (q : Key) → finite.get (copies_of lsas times) q ≡ both (finite.get lsas q) (finite.get times q)
+unfolding copies_of
 get-joined lsas times q =
     finite.get-from_entries keys_total (with_times times (finite.entries lsas)) q ∙ find-joined q times (finite.entries lsas)
     ∙ ap (λ o. both o (finite.get times q)) (sym (finite.get-entries lsas q))
@@ -59,7 +59,7 @@ get-joined lsas times q =
 pub same : {Y : Type 0} (m n : ByKey Y) → ((q : Key) → finite.get m q ≡ finite.get n q) → m ≡ n
 same = finite.same_map keys_total keys_exact
 
-pub joined-empty : joined finite.empty finite.empty ≡ finite.empty
+pub joined-empty : copies_of finite.empty finite.empty ≡ finite.empty
 joined-empty =
     let lsas : ByKey Lsa = finite.empty in
     let times : ByKey Times = finite.empty in
@@ -71,14 +71,14 @@ spread false l t o u = refl
 
 -- an LSA with its times is put at a key
 pub joined_insert : (lsas : ByKey Lsa) (times : ByKey Times) (k : Key) (l : Lsa) (t : Times)
-    → joined (finite.insert lsas k l) (finite.insert times k t) ≡ finite.insert (joined lsas times) k (copy_of l t)
+    → copies_of (finite.insert lsas k l) (finite.insert times k t) ≡ finite.insert (copies_of lsas times) k (copy_of l t)
 joined_insert lsas times k l t = same _ _ (λ q.
     get-joined (finite.insert lsas k l) (finite.insert times k t) q
     ∙ ap (λ o. both o (finite.get (finite.insert times k t) q)) (finite.get-insert keys_total lsas k l q)
     ∙ ap (both (cond (eq_by_cmp key_cmp q k) (Some l) (finite.get lsas q))) (finite.get-insert keys_total times k t q)
     ∙ spread (eq_by_cmp key_cmp q k) l t (finite.get lsas q) (finite.get times q)
     ∙ ap (cond (eq_by_cmp key_cmp q k) (Some (copy_of l t))) (sym (get-joined lsas times q))
-    ∙ sym (finite.get-insert keys_total (joined lsas times) k (copy_of l t) q))
+    ∙ sym (finite.get-insert keys_total (copies_of lsas times) k (copy_of l t) q))
 
 retimed-none : (lsas : ByKey Lsa) (times : ByKey Times) (k q : Key) (t : Times) (b : Bool) → eq_by_cmp key_cmp q k ≡ b → finite.get lsas k ≡ None
     → both (finite.get lsas q) (cond b (Some t) (finite.get times q)) ≡ both (finite.get lsas q) (finite.get times q)
@@ -101,45 +101,45 @@ change_is k change d o is = ap (changed_at k change d) is
 
 -- the times of a key are changed as the change of its copy has it
 retimed : (change : DatabaseCopy → DatabaseCopy) (lsas : ByKey Lsa) (times : ByKey Times) (k : Key) (t u : Times) → ((l : Lsa) → copy_of l u ≡ change (copy_of l t))
-    → (o : Option Lsa) → finite.get lsas k ≡ o → finite.get times k ≡ Some t → joined lsas (finite.insert times k u) ≡ change_copy k change (joined lsas times)
+    → (o : Option Lsa) → finite.get lsas k ≡ o → finite.get times k ≡ Some t → copies_of lsas (finite.insert times k u) ≡ change_copy k change (copies_of lsas times)
 retimed change lsas times k t u same_change None none at =
-    let kept : joined lsas (finite.insert times k u) ≡ joined lsas times =
+    let kept : copies_of lsas (finite.insert times k u) ≡ copies_of lsas times =
     same _ _ (λ q. get-joined lsas (finite.insert times k u) q
     ∙ ap (both (finite.get lsas q)) (finite.get-insert keys_total times k u q)
     ∙ retimed-none lsas times k q u (eq_by_cmp key_cmp q k) refl none
     ∙ sym (get-joined lsas times q)) in
-    kept ∙ sym (change_is k change (joined lsas times) None (get-joined lsas times k ∙ ap (λ p. both p (finite.get times k)) none))
+    kept ∙ sym (change_is k change (copies_of lsas times) None (get-joined lsas times k ∙ ap (λ p. both p (finite.get times k)) none))
 retimed change lsas times k t u same_change (Some l) some at =
-    let put : joined lsas (finite.insert times k u) ≡ finite.insert (joined lsas times) k (copy_of l u) =
+    let put : copies_of lsas (finite.insert times k u) ≡ finite.insert (copies_of lsas times) k (copy_of l u) =
     same _ _ (λ q. get-joined lsas (finite.insert times k u) q
     ∙ ap (both (finite.get lsas q)) (finite.get-insert keys_total times k u q)
     ∙ retimed-some lsas times k q l u (eq_by_cmp key_cmp q k) refl some
     ∙ ap (cond (eq_by_cmp key_cmp q k) (Some (copy_of l u))) (sym (get-joined lsas times q))
-    ∙ sym (finite.get-insert keys_total (joined lsas times) k (copy_of l u) q)) in
-    put ∙ ap (finite.insert (joined lsas times) k) (same_change l)
-    ∙ sym (change_is k change (joined lsas times) (Some (copy_of l t)) (get-joined lsas times k ∙ ap (λ p. both p (finite.get times k)) some ∙ ap (both (Some l)) at))
+    ∙ sym (finite.get-insert keys_total (copies_of lsas times) k (copy_of l u) q)) in
+    put ∙ ap (finite.insert (copies_of lsas times) k) (same_change l)
+    ∙ sym (change_is k change (copies_of lsas times) (Some (copy_of l t)) (get-joined lsas times k ∙ ap (λ p. both p (finite.get times k)) some ∙ ap (both (Some l)) at))
 
 -- the copy of a key counts as sent
 pub marks : (moment : ℕ) (lsas : ByKey Lsa) (times : ByKey Times) (k : Key) (t : Times) → finite.get times k ≡ Some t
-    → joined lsas (finite.insert times k (record t { sent = Some moment })) ≡ mark_sent moment k (joined lsas times)
+    → copies_of lsas (finite.insert times k (record t { sent = Some moment })) ≡ mark_sent moment k (copies_of lsas times)
 marks moment lsas times k t at =
     retimed (λ c. record c { sent = Some moment }) lsas times k t (record t { sent = Some moment }) (λ l. refl) (finite.get lsas k) refl at
 
 -- the copy of a key has MaxAge from now on
 pub ages : (moment : ℕ) (lsas : ByKey Lsa) (times : ByKey Times) (k : Key) (t : Times) → finite.get times k ≡ Some t
-    → joined lsas (finite.insert times k (record t { age = 3600; stored = moment })) ≡ age_out moment k (joined lsas times)
+    → copies_of lsas (finite.insert times k (record t { age = 3600; stored = moment })) ≡ age_out moment k (copies_of lsas times)
 ages moment lsas times k t at =
     retimed (λ c. record c { lsa = lsa_aged 3600 c.lsa; stored = moment }) lsas times k t (record t { age = 3600; stored = moment }) (λ l. refl) (finite.get lsas k) refl at
 
 -- without times there is no copy
-unchanged : (change : DatabaseCopy → DatabaseCopy) (lsas : ByKey Lsa) (times : ByKey Times) (k : Key) → finite.get times k ≡ None → joined lsas times ≡ change_copy k change (joined lsas times)
+unchanged : (change : DatabaseCopy → DatabaseCopy) (lsas : ByKey Lsa) (times : ByKey Times) (k : Key) → finite.get times k ≡ None → copies_of lsas times ≡ change_copy k change (copies_of lsas times)
 unchanged change lsas times k none =
-    sym (change_is k change (joined lsas times) None (get-joined lsas times k ∙ ap (both (finite.get lsas k)) none ∙ both-none (finite.get lsas k)))
+    sym (change_is k change (copies_of lsas times) None (get-joined lsas times k ∙ ap (both (finite.get lsas k)) none ∙ both-none (finite.get lsas k)))
 
-pub marks-none : (moment : ℕ) (lsas : ByKey Lsa) (times : ByKey Times) (k : Key) → finite.get times k ≡ None → joined lsas times ≡ mark_sent moment k (joined lsas times)
+pub marks-none : (moment : ℕ) (lsas : ByKey Lsa) (times : ByKey Times) (k : Key) → finite.get times k ≡ None → copies_of lsas times ≡ mark_sent moment k (copies_of lsas times)
 marks-none moment lsas times k none = unchanged (λ c. record c { sent = Some moment }) lsas times k none
 
-pub ages-none : (moment : ℕ) (lsas : ByKey Lsa) (times : ByKey Times) (k : Key) → finite.get times k ≡ None → joined lsas times ≡ age_out moment k (joined lsas times)
+pub ages-none : (moment : ℕ) (lsas : ByKey Lsa) (times : ByKey Times) (k : Key) → finite.get times k ≡ None → copies_of lsas times ≡ age_out moment k (copies_of lsas times)
 ages-none moment lsas times k none = unchanged (λ c. record c { lsa = lsa_aged 3600 c.lsa; stored = moment }) lsas times k none
 
 taken : (b : Bool) (o : Option Lsa) (u : Option Times) → both (cond b None o) (cond b None u) ≡ cond b None (both o u)
@@ -147,14 +147,14 @@ taken true o u = refl
 taken false o u = refl
 
 -- an LSA is taken out with its times
-pub joined_remove : (lsas : ByKey Lsa) (times : ByKey Times) (k : Key) → joined (finite.remove lsas k) (finite.remove times k) ≡ finite.remove (joined lsas times) k
+pub joined_remove : (lsas : ByKey Lsa) (times : ByKey Times) (k : Key) → copies_of (finite.remove lsas k) (finite.remove times k) ≡ finite.remove (copies_of lsas times) k
 joined_remove lsas times k = same _ _ (λ q.
     get-joined (finite.remove lsas k) (finite.remove times k) q
     ∙ ap (λ o. both o (finite.get (finite.remove times k) q)) (finite.get-remove keys_total lsas k q)
     ∙ ap (both (cond (eq_by_cmp key_cmp q k) None (finite.get lsas q))) (finite.get-remove keys_total times k q)
     ∙ taken (eq_by_cmp key_cmp q k) (finite.get lsas q) (finite.get times q)
     ∙ ap (cond (eq_by_cmp key_cmp q k) None) (sym (get-joined lsas times q))
-    ∙ sym (finite.get-remove keys_total (joined lsas times) k q))
+    ∙ sym (finite.get-remove keys_total (copies_of lsas times) k q))
 
 -- ---- that each LSA has its times
 
@@ -228,8 +228,8 @@ sorted_joined times [] sorted = tt
 sorted_joined times (e ∷ es) sorted =
     sorted_entry e.0 (both (Some e.1) (finite.get times e.0)) (with_times times es) (below_joined e.0 times es (first _ _ sorted)) (sorted_joined times es (second _ _ sorted))
 
-entries_joined : (lsas : ByKey Lsa) (times : ByKey Times) → finite.entries (joined lsas times) ≡ with_times times (finite.entries lsas)
-unfolding joined
+entries_joined : (lsas : ByKey Lsa) (times : ByKey Times) → finite.entries (copies_of lsas times) ≡ with_times times (finite.entries lsas)
+unfolding copies_of
 entries_joined lsas times = entries_of (with_times times (finite.entries lsas)) (sorted_joined times (finite.entries lsas) (finite.entries_sorted lsas))
 
 keys_entry : (k : Key) (l : Lsa) (t : Option Times) (rest : List (Key × DatabaseCopy)) → is_some t ≡ true → map (λ e. e.0) (entry_of k (both (Some l) t) rest) ≡ k ∷ map (λ e. e.0) rest
@@ -248,12 +248,12 @@ keys_with times (e ∷ es) has =
     (has e.0 (ap (λ r. is_eq r || list_any (eq_by_cmp key_cmp e.0) (map (λ e. e.0) es)) (tied_itself keys_total e.0)))
     ∙ ap (λ ks. e.0 ∷ ks) (keys_with times es (λ q is. has q (either (eq_by_cmp key_cmp q e.0) _ is)))
 
-pub keys_joined : (lsas : ByKey Lsa) (times : ByKey Times) → HaveTimes lsas times → finite.keys (joined lsas times) ≡ finite.keys lsas
+pub keys_joined : (lsas : ByKey Lsa) (times : ByKey Times) → HaveTimes lsas times → finite.keys (copies_of lsas times) ≡ finite.keys lsas
 keys_joined lsas times has = ap (map (λ e. e.0)) (entries_joined lsas times) ∙ keys_with times (finite.entries lsas) (λ q is. has q (finite.contains_key-keys lsas q ∙ is))
 
-pub len_joined : (lsas : ByKey Lsa) (times : ByKey Times) → HaveTimes lsas times → finite.len (joined lsas times) ≡ finite.len lsas
+pub len_joined : (lsas : ByKey Lsa) (times : ByKey Times) → HaveTimes lsas times → finite.len (copies_of lsas times) ≡ finite.len lsas
 len_joined lsas times has =
-    finite.len-entries (joined lsas times) ∙ sym (length-map (finite.entries (joined lsas times)) (λ e. e.0))
+    finite.len-entries (copies_of lsas times) ∙ sym (length-map (finite.entries (copies_of lsas times)) (λ e. e.0))
     ∙ ap length (keys_joined lsas times has) ∙ length-map (finite.entries lsas) (λ e. e.0) ∙ sym (finite.len-entries lsas)
 
 chosen : (b : Bool) (k : Key) (l : Lsa) (c : DatabaseCopy) (cs : List (Key × DatabaseCopy)) (ls : List (Key × Lsa)) → map (λ e. e.0) cs ≡ map (λ e. e.0) ls
@@ -275,7 +275,7 @@ aged_with moment times (e ∷ es) =
 
 -- the copies that have MaxAge are the LSAs with such times
 pub aged_joined : (moment : ℕ) (lsas : ByKey Lsa) (times : ByKey Times)
-    → keys_where (λ k l. aged_at moment (finite.get times k)) (finite.entries lsas) ≡ aged_keys moment (joined lsas times)
+    → keys_where (λ k l. aged_at moment (finite.get times k)) (finite.entries lsas) ≡ aged_keys moment (copies_of lsas times)
 aged_joined moment lsas times =
     sym (ap (λ es. map (λ e. e.0) (filter (λ e. is_aged_out moment e.1) es)) (entries_joined lsas times) ∙ aged_with moment times (finite.entries lsas))
 

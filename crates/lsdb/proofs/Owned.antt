@@ -9,7 +9,7 @@ use Rattle.std.specs.FinMap.Entries.{find-where_key, is_sorted-where_key, where_
 use Rattle.std.specs.Ordering.{eq_by_cmp}
 use Rattle.words.specs.declared.key.Key.{Key}
 use Rattle.lsdb.specs.Headers.{Lsa}
-use Rattle.lsdb.specs.Joined.{HaveTimes, joined, count_own_externals}
+use Rattle.lsdb.specs.Joined.{HaveTimes, copies_of, count_own_externals}
 use Rattle.lsdb.specs.Keys.{ByKey, key_cmp}
 use Rattle.lsdb.specs.Limits.{exceeds, has_room, is_own_external, own_externals}
 use Rattle.lsdb.specs.declared.times.Times.{Times}
@@ -145,14 +145,14 @@ count_empty X p = ap finite.len (retained_none p) ∙ finite.len-empty key_cmp X
 
 -- the own externals of the database are those of its LSAs
 pub own_joined : (router : ℕ) (lsas : ByKey Lsa) (times : ByKey Times) → HaveTimes lsas times
-    → count_own_externals router lsas ≡ own_externals router (joined lsas times)
+    → count_own_externals router lsas ≡ own_externals router (copies_of lsas times)
 own_joined router lsas times has =
     sym (ap (λ ks. length (filter (is_own_external router) ks)) (keys_joined lsas times has) ∙ count_keys (is_own_external router) lsas)
 
 pub contains_joined : (lsas : ByKey Lsa) (times : ByKey Times) → HaveTimes lsas times → (k : Key)
-    → finite.contains_key lsas k ≡ finite.contains_key (joined lsas times) k
+    → finite.contains_key lsas k ≡ finite.contains_key (copies_of lsas times) k
 contains_joined lsas times has k =
-    finite.contains_key-keys lsas k ∙ sym (finite.contains_key-keys (joined lsas times) k ∙ ap (list_any (eq_by_cmp key_cmp k)) (keys_joined lsas times has))
+    finite.contains_key-keys lsas k ∙ sym (finite.contains_key-keys (copies_of lsas times) k ∙ ap (list_any (eq_by_cmp key_cmp k)) (keys_joined lsas times has))
 
 -- ---- one of two, as it is computed
 
@@ -174,14 +174,14 @@ module _ (c l o x : Bool) (new : c ≡ false) where
 
 module _ (router : ℕ) (lsas : ByKey Lsa) (times : ByKey Times) (has : HaveTimes lsas times) (n e : ℕ)
     (number : n ≡ finite.len lsas) (externals : e ≡ count_own_externals router lsas) where
-  pub exceeds_joined : (nat_lt 16384 n || nat_lt 4096 e) ≡ exceeds router (joined lsas times)
+  pub exceeds_joined : (nat_lt 16384 n || nat_lt 4096 e) ≡ exceeds router (copies_of lsas times)
   exceeds_joined =
       let all = number ∙ sym (len_joined lsas times has) in
       let own = externals ∙ own_joined router lsas times has in
       λ i. nat_lt 16384 (all i) || nat_lt 4096 (own i)
 
   pub room_joined : (k : Key) (c o : Bool) → c ≡ finite.contains_key lsas k → o ≡ is_own_external router k
-      → (c || (nat_lt n 16384 && (not o || nat_lt e 4096))) ≡ has_room router k (joined lsas times)
+      → (c || (nat_lt n 16384 && (not o || nat_lt e 4096))) ≡ has_room router k (copies_of lsas times)
   room_joined k c o there is =
       let all = number ∙ sym (len_joined lsas times has) in
       let own = externals ∙ own_joined router lsas times has in

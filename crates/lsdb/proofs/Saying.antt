@@ -7,18 +7,18 @@ use Rattle.words.specs.declared.key.Key.{Key}
 use Rattle.lsa.specs.declared.body.Body.{Body}
 use Rattle.lsdb.specs.Copies.{said_by}
 use Rattle.lsdb.specs.Headers.{Lsa}
-use Rattle.lsdb.specs.Joined.{HaveTimes, aged_at, both, joined}
+use Rattle.lsdb.specs.Joined.{HaveTimes, aged_at, both, copies_of}
 use Rattle.lsdb.specs.Keys.{ByKey}
 use Rattle.lsdb.specs.declared.times.Times.{Times}
 use Rattle.lsdb.proofs.Joins.{get-joined}
 
 module _ (moment : ℕ) (lsas : ByKey Lsa) (times : ByKey Times) (q : Key) where
   joined_at : (o : Option Lsa) → finite.get lsas q ≡ o
-      → said_by moment (finite.get (joined lsas times) q) ≡ said_by moment (both o (finite.get times q))
+      → said_by moment (finite.get (copies_of lsas times) q) ≡ said_by moment (both o (finite.get times q))
   joined_at o is = ap (said_by moment) (get-joined lsas times q ∙ ap (λ p. both p (finite.get times q)) is)
 
   -- no LSA says nothing
-  pub says_nothing : finite.get lsas q ≡ None → None ≡ said_by moment (finite.get (joined lsas times) q)
+  pub says_nothing : finite.get lsas q ≡ None → None ≡ said_by moment (finite.get (copies_of lsas times) q)
   says_nothing none = sym (joined_at None none)
 
   aged_says : (l : Lsa) (t : Option Times) → aged_at moment t ≡ true → said_by moment (both (Some l) t) ≡ None
@@ -38,12 +38,12 @@ module _ (moment : ℕ) (lsas : ByKey Lsa) (times : ByKey Times) (q : Key) where
 
   -- nor does one at MaxAge
   pub says_no_more : (l : Lsa) → finite.get lsas q ≡ Some l → aged_at moment (finite.get times q) ≡ true
-      → None ≡ said_by moment (finite.get (joined lsas times) q)
+      → None ≡ said_by moment (finite.get (copies_of lsas times) q)
   says_no_more l some is = sym (joined_at (Some l) some ∙ aged_says l (finite.get times q) is)
 
   -- another one says what it has
   pub says_it : (l : Lsa) → finite.get lsas q ≡ Some l → HaveTimes lsas times
       → aged_at moment (finite.get times q) ≡ false
-      → Some l.body ≡ said_by moment (finite.get (joined lsas times) q)
+      → Some l.body ≡ said_by moment (finite.get (copies_of lsas times) q)
   says_it l some have is =
       sym (joined_at (Some l) some ∙ young_says l (finite.get times q) (have q (ap is_some some)) is)

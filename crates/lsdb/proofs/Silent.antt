@@ -8,7 +8,7 @@ use Rattle.lsa.specs.declared.body.Body.{Body}
 use Rattle.lsdb.specs.Changes.{CountsAlike, IsSameBody}
 use Rattle.lsdb.specs.Copies.{said_by}
 use Rattle.lsdb.specs.Headers.{Lsa}
-use Rattle.lsdb.specs.Joined.{both, joined}
+use Rattle.lsdb.specs.Joined.{both, copies_of}
 use Rattle.lsdb.specs.Keys.{ByKey}
 use Rattle.lsdb.specs.Silence.{AreSilent, SaysNoMore, is_silent}
 use Rattle.lsdb.specs.declared.times.Times.{Times}
@@ -46,7 +46,7 @@ module _ (before moment : ℕ) (l m : Option Lsa) (t u : Option Times) where
 -- what holds of LSAs and times at a key holds of the copies there
 pub no_more_joined : (before moment : ℕ) (l m : ByKey Lsa) (t u : ByKey Times) (key : Key)
     → SaysNoMore before moment (both (finite.get l key) (finite.get t key)) (both (finite.get m key) (finite.get u key))
-    → SaysNoMore before moment (finite.get (joined l t) key) (finite.get (joined m u) key)
+    → SaysNoMore before moment (finite.get (copies_of l t) key) (finite.get (copies_of m u) key)
 no_more_joined before moment l m t u key says =
-    subst (SaysNoMore before moment (finite.get (joined l t) key)) (sym (get-joined m u key))
+    subst (SaysNoMore before moment (finite.get (copies_of l t) key)) (sym (get-joined m u key))
     (subst (λ o. SaysNoMore before moment o (both (finite.get m key) (finite.get u key))) (sym (get-joined l t key)) says)

@@ -34,8 +34,8 @@ with_times times [] = []
 with_times times (e ∷ es) =
     entry_of e.0 (both (Some e.1) (finite.get times e.0)) (with_times times es)
 
-unfoldable pub joined : ByKey Lsa → ByKey Times → Database
-joined lsas times = finite.from_entries (with_times times (finite.entries lsas))
+unfoldable pub copies_of : ByKey Lsa → ByKey Times → Database
+copies_of lsas times = finite.from_entries (with_times times (finite.entries lsas))
 
 -- no LSA is without its times
 abbrev pub HaveTimes : ByKey Lsa → ByKey Times → Type 0

@@ -71,13 +71,13 @@ impl Model for Lsdb {
 
     ghost coded = { coded_database (Prim.hlevel codes) };
 
-    ghost use Rattle.lsdb.specs.Joined.{joined};
+    ghost use Rattle.lsdb.specs.Joined.{copies_of};
     ghost use Rattle.lsdb.specs.Soundness.{AreKept};
 
     ghost view = { λ a. record {
       router = a.router;
-      present = joined a.lsas.present a.times.present;
-      settled = joined a.lsas.settled a.times.settled;
+      present = copies_of a.lsas.present a.times.present;
+      settled = copies_of a.lsas.settled a.times.settled;
     } };
 
     ghost invariant = { λ a.

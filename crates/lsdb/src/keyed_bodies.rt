@@ -4,7 +4,7 @@ ghost use Rattle.std.specs.FinMap as finite;
 ghost use Rattle.lsdb.specs.Bodies.{AreBodies};
 ghost use Rattle.lsdb.specs.Copies.{said_by};
 ghost use Rattle.lsdb.specs.Foresight.{ForeseesAll};
-ghost use Rattle.lsdb.specs.Joined.{HaveTimes, joined};
+ghost use Rattle.lsdb.specs.Joined.{HaveTimes, copies_of};
 
 use crate::ages::Ages;
 use crate::database::{has_max_age, is_up_to};
@@ -69,10 +69,10 @@ pub fn bodies_of<'a>(
     requires foreseen { ForeseesAll ages.now times.now.present }
     requires timed { HaveTimes lsas.now.present times.now.present }
     ensures bodies { IfOk result (λ bodies. AreBodies last_type
-        (λ key. said_by moment (finite.get (joined lsas.now.present times.now.present) key))
+        (λ key. said_by moment (finite.get (copies_of lsas.now.present times.now.present) key))
         bodies.items) }
     ensures few { IfOk result (λ bodies. length bodies.items
-        ≤ finite.len (joined lsas.now.present times.now.present)) }
+        ≤ finite.len (copies_of lsas.now.present times.now.present)) }
 {
     let mut bodies = Vec::new(alloc);
     for (key, stored) in lsas.entries() {

@@ -9,7 +9,7 @@ use Rattle.adjacency.specs.Adjacencies.{enter_exstart, mismatch_step, two_way_re
 use Rattle.adjacency.specs.Contents.{Content, Step, no_sends, sent_on, step_on, then_}
 use Rattle.adjacency.specs.Descriptions.{Verdict, accept, act, after_description, as_received, in_state, judge, knows_types, master_goes_on, negotiated_neighbor, slave_replies, verdict_in, with_requests}
 use Rattle.adjacency.specs.Drafts.{Drafted, drafting}
-use Rattle.adjacency.specs.Exchanges.{accepted, any_init, is_init, judged, judged_on, judging, proceeding, starts_over}
+use Rattle.adjacency.specs.Exchanges.{accept_description, any_init, is_init, verdict_of_description, judged_on, judging, proceeding, starts_over}
 use Rattle.adjacency.specs.Neighbors.{Neighbor, is_exchange_or_later}
 use Rattle.neighbor_places.proofs.Answered.{same_sent, same_step, sends_nothing, stays}
 use Rattle.adjacency.proofs.Sends.{drafting-append}
@@ -73,7 +73,7 @@ module _ (own moment : ℕ) (db : Database) (d : Description) (n : Neighbor) whe
   over Verdict.Mismatch late is = mismatches (late refl)
 
   on : (v : Verdict) → starts_over v d ≡ false → proceeding v moment db d n ≡ act v moment db d n
-  unfolding proceeding accepted
+  unfolding proceeding accept_description
   on Verdict.Discarded is = refl
   on Verdict.NegotiatedAsSlave is = accepts (negotiated_neighbor false d.sequence moment db n) (known (knows_types d) is)
   on Verdict.NegotiatedAsMaster is = accepts (negotiated_neighbor true n.sequence moment db n) (known (knows_types d) is)
@@ -81,12 +81,12 @@ module _ (own moment : ℕ) (db : Database) (d : Description) (n : Neighbor) whe
   on Verdict.Accepted is = accepts n (known (knows_types d) is)
   on Verdict.Mismatch is = absurd (false≢true (sym is))
 
-  goes_over : (v : Verdict) → v ≡ judged own n d → starts_over v d ≡ true → enter_exstart moment n ≡ judging own moment db d n
-  unfolding judged judging
+  goes_over : (v : Verdict) → v ≡ verdict_of_description own n d → starts_over v d ≡ true → enter_exstart moment n ≡ judging own moment db d n
+  unfolding verdict_of_description judging
   goes_over v said is = over v (λ late. late_in own n d n.state (sym (ap is_late said) ∙ late)) is ∙ ap (λ w. act w moment db d n) said
 
-  goes : (v : Verdict) → v ≡ judged own n d → starts_over v d ≡ false → proceeding v moment db d n ≡ judging own moment db d n
-  unfolding judged judging
+  goes : (v : Verdict) → v ≡ verdict_of_description own n d → starts_over v d ≡ false → proceeding v moment db d n ≡ judging own moment db d n
+  unfolding verdict_of_description judging
   goes v said is = on v is ∙ ap (λ w. act w moment db d n) said
 
 module _ (own moment : ℕ) (db : Database) (d : Description) (v : Verdict) (o : Option Neighbor) (said : v ≡ judged_on own o d) where

@@ -4,7 +4,7 @@ ghost use Rattle.lsdb.specs.Copies.{lsa_now};
 ghost use Rattle.adjacency.specs.Adjacencies.{after_hello, enter_exstart};
 ghost use Rattle.adjacency.specs.Contents.{no_sends, sent_on, step_on};
 ghost use Rattle.adjacency.specs.Drafts.{drafting};
-ghost use Rattle.adjacency.specs.Floods.{flooded, is_any};
+ghost use Rattle.adjacency.specs.Floods.{flood_step, is_any};
 ghost use Rattle.adjacency.specs.Requests.{request_next};
 ghost use Rattle.adjacency.specs.Retransmissions.{after_acknowledgment};
 ghost use Rattle.adjacency.specs.Steps.{any_exchange_or_later, heard, named_neighbor};
@@ -84,12 +84,13 @@ impl Place {
         draft: &mut Draft,
     ) -> Result<bool, AllocError>
         ensures ok { IfOk result (λ _. self.new.present
-            ≡ step_on (flooded moment from (lsa_now moment copy.now)) self.old.present) }
+            ≡ step_on (flood_step moment from (lsa_now moment copy.now)) self.old.present) }
         ensures draft { IfOk result (λ _. draft.new
-            ≡ drafting delay (sent_on (flooded moment from (lsa_now moment copy.now))
+            ≡ drafting delay (sent_on (flood_step moment from (lsa_now moment copy.now))
             self.old.present) draft.old) }
         ensures sent { IfOk result (λ sent. sent
-            ≡ is_any (sent_on (flooded moment from (lsa_now moment copy.now)) self.old.present)) }
+            ≡ is_any (sent_on (flood_step moment from (lsa_now moment copy.now))
+            self.old.present)) }
         ensures settled { self.new.settled ≡ self.old.settled }
     {
         match &mut self.neighbor {

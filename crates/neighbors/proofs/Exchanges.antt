@@ -13,7 +13,7 @@ use Rattle.adjacency.specs.declared.state.State.{State}
 use Rattle.adjacency.specs.declared.state.State.TheVariants.{Exchange, Loading, Full}
 use Rattle.adjacency.specs.Contents.{Describes, Step, no_sends}
 use Rattle.adjacency.specs.Descriptions.{as_received, exchange_done, left_to_describe, master_goes_on, next_description, repeat, slave_replies, with_request, with_requests}
-use Rattle.adjacency.specs.Exchanges.{accepted}
+use Rattle.adjacency.specs.Exchanges.{accept_description}
 use Rattle.adjacency.specs.Neighbors.{Neighbor, ReceivedDescription}
 use Rattle.adjacency.specs.Views.{neighbor_of}
 
@@ -95,10 +95,10 @@ module _ (moment : ℕ) (db : Database) (d : Description) (n : Neighbor) where
   abbrev with_wanted : Neighbor
   with_wanted = with_requests moment db d.headers (record n { received = Some (as_received d) })
 
-  pub accepts_leading : n.is_master ≡ true → master_goes_on moment d (with_requests moment db d.headers (record n { received = Some (as_received d) })) ≡ accepted moment db d n
-  unfolding accepted
+  pub accepts_leading : n.is_master ≡ true → master_goes_on moment d (with_requests moment db d.headers (record n { received = Some (as_received d) })) ≡ accept_description moment db d n
+  unfolding accept_description
   accepts_leading is = sym (ap (λ b. cond b (master_goes_on moment d with_wanted) (slave_replies moment d with_wanted)) is)
 
-  pub accepts_following : n.is_master ≡ false → slave_replies moment d (with_requests moment db d.headers (record n { received = Some (as_received d) })) ≡ accepted moment db d n
-  unfolding accepted
+  pub accepts_following : n.is_master ≡ false → slave_replies moment d (with_requests moment db d.headers (record n { received = Some (as_received d) })) ≡ accept_description moment db d n
+  unfolding accept_description
   accepts_following is = sym (ap (λ b. cond b (master_goes_on moment d with_wanted) (slave_replies moment d with_wanted)) is)

@@ -8,7 +8,7 @@ ghost use Rattle.adjacency.specs.Adjacencies.{enter_exstart};
 ghost use Rattle.adjacency.specs.Contents.{Step};
 ghost use Rattle.adjacency.specs.Drafts.{drafting};
 ghost use Rattle.adjacency.specs.Exchanges.{standing_of};
-ghost use Rattle.adjacency.specs.Floods.{flooded, flooded_in_exchange, is_any, meets, passes};
+ghost use Rattle.adjacency.specs.Floods.{flood_step, flooded_in_exchange, is_any, meets, passes};
 ghost use Rattle.adjacency.specs.Floods.{request_of, without_met_request};
 ghost use Rattle.adjacency.specs.Neighbors.{fresh, is_exchange_or_loading, is_exchange_or_later};
 ghost use Rattle.adjacency.specs.Requests.{without_request};
@@ -350,12 +350,12 @@ impl Neighbor {
         draft: &mut Draft,
     ) -> Result<bool, AllocError>
         ensures ok { IfOk result (λ _. self.new.present
-            ≡ (flooded moment from (lsa_now moment copy.now) self.old.present).neighbor) }
+            ≡ (flood_step moment from (lsa_now moment copy.now) self.old.present).neighbor) }
         ensures draft { IfOk result (λ _. draft.new
-            ≡ drafting delay (flooded moment from (lsa_now moment copy.now) self.old.present).sends
-            draft.old) }
+            ≡ drafting delay (flood_step moment from (lsa_now moment copy.now)
+            self.old.present).sends draft.old) }
         ensures sent { IfOk result (λ sent. sent
-            ≡ is_any (flooded moment from (lsa_now moment copy.now) self.old.present).sends) }
+            ≡ is_any (flood_step moment from (lsa_now moment copy.now) self.old.present).sends) }
         ensures settled { self.new.settled ≡ self.old.settled }
     {
         let floods = self.floods();

@@ -20,7 +20,8 @@ ghost use Rattle.adjacency.specs.Descriptions.{
   with_requests,
 };
 ghost use Rattle.adjacency.specs.Drafts.{drafting};
-ghost use Rattle.adjacency.specs.Exchanges.{accepted, entry_header, proceeding, verdict_of};
+ghost use Rattle.adjacency.specs.Exchanges.{accept_description, entry_header};
+ghost use Rattle.adjacency.specs.Exchanges.{proceeding, verdict_of};
 ghost use Rattle.words.specs.Constants.{most_headers_described};
 
 use super::Neighbor;
@@ -381,9 +382,10 @@ impl Neighbor {
         draft: &mut Draft,
     ) -> Result<(), AllocError>
         ensures ok { OnOk result (self.new.present
-            ≡ (accepted moment database.now.present description.now self.old.present).neighbor) }
+            ≡ (accept_description moment database.now.present description.now
+            self.old.present).neighbor) }
         ensures draft { OnOk result ((delay : ℕ) → draft.new
-            ≡ drafting delay (accepted moment database.now.present description.now
+            ≡ drafting delay (accept_description moment database.now.present description.now
             self.old.present).sends draft.old) }
         ensures settled { self.new.settled ≡ self.old.settled }
     {
@@ -406,11 +408,11 @@ impl Neighbor {
         draft: &mut Draft,
     ) -> Result<(), AllocError>
         ensures ok { OnOk result (self.new.present
-            ≡ (accepted moment database.now.present description.now
+            ≡ (accept_description moment database.now.present description.now
             (negotiated_neighbor false description.now.sequence moment database.now.present
             self.old.present)).neighbor) }
         ensures draft { OnOk result ((delay : ℕ) → draft.new
-            ≡ drafting delay (accepted moment database.now.present description.now
+            ≡ drafting delay (accept_description moment database.now.present description.now
             (negotiated_neighbor false description.now.sequence moment database.now.present
             self.old.present)).sends draft.old) }
         ensures settled { self.new.settled ≡ self.old.settled }
@@ -429,11 +431,11 @@ impl Neighbor {
         draft: &mut Draft,
     ) -> Result<(), AllocError>
         ensures ok { OnOk result (self.new.present
-            ≡ (accepted moment database.now.present description.now
+            ≡ (accept_description moment database.now.present description.now
             (negotiated_neighbor true self.old.present.sequence moment database.now.present
             self.old.present)).neighbor) }
         ensures draft { OnOk result ((delay : ℕ) → draft.new
-            ≡ drafting delay (accepted moment database.now.present description.now
+            ≡ drafting delay (accept_description moment database.now.present description.now
             (negotiated_neighbor true self.old.present.sequence moment database.now.present
             self.old.present)).sends draft.old) }
         ensures settled { self.new.settled ≡ self.old.settled }

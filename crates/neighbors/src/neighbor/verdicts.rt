@@ -1,7 +1,7 @@
 //! The verdict on a received Database Description (RFC 2328, section 10.6).
 ghost use Rattle.std.specs.Prelude.{◌≡◌};
 ghost use Rattle.adjacency.specs.Descriptions.{exchange_over, exchanging, is_kept, negotiating};
-ghost use Rattle.adjacency.specs.Exchanges.{judged, verdict_of};
+ghost use Rattle.adjacency.specs.Exchanges.{verdict_of_description, verdict_of};
 
 use super::Neighbor;
 use adjacency::descriptions::{
@@ -63,7 +63,7 @@ impl Neighbor {
     /// The verdict on a Description from the neighbor, whose MTU isn't too large (RFC 2328, section
     /// 10.6).
     pub fn verdict(&self, own: RouterId, description: &Description) -> Verdict
-        ensures { verdict_of result ≡ judged own self.now.present description.now }
+        ensures { verdict_of result ≡ verdict_of_description own self.now.present description.now }
     {
         let standing = self.standing();
         match standing.state {

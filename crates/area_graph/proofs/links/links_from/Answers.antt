@@ -17,7 +17,7 @@ returns-clause-links c =
     let root = c.args.root.now in
     let nodes = c.args.area.now.nodes.now in
     let entries = c.args.area.now.entries.now in
-    let told = c.requires.entries in
+    let told = c.requires.area.are_entries in
     let first = c.new-links.result.items in
     elim c.match-from.branch [
       | in-ARouter+in-Some+in_ok-add_routers-in-ARouter+in_ok-add_networks-in-ARouter w ↦
@@ -54,7 +54,13 @@ returns-clause-links c =
     ]
 
 pub add_routers-requires-clause-ordered : goal.add_routers-requires-clause-ordered
-add_routers-requires-clause-ordered c = ordered (said_at c.args.told.now.moment c.args.told.now.db.now.present) c.args.area.now.nodes.now c.args.area.now.entries.now c.requires.entries c.requires.nodes
+add_routers-requires-clause-ordered c = ordered (said_at c.args.told.now.moment c.args.told.now.db.now.present) c.args.area.now.nodes.now c.args.area.now.entries.now c.requires.area.are_entries c.requires.area.are_nodes
 
 pub add_listed-requires : goal.add_listed-requires
-add_listed-requires c = ordered (said_at c.args.told.now.moment c.args.told.now.db.now.present) c.args.area.now.nodes.now c.args.area.now.entries.now c.requires.entries c.requires.nodes
+add_listed-requires c = ordered (said_at c.args.told.now.moment c.args.told.now.db.now.present) c.args.area.now.nodes.now c.args.area.now.entries.now c.requires.area.are_entries c.requires.area.are_nodes
+
+pub router_lsa-requires : goal.router_lsa-requires
+router_lsa-requires c = c.requires.area.are_bodies
+
+pub network_lsa-requires : goal.network_lsa-requires
+network_lsa-requires c = c.requires.area.are_bodies

@@ -13,15 +13,16 @@ entries_of-requires-clause-bodies c =
     let P : List (Key × Body) → Type 0 = λ es. AreBodies (Some 2) (said_at c.args.moment c.args.db.now.present) es in
     subst P (sym c.deref.ensures.value) c.in_ok-bodies.ensures.bodies
 
-pub vertices_of-requires-clause-bodies : goal.vertices_of-requires-clause-bodies
-vertices_of-requires-clause-bodies c =
-    let P : List (Key × Body) → Type 0 = λ es. AreBodies (Some 2) (said_at c.args.moment c.args.db.now.present) es in
-    subst P (sym c.deref.ensures.value) c.in_ok-bodies.ensures.bodies
-
-pub vertices_of-requires-clause-entries : goal.vertices_of-requires-clause-entries
-vertices_of-requires-clause-entries c =
-    let P : List Entry → Type 0 = λ es. AreEntries (said_at c.args.moment c.args.db.now.present) c.args.nodes.now es in
-    subst P (sym c.deref-3.ensures.value) c.in_ok-entries.ensures
+pub vertices_of-requires-clause-area : goal.vertices_of-requires-clause-area
+vertices_of-requires-clause-area c =
+    let said = said_at c.args.moment c.args.db.now.present in
+    let P : List (Key × Body) → Type 0 = λ es. AreBodies (Some 2) said es in
+    let Q : List Entry → Type 0 = λ es. AreEntries said c.args.nodes.now es in
+    record {
+      are_bodies = subst P (sym c.deref.ensures.value) c.in_ok-bodies.ensures.bodies;
+      are_nodes = c.requires.nodes;
+      are_entries = subst Q (sym c.deref-3.ensures.value) c.in_ok-entries.ensures;
+    }
 
 pub returns-clause-count : goal.returns-clause-count
 returns-clause-count c = c.in_ok-graph.ensures.count

@@ -2,7 +2,7 @@ use Rattle.std.proofs.Common.{◌+◌, map, get_or, refl, ap, ◌∙◌, arith}
 use Rattle.lsdb.specs.Copies.{lsa_now}
 use Rattle.adjacency.specs.Contents as neighbor
 use Rattle.adjacency.specs.Drafts.{drafting}
-use Rattle.adjacency.specs.Floods.{flooded, is_any}
+use Rattle.adjacency.specs.Floods.{flood_step, is_any}
 use Rattle.received.specs.Outcomes.{stepped_links, stepping_sends}
 use Rattle.flooding.specs.Drafted.{drafted_from}
 use Rattle.flooding.specs.Links.{present, settled_link, with_neighbor}
@@ -28,8 +28,8 @@ loop-i-preserved c =
     let F = step c.args.moment c.args.sender lsa in
     let old = get_or c.loop-i.links c.loop-i.i c.index-links-i.result in
     let draft = get_or c.loop-i.drafts c.loop-i.i c.index-drafts-i.result in
-    let stepping = ap (λ b. neighbor.step_on (flooded c.args.moment b lsa) old.present.neighbor) c.is_sender-from.ensures ∙ step_is c.args.moment c.args.sender lsa (c.loop-i.i + 1) old.present old.present.neighbor in
-    let sending = ap (λ b. neighbor.sent_on (flooded c.args.moment b lsa) old.present.neighbor) c.is_sender-from.ensures ∙ sent_is c.args.moment c.args.sender lsa (c.loop-i.i + 1) old.present old.present.neighbor in
+    let stepping = ap (λ b. neighbor.step_on (flood_step c.args.moment b lsa) old.present.neighbor) c.is_sender-from.ensures ∙ step_is c.args.moment c.args.sender lsa (c.loop-i.i + 1) old.present old.present.neighbor in
+    let sending = ap (λ b. neighbor.sent_on (flood_step c.args.moment b lsa) old.present.neighbor) c.is_sender-from.ensures ∙ sent_is c.args.moment c.args.sender lsa (c.loop-i.i + 1) old.present old.present.neighbor in
     record {
       floods = finishes_next present (after_step c.args.moment c.args.sender lsa) (after_draft c.args.moment c.args.sender lsa) (counts c.args.moment c.args.sender lsa) c.loop-i.i c.loop-i.links c.loop-i.drafts c.loop-i.sent
           (stepped_links F P) (drafted_from 1 (stepping_sends F P) P c.args.drafts.now) (is_any (stepping_sends F P))

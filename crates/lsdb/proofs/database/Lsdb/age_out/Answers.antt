@@ -4,7 +4,7 @@ use Rattle.lsdb.specs.Copies.{age_out}
 use Rattle.keyed_map.proofs.Helds.{after, on_ok}
 use Rattle.lsdb.specs.Foresight.{ForeseesAll}
 use Rattle.lsdb.proofs.Foresight.{foresees_put}
-use Rattle.lsdb.specs.Joined.{HaveTimes, joined}
+use Rattle.lsdb.specs.Joined.{HaveTimes, copies_of}
 use Rattle.lsdb.specs.declared.times.Times.{Times}
 use Rattle.lsdb.proofs.Joins.{have_more, ages, ages-none}
 use Rattle.lsdb.proofs.database.Lsdb.age_out.Goals as goal
@@ -18,7 +18,7 @@ returns-in_default-clause-ok c =
 pub returns-clause-ok : goal.returns-clause-ok
 returns-clause-ok c =
     on_ok c.insert.result (λ is.
-    ap (joined c.self.inside.lsas.present) is
+    ap (copies_of c.self.inside.lsas.present) is
     ∙ ages c.args.moment c.self.inside.lsas.present c.self.inside.times.present c.args.key.now c.in-Some.times.now (sym c.in-Some.ensures)
     ∙ ap (λ h. age_out c.args.moment c.args.key.now h.present) c.self.view_is) c.insert.ensures.ok
 

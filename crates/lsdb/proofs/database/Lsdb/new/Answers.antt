@@ -3,7 +3,7 @@ use Rattle.std.specs.FinMap as finite
 use Rattle.lsdb.specs.Headers.{Lsa}
 use Rattle.lsdb.specs.Foresight.{ForeseesAll}
 use Rattle.lsdb.proofs.Foresight.{foresees_nothing}
-use Rattle.lsdb.specs.Joined.{HaveTimes, joined, count_own_externals}
+use Rattle.lsdb.specs.Joined.{HaveTimes, copies_of, count_own_externals}
 use Rattle.lsdb.specs.Limits.{is_own_external}
 use Rattle.lsdb.proofs.Joins.{database_is, joined-empty, none_lacks}
 use Rattle.lsdb.proofs.Owned.{count_empty}
@@ -22,5 +22,5 @@ invariant_of-result c = record {
 pub returns : goal.returns
 returns c =
     database_is
-    (ap (λ h. joined h.present c.new-2.result.present) c.new.ensures ∙ ap (λ h. joined finite.empty h.present) c.new-2.ensures ∙ joined-empty)
-    (ap (λ h. joined h.settled c.new-2.result.settled) c.new.ensures ∙ ap (λ h. joined finite.empty h.settled) c.new-2.ensures ∙ joined-empty)
+    (ap (λ h. copies_of h.present c.new-2.result.present) c.new.ensures ∙ ap (λ h. copies_of finite.empty h.present) c.new-2.ensures ∙ joined-empty)
+    (ap (λ h. copies_of h.settled c.new-2.result.settled) c.new.ensures ∙ ap (λ h. copies_of finite.empty h.settled) c.new-2.ensures ∙ joined-empty)

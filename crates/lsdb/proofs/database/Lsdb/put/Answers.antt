@@ -4,7 +4,7 @@ use Rattle.keyed_map.specs.Slots.{count_after_change}
 use Rattle.lsdb.specs.Headers.{key_of}
 use Rattle.lsdb.specs.Foresight.{ForeseesAll}
 use Rattle.lsdb.proofs.Foresight.{foresees_put}
-use Rattle.lsdb.specs.Joined.{HaveTimes, copy_of, joined, count_own_externals}
+use Rattle.lsdb.specs.Joined.{HaveTimes, copy_of, copies_of, count_own_externals}
 use Rattle.lsdb.specs.Limits.{is_own_external}
 use Rattle.lsdb.specs.declared.times.Times.{Times}
 use Rattle.lsdb.proofs.Joins.{have_both, have_more, joined_insert}
@@ -70,8 +70,8 @@ returns-clause-ok c =
     let key = c.key-name.result in
     let ages = c.note.new.self in
     let t : Times = record { age = c.header-header.result.age; stored = c.args.moment; installed = c.args.installed; sent = None } in
-    ap (λ m. joined m c.insert.new.self.present) c.in_ok-insert-2.ensures.ok
-    ∙ ap (joined (finite.insert lsas key lsa)) c.in_ok-insert.ensures.ok
+    ap (λ m. copies_of m c.insert.new.self.present) c.in_ok-insert-2.ensures.ok
+    ∙ ap (copies_of (finite.insert lsas key lsa)) c.in_ok-insert.ensures.ok
     ∙ joined_insert lsas times key lsa t
     ∙ (λ i. finite.insert (c.self.view_is i).present ((c.key-name.ensures ∙ ap key_of c.header-header.ensures) i)
     (copy_of (c.new.ensures i) (record { age = (c.header-header.ensures i).age; stored = c.args.moment; installed = c.args.installed; sent = None })))

@@ -4,7 +4,7 @@ use Rattle.keyed_map.specs.Slots.{count_after_change}
 use Rattle.keyed_map.proofs.Helds.{after, on_ok}
 use Rattle.lsdb.specs.Foresight.{ForeseesAll}
 use Rattle.lsdb.proofs.Foresight.{foresees_taken}
-use Rattle.lsdb.specs.Joined.{HaveTimes, joined, count_own_externals}
+use Rattle.lsdb.specs.Joined.{HaveTimes, copies_of, count_own_externals}
 use Rattle.lsdb.specs.Limits.{is_own_external}
 use Rattle.lsdb.proofs.Joins.{have_neither, have_without, joined_remove}
 use Rattle.lsdb.proofs.Owned.{count_remove}
@@ -24,8 +24,8 @@ returns-clause-ok c =
     let lsas = c.self.inside.lsas.present in
     let times = c.self.inside.times.present in
     on_ok c.remove-2.result (λ is.
-    ap (λ m. joined m c.remove-2.new.self.present) c.in_ok-remove.ensures.ok
-    ∙ ap (joined (finite.remove lsas c.args.key.now)) is
+    ap (λ m. copies_of m c.remove-2.new.self.present) c.in_ok-remove.ensures.ok
+    ∙ ap (copies_of (finite.remove lsas c.args.key.now)) is
     ∙ joined_remove lsas times c.args.key.now
     ∙ ap (λ h. finite.remove h.present c.args.key.now) c.self.view_is) c.remove-2.ensures.ok
 

@@ -3,7 +3,7 @@ use Rattle.std.proofs.lemmas.Result.{IfOk-weaker}
 use Rattle.lsdb.specs.Copies.{lsa_now}
 use Rattle.adjacency.specs.Contents.{sent_on}
 use Rattle.adjacency.specs.Drafts.{drafting}
-use Rattle.adjacency.specs.Floods.{flooded}
+use Rattle.adjacency.specs.Floods.{flood_step}
 use Rattle.adjacency.specs.Views.{present_of}
 use Rattle.adjacency.proofs.Floods.{drafting-none}
 use Rattle.neighbor_places.proofs.place.Place.flood.Goals.{in-None, in-Some}
@@ -11,7 +11,7 @@ use Rattle.neighbor_places.proofs.place.Place.flood.Goals as goal
 
 pub returns-clause-draft : goal.returns-clause-draft
 returns-clause-draft c =
-    let F = flooded c.args.moment c.args.from (lsa_now c.args.moment c.args.copy.now) in
+    let F = flood_step c.args.moment c.args.from (lsa_now c.args.moment c.args.copy.now) in
     let d = c.args.draft.now in
     let shown = ap (λ h. drafting c.args.delay (sent_on F h.present) d) c.self.view_is in
     elim c.match-self.branch [
