@@ -251,7 +251,7 @@ pub record TextSpells (text : List ℕ) (o : ObjectParts) : Type 0 where
   pub names : List (Bor Word)
   pub says : Says text found names
   pub made : Sketch
-  pub take_lines : taken_all found (views names) ≡ Ok made
+  pub taken : taken_all found (views names) ≡ Ok made
   pub is_made : IsMade made o
 
 -- The first bad line, and what is wrong with it. Where no line is bad and none is an instruction,
