@@ -10,7 +10,7 @@ use Rattle.isa.specs.declared.hook.Hook.TheVariants as hook
 
 -- a word that has to be there
 abbrev pub required_word : Text → Rule
-required_word id = record (new_rule id) { value_names = 1; required_word = true }
+required_word id = record (new_rule id) { value_names = 1; required = true }
 
 -- and has to pass this
 abbrev pub checked_word : Text → ValueParser → Rule

@@ -6,7 +6,7 @@ use Rattle.clap.specs.declared.builder.action.ArgAction.TheVariants.{Append}
 
 -- a word that has to be there
 abbrev pub required_word : Text → Rule
-required_word id = record (new_rule id) { value_names = 1; required_word = true }
+required_word id = record (new_rule id) { value_names = 1; required = true }
 
 -- one that stands behind its name, with two hyphens, if it is there
 abbrev pub option : Text → Rule
