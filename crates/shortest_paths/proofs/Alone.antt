@@ -1,20 +1,28 @@
--- Without an LSA of the root's no link leads on from it, so that it alone is reached.
-use Rattle.std.proofs.Common.{◌≡◌, ◌<◌, get_or, ℕ, zero, suc, inl, inr, List, [], ◌∷◌, slice_get, Option, None, Some, arith, refl, sym, ap, subst}
+-- Without an LSA of the root's, or with one that has no link to a node, no link leads on from it, so that it alone is reached.
+use Rattle.std.proofs.Common.{◌≡◌, ◌<◌, get_or, ℕ, zero, suc, Bool, true, inl, inr, List, [], ◌∷◌, slice_get, Option, None, Some, arith, refl, sym, ap, subst}
+use Rattle.std.proofs.lemmas.Bool.{false≢true}
+use Rattle.std.proofs.lemmas.List.Elements.{All-contains}
+use Rattle.std.proofs.lemmas.List.Sums.{AllPass-from_list_all}
+use Rattle.std.specs.List.{Contains, list_all}
 use Rattle.std.proofs.lemmas.Nat.Bits.{bit_at-zero}
 use Rattle.std.proofs.lemmas.Option.{same_Some}
 use Rattle.area_graph.proofs.Leads.{near_end}
 use Rattle.area_graph.specs.Nodes.{Ascend, HasLsa}
+use Rattle.lsa.specs.declared.body.Link.{Link}
+use Rattle.lsa.specs.declared.body.LinkKind.{LinkKind}
+use Rattle.lsa.specs.declared.body.LinkKind.TheVariants.{PointToPoint, Transit}
 use Rattle.offers.specs.Ways.{AreNear, AreWays}
 use Rattle.routes.proofs.Determined.{bit_of_member}
 use Rattle.routes.specs.Answers.{IsNodeAnswer}
-use Rattle.routes.specs.Links.{Leads}
+use Rattle.routes.specs.Links.{Leads, LeadsTo}
 use Rattle.routes.specs.Paths.{IsWalk, IsWay, Step}
 use Rattle.routes.specs.Said.{Said}
 use Rattle.routes.specs.declared.graph.Way.{Way}
 use Rattle.routes.specs.declared.node.Node.{Node}
-use Rattle.routes.specs.declared.node.Node.TheVariants.{ARouter}
+use Rattle.routes.specs.declared.node.Node.TheVariants.{ANetwork, ARouter}
 use Rattle.routes.specs.declared.root.Root.{Root}
 use Rattle.shortest_paths.proofs.Places.{beside, beside_none, of_beside, seek}
+use Rattle.shortest_paths.specs.Alone.{HasNoWayOut, leads_nowhere}
 use Rattle.shortest_paths.specs.Reached.{alone, way_in}
 
 pub alone_ascends : (root : Root) → Ascend (alone root).nodes
@@ -24,17 +32,17 @@ alone_ascends root = λ i j d before within. absurd (omega (arith, before, withi
 by_lsa : (said : Said) (root : Root) (router : ℕ) (step : Step Node) → Leads said root (ARouter router) step → HasLsa said (ARouter router)
 by_lsa said root router step leads = near_end said root (ARouter router) step.target step.price step.exit leads
 
-module _ (said : Said) (root : Root) (none : HasLsa said (ARouter root.router) → ⊥) where
+module _ (said : Said) (root : Root) (still : (step : Step Node) → Leads said root (ARouter root.router) step → ⊥) where
   stays : (walk : List (Step Node)) (to : Node) → IsWalk (Leads said root) (ARouter root.router) walk to → ARouter root.router ≡ to
   stays [] to is = is
-  stays (step ∷ rest) to is = absurd (none (by_lsa said root root.router step is.0))
+  stays (step ∷ rest) to is = absurd (still step is.0)
 
   own : IsWay (Leads said root) (ARouter root.router) (ARouter root.router) (record { distance = 0; hops = 0 })
   own = record {
     distance = ([], record { is_walk = refl; least = λ other is. omega arith }, refl);
     hops = λ i. (
       (λ t. absurd (omega (arith, bit_of_member 0 i t, bit_at-zero i))),
-      (λ y. absurd (none (by_lsa said root root.router y.0 y.2.is_walk.0))),
+      (λ y. absurd (still y.0 y.2.is_walk.0)),
     );
   }
 
@@ -54,6 +62,23 @@ module _ (said : Said) (root : Root) (none : HasLsa said (ARouter root.router) �
         | inl there ↦ at_root node there.0 there.1
         | inr missing ↦ subst P (sym (beside_none nodes ways node missing)) (λ walk is. missing zero (ap (λ n. Some n) (stays walk node is)))
       ]
+
+pub without_lsa : (said : Said) (root : Root) → (HasLsa said (ARouter root.router) → ⊥) → (step : Step Node) → Leads said root (ARouter root.router) step → ⊥
+without_lsa said root none step leads = none (by_lsa said root root.router step leads)
+
+-- a link among these isn't of a kind that leads on
+passes : (links : List Link) (link : Link) (kind : LinkKind) → list_all (λ (l : Link). leads_nowhere l.kind) links ≡ true → Contains links link → link.kind ≡ kind → leads_nowhere kind ≡ true
+passes links link kind all among is =
+    let P : LinkKind → Type 0 = λ k. leads_nowhere k ≡ true in
+    let each = AllPass-from_list_all (λ (l : Link). leads_nowhere l.kind) links all in
+    subst P is (All-contains (λ (l : Link). leads_nowhere l.kind ≡ true) links link each among)
+
+pub without_way_out : (said : Said) (root : Root) → HasNoWayOut said root.router → (step : Step Node) → Leads said root (ARouter root.router) step → ⊥
+without_way_out said root nowhere step leads = on step.target leads
+  where
+    on : (target : Node) → LeadsTo said root (ARouter root.router) target step.price step.exit → ⊥
+    on (ARouter b) to = false≢true (passes to.0.its.lsa.links to.0.link PointToPoint (nowhere to.0.its.lsa to.0.its.its) to.0.its.among to.0.is_kind)
+    on (ANetwork id by) to = false≢true (passes to.0.its.lsa.links to.0.link Transit (nowhere to.0.its.lsa to.0.its.its) to.0.its.among to.0.is_kind)
 
 near_at : (root : Root) (at : ℕ) (way : Way) → get_or (alone root).ways at None ≡ Some way → way.distance < 1073741824
 near_at root zero way is = omega (arith, ap (λ (w : Way). w.distance) (same_Some _ way is))

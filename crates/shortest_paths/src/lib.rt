@@ -4,6 +4,7 @@
 
 mod reached;
 mod walks;
+mod way_out;
 
 pub use reached::Reached;
 pub use walks::walk;
