@@ -1,5 +1,5 @@
 -- Candidates that are kept.
-use Rattle.std.proofs.Common.{◌≡◌, Bool, true, false, List, Option, None, Some, refl}
+use Rattle.std.proofs.Common.{◌≡◌, Bool, true, false, ◌&&◌, List, Option, None, Some, refl}
 use Rattle.std.specs.Prelude.{IfSome}
 use Rattle.std.specs.Global.{Vec}
 use Rattle.words.specs.declared.route.Route.{Route}
@@ -38,3 +38,7 @@ stay_answered old new root before after were are among answers (r, is, none) =
 pub none_another : (none_new : Bool) (before after : List Route) → (none_new ≡ false → HasAnother before after) → AreAllAmong before after → none_new ≡ true
 none_another true before after another among = refl
 none_another false before after another among = let it = another refl in absurd (it.2 (among it.0 it.1))
+
+pub and_true : (a b : Bool) → b ≡ true → (a && b) ≡ a
+and_true true b is = is
+and_true false b is = refl

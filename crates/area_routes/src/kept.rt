@@ -1,5 +1,5 @@
 //! The routes of a router, kept from one event to the next.
-ghost use Rattle.std.specs.Prelude.{◌≡◌, ◌+◌, ◌≤◌, ◌↔◌, None, Some, false, length, min, IfOk};
+ghost use Rattle.std.specs.Prelude.{◌≡◌, ◌+◌, ◌≤◌, ◌↔◌, ◌&&◌, None, Some, false, length, min, IfOk};
 ghost use Rattle.std.specs.Prelude.{IfSome, IsSome, IsTrue, OnErr, OnOk, true};
 ghost use Rattle.std.specs.FinMap as finite;
 ghost use Rattle.area_routes.specs.Kept.{AreKept, AreRoutesOf, HaveStayed, KnowsAnswered};
@@ -231,8 +231,7 @@ fn kept_or(kept: Option<Vec<External>>, made: Option<Vec<External>>) -> Option<V
 }
 
 fn both(one: bool, other: bool) -> bool
-    ensures each { IsTrue result → IsTrue one × IsTrue other }
-    ensures first { IsTrue other → result ≡ one }
+    ensures { result ≡ (one && other) }
 {
     one && other
 }

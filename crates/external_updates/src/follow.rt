@@ -1,5 +1,5 @@
 //! All candidates after an event.
-ghost use Rattle.std.specs.Prelude.{◌≡◌, ◌≤◌, ◌⊎◌, IfOk, IsSome, IsTrue, OnOk, Some, false, true};
+ghost use Rattle.std.specs.Prelude.{◌≡◌, ◌≤◌, ◌&&◌, IfOk, IsSome, IsTrue, OnOk, Some, false, true};
 ghost use Rattle.external_updates.specs.Destinations.{HaveAllUnder, Knows};
 ghost use Rattle.external_updates.specs.Following.{HaveFollowed};
 ghost use Rattle.external_updates.specs.Placing.{AreAllAmong, AreHalfway, HasAnother, HasAnotherTo};
@@ -93,8 +93,7 @@ fn renew(
 }
 
 fn both(one: bool, other: bool) -> bool
-    ensures each { IsTrue result → IsTrue one × IsTrue other }
-    ensures either { result ≡ false → (one ≡ false) ⊎ (other ≡ false) }
+    ensures { result ≡ (one && other) }
 {
     one && other
 }

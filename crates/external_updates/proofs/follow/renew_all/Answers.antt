@@ -1,4 +1,5 @@
 use Rattle.std.proofs.Common.{◌≡◌, Bool, true, false, Some, is_some, ◌∷◌, [], ◌++◌, inl, inr, List, take, sym, subst, ◌∙◌, ap, arith}
+use Rattle.std.proofs.lemmas.Bool.{and_cases, and_parts}
 use Rattle.std.proofs.lemmas.List.{take_all, take_more}
 use Rattle.std.proofs.lemmas.Option.{same_Some}
 use Rattle.words.specs.Prefixes.{Network}
@@ -31,11 +32,11 @@ loop-prefix-preserved c =
       halfway = λ old are. subst (λ (ps : List Network). AreHalfway old new root ps c.renew.new.routes.items) (sym split)
           (one_more old new root (take i xs) x routes c.renew.new.routes.items (c.loop-prefix.invariant.halfway old are) renewed);
       among = λ on r t.
-          let each = c.both.ensures.each on in
+          let each = and_parts _ _ (sym c.both.ensures ∙ on) in
           c.loop-prefix.invariant.among each.0 r (c.in_ok-done.ensures.among (c.in-Some.is ∙ ap (λ (b : Bool). Some b) each.1) r t);
       another = λ off old are.
           subst (λ (ps : List Network). HasAnotherOf new root ps before) (sym split)
-          (elim (c.both.ensures.either off) [
+          (elim (and_cases _ _ (sym c.both.ensures ∙ off)) [
             | inl was ↦ still_another old new root (take i xs) x before (c.loop-prefix.invariant.another was old are)
             | inr is ↦
                 first_another old new root (take i xs) x before routes are (c.loop-prefix.invariant.halfway old are)

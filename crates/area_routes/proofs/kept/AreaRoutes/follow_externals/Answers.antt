@@ -1,11 +1,12 @@
 use Rattle.std.proofs.Common.{◌≡◌, true, false, Vec, Global, Option, Some, ap, subst, sym, ◌∙◌}
 use mathlib.Core.Bool.{false≢true}
 use Rattle.std.specs.Prelude.{IfSome}
+use Rattle.std.proofs.lemmas.Bool.{and_parts}
 use Rattle.std.proofs.lemmas.Option.{same_Some}
 use Rattle.words.specs.declared.route.Route.{Route}
 use Rattle.area_routes.specs.Kept.{AreInnerBy, HaveAnother, KeptRoutes, KnowsCandidates, KnowsInner, StayAnswered}
 use Rattle.area_routes.specs.declared.following.Next.{Next}
-use Rattle.area_routes.proofs.Candidates.{none_another}
+use Rattle.area_routes.proofs.Candidates.{and_true, none_another}
 use Rattle.external_updates.specs.Placing.{HasAnother}
 use Rattle.kept_routes.specs.Kept.{IsWalkOf}
 use Rattle.routes.specs.Candidates.{AreCandidates}
@@ -45,7 +46,7 @@ returns-clause-answered c answers knew on stale =
     let new = said_at c.args.moment c.args.area.now.present.database in
     let root = c.self.inside.walk.root in
     let same = ap (λ (k : KeptRoutes). k.walk.root) c.self.view_is in
-    let were = c.both.ensures.each on in
+    let were = and_parts _ _ (sym c.both.ensures ∙ on) in
     let none = subst (λ (o : Option Next). IfSome o (λ next. next.none_new ≡ true → StayAnswered old new root)) c.in-Some.is c.followed-next.ensures.none_new in
     let stays = subst (StayAnswered old new) same (none were.1) in
     knew (sym (ap (λ (k : KeptRoutes). k.answered) c.self.view_is) ∙ were.0) (stays answers stale)
@@ -60,7 +61,7 @@ returns-clause-none_new c brings =
     let another : next.none_new ≡ false → HasAnother brings.before.items brings.now.items = λ off.
         subst (λ (v : Vec Route Global). HasAnother brings.before.items v.items) are
         (subst (λ (o : Option (Vec Route Global)). HaveAnother o next.candidates.items) were (told off)) in
-    c.both.ensures.first (none_another next.none_new brings.before.items brings.now.items another brings.among)
+    c.both.ensures ∙ and_true c.self.inside.answered next.none_new (none_another next.none_new brings.before.items brings.now.items another brings.among)
     ∙ ap (λ (k : KeptRoutes). k.answered) c.self.view_is
 
 pub returns-in_default-clause-inner : goal.returns-in_default-clause-inner
