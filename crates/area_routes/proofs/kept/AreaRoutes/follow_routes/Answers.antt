@@ -110,6 +110,9 @@ returns-then-branch-clause-answered c answers knows =
 pub returns-then-branch-clause-none_new : goal.returns-then-branch-clause-none_new
 returns-then-branch-clause-none_new c brings = c.follow_offers.ensures.none_new brings
 
+pub returns-then-branch-2-clause-none_new : goal.returns-then-branch-2-clause-none_new
+returns-then-branch-2-clause-none_new c brings = refl
+
 pub returns-then-self-clause-none_new : goal.returns-then-self-clause-none_new
 returns-then-self-clause-none_new c brings = absurd (let no = brings.are in cc)
 
