@@ -1,14 +1,16 @@
 -- Candidates that are kept.
-use Rattle.std.proofs.Common.{List, Option, None, Some}
+use Rattle.std.proofs.Common.{◌≡◌, Bool, true, false, ◌&&◌, List, Option, None, Some, refl}
 use Rattle.std.specs.Prelude.{IfSome}
 use Rattle.std.specs.Global.{Vec}
 use Rattle.words.specs.declared.route.Route.{Route}
-use Rattle.area_routes.specs.Kept.{AreInnerBy}
+use Rattle.area_routes.specs.Kept.{AreInnerBy, StayAnswered}
 use Rattle.candidates.specs.Inner.{AreInner}
 use Rattle.candidates.specs.declared.inner.InnerRoutes.{InnerRoutes}
 use Rattle.kept_routes.specs.Kept.{KeptWalk}
 use Rattle.kept_routes.specs.Sameness.{SayTheSame}
 use Rattle.external_updates.specs.Laws.{InnerRoutesAreKept}
+use Rattle.external_updates.specs.Placing.{AreAllAmong, HasAnother}
+use Rattle.routes.specs.Candidates.{AreCandidates}
 use Rattle.routes.specs.Said.{Said}
 use Rattle.routes.specs.declared.root.Root.{Root}
 use Rattle.shortest_paths.specs.Reached.{way_in}
@@ -25,3 +27,18 @@ pub inner_carried : InnerRoutesAreKept → (old new : Said) (root : Root) (walk 
 inner_carried law old new root walk same None is = is
 inner_carried law old new root walk same (Some inner) is =
     record { are_inner = law old new root (way_in walk.reached) inner same is.are_inner; searchable = is.searchable }
+
+-- where each candidate was one before, none lacks an answer that didn't
+pub stay_answered : (old new : Said) (root : Root) (before after : List Route) → AreCandidates old root before → AreCandidates new root after
+    → AreAllAmong before after → StayAnswered old new root
+stay_answered old new root before after were are among answers (r, is, none) =
+    (r, (were.each r).0 (among r ((are.each r).1 is)), none)
+
+-- what tells of another one where there is one tells of none where there is none
+pub none_another : (none_new : Bool) (before after : List Route) → (none_new ≡ false → HasAnother before after) → AreAllAmong before after → none_new ≡ true
+none_another true before after another among = refl
+none_another false before after another among = let it = another refl in absurd (it.2 (among it.0 it.1))
+
+pub and_true : (a b : Bool) → b ≡ true → (a && b) ≡ a
+and_true true b is = is
+and_true false b is = refl

@@ -9,6 +9,7 @@ use Rattle.received.specs.Links.{Area}
 use Rattle.area_routes.specs.Offers.{root_by}
 use Rattle.candidates.specs.Inner.{AreInner, AreSearchable}
 use Rattle.candidates.specs.declared.inner.InnerRoutes.{InnerRoutes}
+use Rattle.external_updates.specs.Placing.{AreAllAmong, HasAnother}
 use Rattle.kept_routes.specs.Externals.{LeaveCandidates}
 use Rattle.kept_routes.specs.Kept.{IsWalkOf, KeptWalk}
 use Rattle.kept_routes.specs.Sameness.{AreLeft}
@@ -70,6 +71,23 @@ AreOfOthers keys = (key : Key) → Contains keys key → key.ls_type ≢ 5
 -- where each candidate is known to stand among the answers, each does
 abbrev pub KnowsAnswered : Said → Root → Answers → KeptRoutes → Type 0
 KnowsAnswered said root answers kept = kept.answered ≡ true → IsStale said root answers → ⊥
+
+-- from what the LSAs said to what they say, no candidate comes that may lack an answer
+abbrev pub StayAnswered : (old : Said) → (new : Said) → Root → Type 0
+StayAnswered old new root =
+    (answers : Answers) → IsStale new root answers → IsStale old root answers
+
+-- where candidates were kept, one of these was none of them
+abbrev pub HaveAnother : (kept : Option (Vec Route)) → (now : List Route) → Type 0
+HaveAnother kept now = IfSome kept (λ before. HasAnother before.items now)
+
+-- candidates are kept before an event and after it, and each was one before
+pub record BringsNoneNew (old : KeptRoutes) (new : KeptRoutes) : Type 0 where
+  pub before : Vec Route
+  pub now : Vec Route
+  pub were : old.candidates ≡ Some before
+  pub are : new.candidates ≡ Some now
+  pub among : AreAllAmong before.items now.items
 
 -- All that a walk rests on has stayed since the moment before: it begins where it began, and of
 -- the LSAs of the types up to this one, of all types where there is none, none came, left or has

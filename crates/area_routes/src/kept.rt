@@ -1,11 +1,11 @@
 //! The routes of a router, kept from one event to the next.
-ghost use Rattle.std.specs.Prelude.{◌≡◌, ◌+◌, ◌≤◌, ◌↔◌, None, Some, false, length, min, IfOk};
+ghost use Rattle.std.specs.Prelude.{◌≡◌, ◌+◌, ◌≤◌, ◌↔◌, ◌&&◌, None, Some, false, length, min, IfOk};
 ghost use Rattle.std.specs.Prelude.{IfSome, IsSome, IsTrue, OnErr, OnOk, true};
 ghost use Rattle.std.specs.FinMap as finite;
 ghost use Rattle.area_routes.specs.Kept.{AreKept, AreRoutesOf, HaveStayed, KnowsAnswered};
 ghost use Rattle.area_routes.specs.Kept.{KnowsCandidates, KnowsInner, KnowsWalk, ServesOnlyThen};
-ghost use Rattle.area_routes.specs.Kept.{AreInnerBy, AreOffersOf, AreOfOthers, ExternalsSayTheSame};
-ghost use Rattle.area_routes.specs.Kept.{KnowsExternals};
+ghost use Rattle.area_routes.specs.Kept.{AreInnerBy, AreOffersOf, AreOfOthers, BringsNoneNew};
+ghost use Rattle.area_routes.specs.Kept.{ExternalsSayTheSame, KnowsExternals};
 ghost use Rattle.offers.specs.Externals.{AreExternals};
 ghost use Rattle.area_routes.specs.Offers.{AreCandidatesOf, AreOffered, IsStaleOf, IsTableOf};
 ghost use Rattle.area_routes.specs.Offers.{root_by};
@@ -16,10 +16,11 @@ ghost use Rattle.routes.specs.Candidates.{AreCandidates};
 ghost use Rattle.routes.specs.Said.{Said, said_at};
 ghost use Rattle.routes.specs.Tables.{Answers};
 
+use crate::following::followed;
 use crate::root::{is_root_of, root_of};
 use candidates::{Calculated, External, InnerRoutes, externals_at};
+use external_updates::changed_keys;
 use external_updates::laws::inner_routes_are_kept;
-use external_updates::{changed_keys, follow_externals};
 use flooding::Area;
 use kept_routes::laws::{candidates_are_kept, walks_are_kept};
 use kept_routes::{Routes, leave_candidates, say_the_same};
@@ -40,8 +41,9 @@ pub struct Offered {
 /// and that all of them stand among the answers, for as long as all LSAs do, or others don't than
 /// AS-external-LSAs that offer nothing (section 16.4). Where other AS-external-LSAs alone say
 /// something else, and few of them, those candidates alone are calculated anew of whose
-/// destinations these tell (section 16.6). An event makes no walk: where it leaves none that
-/// serves, one is made once candidates are asked for.
+/// destinations these tell (section 16.6), and where none of these is another route, as where an
+/// AS-external-LSA leaves, all stand among the answers if they did. An event makes no walk: where
+/// it leaves none that serves, one is made once candidates are asked for.
 ///
 /// Links, database and answers aren't part of it. Each call is handed them, and a clause says of
 /// which moment they are.
@@ -228,90 +230,10 @@ fn kept_or(kept: Option<Vec<External>>, made: Option<Vec<External>>) -> Option<V
     }
 }
 
-// The candidates of this moment, from those before an event over which AS-external-LSAs alone say
-// something else; None where these are many, or memory is refused.
-fn follow_from(
-    alloc: Global,
-    area: &Area,
-    walk: &Routes,
-    before: Second,
-    moment: Second,
-    inner: &InnerRoutes,
-    routes: Vec<Route>,
-) -> Option<Vec<Route>>
-    requires order { before ≤ moment }
-    requires same { SayTheSame (Some 4) (said_at before area.now.settled.database)
-        (said_at moment area.now.present.database) }
-    requires walk { IsWalkOf (said_at moment area.now.present.database) walk.now }
-    requires inner { AreInnerBy (said_at moment area.now.present.database) walk.now.root walk.now
-        inner.now }
-    requires routes { AreCandidates (said_at before area.now.settled.database) walk.now.root
-        routes.items }
-    ensures { IfSome result (λ now. AreCandidates (said_at moment area.now.present.database)
-        walk.now.root now.items) }
+fn both(one: bool, other: bool) -> bool
+    ensures { result ≡ (one && other) }
 {
-    let mut next = routes;
-    let db = area.database();
-    if let Ok(all) = follow_externals(alloc, db, walk.root(), before, moment, inner, &mut next) {
-        if all {
-            return Some(next);
-        }
-    }
-    None
-}
-
-// The same where there may be none.
-fn follow_some(
-    alloc: Global,
-    area: &Area,
-    walk: &Routes,
-    before: Second,
-    moment: Second,
-    inner: &InnerRoutes,
-    kept: Option<Vec<Route>>,
-) -> Option<Vec<Route>>
-    requires order { before ≤ moment }
-    requires same { SayTheSame (Some 4) (said_at before area.now.settled.database)
-        (said_at moment area.now.present.database) }
-    requires walk { IsWalkOf (said_at moment area.now.present.database) walk.now }
-    requires inner { AreInnerBy (said_at moment area.now.present.database) walk.now.root walk.now
-        inner.now }
-    requires routes { IfSome kept (λ routes. AreCandidates
-        (said_at before area.now.settled.database) walk.now.root routes.items) }
-    ensures { IfSome result (λ now. AreCandidates (said_at moment area.now.present.database)
-        walk.now.root now.items) }
-{
-    match kept {
-        None => None,
-        Some(routes) => follow_from(alloc, area, walk, before, moment, inner, routes),
-    }
-}
-
-// The same where it may not be known what the LSAs of types 1 to 4 give.
-fn followed(
-    alloc: Global,
-    area: &Area,
-    walk: &Routes,
-    before: Second,
-    moment: Second,
-    inner: &Option<InnerRoutes>,
-    kept: Option<Vec<Route>>,
-) -> Option<Vec<Route>>
-    requires order { before ≤ moment }
-    requires same { SayTheSame (Some 4) (said_at before area.now.settled.database)
-        (said_at moment area.now.present.database) }
-    requires walk { IsWalkOf (said_at moment area.now.present.database) walk.now }
-    requires inner { IfSome inner.now (AreInnerBy (said_at moment area.now.present.database)
-        walk.now.root walk.now) }
-    requires routes { IfSome kept (λ routes. AreCandidates
-        (said_at before area.now.settled.database) walk.now.root routes.items) }
-    ensures { IfSome result (λ now. AreCandidates (said_at moment area.now.present.database)
-        walk.now.root now.items) }
-{
-    match inner {
-        None => None,
-        Some(known) => follow_some(alloc, area, walk, before, moment, known, kept),
-    }
+    one && other
 }
 
 impl AreaRoutes {
@@ -381,6 +303,10 @@ impl AreaRoutes {
         ensures candidates { OnOk result (self.old.behind ≡ false
             → HaveStayed before moment router area.now.settled area.now.present self.old.walk
             → self.new ≡ record self.old { externals = self.new.externals }) }
+        // Where candidates are kept over the event, and each was one before, what is known of the
+        // answers stays: they needn't be looked at where AS-external-LSAs leave.
+        ensures none_new { OnOk result (BringsNoneNew self.old self.new
+            → self.new.answered ≡ self.old.answered) }
         ensures err { OnErr result (self.new ≡ self.old) }
     {
         let stay = self.externals_stay(alloc, area, before, moment);
@@ -434,6 +360,8 @@ impl AreaRoutes {
         ensures candidates { OnOk result (self.old.behind ≡ false
             → HaveStayed before moment router area.now.settled area.now.present self.old.walk
             → self.new ≡ self.old) }
+        ensures none_new { OnOk result (BringsNoneNew self.old self.new
+            → self.new.answered ≡ self.old.answered) }
         ensures externals { self.new.externals ≡ self.old.externals }
         ensures err { OnErr result (self.new ≡ self.old) }
     {
@@ -464,7 +392,8 @@ impl AreaRoutes {
 
     // Follows what LSAs of types 3 to 5 say over an event over which the walk serves on. Where
     // AS-external-LSAs alone say something else, candidates that are kept follow these, if those
-    // that changed are few. Where it is refused memory, nothing more is known of candidates.
+    // that changed are few: if none is new, and each was known to be answered, so is each now.
+    // Where it is refused memory, nothing more is known of candidates.
     fn follow_offers(&mut self, alloc: Global, area: &Area, before: Second, moment: Second)
         requires order { before ≤ moment }
         requires walk { IsWalkOf (said_at moment area.now.present.database) self.old.walk }
@@ -479,7 +408,13 @@ impl AreaRoutes {
         ensures inner { KnowsInner (said_at moment area.now.present.database)
             self.old.walk.root self.new }
         ensures externals { self.new.externals ≡ self.old.externals }
-        ensures answered { self.new.answered ≡ false }
+        ensures answered { (answers : Answers)
+            → KnowsAnswered (said_at before area.now.settled.database) self.old.walk.root answers
+            self.old
+            → KnowsAnswered (said_at moment area.now.present.database) self.old.walk.root answers
+            self.new }
+        ensures none_new { BringsNoneNew self.old self.new
+            → self.new.answered ≡ self.old.answered }
     {
         inner_routes_are_kept();
         if let Ok(same) = says_the_same(alloc, area, Some(4), before, moment) {
@@ -510,11 +445,22 @@ impl AreaRoutes {
         ensures inner { KnowsInner (said_at moment area.now.present.database)
             self.old.walk.root self.new }
         ensures externals { self.new.externals ≡ self.old.externals }
-        ensures answered { self.new.answered ≡ false }
+        ensures answered { (answers : Answers)
+            → KnowsAnswered (said_at before area.now.settled.database) self.old.walk.root answers
+            self.old
+            → KnowsAnswered (said_at moment area.now.present.database) self.old.walk.root answers
+            self.new }
+        ensures none_new { BringsNoneNew self.old self.new
+            → self.new.answered ≡ self.old.answered }
     {
         let kept = self.candidates.take();
-        self.candidates = followed(alloc, area, &self.walk, before, moment, &self.inner, kept);
-        self.answered = false;
+        let next = followed(alloc, area, &self.walk, before, moment, &self.inner, kept);
+        let Some(next) = next else {
+            self.answered = false;
+            return;
+        };
+        self.answered = both(self.answered, next.none_new);
+        self.candidates = Some(next.candidates);
     }
 
     // Makes the walk that serves now, where the one that is kept doesn't.

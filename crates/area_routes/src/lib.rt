@@ -2,6 +2,7 @@
 //! in (RFC 2328, sections 11 and 16), by a walk that is kept from one event to the next.
 #![tactic(auto)]
 
+mod following;
 mod kept;
 mod root;
 

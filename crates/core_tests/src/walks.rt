@@ -50,8 +50,9 @@ const ANSWERS: &[Step] = &[
     Step::Offers(2, 0),
 ];
 
-/// Candidates that were looked at follow one external LSA that comes in, and three more, and 100, which
-/// are too many to be followed one by one.
+/// Candidates that were looked at follow one external LSA that comes in, and three more, and 100,
+/// which are too many to be followed one by one. Where one comes to MaxAge, and then all others, the
+/// rest are those that were answered.
 const FOLLOWED: &[Step] = &[
     Step::Stale(true),
     Step::Sends(10, What::Lsas(1, 0, 1), &[]),
@@ -61,6 +62,15 @@ const FOLLOWED: &[Step] = &[
     Step::Candidates(5),
     Step::Sends(12, What::Lsas(1, 4, 100), &[]),
     Step::Candidates(105),
+    Step::Stale(true),
+    Step::Sends(12, What::LetAllIn, &[]),
+    Step::Stale(false),
+    Step::Sends(13, What::Lsas(3600, 0, 1), &[]),
+    Step::Stale(false),
+    Step::Offers(104, 104),
+    Step::Sends(14, What::Lsas(3600, 1, 103), &[]),
+    Step::Stale(false),
+    Step::Offers(1, 1),
 ];
 
 /// Instances that say the same, the neighbor's router-LSA, which is acknowledged, and 100 external

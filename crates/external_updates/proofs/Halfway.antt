@@ -12,9 +12,13 @@ use Rattle.routes.specs.declared.root.Root.{Root}
 use Rattle.routes.proofs.Lists.{of_empty}
 use Rattle.kept_routes.specs.Sameness.{SayTheSame}
 use Rattle.external_updates.specs.Changes.{AreAllTold, IsUntouched, OthersSayTheSame}
-use Rattle.external_updates.specs.Placing.{AreHalfway, IsEither, IsRenewed}
+use Rattle.external_updates.specs.Placing.{AreHalfway, HasAnother, HasAnotherTo, IsEither, IsRenewed}
 use Rattle.external_updates.proofs.Networks.{among_or_not, same_or_not}
 use Rattle.external_updates.proofs.Staying.{untouched_kept}
+
+-- a candidate for one of these destinations is none of the routes of before
+abbrev pub HasAnotherOf : Said → Root → (done : List Network) → (before : List Route) → Type 0
+HasAnotherOf said root done before = (r : Route) × IsCandidate said root r × Contains done r.prefix × (Contains before r → ⊥)
 
 module _ (old new : Said) (root : Root) where
   pub none_yet : (routes : List Route) → AreCandidates old root routes → AreHalfway old new root [] routes
@@ -78,6 +82,26 @@ module _ (old new : Said) (root : Root) where
       );
       ascending = renewed.ascending;
     }
+
+    -- one that is new so far is new
+    pub still_another : (before : List Route) → HasAnotherOf new root done before → HasAnotherOf new root more before
+    still_another before (r, k, among, none) = (r, k, Contains-append_left done (prefix ∷ []) r.prefix among, none)
+
+    -- one that comes for this destination is new, since those for the destinations before it are candidates of now
+    pub first_another : (before routes : List Route) → AreCandidates old root before → AreHalfway old new root done routes → HasAnotherTo new root prefix routes → HasAnotherOf new root more before
+    first_another before routes were half (r, k, its, none) = (
+      r,
+      k,
+      here r.prefix its,
+      λ t.
+          elim (among_or_not done r.prefix) [
+            | inl among ↦ none ((half.each r).1 (inl (among, k)))
+            | inr not ↦ none ((half.each r).1 (inr (not, (were.each r).0 t)))
+          ],
+    )
+
+  pub all_another : (done : List Network) (before routes : List Route) → AreHalfway old new root done routes → HasAnotherOf new root done before → HasAnother before routes
+  all_another done before routes half (r, k, among, none) = (r, (half.each r).1 (inl (among, k)), none)
 
   module _ (same : SayTheSame (Some 4) old new) (keys : List Key) (prefixes : List Network) (others : OthersSayTheSame keys old new) (told : AreAllTold old new keys prefixes) where
     stays : (prefix : Network) → (Contains prefixes prefix → ⊥) → IsUntouched old new prefix

@@ -1,10 +1,12 @@
 -- Routes in the order of their prefixes stay so where one takes the place of the one for its prefix.
 use Rattle.std.proofs.Common.{◌≡◌, ℕ, ◌+◌, ◌-◌, ◌<◌, ◌≤◌, ◌⊎◌, inl, inr, List, length, get_or, set, Option, Some, None, arith, refl, sym, ◌∙◌, ap, subst}
 use Rattle.std.specs.List.{Contains, insert, remove}
+use Rattle.std.specs.Prelude.{slice_get}
 use Rattle.std.proofs.lemmas.Bool.{cases_eq, cases_lt}
 use Rattle.std.proofs.lemmas.List.{get_or-set_other, get_or-set_same, length-set}
 use Rattle.std.proofs.lemmas.List.Edits.{get_or-insert_above, get_or-insert_at, get_or-insert_below, get_or-remove_above, get_or-remove_below, length-insert, length-remove}
 use Rattle.std.proofs.lemmas.List.Quantifiers.{all_pairs_remove}
+use Rattle.std.proofs.lemmas.Option.{slice_get-get_or}
 use Rattle.words.specs.Prefixes.{Network}
 use Rattle.words.specs.declared.route.Route.{Route}
 use Rattle.routes.specs.Routes.{IsBefore}
@@ -34,6 +36,14 @@ module _ (old : List Route) (prefix : Network) (up : Ascend old) (at : ℕ) (the
 
   other : (k : ℕ) (r : Route) → k < length old → (k ≡ at → ⊥) → get_or old k r ≡ r → r.prefix ≡ prefix → ⊥
   other k r inside apart is its = others k r inside apart (ap (λ (x : Route). x.prefix) is ∙ its)
+
+  -- the one that is for it stands there
+  pub stands_there : (r : Route) → Contains old r → r.prefix ≡ prefix → slice_get old at ≡ Some r
+  stands_there r (k, inside, is) its =
+      elim (cases_eq k at) [
+        | inl same ↦ slice_get-get_or old at r within ∙ ap (λ (x : Route). Some x) (ap (λ n. get_or old n r) (sym same) ∙ is)
+        | inr apart ↦ absurd (other k r inside apart is its)
+      ]
 
   not_at : (k : ℕ) (r : Route) → get_or old k r ≡ r → (r.prefix ≡ prefix → ⊥) → k ≡ at → ⊥
   not_at k r is differs same = differs (ap (λ (x : Route). x.prefix) (sym is ∙ ap (λ n. get_or old n r) same) ∙ here r)
@@ -136,7 +146,7 @@ module _ (old : List Route) (prefix : Network) (up : Ascend old) (at : ℕ) (gap
   within_ : at ≤ length old
   within_ = gap.within
 
-  differs : (r : Route) → Contains old r → r.prefix ≡ prefix → ⊥
+  pub differs : (r : Route) → Contains old r → r.prefix ≡ prefix → ⊥
   differs r (k, inside, is) its =
       let same : (get_or old k r).prefix ≡ prefix = ap (λ (x : Route). x.prefix) is ∙ its in
       elim (cases_lt k at) [

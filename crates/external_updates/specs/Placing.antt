@@ -29,6 +29,27 @@ pub record IsPlaced (old : List Route) (new : List Route) (prefix : Network)
       ↔ ((Contains old r × (r.prefix ≡ prefix → ⊥)) ⊎ (best ≡ Some r))
   pub ascending : Ascend new
 
+-- there is no such route, or it stood among these
+abbrev pub HasStood : (old : List Route) → Option Route → Type 0
+HasStood old best = (r : Route) → best ≡ Some r → Contains old r
+
+-- there is one, and it stood nowhere among these
+abbrev pub IsAnother : (old : List Route) → Option Route → Type 0
+IsAnother old best = (r : Route) × (best ≡ Some r) × (Contains old r → ⊥)
+
+-- each of the new ones is one of the old ones
+abbrev pub AreAllAmong : (old : List Route) → (new : List Route) → Type 0
+AreAllAmong old new = (r : Route) → Contains new r → Contains old r
+
+-- one of the new ones is none of the old ones
+abbrev pub HasAnother : (old : List Route) → (new : List Route) → Type 0
+HasAnother old new = (r : Route) × Contains new r × (Contains old r → ⊥)
+
+-- the candidate for the destination is none of the old ones
+abbrev pub HasAnotherTo : Said → Root → Network → (old : List Route) → Type 0
+HasAnotherTo said root prefix old =
+    (r : Route) × IsCandidate said root r × (r.prefix ≡ prefix) × (Contains old r → ⊥)
+
 -- the route that there was for the prefix is out, and the candidate for it is in
 pub record IsRenewed (said : Said) (root : Root) (prefix : Network) (old : List Route)
     (new : List Route) : Type 0 where

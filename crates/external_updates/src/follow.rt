@@ -1,7 +1,9 @@
 //! All candidates after an event.
-ghost use Rattle.std.specs.Prelude.{◌≤◌, IfOk, IsTrue, OnOk, Some};
+ghost use Rattle.std.specs.Prelude.{◌≡◌, ◌≤◌, ◌&&◌, IfOk, IsSome, IsTrue, OnOk, Some, false, true};
 ghost use Rattle.external_updates.specs.Destinations.{HaveAllUnder, Knows};
-ghost use Rattle.external_updates.specs.Placing.{AreHalfway, IsRenewed};
+ghost use Rattle.external_updates.specs.Following.{HaveFollowed};
+ghost use Rattle.external_updates.specs.Placing.{AreAllAmong, AreHalfway, HasAnother, HasAnotherTo};
+ghost use Rattle.external_updates.specs.Placing.{IsRenewed};
 ghost use Rattle.kept_routes.specs.Sameness.{SayTheSame};
 ghost use Rattle.offers.specs.Borders.{Ascend};
 ghost use Rattle.routes.specs.Candidates.{AreCandidates};
@@ -23,8 +25,19 @@ use words::{Key, Prefix, Route, Second};
 // microseconds, and one that comes or leaves up to 17 more, since those behind it move.
 const FEW_CHANGED: usize = 64;
 
+/// What became of candidates that were to follow an event.
+#[derive(Clone, Copy, Debug)]
+pub enum Followed {
+    /// Too many LSAs changed, or too many may tell of one destination: they are of no more use.
+    TooMany,
+    /// They are those of now, and each of them was one before.
+    NoneNew,
+    /// They are those of now, and one of them was none before.
+    SomeNew,
+}
+
 // Calculates the route to one destination anew, where these are the keys of the AS-external-LSAs
-// that may tell of it.
+// that may tell of it. False just where another route came.
 fn renew_by(
     alloc: Global,
     db: &Lsdb,
@@ -34,19 +47,23 @@ fn renew_by(
     prefix: Prefix,
     keys: &[Key],
     routes: &mut Vec<Route>,
-) -> Result<(), AllocError>
+) -> Result<bool, AllocError>
     requires inner { Knows (said_at moment db.now.present) root.now inner.now }
     requires keys { HaveAllUnder db.now.present prefix keys.now }
     requires ascend { Ascend routes.old.items }
-    ensures { OnOk result (IsRenewed (said_at moment db.now.present) root.now prefix
+    ensures renewed { OnOk result (IsRenewed (said_at moment db.now.present) root.now prefix
         routes.old.items routes.new.items) }
+    ensures among { IfOk result (λ stood. IsTrue stood
+        → AreAllAmong routes.old.items routes.new.items) }
+    ensures another { IfOk result (λ stood. stood ≡ false
+        → HasAnotherTo (said_at moment db.now.present) root.now prefix routes.old.items) }
 {
     let best = best_to(alloc, db, root, moment, inner, prefix, keys)?;
-    place(routes, prefix, best)?;
-    Ok(())
+    let stood = place(routes, prefix, best)?;
+    Ok(stood)
 }
 
-// The same where the keys have to be found. False where they may be too many.
+// The same where the keys have to be found. None where they may be too many.
 fn renew(
     alloc: Global,
     db: &Lsdb,
@@ -55,20 +72,30 @@ fn renew(
     inner: &InnerRoutes,
     prefix: Prefix,
     routes: &mut Vec<Route>,
-) -> Result<bool, AllocError>
+) -> Result<Option<bool>, AllocError>
     requires inner { Knows (said_at moment db.now.present) root.now inner.now }
     requires ascend { Ascend routes.old.items }
-    ensures { IfOk result (λ done. IsTrue done → IsRenewed (said_at moment db.now.present) root.now
-        prefix routes.old.items routes.new.items) }
+    ensures renewed { IfOk result (λ done. IsSome done → IsRenewed
+        (said_at moment db.now.present) root.now prefix routes.old.items routes.new.items) }
+    ensures among { IfOk result (λ done. done ≡ Some true
+        → AreAllAmong routes.old.items routes.new.items) }
+    ensures another { IfOk result (λ done. done ≡ Some false
+        → HasAnotherTo (said_at moment db.now.present) root.now prefix routes.old.items) }
 {
     let found = keys_under(alloc, db, prefix)?;
     match found {
-        None => Ok(false),
+        None => Ok(None),
         Some(keys) => {
-            renew_by(alloc, db, root, moment, inner, prefix, &keys, routes)?;
-            Ok(true)
+            let stood = renew_by(alloc, db, root, moment, inner, prefix, &keys, routes)?;
+            Ok(Some(stood))
         }
     }
+}
+
+fn both(one: bool, other: bool) -> bool
+    ensures { result ≡ (one && other) }
+{
+    one && other
 }
 
 // The same for each of these destinations.
@@ -80,26 +107,35 @@ fn renew_all(
     inner: &InnerRoutes,
     prefixes: &[Prefix],
     routes: &mut Vec<Route>,
-) -> Result<bool, AllocError>
+) -> Result<Option<bool>, AllocError>
     requires inner { Knows (said_at moment db.now.present) root.now inner.now }
     requires ascend { Ascend routes.old.items }
-    ensures { IfOk result (λ done. IsTrue done → (old : Said)
+    ensures halfway { IfOk result (λ done. IsSome done → (old : Said)
         → AreCandidates old root.now routes.old.items
         → AreHalfway old (said_at moment db.now.present) root.now prefixes.now routes.new.items) }
+    ensures among { IfOk result (λ done. done ≡ Some true
+        → AreAllAmong routes.old.items routes.new.items) }
+    ensures another { IfOk result (λ done. done ≡ Some false → (old : Said)
+        → AreCandidates old root.now routes.old.items
+        → HasAnother routes.old.items routes.new.items) }
 {
+    let mut none_new = true;
     for prefix in prefixes {
-        if !renew(alloc, db, root, moment, inner, *prefix, routes)? {
-            return Ok(false);
-        }
+        let done = renew(alloc, db, root, moment, inner, *prefix, routes)?;
+        let Some(stood) = done else {
+            return Ok(None);
+        };
+        none_new = both(none_new, stood);
     }
-    Ok(true)
+    Ok(Some(none_new))
 }
 
 /// Follows an event in which no LSA of types 1 to 4 came, left, came to MaxAge or says something
 /// else: the candidates of the settled database at the moment before become those of the database
 /// at this moment (RFC 2328, section 16.6). Just the destinations are calculated anew of which the
-/// AS-external-LSAs tell or told that changed. False where too many of them did, or too many may
-/// tell of one destination: then, and where it is refused memory, the routes are of no more use.
+/// AS-external-LSAs tell or told that changed, and it tells whether one of these has another route
+/// now: where an AS-external-LSA leaves, mostly none has. Where too many of them changed, or too
+/// many may tell of one destination, and where it is refused memory, the routes are of no more use.
 ///
 /// # Errors
 /// Where memory for keys, networks, offers or a route is refused.
@@ -111,21 +147,27 @@ pub fn follow_externals(
     moment: Second,
     inner: &InnerRoutes,
     routes: &mut Vec<Route>,
-) -> Result<bool, AllocError>
+) -> Result<Followed, AllocError>
     requires order { before ≤ moment }
     requires same { SayTheSame (Some 4)
         (said_at before db.now.settled) (said_at moment db.now.present) }
     requires inner { Knows (said_at moment db.now.present) root.now inner.now }
     requires routes { AreCandidates (said_at before db.now.settled) root.now routes.old.items }
-    ensures { IfOk result (λ done. IsTrue done
-        → AreCandidates (said_at moment db.now.present) root.now routes.new.items) }
+    ensures { IfOk result (λ done. HaveFollowed (said_at moment db.now.present) root.now
+        routes.old.items routes.new.items done) }
 {
     let keys = changed_keys(alloc, db, before, moment)?;
     let most = FEW_CHANGED.max(routes.len() / 32);
     if keys.len() > most {
-        return Ok(false);
+        return Ok(Followed::TooMany);
     }
     let prefixes = networks_told(alloc, db, before, moment, &keys)?;
     let done = renew_all(alloc, db, root, moment, inner, &prefixes, routes)?;
-    Ok(done)
+    let Some(none_new) = done else {
+        return Ok(Followed::TooMany);
+    };
+    if none_new {
+        return Ok(Followed::NoneNew);
+    }
+    Ok(Followed::SomeNew)
 }

@@ -11,4 +11,4 @@ pub mod laws;
 mod placing;
 
 pub use changes::changed_keys;
-pub use follow::follow_externals;
+pub use follow::{Followed, follow_externals};

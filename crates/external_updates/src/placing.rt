@@ -1,7 +1,8 @@
 //! A route in the place of the one for its prefix.
-ghost use Rattle.std.specs.Prelude.{◌≡◌, ◌<◌, ◌≤◌, IfSome, MatchResult, OnOk, length, slice_set};
+ghost use Rattle.std.specs.Prelude.{◌≡◌, ◌↔◌, ◌<◌, ◌≤◌, IfOk, IfSome, IsTrue, MatchResult, OnOk};
+ghost use Rattle.std.specs.Prelude.{Some, false, length, slice_get, slice_set};
 ghost use Rattle.std.specs.List.{insert, remove};
-ghost use Rattle.external_updates.specs.Placing.{IsGap, IsPlaced, IsThere};
+ghost use Rattle.external_updates.specs.Placing.{HasStood, IsAnother, IsGap, IsPlaced, IsThere};
 ghost use Rattle.offers.specs.Borders.{Ascend};
 
 use std::alloc::AllocError;
@@ -40,58 +41,85 @@ fn put_in(routes: &mut Vec<Route>, at: usize, route: Route) -> Result<(), AllocE
     Ok(())
 }
 
-// Puts this route in the place of the one that stands there, or takes that out.
-fn replace(routes: &mut Vec<Route>, prefix: Prefix, at: usize, best: Option<Route>)
+// Whether both are one route.
+fn is_same(one: &Route, other: &Route) -> bool
+    ensures { IsTrue result ↔ (one.now ≡ other.now) }
+{
+    *one == *other
+}
+
+// Whether this route stands at this place.
+fn stands_at(routes: &[Route], at: usize, route: &Route) -> bool
+    requires { at < length routes.now }
+    ensures { IsTrue result ↔ (slice_get routes.now at ≡ Some route.now) }
+{
+    is_same(&routes[at], route)
+}
+
+// Puts this route in the place of the one that stands there, or takes that out. False where it is
+// another one.
+fn replace(routes: &mut Vec<Route>, prefix: Prefix, at: usize, best: Option<Route>) -> bool
     requires ascend { Ascend routes.old.items }
     requires there { IsThere routes.old.items prefix at }
     requires its { IfSome best (λ r. r.prefix ≡ prefix) }
-    ensures { IsPlaced routes.old.items routes.new.items prefix best }
+    ensures placed { IsPlaced routes.old.items routes.new.items prefix best }
+    ensures stood { IsTrue result → HasStood routes.old.items best }
+    ensures another { result ≡ false → IsAnother routes.old.items best }
 {
     match best {
-        None => take_out(routes, at),
-        Some(route) => write_over(routes, at, route),
+        None => {
+            take_out(routes, at);
+            true
+        }
+        Some(route) => {
+            let stood = stands_at(routes.as_slice(), at, &route);
+            write_over(routes, at, route);
+            stood
+        }
     }
 }
 
-// Puts this route in where none is for its prefix.
+// Puts this route in where none is for its prefix. False where there is one.
 fn add(
     routes: &mut Vec<Route>,
     prefix: Prefix,
     at: usize,
     best: Option<Route>,
-) -> Result<(), AllocError>
+) -> Result<bool, AllocError>
     requires ascend { Ascend routes.old.items }
     requires gap { IsGap routes.old.items prefix at }
     requires its { IfSome best (λ r. r.prefix ≡ prefix) }
-    ensures { OnOk result (IsPlaced routes.old.items routes.new.items prefix best) }
+    ensures placed { OnOk result (IsPlaced routes.old.items routes.new.items prefix best) }
+    ensures stood { IfOk result (λ stood. IsTrue stood → HasStood routes.old.items best) }
+    ensures another { IfOk result (λ stood. stood ≡ false → IsAnother routes.old.items best) }
 {
     match best {
-        None => Ok(()),
+        None => Ok(true),
         Some(route) => {
             put_in(routes, at, route)?;
-            Ok(())
+            Ok(false)
         }
     }
 }
 
 /// Takes out of the routes the one for the prefix, if there is one, and puts this one in, if there
-/// is one.
+/// is one. False just where that is another one.
 ///
 /// # Errors
 /// Where memory for one more route is refused.
-pub fn place(routes: &mut Vec<Route>, prefix: Prefix, best: Option<Route>) -> Result<(), AllocError>
+pub fn place(
+    routes: &mut Vec<Route>,
+    prefix: Prefix,
+    best: Option<Route>,
+) -> Result<bool, AllocError>
     requires ascend { Ascend routes.old.items }
     requires its { IfSome best (λ r. r.prefix ≡ prefix) }
-    ensures { OnOk result (IsPlaced routes.old.items routes.new.items prefix best) }
+    ensures placed { OnOk result (IsPlaced routes.old.items routes.new.items prefix best) }
+    ensures stood { IfOk result (λ stood. IsTrue stood → HasStood routes.old.items best) }
+    ensures another { IfOk result (λ stood. stood ≡ false → IsAnother routes.old.items best) }
 {
     match place_of(routes.as_slice(), prefix) {
-        Ok(at) => {
-            replace(routes, prefix, at, best);
-            Ok(())
-        }
-        Err(at) => {
-            add(routes, prefix, at, best)?;
-            Ok(())
-        }
+        Ok(at) => Ok(replace(routes, prefix, at, best)),
+        Err(at) => add(routes, prefix, at, best),
     }
 }

@@ -1,12 +1,16 @@
-use Rattle.std.proofs.Common.{take}
+use Rattle.std.proofs.Common.{◌≡◌, true, false, take}
 use Rattle.offers.specs.Borders.{Ascend}
 use Rattle.routes.specs.Candidates.{AreCandidates}
 use Rattle.routes.specs.Said.{Said, said_at}
-use Rattle.external_updates.specs.Placing.{AreHalfway}
+use Rattle.external_updates.specs.Placing.{AreAllAmong, AreHalfway}
+use Rattle.external_updates.proofs.Halfway.{HasAnotherOf}
 use Rattle.external_updates.proofs.follow.renew_all.Given as goal
 
 abbrev pub invariant-loop-prefix : goal.invariant-loop-prefix
 invariant-loop-prefix l = record {
   ascend : Ascend l.routes.items;
   halfway : (old : Said) → AreCandidates old l.root l.fn.routes.items → AreHalfway old (said_at l.moment l.db.present) l.root (take l.prefix-index l.prefixes) l.routes.items;
+  among : l.none_new ≡ true → AreAllAmong l.fn.routes.items l.routes.items;
+  another : l.none_new ≡ false → (old : Said) → AreCandidates old l.root l.fn.routes.items
+      → HasAnotherOf (said_at l.moment l.db.present) l.root (take l.prefix-index l.prefixes) l.fn.routes.items;
 }

@@ -1,4 +1,4 @@
-use Rattle.std.proofs.Common.{ap, subst, sym, ◌∙◌}
+use Rattle.std.proofs.Common.{◌≡◌, ap, subst, sym, ◌∙◌}
 use Rattle.area_routes.specs.Kept.{AreOffersOf, KeptRoutes, KnowsAnswered, ServesOnlyThen}
 use Rattle.area_routes.specs.Offers.{root_by}
 use Rattle.area_routes.proofs.Externals.{externals_after, same_but}
@@ -48,3 +48,17 @@ pub returns-clause-candidates : goal.returns-clause-candidates
 returns-clause-candidates c on stayed =
     let last = c.keep_externals.new.self in
     c.keep_externals.ensures.others ∙ ap (λ (k : KeptRoutes). record k { externals = last.externals }) (c.in_ok-follow_routes.ensures.candidates on stayed)
+
+pub returns-clause-none_new : goal.returns-clause-none_new
+returns-clause-none_new c brings =
+    let last = c.keep_externals.new.self in
+    let next = c.follow_routes.new.self in
+    let same : last ≡ record next { externals = last.externals } = c.keep_externals.ensures.others in
+    ap (λ (k : KeptRoutes). k.answered) same
+    ∙ c.in_ok-follow_routes.ensures.none_new (record {
+      before = brings.before;
+      now = brings.now;
+      were = brings.were;
+      are = ap (λ (k : KeptRoutes). k.candidates) (sym same) ∙ brings.are;
+      among = brings.among;
+    })

@@ -1,3 +1,4 @@
+use mathlib.Core.Bool.{false≢true}
 use Rattle.routes.specs.Said.{said_at}
 use Rattle.area_routes.proofs.Candidates.{inner_carried}
 use Rattle.area_routes.proofs.kept.AreaRoutes.follow_offers.Goals as goal
@@ -11,3 +12,9 @@ follow_externals-requires-clause-inner c =
     let new = said_at c.args.moment c.args.area.now.present.database in
     let kept = c.args.self.now in
     inner_carried c.inner_routes_are_kept.ensures old new kept.walk.root kept.walk (c.in-Ok.ensures.same c.if-same.true) kept.inner c.requires.inner
+
+pub returns-clause-answered : goal.returns-clause-answered
+returns-clause-answered c answers knew on stale = absurd (false≢true on)
+
+pub returns-clause-none_new : goal.returns-clause-none_new
+returns-clause-none_new c brings = absurd (let no = brings.are in cc)

@@ -1,6 +1,6 @@
 use Rattle.std.proofs.Common.{◌≡◌, false, refl, ap, subst, sym, ◌∙◌}
 use mathlib.Core.Bool.{false≢true}
-use Rattle.area_routes.specs.Kept.{KeptRoutes, KnowsCandidates, KnowsInner}
+use Rattle.area_routes.specs.Kept.{KeptRoutes, KnowsAnswered, KnowsCandidates, KnowsInner}
 use Rattle.area_routes.specs.Offers.{root_by}
 use Rattle.area_routes.proofs.Following.{still_answered, still_inner, still_offers, still_walks}
 use Rattle.kept_routes.specs.Externals.{LeaveCandidates, OfferTheSame}
@@ -97,7 +97,27 @@ returns-then-branch-clause-routes c =
     }
 
 pub returns-then-branch-clause-answered : goal.returns-then-branch-clause-answered
-returns-then-branch-clause-answered c answers knows = λ on. absurd (false≢true (sym c.follow_offers.ensures.answered ∙ on))
+returns-then-branch-clause-answered c answers knows =
+    let old = said_at c.args.before c.args.area.now.settled.database in
+    let new = said_at c.args.moment c.args.area.now.present.database in
+    let is = root_by c.args.router c.args.area.now.present.links in
+    let kept = c.args.self.now in
+    let on = ap (λ (k : KeptRoutes). k.behind) (sym c.self.view_is) ∙ c.if-self.false in
+    let begins : kept.walk.root ≡ is = ap (λ (k : KeptRoutes). k.walk.root) (sym c.self.view_is) ∙ sym c.root.ensures ∙ c.is_root_of.ensures.0 c.if-is_root_of.true in
+    let knew = subst (λ (r : Root). KnowsAnswered old r answers kept) (sym (c.requires.routes.walk.root on)) knows in
+    subst (λ (r : Root). KnowsAnswered new r answers c.follow_offers.new.self) begins (c.follow_offers.ensures.answered answers knew)
+
+pub returns-then-branch-clause-none_new : goal.returns-then-branch-clause-none_new
+returns-then-branch-clause-none_new c brings = c.follow_offers.ensures.none_new brings
+
+pub returns-then-branch-2-clause-none_new : goal.returns-then-branch-2-clause-none_new
+returns-then-branch-2-clause-none_new c brings = refl
+
+pub returns-then-self-clause-none_new : goal.returns-then-self-clause-none_new
+returns-then-self-clause-none_new c brings = absurd (let no = brings.are in cc)
+
+pub returns-clause-none_new : goal.returns-clause-none_new
+returns-clause-none_new c brings = absurd (let no = brings.are in cc)
 
 pub returns-then-branch-clause-walks : goal.returns-then-branch-clause-walks
 returns-then-branch-clause-walks c = record {

@@ -3,7 +3,7 @@ use Rattle.std.specs.Prelude.{IfSome}
 use Rattle.area_routes.specs.Kept.{AreInnerBy}
 use Rattle.candidates.specs.declared.inner.InnerRoutes.{InnerRoutes}
 use Rattle.routes.specs.Said.{said_at}
-use Rattle.area_routes.proofs.kept.followed.Goals as goal
+use Rattle.area_routes.proofs.following.followed.Goals as goal
 
 pub follow_some-requires-clause-inner : goal.follow_some-requires-clause-inner
 follow_some-requires-clause-inner c =

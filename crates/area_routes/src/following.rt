@@ -1,0 +1,132 @@
+//! Candidates that follow AS-external-LSAs (RFC 2328, section 16.6).
+ghost use Rattle.std.specs.Prelude.{◌≡◌, ◌≤◌, IfSome, IsTrue, Some, false};
+ghost use Rattle.area_routes.specs.Kept.{AreInnerBy, HaveAnother, StayAnswered};
+ghost use Rattle.external_updates.specs.Placing.{HasAnother};
+ghost use Rattle.kept_routes.specs.Kept.{IsWalkOf};
+ghost use Rattle.kept_routes.specs.Sameness.{SayTheSame};
+ghost use Rattle.routes.specs.Candidates.{AreCandidates};
+ghost use Rattle.routes.specs.Said.{said_at};
+
+use candidates::InnerRoutes;
+use external_updates::{Followed, follow_externals};
+use flooding::Area;
+use kept_routes::Routes;
+use std::alloc::Global;
+use words::{Route, Second};
+
+/// Candidates that followed an event, and whether each of them was one before.
+#[derive(Drop)]
+pub struct Next {
+    pub candidates: Vec<Route>,
+    pub none_new: bool,
+}
+
+// The candidates of this moment, from those before an event over which AS-external-LSAs alone say
+// something else; None where these are many, or memory is refused.
+fn follow_from(
+    alloc: Global,
+    area: &Area,
+    walk: &Routes,
+    before: Second,
+    moment: Second,
+    inner: &InnerRoutes,
+    routes: Vec<Route>,
+) -> Option<Next>
+    requires order { before ≤ moment }
+    requires same { SayTheSame (Some 4) (said_at before area.now.settled.database)
+        (said_at moment area.now.present.database) }
+    requires walk { IsWalkOf (said_at moment area.now.present.database) walk.now }
+    requires inner { AreInnerBy (said_at moment area.now.present.database) walk.now.root walk.now
+        inner.now }
+    requires routes { AreCandidates (said_at before area.now.settled.database) walk.now.root
+        routes.items }
+    ensures candidates { IfSome result (λ next. AreCandidates
+        (said_at moment area.now.present.database) walk.now.root next.candidates.items) }
+    ensures none_new { IfSome result (λ next. IsTrue next.none_new → StayAnswered
+        (said_at before area.now.settled.database) (said_at moment area.now.present.database)
+        walk.now.root) }
+    ensures another { IfSome result (λ next. next.none_new ≡ false
+        → HasAnother routes.items next.candidates.items) }
+{
+    let mut candidates = routes;
+    let db = area.database();
+    let root = walk.root();
+    let Ok(done) = follow_externals(alloc, db, root, before, moment, inner, &mut candidates) else {
+        return None;
+    };
+    match done {
+        Followed::TooMany => None,
+        Followed::NoneNew => Some(Next {
+            candidates,
+            none_new: true,
+        }),
+        Followed::SomeNew => Some(Next {
+            candidates,
+            none_new: false,
+        }),
+    }
+}
+
+// The same where there may be none.
+fn follow_some(
+    alloc: Global,
+    area: &Area,
+    walk: &Routes,
+    before: Second,
+    moment: Second,
+    inner: &InnerRoutes,
+    kept: Option<Vec<Route>>,
+) -> Option<Next>
+    requires order { before ≤ moment }
+    requires same { SayTheSame (Some 4) (said_at before area.now.settled.database)
+        (said_at moment area.now.present.database) }
+    requires walk { IsWalkOf (said_at moment area.now.present.database) walk.now }
+    requires inner { AreInnerBy (said_at moment area.now.present.database) walk.now.root walk.now
+        inner.now }
+    requires routes { IfSome kept (λ routes. AreCandidates
+        (said_at before area.now.settled.database) walk.now.root routes.items) }
+    ensures candidates { IfSome result (λ next. AreCandidates
+        (said_at moment area.now.present.database) walk.now.root next.candidates.items) }
+    ensures none_new { IfSome result (λ next. IsTrue next.none_new → StayAnswered
+        (said_at before area.now.settled.database) (said_at moment area.now.present.database)
+        walk.now.root) }
+    ensures another { IfSome result (λ next. next.none_new ≡ false
+        → HaveAnother kept next.candidates.items) }
+{
+    match kept {
+        None => None,
+        Some(routes) => follow_from(alloc, area, walk, before, moment, inner, routes),
+    }
+}
+
+/// The same where there may be none, and it may not be known what the LSAs of types 1 to 4 give.
+pub fn followed(
+    alloc: Global,
+    area: &Area,
+    walk: &Routes,
+    before: Second,
+    moment: Second,
+    inner: &Option<InnerRoutes>,
+    kept: Option<Vec<Route>>,
+) -> Option<Next>
+    requires order { before ≤ moment }
+    requires same { SayTheSame (Some 4) (said_at before area.now.settled.database)
+        (said_at moment area.now.present.database) }
+    requires walk { IsWalkOf (said_at moment area.now.present.database) walk.now }
+    requires inner { IfSome inner.now (AreInnerBy (said_at moment area.now.present.database)
+        walk.now.root walk.now) }
+    requires routes { IfSome kept (λ routes. AreCandidates
+        (said_at before area.now.settled.database) walk.now.root routes.items) }
+    ensures candidates { IfSome result (λ next. AreCandidates
+        (said_at moment area.now.present.database) walk.now.root next.candidates.items) }
+    ensures none_new { IfSome result (λ next. IsTrue next.none_new → StayAnswered
+        (said_at before area.now.settled.database) (said_at moment area.now.present.database)
+        walk.now.root) }
+    ensures another { IfSome result (λ next. next.none_new ≡ false
+        → HaveAnother kept next.candidates.items) }
+{
+    match inner {
+        None => None,
+        Some(known) => follow_some(alloc, area, walk, before, moment, known, kept),
+    }
+}
