@@ -34,8 +34,8 @@ returns-in-Some-clause-placed c =
     let placed = subst (λ (ys : List Route). IsPlaced old ys prefix (Some route)) (sym c.write_over.ensures) (written_over old prefix c.requires.ascend c.args.at c.requires.there route its) in
     subst (λ (o : Option Route). IsPlaced old new prefix o) (sym c.in-Some.is) placed
 
-pub stands_at-requires : goal.stands_at-requires
-stands_at-requires c = subst (λ (ys : List Route). c.args.at < length ys) (sym c.as_slice.ensures.value) c.requires.there.within
+pub stands_at-stood-requires : goal.stands_at-stood-requires
+stands_at-stood-requires c = subst (λ (ys : List Route). c.args.at < length ys) (sym c.as_slice.ensures.value) c.requires.there.within
 
 pub returns-in-Some-clause-stood : goal.returns-in-Some-clause-stood
 returns-in-Some-clause-stood c on r is =
