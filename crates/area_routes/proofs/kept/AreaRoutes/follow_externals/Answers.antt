@@ -59,8 +59,8 @@ returns-clause-none_new c brings =
     let are : next.candidates ≡ brings.now = same_Some _ _ brings.are in
     let told = subst (λ (o : Option Next). IfSome o (λ n. n.none_new ≡ false → HaveAnother kept n.candidates.items)) c.in-Some.is c.followed-next.ensures.another in
     let another : next.none_new ≡ false → HasAnother brings.before.items brings.now.items = λ off.
-        subst (λ (v : Vec Route Global). HasAnother brings.before.items v.items) are
-        (subst (λ (o : Option (Vec Route Global)). HaveAnother o next.candidates.items) were (told off)) in
+    subst (λ (v : Vec Route Global). HasAnother brings.before.items v.items) are
+    (subst (λ (o : Option (Vec Route Global)). HaveAnother o next.candidates.items) were (told off)) in
     c.both.ensures ∙ and_true c.self.inside.answered next.none_new (none_another next.none_new brings.before.items brings.now.items another brings.among)
     ∙ ap (λ (k : KeptRoutes). k.answered) c.self.view_is
 
