@@ -1,5 +1,5 @@
 pub mod Roots
 pub mod Limits
 pub mod Candidates
-pub mod Following
+pub mod AfterExternals
 pub mod Externals

@@ -2,7 +2,7 @@ use Rattle.std.proofs.Common.{◌≡◌, false, refl, ap, subst, sym, ◌∙◌}
 use mathlib.Core.Bool.{false≢true}
 use Rattle.area_routes.specs.Kept.{KeptRoutes, KnowsAnswered, KnowsCandidates, KnowsInner}
 use Rattle.area_routes.specs.Offers.{root_by}
-use Rattle.area_routes.proofs.Following.{still_answered, still_inner, still_offers, still_walks}
+use Rattle.area_routes.proofs.AfterExternals.{still_answered, still_inner, still_offers, still_walks}
 use Rattle.kept_routes.specs.Externals.{LeaveCandidates, OfferTheSame}
 use Rattle.kept_routes.specs.Kept.{IsWalkOf, KeptWalk}
 use Rattle.routes.specs.Said.{said_at}
