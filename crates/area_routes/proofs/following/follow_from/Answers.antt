@@ -37,7 +37,7 @@ follow_externals-requires-clause-routes c =
 
 pub returns-in-SomeNew-clause-candidates : goal.returns-in-SomeNew-clause-candidates
 returns-in-SomeNew-clause-candidates c =
-    let items = c.follow_externals.new.candidates.items in
+    let items = c.follow_externals.new.routes.items in
     let here = c.database-db.result.now in
     let done = subst (λ (f : Followed). HaveFollowed (said_at c.args.moment here.present) c.root-root.result.now c.args.routes.items items f) c.in-SomeNew.is c.in-Ok.ensures in
     subst (λ (d : RouterDatabase). AreCandidates (said_at c.args.moment d.present) c.args.walk.now.root items) c.database-db.ensures
@@ -45,7 +45,7 @@ returns-in-SomeNew-clause-candidates c =
 
 pub returns-in-NoneNew-clause-candidates : goal.returns-in-NoneNew-clause-candidates
 returns-in-NoneNew-clause-candidates c =
-    let items = c.follow_externals.new.candidates.items in
+    let items = c.follow_externals.new.routes.items in
     let here = c.database-db.result.now in
     let done = subst (λ (f : Followed). HaveFollowed (said_at c.args.moment here.present) c.root-root.result.now c.args.routes.items items f) c.in-NoneNew.is c.in-Ok.ensures in
     subst (λ (d : RouterDatabase). AreCandidates (said_at c.args.moment d.present) c.args.walk.now.root items) c.database-db.ensures
@@ -53,7 +53,7 @@ returns-in-NoneNew-clause-candidates c =
 
 pub returns-in-NoneNew-clause-none_new : goal.returns-in-NoneNew-clause-none_new
 returns-in-NoneNew-clause-none_new c on =
-    let items = c.follow_externals.new.candidates.items in
+    let items = c.follow_externals.new.routes.items in
     let here = c.database-db.result.now in
     let old = said_at c.args.before c.args.area.now.settled.database in
     let new = said_at c.args.moment c.args.area.now.present.database in
@@ -65,7 +65,7 @@ returns-in-SomeNew-clause-none_new c on = absurd (false≢true on)
 
 pub returns-in-SomeNew-clause-another : goal.returns-in-SomeNew-clause-another
 returns-in-SomeNew-clause-another c off =
-    let items = c.follow_externals.new.candidates.items in
+    let items = c.follow_externals.new.routes.items in
     let here = c.database-db.result.now in
     let done = subst (λ (f : Followed). HaveFollowed (said_at c.args.moment here.present) c.root-root.result.now c.args.routes.items items f) c.in-SomeNew.is c.in-Ok.ensures in
     done.1

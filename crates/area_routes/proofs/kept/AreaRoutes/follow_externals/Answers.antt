@@ -14,16 +14,16 @@ use Rattle.routes.specs.Said.{said_at}
 use Rattle.routes.specs.declared.root.Root.{Root}
 use Rattle.area_routes.proofs.kept.AreaRoutes.follow_externals.Goals as goal
 
-pub followed-requires-clause-walk : goal.followed-requires-clause-walk
-followed-requires-clause-walk c =
+pub followed-next-requires-clause-walk : goal.followed-next-requires-clause-walk
+followed-next-requires-clause-walk c =
     subst (λ (k : KeptRoutes). IsWalkOf (said_at c.args.moment c.args.area.now.present.database) k.walk) (sym c.self.view_is) c.requires.walk
 
-pub followed-requires-clause-inner : goal.followed-requires-clause-inner
-followed-requires-clause-inner c =
+pub followed-next-requires-clause-inner : goal.followed-next-requires-clause-inner
+followed-next-requires-clause-inner c =
     subst (λ (k : KeptRoutes). KnowsInner (said_at c.args.moment c.args.area.now.present.database) k.walk.root k) (sym c.self.view_is) c.requires.inner
 
-pub followed-requires-clause-routes : goal.followed-requires-clause-routes
-followed-requires-clause-routes c =
+pub followed-next-requires-clause-routes : goal.followed-next-requires-clause-routes
+followed-next-requires-clause-routes c =
     let old = said_at c.args.before c.args.area.now.settled.database in
     let knew = subst (λ (k : KeptRoutes). KnowsCandidates old k.walk.root k) (sym c.self.view_is) c.requires.candidates in
     subst (λ (o : Option (Vec Route Global)). IfSome o (λ routes. AreCandidates old c.self.inside.walk.root routes.items)) (sym c.take-kept.ensures.value) knew
@@ -46,7 +46,7 @@ returns-clause-answered c answers knew on stale =
     let new = said_at c.args.moment c.args.area.now.present.database in
     let root = c.self.inside.walk.root in
     let same = ap (λ (k : KeptRoutes). k.walk.root) c.self.view_is in
-    let were = and_parts _ _ (sym c.both.ensures ∙ on) in
+    let were = and_parts _ _ (sym c.both-self-inside.ensures ∙ on) in
     let none = subst (λ (o : Option Next). IfSome o (λ next. next.none_new ≡ true → StayAnswered old new root)) c.in-Some.is c.followed-next.ensures.none_new in
     let stays = subst (StayAnswered old new) same (none were.1) in
     knew (sym (ap (λ (k : KeptRoutes). k.answered) c.self.view_is) ∙ were.0) (stays answers stale)
@@ -61,7 +61,7 @@ returns-clause-none_new c brings =
     let another : next.none_new ≡ false → HasAnother brings.before.items brings.now.items = λ off.
     subst (λ (v : Vec Route Global). HasAnother brings.before.items v.items) are
     (subst (λ (o : Option (Vec Route Global)). HaveAnother o next.candidates.items) were (told off)) in
-    c.both.ensures ∙ and_true c.self.inside.answered next.none_new (none_another next.none_new brings.before.items brings.now.items another brings.among)
+    c.both-self-inside.ensures ∙ and_true c.self.inside.answered next.none_new (none_another next.none_new brings.before.items brings.now.items another brings.among)
     ∙ ap (λ (k : KeptRoutes). k.answered) c.self.view_is
 
 pub returns-in_default-clause-inner : goal.returns-in_default-clause-inner
