@@ -2,7 +2,7 @@
 use Rattle.std.proofs.Common.{◌≡◌, ℕ, false, Option, None, Some, refl, subst, ◌∙◌}
 use Rattle.area_routes.specs.Kept.{AreKept, AreRoutesOf, KeptRoutes, ServesOnlyThen}
 use Rattle.area_routes.specs.Offers.{root_by}
-use Rattle.area_routes.proofs.Following.{unanswered}
+use Rattle.area_routes.proofs.AfterExternals.{unanswered}
 use Rattle.events.specs.declared.model.CoreError.{CoreError}
 use Rattle.events.specs.Refusals.{MayRunOut}
 use Rattle.events.specs.Routers.{Router}
