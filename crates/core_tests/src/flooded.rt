@@ -64,6 +64,7 @@ impl Flooded {
         is_there || self.adds(interface, instance, moment)
     }
 
+    // One allocation may be refused.
     fn adds(&mut self, interface: u16, instance: &Named, moment: u64) -> bool {
         let entry = Entry {
             interface,
@@ -72,7 +73,8 @@ impl Flooded {
             is_acknowledged: false,
             is_lost: false,
         };
-        self.entries.push(entry).is_ok()
+        let has_room = self.entries.reserve(1).is_ok() || self.entries.reserve(1).is_ok();
+        self.entries.push(entry).is_ok() && has_room
     }
 
     /// The neighbor at this interface isn't Full.

@@ -1,7 +1,7 @@
 //! A router, and what it knows.
 use crate::flooded::Flooded;
 use crate::named::{Kind, Named, first_place, header_in, kind_of, place_behind};
-use flood::{Config, Core, Event, Interface, Out, State};
+use flood::{Config, Core, CoreError, Event, Interface, Out, State};
 use lsa::Header;
 use std::alloc::Global;
 use words::{Address, RouterId, Second, Sequence};
@@ -72,8 +72,8 @@ fn configuration(alloc: Global, router: RouterId, start: Second) -> Option<Confi
     }
 }
 
-/// The router of a place as it begins at this moment.
-pub fn begun(alloc: Global, place: usize, start: Second) -> Option<Core> {
+// The router of a place as it begins at this moment.
+fn started(alloc: Global, place: usize, start: Second) -> Option<Core> {
     let config = configuration(alloc, router_at(place), start)?;
     match Core::new(alloc, &config) {
         Ok(core) => Some(core),
@@ -81,10 +81,19 @@ pub fn begun(alloc: Global, place: usize, start: Second) -> Option<Core> {
     }
 }
 
-// What is sent; None where the event is refused.
+/// The router of a place as it begins at this moment. One allocation may be refused.
+pub fn begun(alloc: Global, place: usize, start: Second) -> Option<Core> {
+    match started(alloc, place, start) {
+        None => started(alloc, place, start),
+        made => made,
+    }
+}
+
+// What is sent; None where the event is refused. One allocation may be refused.
 fn stepped(core: &mut Core, moment: Second, event: &Event) -> Option<Vec<Out>> {
     match core.step(moment, event) {
         Ok(outs) => Some(outs),
+        Err(CoreError::Memory) => core.step(moment, event).ok(),
         Err(_) => None,
     }
 }
@@ -110,8 +119,13 @@ impl Member {
         false
     }
 
+    // One allocation may be refused.
     fn learns(&mut self, instance: &Named) -> bool {
-        self.knows(instance) || self.known.push(*instance).is_ok()
+        if self.knows(instance) {
+            return true;
+        }
+        let has_room = self.known.reserve(1).is_ok() || self.known.reserve(1).is_ok();
+        self.known.push(*instance).is_ok() && has_room
     }
 
     // Acknowledged was received: what an Update brings is known from now on, as is an own instance

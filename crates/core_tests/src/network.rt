@@ -116,6 +116,14 @@ fn some_leads(routes: &[Route], prefix: Prefix, interface: u16) -> bool {
     false
 }
 
+// The candidates. One allocation may be refused.
+fn candidates(core: &Core) -> Option<Vec<Route>> {
+    match core.candidates() {
+        Ok(routes) => Some(routes),
+        Err(_) => core.candidates().ok(),
+    }
+}
+
 // What the router at a place sends; None where it isn't there or doesn't take the event.
 fn taken(members: &mut [Member], place: usize, moment: u64, event: &Event) -> Option<Vec<Out>> {
     members.get_mut(place)?.takes(moment, event)
@@ -129,7 +137,11 @@ fn joins(members: &mut Vec<Member>, alloc: Global, place: usize) -> bool {
     }
 }
 
+// One allocation may be refused.
 fn all_join(members: &mut Vec<Member>, alloc: Global, count: usize) -> bool {
+    if members.reserve(count).is_err() && members.reserve(count).is_err() {
+        return false;
+    }
     for place in 0..count {
         if !joins(members, alloc, place) {
             return false;
@@ -159,12 +171,18 @@ impl Network {
     /// Lets the routers go.
     pub fn close(self) {}
 
+    // Whether there is room for one more packet. One allocation may be refused.
+    fn has_room(&mut self) -> bool {
+        self.packets.reserve(1).is_ok() || self.packets.reserve(1).is_ok()
+    }
+
     // The packet is under way, if its interface leads somewhere.
     fn sends(&mut self, place: usize, out: Out) -> bool {
         match other_end(place, out.interface) {
             Some((to, at)) if to < self.members.len() => {
+                let has_room = self.has_room();
                 let event = Event::Packet(at, out.bytes);
-                self.packets.push(Coming { to, event }).is_ok()
+                self.packets.push(Coming { to, event }).is_ok() && has_room
             }
             _ => true,
         }
@@ -351,9 +369,9 @@ impl Network {
         let (Some(member), Some(prefix)) = (self.members.get(place), prefix(number)) else {
             return false;
         };
-        match member.core.candidates() {
-            Ok(routes) => some_leads(&routes, prefix, interface),
-            Err(_) => false,
+        match candidates(&member.core) {
+            Some(routes) => some_leads(&routes, prefix, interface),
+            None => false,
         }
     }
 

@@ -55,6 +55,14 @@ fn started(alloc: Global, interfaces: u32) -> Option<Core> {
     }
 }
 
+// The same. One allocation may be refused.
+fn router(alloc: Global, interfaces: u32) -> Option<Core> {
+    match started(alloc, interfaces) {
+        None => started(alloc, interfaces),
+        made => made,
+    }
+}
+
 // What shows that a refusal changed nothing.
 fn shown(core: &Core) -> (Second, usize, usize, u64) {
     let heard = (0..64).filter(|number| core.neighbor(*number).is_some());
@@ -103,7 +111,7 @@ impl<R: Wait + Drop + Copy> Trial<R> {
     /// 1.1.1.1 with so many interfaces, started at 0.
     pub fn new(alloc: Global, rt: R, interfaces: u32) -> Result<Trial<R>, Fail> {
         let operator = Operator::new(alloc, rt)?;
-        let Some(core) = started(alloc, interfaces) else {
+        let Some(core) = router(alloc, interfaces) else {
             return Err(Fail::new("no router"));
         };
         let walks = core.walks();

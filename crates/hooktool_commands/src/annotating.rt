@@ -4,6 +4,7 @@ ghost use Rattle.std.specs.Prelude.{◌≡◌, List, ℕ, false, true, IfOk, str
 ghost use Rattle.object_verdicts.specs.Verdicts.{Accepts};
 ghost use Rattle.hooktool_commands.specs.Annotations.{IsAnnotated, accepted_line};
 
+use crate::explaining::lacks_memory;
 use crate::fault::Fault;
 use crate::files;
 use crate::report::Report;
@@ -40,15 +41,26 @@ fn push_endless(out: &mut String, endless: &Endless) -> Result<(), AllocError> {
     )
 }
 
+/// The last two texts of an explanation. An error where the verifier was refused memory.
+fn last_told(explanation: Explanation) -> Result<String, AllocError> {
+    let Explanation {
+        last,
+        told,
+        verdict,
+        ..
+    } = explanation;
+    if lacks_memory(&verdict) {
+        return Err(AllocError);
+    }
+    let mut text = last;
+    text.push_str(told.as_str())?;
+    Ok(text)
+}
+
 /// Where the verifier refuses the object file that these bytes are, and why.
 fn why_refused(alloc: Global, bytes: &[u8]) -> Result<String, AllocError> {
     match explain(alloc, bytes) {
-        Ok(explanation) => {
-            let Explanation { last, told, .. } = explanation;
-            let mut text = last;
-            text.push_str(told.as_str())?;
-            Ok(text)
-        }
+        Ok(explanation) => last_told(explanation),
         Err(_) => Err(AllocError),
     }
 }

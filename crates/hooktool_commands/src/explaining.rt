@@ -40,15 +40,24 @@ fn whole(explanation: Explanation) -> Result<String, AllocError>
     Ok(text)
 }
 
+/// Whether no verdict was reached for want of memory. The bytes were read before as an object with
+/// code: if they are none now, that is want of memory too.
+pub(crate) fn lacks_memory(verdict: &Result<Accepted, VerifyError>) -> bool {
+    match verdict {
+        Ok(_) => false,
+        Err(VerifyError::Refused(refusal)) => refusal.rule == Rule::Memory,
+        Err(_) => true,
+    }
+}
+
 /// Whether the program is refused. A fault where no verdict was reached for want of memory.
 fn is_refusal<'a>(verdict: &Result<Accepted, VerifyError>) -> Result<bool, Fault<'a>>
     ensures { IfOk result (λ refused. refused ≡ is_err verdict.now) }
 {
-    match verdict {
-        Ok(_) => Ok(false),
-        Err(VerifyError::Refused(refusal)) if refusal.rule == Rule::Memory => Err(Fault::Memory),
-        Err(_) => Ok(true),
+    if lacks_memory(verdict) {
+        return Err(Fault::Memory);
     }
+    Ok(verdict.is_err())
 }
 
 /// What is told of the object file that these bytes are.

@@ -191,15 +191,31 @@ fn is_told(explanation: &Explanation, row: &Row) -> bool {
     explanation.verdict.is_err() && told.starts_with(row.refusal) && has_all(told, row.words)
 }
 
-/// Whether the row's program is refused in its words.
+/// Whether the verifier was refused memory, also where it read the object.
+fn lacks_memory(explanation: &Explanation) -> bool {
+    let told = explanation.told.as_str();
+    told.is_empty() || told.contains(" Memory\n")
+}
+
+/// Whether the program is refused in the row's words; None where memory was refused.
+fn explains(alloc: Global, bytes: &[u8], row: &Row) -> Option<bool> {
+    match explain(alloc, bytes) {
+        Ok(explanation) if lacks_memory(&explanation) => None,
+        Ok(explanation) => Some(is_told(&explanation, row)),
+        Err(_) => None,
+    }
+}
+
+/// Whether the row's program is refused in its words. One allocation may be refused.
 fn is_explained(alloc: Global, row: &Row) -> bool {
     let Some(bytes) = object_of(alloc, row.text) else {
         return false;
     };
-    match explain(alloc, &bytes) {
-        Ok(explanation) => is_told(&explanation, row),
-        Err(_) => false,
-    }
+    let told = match explains(alloc, &bytes, row) {
+        None => explains(alloc, &bytes, row),
+        told => told,
+    };
+    told == Some(true)
 }
 
 #[test]

@@ -2,7 +2,8 @@
 use crate::codes;
 use crate::session::object_of;
 use annotations::{CountError, Shortfall, annotate_file};
-use isa::Hook;
+use isa::{DecodeFault, Hook};
+use object::ReadError;
 use std::alloc::Global;
 
 /// A text without statements, and the bound that its code has with those of its own.
@@ -83,11 +84,31 @@ const TEXTS: [(&str, Hook, u64); 11] = [
     ),
 ];
 
-/// The bound with which the file is accepted, or 0.
-fn bound_of(alloc: Global, hook: Hook, file: &[u8], turns: Option<u32>) -> u64 {
+/// What a bound is told as where memory was refused.
+const MEMORY: u64 = u64::MAX;
+
+fn lacks_memory(shortfall: &Shortfall) -> bool {
+    match shortfall {
+        Shortfall::Memory | Shortfall::Uncounted(CountError::Memory) => true,
+        Shortfall::Object(ReadError::Memory) => true,
+        Shortfall::Code(error) => error.kind == DecodeFault::Memory,
+        _ => false,
+    }
+}
+
+fn bound_once(alloc: Global, hook: Hook, file: &[u8], turns: Option<u32>) -> u64 {
     match annotate_file(alloc, hook, file, turns) {
         Ok(annotated) => annotated.accepted.bound(),
+        Err(shortfall) if lacks_memory(&shortfall) => MEMORY,
         Err(_) => 0,
+    }
+}
+
+/// The bound with which the file is accepted, or 0. One allocation may be refused.
+fn bound_of(alloc: Global, hook: Hook, file: &[u8], turns: Option<u32>) -> u64 {
+    match bound_once(alloc, hook, file, turns) {
+        MEMORY => bound_once(alloc, hook, file, turns),
+        bound => bound,
     }
 }
 
@@ -124,10 +145,18 @@ const CODES: [(&str, Hook, Option<u32>, u64); 13] = [
     (codes::PER_NEIGHBOR, Hook::Count, None, 24),
 ];
 
-fn bound_of_digits(alloc: Global, hook: Hook, digits: &str, turns: Option<u32>) -> u64 {
+/// The code that these digits are. One allocation may be refused.
+fn code_of(alloc: Global, digits: &str) -> Option<Vec<u8>> {
     match hex::decode(alloc, digits) {
-        Ok(code) => bound_of(alloc, hook, &code, turns),
-        Err(_) => 0,
+        Ok(code) => Some(code),
+        Err(_) => hex::decode(alloc, digits).ok(),
+    }
+}
+
+fn bound_of_digits(alloc: Global, hook: Hook, digits: &str, turns: Option<u32>) -> u64 {
+    match code_of(alloc, digits) {
+        Some(code) => bound_of(alloc, hook, &code, turns),
+        None => 0,
     }
 }
 
@@ -142,14 +171,34 @@ fn programs_in_c_are_accepted(rt: HostRuntime) {
     }
 }
 
-/// Whether so many turns of the code's loops can't be counted.
+/// Why no object is made, if that is for the turns or for want of memory.
+fn reason(shortfall: &Shortfall) -> Option<CountError> {
+    if lacks_memory(shortfall) {
+        return Some(CountError::Memory);
+    }
+    match shortfall {
+        Shortfall::Uncounted(error) => Some(*error),
+        _ => None,
+    }
+}
+
+fn counts(alloc: Global, code: &[u8], turns: u32) -> Option<CountError> {
+    match annotate_file(alloc, Hook::Count, code, Some(turns)) {
+        Ok(_) => None,
+        Err(shortfall) => reason(&shortfall),
+    }
+}
+
+/// Whether so many turns of the code's loops can't be counted. One allocation may be refused.
 fn are_too_many(alloc: Global, digits: &str, turns: u32) -> bool {
-    match hex::decode(alloc, digits) {
-        Ok(code) => matches!(
-            annotate_file(alloc, Hook::Count, &code, Some(turns)),
-            Err(Shortfall::Uncounted(CountError::TooMany))
-        ),
-        Err(_) => false,
+    let Some(code) = code_of(alloc, digits) else {
+        return false;
+    };
+    match counts(alloc, &code, turns) {
+        Some(CountError::Memory) => {
+            matches!(counts(alloc, &code, turns), Some(CountError::TooMany))
+        }
+        counted => matches!(counted, Some(CountError::TooMany)),
     }
 }
 
