@@ -4,10 +4,11 @@ ghost use Rattle.std.specs.FinMap as finite;
 
 use crate::area::{Row, database, moment, root, rows, rows_of_lsas};
 use crate::lines::{announced, lsas_of};
+use crate::settled::have_ids;
 use crate::texts::{LinkText, Name, router};
 use crate::worked::{TWO, TWO_ADDRESSES};
 use kept_routes::{Routes, say_the_same};
-use lsa::Lsa;
+use lsa::{Body, Lsa};
 use lsdb::Lsdb;
 use routes::Root;
 use std::alloc::Global;
@@ -32,6 +33,10 @@ enum Step {
     // so many seconds after it was settled, the LSAs of types 1 and 2 say the same or don't, and so
     // do all
     Same(u64, bool, bool),
+    // what the LSAs of these Link State IDs say so many seconds after isn't what they said
+    Changed(u64, &'static [u32]),
+    // what the other router's LSA said counts so many seconds after, and has so many links
+    Said(u64, Option<usize>),
 }
 
 fn later(seconds: u64) -> Second {
@@ -91,6 +96,19 @@ fn same_later(alloc: Global, db: &Lsdb, seconds: u64) -> Result<(bool, bool), Fa
     Ok((links, all))
 }
 
+fn have_changed(alloc: Global, db: &Lsdb, seconds: u64, ids: &[u32]) -> Result<bool, Fail> {
+    let keys = db.changed_keys(alloc, later(seconds))?;
+    Ok(have_ids(&keys, ids))
+}
+
+// How many links the other router had.
+fn links_said(db: &Lsdb, seconds: u64) -> Option<usize> {
+    match db.settled_body_at(later(seconds), &other_key()) {
+        Some(Body::Router(said)) => Some(said.links.as_slice().len()),
+        _ => None,
+    }
+}
+
 // Does the step; false where LSAs say the same and were expected not to, or the other way round.
 fn took(alloc: Global, db: &mut Lsdb, step: Step) -> Result<bool, Fail> {
     match step {
@@ -104,6 +122,8 @@ fn took(alloc: Global, db: &mut Lsdb, step: Step) -> Result<bool, Fail> {
         Step::Same(seconds, links, all) => {
             return Ok(same_later(alloc, db, seconds)? == (links, all));
         }
+        Step::Changed(seconds, ids) => return have_changed(alloc, db, seconds, ids),
+        Step::Said(seconds, links) => return Ok(links_said(db, seconds) == links),
     }
     Ok(true)
 }
@@ -157,6 +177,41 @@ const STEPS: [Step; 24] = [
     Step::Same(1, false, false),
 ];
 
+const CHANGES: [Step; 26] = [
+    // nothing is new; the LSAs were of age 1 when they came in, and are of MaxAge 3599 seconds
+    // later
+    Step::Changed(3599, &[]),
+    Step::Said(3598, Some(3)),
+    Step::Said(3599, None),
+    // what comes in again a second later says the same, until what was there is of MaxAge
+    Step::Renew,
+    Step::Changed(3598, &[]),
+    Step::Changed(3599, &[0x0101_0101, 0x0202_0202]),
+    Step::RollBack,
+    // of two edits the first tells what was said; and then what was said comes back
+    Step::Install(3),
+    Step::Install(4),
+    Step::Changed(1, &[0x0202_0202]),
+    Step::Said(1, Some(3)),
+    Step::Renew,
+    Step::Changed(1, &[]),
+    Step::RollBack,
+    // destinations come in; that one LSA is sent changes nothing
+    Step::Announce(2),
+    Step::Send,
+    Step::Changed(1, &[0xcb00_0000, 0xcb00_0100]),
+    Step::Said(1, Some(3)),
+    Step::RollBack,
+    // an LSA is flushed, or removed
+    Step::Flush,
+    Step::Changed(1, &[0x0202_0202]),
+    Step::Said(1, Some(3)),
+    Step::RollBack,
+    Step::Remove,
+    Step::Changed(1, &[0x0202_0202]),
+    Step::Said(1, Some(3)),
+];
+
 // The first of these steps after which something else was expected of the database of two routers.
 fn first_wrong_of_two(alloc: Global, steps: &[Step]) -> Result<Option<usize>, Fail> {
     let mut db = two(alloc)?;
@@ -166,6 +221,13 @@ fn first_wrong_of_two(alloc: Global, steps: &[Step]) -> Result<Option<usize>, Fa
 #[test]
 fn what_makes_lsas_say_something_else(rt: HostRuntime) -> Result<(), Fail> {
     let wrong = first_wrong_of_two(rt.alloc(), &STEPS)?;
+    assert!(rt; wrong.is_none(), "{wrong:?}");
+    Ok(())
+}
+
+#[test]
+fn what_lsas_said_when_the_database_was_settled(rt: HostRuntime) -> Result<(), Fail> {
+    let wrong = first_wrong_of_two(rt.alloc(), &CHANGES)?;
     assert!(rt; wrong.is_none(), "{wrong:?}");
     Ok(())
 }

@@ -1,13 +1,15 @@
-//! Tests of a router's parts by their public calls: `lsdb`, `neighbor_places`, `routes`,
-//! `shortest_paths`, `candidates`, `tables`, `kept_routes` and `forwarding_loops`; and of `words`,
-//! `lsa`, `packet` and `console`. They stand above, since a crate is proved once more for its
-//! tests.
+//! Tests of a router's parts by their public calls: `keyed_map`, `lsdb`, `neighbor_places`,
+//! `routes`, `shortest_paths`, `candidates`, `tables`, `kept_routes` and `forwarding_loops`; and of
+//! `words`, `lsa`, `packet` and `console`. They stand above, since a crate is proved once more for
+//! its tests.
 #![tactic(auto)]
 
 #[cfg(test)]
 mod area;
 #[cfg(test)]
 mod databases;
+#[cfg(test)]
+mod externals;
 #[cfg(test)]
 mod instances;
 #[cfg(test)]
@@ -24,6 +26,8 @@ mod plain;
 mod played;
 #[cfg(test)]
 mod random;
+#[cfg(test)]
+mod settled;
 #[cfg(test)]
 mod tables_of;
 #[cfg(test)]

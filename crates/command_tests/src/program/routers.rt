@@ -29,8 +29,13 @@ impl Routing for OneLine {
     }
 }
 
-// The status of a router that ends so, which has the configuration and the console's first line.
-fn expect_status<R: Files + AllocGlobal + Threads + Sync + Abort>(rt: &R, path: &str, status: u8) {
+// The status of a router that ends so, and whether it has the configuration and the console's first
+// line.
+fn status_of<R: Files + AllocGlobal + Threads + Sync>(
+    rt: &R,
+    path: &str,
+    status: u8,
+) -> (u8, bool) {
     let mut input: &[u8] = b"quit\n".as_slice();
     let mut output = Vec::new(rt.alloc());
     let mut errors = Vec::new(rt.alloc());
@@ -41,7 +46,16 @@ fn expect_status<R: Files + AllocGlobal + Threads + Sync + Abort>(rt: &R, path: 
     let words = ["routerd", "route", path];
     let got = program(rt, &router, &words, &mut input, &mut output, &mut errors);
     let printed = output.as_slice() == b"router 1.1.1.1\nquit\n".as_slice();
-    assert!(rt; got == status && printed && errors.is_empty(), "{got}");
+    (got, printed && errors.is_empty())
+}
+
+// A router that ends so has both. An allocation may be refused once.
+fn expect_status<R: Files + AllocGlobal + Threads + Sync + Abort>(rt: &R, path: &str, status: u8) {
+    let mut ended = status_of(rt, path, status);
+    if ended != (status, true) && (ended.0 == 3 || ended.0 == 4) {
+        ended = status_of(rt, path, status);
+    }
+    assert!(rt; ended == (status, true), "{}", ended.0);
 }
 
 #[test]

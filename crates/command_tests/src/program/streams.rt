@@ -30,8 +30,23 @@ impl io::Write for Failing {
     }
 }
 
-// The status where the output takes so many bytes, and the errors' writer so many.
+// The status where the output takes so many bytes, and the errors' writer so many, which is to be
+// this one. An allocation may be refused once.
 fn status_with<R: Files + AllocGlobal + Threads + Sync>(
+    rt: &R,
+    words: &[&str],
+    output: usize,
+    errors: usize,
+    wanted: u8,
+) -> u8 {
+    let status = status_once(rt, words, output, errors);
+    if status != wanted && (status == 3 || status == 4) {
+        return status_once(rt, words, output, errors);
+    }
+    status
+}
+
+fn status_once<R: Files + AllocGlobal + Threads + Sync>(
     rt: &R,
     words: &[&str],
     output: usize,
@@ -57,9 +72,9 @@ fn fails_below<R: Files + AllocGlobal + Threads + Sync + Abort>(
     status: u8,
 ) {
     for taken in 0..length {
-        assert_eq!(rt; status_with(rt, words, taken, 0), 3, "{taken}");
+        assert_eq!(rt; status_with(rt, words, taken, 0, 3), 3, "{taken}");
     }
-    assert_eq!(rt; status_with(rt, words, length, 0), status);
+    assert_eq!(rt; status_with(rt, words, length, 0, status), status);
 }
 
 // Writes a file with this path.
@@ -91,11 +106,11 @@ fn usage_fails_below<R: Files + AllocGlobal + Threads + Sync + Abort>(
 ) {
     for part in 0..8usize {
         let taken = (length / 8).wrapping_mul(part);
-        assert_eq!(rt; status_with(rt, words, 0, taken), 3, "{taken}");
+        assert_eq!(rt; status_with(rt, words, 0, taken, 3), 3, "{taken}");
     }
     let short = length.saturating_sub(1);
-    assert_eq!(rt; status_with(rt, words, 0, short), 3);
-    assert_eq!(rt; status_with(rt, words, 0, length), status);
+    assert_eq!(rt; status_with(rt, words, 0, short, 3), 3);
+    assert_eq!(rt; status_with(rt, words, 0, length, status), status);
 }
 
 #[test]
@@ -107,10 +122,11 @@ fn usage_that_cant_be_told_ends_with_3(rt: HostRuntime) -> Result<(), Fail> {
     Ok(())
 }
 
-// What is printed where the words can't be read for this cause. An allocation may be refused once.
-fn without_words(alloc: Global, cause: io::ErrorKind) -> Result<Outcome, Fail> {
+// What is printed where the words can't be read for this cause, which is to end with this status. An
+// allocation may be refused once.
+fn without_words(alloc: Global, cause: io::ErrorKind, status: u8) -> Result<Outcome, Fail> {
     let outcome = without_words_once(alloc, cause)?;
-    if outcome.lacks_memory() {
+    if outcome.lacks_memory() && outcome.status != status {
         return without_words_once(alloc, cause);
     }
     Ok(outcome)
@@ -126,7 +142,7 @@ fn without_words_once(alloc: Global, cause: io::ErrorKind) -> Result<Outcome, Fa
 
 #[test]
 fn words_that_cant_be_read_are_told(rt: HostRuntime) -> Result<(), Fail> {
-    let outcome = without_words(rt.alloc(), io::ErrorKind::InvalidData)?;
+    let outcome = without_words(rt.alloc(), io::ErrorKind::InvalidData, 2)?;
     assert!(rt;
         outcome
             .usage
@@ -139,7 +155,7 @@ fn words_that_cant_be_read_are_told(rt: HostRuntime) -> Result<(), Fail> {
 
 #[test]
 fn want_of_memory_for_words_is_told(rt: HostRuntime) -> Result<(), Fail> {
-    let outcome = without_words(rt.alloc(), io::ErrorKind::OutOfMemory)?;
+    let outcome = without_words(rt.alloc(), io::ErrorKind::OutOfMemory, 4)?;
     compare(&rt, &outcome, 4, "out of memory\n");
     Ok(())
 }

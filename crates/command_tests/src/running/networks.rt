@@ -178,8 +178,20 @@ impl<'a, R: Wait + Clock> Read for Operator<'a, R> {
     }
 }
 
-// Runs the router of this screen, one of these. The status, or 9 where it doesn't run.
+// Runs the router of this screen, one of these. The status, or 9 where it doesn't run. An allocation
+// may be refused once: then it is run once more.
 fn routed<R: Net + Threads + Wait + Clock + Log + Files + AllocGlobal + Sync + Drop>(
+    rt: &R,
+    screens: &[Screen],
+    screen: &Screen,
+) -> u8 {
+    match routed_once(rt, screens, screen) {
+        9 => routed_once(rt, screens, screen),
+        status => status,
+    }
+}
+
+fn routed_once<R: Net + Threads + Wait + Clock + Log + Files + AllocGlobal + Sync + Drop>(
     rt: &R,
     screens: &[Screen],
     screen: &Screen,

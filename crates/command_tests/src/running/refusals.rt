@@ -1,16 +1,33 @@
 //! Routers that don't run.
 use daemon::{RouteError, run_router};
+use log::Log;
 use std::io::Cursor;
+use std::net::Net;
 use std::process::Abort;
+use std::rt::Files;
+use std::sync::Wait;
 use std::test::Fail;
+use std::thread::Threads;
+use std::time::Clock;
 
-#[test]
-fn a_wrong_line_is_named(rt: HostRuntime) -> Result<(), Fail> {
+// The line that is wrong in a configuration without interfaces, of which nothing is printed; 0 where
+// that isn't so, None where memory was refused.
+fn wrong_line<R: Net + Threads + Wait + Clock + Log + Files + AllocGlobal + Sync + Drop>(
+    rt: &R,
+) -> Option<u64> {
     let mut output = Vec::new(rt.alloc());
     let mut input = Cursor::new(b"quit\n".as_slice());
-    let ended = run_router(&rt, "router 1.1.1.1\n", &mut input, &mut output);
-    let is_named = matches!(ended, Err(RouteError::Configuration(2)));
-    assert!(rt; is_named && output.is_empty());
+    match run_router(rt, "router 1.1.1.1\n", &mut input, &mut output) {
+        Err(RouteError::Configuration(line)) if output.is_empty() => Some(line),
+        Err(RouteError::Memory) => None,
+        _ => Some(0),
+    }
+}
+
+// An allocation may be refused once.
+#[test]
+fn a_wrong_line_is_named(rt: HostRuntime) -> Result<(), Fail> {
+    assert!(rt; wrong_line(&rt).or(wrong_line(&rt)) == Some(2));
     Ok(())
 }
 

@@ -1,0 +1,148 @@
+//! Maps whose edits can be taken back: what a key held when the map was last settled.
+use keyed_map::{ChangeTest, KeyedMap};
+use std::alloc::{AllocError, Global};
+use std::test::Fail;
+use words::{Key, LinkStateId, RouterId};
+
+// What is done with a map of numbers, or seen of it.
+#[derive(Clone, Copy)]
+enum Step {
+    // the key of this number holds that one
+    Insert(u32, u32),
+    Remove(u32),
+    Settle,
+    RollBack,
+    // what the key of this number holds, and what it held when the map was last settled
+    Held(u32, Option<u32>, Option<u32>),
+    // the keys of these numbers hold something else than then
+    Changed(&'static [u32]),
+}
+
+// Whether both are one number, or there is neither.
+struct Equal {}
+
+impl ChangeTest<u32> for Equal {
+    ghost use Rattle.std.specs.Prelude.{◌≡◌};
+
+    ghost same = { λ _ _ before now. before ≡ now };
+
+    fn is_same(
+        &self,
+        _alloc: Global,
+        _key: &Key,
+        before: Option<&u32>,
+        now: Option<&u32>,
+    ) -> Result<bool, AllocError> {
+        match (before, now) {
+            (None, None) => Ok(true),
+            (Some(old), Some(new)) => Ok(*old == *new),
+            _ => Ok(false),
+        }
+    }
+}
+
+fn key(number: u32) -> Key {
+    Key {
+        ls_type: 5,
+        link_state_id: LinkStateId::new(number),
+        advertising_router: RouterId::new(0x0101_0101),
+    }
+}
+
+fn is_among(keys: &[Key], number: u32) -> bool {
+    for key in keys {
+        if key.link_state_id.number() == number {
+            return true;
+        }
+    }
+    false
+}
+
+/// Whether these keys have these Link State IDs, each at least once, and no others.
+pub fn have_ids(keys: &[Key], ids: &[u32]) -> bool {
+    for key in keys {
+        if !ids.contains(&key.link_state_id.number()) {
+            return false;
+        }
+    }
+    for id in ids {
+        if !is_among(keys, *id) {
+            return false;
+        }
+    }
+    true
+}
+
+// Does the step; false where something else was expected.
+fn took(alloc: Global, map: &mut KeyedMap<u32>, step: Step) -> Result<bool, AllocError> {
+    match step {
+        Step::Insert(number, held) => map.insert(key(number), held)?,
+        Step::Remove(number) => map.remove(&key(number))?,
+        Step::Settle => map.settle(),
+        Step::RollBack => map.roll_back(),
+        Step::Held(number, now, settled) => {
+            let key = key(number);
+            let are_so = map.get(&key).copied() == now && map.settled_get(&key).copied() == settled;
+            return Ok(are_so);
+        }
+        Step::Changed(numbers) => {
+            let keys = map.changed_keys(alloc, &Equal {})?;
+            return Ok(have_ids(&keys, numbers));
+        }
+    }
+    Ok(true)
+}
+
+// The first step after which something else was expected.
+fn first_wrong(
+    alloc: Global,
+    map: &mut KeyedMap<u32>,
+    steps: &[Step],
+) -> Result<Option<usize>, AllocError> {
+    for at in 0..steps.len() {
+        if !took(alloc, map, steps[at])? {
+            return Ok(Some(at));
+        }
+    }
+    Ok(None)
+}
+
+const STEPS: [Step; 25] = [
+    Step::Held(1, None, None),
+    Step::Changed(&[]),
+    // what came since it was settled wasn't there then
+    Step::Insert(1, 10),
+    Step::Insert(2, 20),
+    Step::Held(1, Some(10), None),
+    Step::Changed(&[1, 2]),
+    Step::Settle,
+    Step::Held(1, Some(10), Some(10)),
+    Step::Changed(&[]),
+    // of two edits of a key the first tells what it held then
+    Step::Insert(1, 11),
+    Step::Insert(1, 12),
+    Step::Remove(2),
+    Step::Insert(3, 30),
+    Step::Held(1, Some(12), Some(10)),
+    Step::Held(2, None, Some(20)),
+    Step::Held(3, Some(30), None),
+    Step::Changed(&[1, 2, 3]),
+    // a key that holds again what it held then hasn't changed, nor has one that came and left
+    Step::Insert(1, 10),
+    Step::Remove(3),
+    Step::Changed(&[2]),
+    // all of this is taken back
+    Step::RollBack,
+    Step::Held(1, Some(10), Some(10)),
+    Step::Held(2, Some(20), Some(20)),
+    Step::Held(3, None, None),
+    Step::Changed(&[]),
+];
+
+#[test]
+fn what_a_key_held_when_the_map_was_settled(rt: HostRuntime) -> Result<(), Fail> {
+    let mut map = KeyedMap::new(rt.alloc());
+    let wrong = first_wrong(rt.alloc(), &mut map, &STEPS)?;
+    assert!(rt; wrong.is_none(), "{wrong:?}");
+    Ok(())
+}
