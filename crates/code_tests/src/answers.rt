@@ -5,9 +5,8 @@ use crate::seats::one_seat;
 use helpers::{call, cell_read, cell_write, counter_add, counter_read, packet_byte, table_cost};
 use machine::{Content, Fault, Hook, Input, Pointer, TableRow};
 use maps::{Seat, Shared};
-use std::alloc::{AllocError, Global};
+use std::alloc::Global;
 use std::process::Abort;
-use std::test::Fail;
 use words::{Address, Prefix};
 
 const NONE: Content = Content::Nothing;
@@ -19,29 +18,13 @@ fn row(bits: u32, length: u8, cost: u32) -> Option<TableRow> {
     Some(TableRow { prefix, cost })
 }
 
-const ROWS: &[(u32, u8, u32)] = &[
-    (0x0a00_0000, 8, 5),
-    (0x0a00_0000, 16, 7),
-    (0x0a00_0000, 8, 9),
-    (0xc000_0200, 24, 4_294_967_295),
-];
-
-fn rows_once(alloc: Global) -> Result<Vec<TableRow>, AllocError> {
-    let mut rows = Vec::new(alloc);
-    for one in ROWS {
-        let (bits, length, cost) = *one;
-        if let Some(row) = row(bits, length, cost) {
-            rows.push(row)?;
-        }
-    }
-    Ok(rows)
-}
-
-fn rows(alloc: Global) -> Result<Vec<TableRow>, AllocError> {
-    match rows_once(alloc) {
-        Err(_) => rows_once(alloc),
-        made => made,
-    }
+fn rows() -> Option<[TableRow; 4]> {
+    Some([
+        row(0x0a00_0000, 8, 5)?,
+        row(0x0a00_0000, 16, 7)?,
+        row(0x0a00_0000, 8, 9)?,
+        row(0xc000_0200, 24, 4_294_967_295)?,
+    ])
 }
 
 fn input(rows: &[TableRow]) -> Input<'_> {
@@ -62,19 +45,15 @@ const BYTES: [(u64, u64); 6] = [
     (u64::MAX, 256),
 ];
 
-fn bytes_are_found(rt: &impl Abort, input: &Input) {
+#[test]
+fn a_byte_of_the_packet_or_256(rt: HostRuntime) {
+    let rows = rows().expect(&rt, "rows");
+    let input = input(&rows);
     for row in &BYTES {
         let (offset, want) = *row;
-        let found = packet_byte(input, offset);
-        assert!(rt; found == want, "{row:?}: {found}");
+        let found = packet_byte(&input, offset);
+        assert!(rt; found == want, "{offset}: {found}");
     }
-}
-
-#[test]
-fn a_byte_of_the_packet_or_256(rt: HostRuntime) -> Result<(), Fail> {
-    let rows = rows(rt.alloc())?;
-    bytes_are_found(&rt, &input(&rows));
-    Ok(())
 }
 
 // The bits and the length of a prefix, and the cost.
@@ -89,48 +68,36 @@ const COSTS: [(u64, u64, u64); 8] = [
     (0, 0, 1 << 32),
 ];
 
-fn costs_are_found(rt: &impl Abort, input: &Input) {
+#[test]
+fn the_cost_of_the_first_row_with_exactly_the_prefix(rt: HostRuntime) {
+    let rows = rows().expect(&rt, "rows");
+    let input = input(&rows);
     for row in &COSTS {
         let (prefix, length, want) = *row;
-        let found = table_cost(input, prefix, length);
-        assert!(rt; found == want, "{row:?}: {found}");
+        let found = table_cost(&input, prefix, length);
+        assert!(rt; found == want, "{prefix}/{length}: {found}");
     }
-}
-
-#[test]
-fn the_cost_of_the_first_row_with_exactly_the_prefix(rt: HostRuntime) -> Result<(), Fail> {
-    let rows = rows(rt.alloc())?;
-    costs_are_found(&rt, &input(&rows));
-    Ok(())
 }
 
 // A call of the helper of this number at a hook, with two arguments.
 type Call = (Hook, i32, Content, Content);
 
 // The answer of the call at a seat of a new table.
-fn called_on(alloc: Global, called: &Call, input: &Input) -> Result<Result<u64, Fault>, Fail> {
+fn called(alloc: Global, called: &Call, input: &Input) -> Option<Result<u64, Fault>> {
     let (shared, mut seat) = one_seat(alloc)?;
     let (hook, number, first, second) = *called;
-    Ok(call(hook, number, first, second, input, &shared, &mut seat))
+    Some(call(hook, number, first, second, input, &shared, &mut seat))
 }
 
-// The same where the table of routes has the rows above.
-fn called(alloc: Global, called: &Call) -> Result<Result<u64, Fault>, Fail> {
-    let rows = rows(alloc)?;
-    called_on(alloc, called, &input(&rows))
-}
-
-// Each call comes to this.
-fn come_to<R: AllocGlobal + Abort>(
-    rt: &R,
-    calls: &[(Call, Result<u64, Fault>)],
-) -> Result<(), Fail> {
+// Each call comes to this where the table of routes has the rows above.
+fn come_to<R: AllocGlobal + Abort>(rt: &R, calls: &[(Call, Result<u64, Fault>)]) {
+    let rows = rows().expect(rt, "rows");
+    let input = input(&rows);
     for row in calls {
         let (called_so, want) = *row;
-        let found = called(rt.alloc(), &called_so)?;
-        assert!(rt; found == want, "{row:?}: {found:?}");
+        let found = called(rt.alloc(), &called_so, &input);
+        assert!(rt; found == Some(want), "{row:?}: {found:?}");
     }
-    Ok(())
 }
 
 const SMALL: Content = Content::Number(0);
@@ -161,8 +128,8 @@ const REFUSED: &[(Call, Result<u64, Fault>)] = &[
 ];
 
 #[test]
-fn calls_are_refused_in_order(rt: HostRuntime) -> Result<(), Fail> {
-    come_to(&rt, REFUSED)
+fn calls_are_refused_in_order(rt: HostRuntime) {
+    come_to(&rt, REFUSED);
 }
 
 const LAST: Content = Content::Number(255);
@@ -186,8 +153,8 @@ const ANSWERED: &[(Call, Result<u64, Fault>)] = &[
 ];
 
 #[test]
-fn each_helper_answers_at_its_hooks(rt: HostRuntime) -> Result<(), Fail> {
-    come_to(&rt, ANSWERED)
+fn each_helper_answers_at_its_hooks(rt: HostRuntime) {
+    come_to(&rt, ANSWERED);
 }
 
 // Counter 5 after two adds of 3, and cell 63 before and after it is set.
@@ -210,11 +177,10 @@ fn counted_and_kept(shared: &Shared, seat: &mut Seat) -> [u64; 5]
 }
 
 #[test]
-fn counters_and_cells(rt: HostRuntime) -> Result<(), Fail> {
-    let (shared, mut seat) = one_seat(rt.alloc())?;
+fn counters_and_cells(rt: HostRuntime) {
+    let (shared, mut seat) = one_seat(rt.alloc()).expect(&rt, "a seat");
     let found = counted_and_kept(&shared, &mut seat);
     assert!(rt; found == [0, 0, 6, 0, u64::MAX], "{found:?}");
-    Ok(())
 }
 
 // An add to counter 5, one without an amount, and a read of it.
@@ -231,10 +197,9 @@ fn called_thrice(shared: &Shared, seat: &mut Seat) -> [Result<u64, Fault>; 3]
 }
 
 #[test]
-fn a_call_adds_and_reads_by_its_number(rt: HostRuntime) -> Result<(), Fail> {
-    let (shared, mut seat) = one_seat(rt.alloc())?;
+fn a_call_adds_and_reads_by_its_number(rt: HostRuntime) {
+    let (shared, mut seat) = one_seat(rt.alloc()).expect(&rt, "a seat");
     let found = called_thrice(&shared, &mut seat);
     let wanted = [Ok(0), Err(Fault::Empty), Ok(16_777_215)];
     assert!(rt; found == wanted, "{found:?}");
-    Ok(())
 }

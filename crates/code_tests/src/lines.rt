@@ -1,6 +1,6 @@
 //! Each form of a line, written and read again; what is no line; and the numbers at the ends of
 //! their ranges.
-ghost use Rattle.std.specs.Prelude.{◌≡◌, true};
+ghost use Rattle.std.specs.Prelude.{◌≡◌, ◌≤◌, true};
 ghost use Rattle.asm_lines.specs.Written.{IsNamed};
 
 use asm_lines::{Content, Line, Operand, Range, Target, Term, Terms, read_lines, write_line};
@@ -10,10 +10,11 @@ use isa::{
 };
 use std::alloc::Global;
 use std::process::Abort;
-use std::test::Fail;
 
-fn register(rt: &impl Abort, number: u8) -> Register {
-    Register::new(number).expect(rt, "a register")
+fn register(number: u8) -> Register
+    requires { number ≤ 10 }
+{
+    Register::new(number).unwrap()
 }
 
 fn number(n: u64) -> Numeral {
@@ -42,61 +43,69 @@ fn takes_name(line: &Line, name: &str) -> bool
 }
 
 /// Each row's line, beside its name, is written as its text, and read back from there.
-fn both_ways(rt: &impl Abort, alloc: Global, rows: &[(Line, &str, &str)]) -> Result<(), Fail> {
-    write_each(rt, alloc, rows)?;
-    read_each(rt, alloc, rows)
+fn both_ways(rt: &impl Abort, alloc: Global, rows: &[(Line, &str, &str)]) {
+    write_each(rt, alloc, rows);
+    read_each(rt, alloc, rows);
 }
 
-fn write_each(rt: &impl Abort, alloc: Global, rows: &[(Line, &str, &str)]) -> Result<(), Fail> {
-    for (line, name, text) in rows {
-        writes(rt, alloc, line, name, text)?;
+fn write_each(rt: &impl Abort, alloc: Global, rows: &[(Line, &str, &str)]) {
+    for row in rows {
+        let (line, name, text) = row;
+        let mut written = is_written(alloc, line, name, text);
+        if written.is_none() {
+            written = is_written(alloc, line, name, text);
+        }
+        assert!(rt; written == Some(true), "{text}");
     }
-    Ok(())
 }
 
 /// The first line of each row's text reads as its line, beside its name.
-fn read_each(rt: &impl Abort, alloc: Global, rows: &[(Line, &str, &str)]) -> Result<(), Fail> {
-    for (line, name, text) in rows {
-        reads(rt, alloc, text, Some(*line), name)?;
+fn read_each(rt: &impl Abort, alloc: Global, rows: &[(Line, &str, &str)]) {
+    for row in rows {
+        let (line, name, text) = row;
+        reads(rt, alloc, text, &Some(*line), name);
     }
-    Ok(())
 }
 
 /// The first line of each of these texts reads as nothing.
-fn read_as_nothing(rt: &impl Abort, alloc: Global, texts: &[&str]) -> Result<(), Fail> {
+fn read_as_nothing(rt: &impl Abort, alloc: Global, texts: &[&str]) {
     for text in texts {
-        reads(rt, alloc, text, None, "")?;
+        reads(rt, alloc, text, &None, "");
     }
-    Ok(())
 }
 
-/// The line, beside its name, is written so.
-fn writes(rt: &impl Abort, alloc: Global, line: &Line, name: &str, text: &str) -> Result<(), Fail> {
-    assert!(rt; takes_name(line, name), "{text}");
+// Where no answer comes, the question is asked once more: one allocation may be refused, in a run
+// of the tests with a refusal.
+
+/// Whether the line, beside its name, is written so.
+fn is_written(alloc: Global, line: &Line, name: &str, text: &str) -> Option<bool> {
+    if !takes_name(line, name) {
+        return Some(false);
+    }
     let mut written = String::new(alloc);
-    write_line(&mut written, *line, name)?;
-    assert!(rt; written.as_str() == text, "{text}");
-    Ok(())
+    write_line(&mut written, *line, name).ok()?;
+    Some(written.as_str() == text)
 }
 
 /// Whether the first line that was read is this one, beside this name.
-fn begin_with(lines: &[Option<Line>], names: &[&str], line: Option<Line>, name: &str) -> bool {
-    lines.get(0).copied() == Some(line) && names.get(0).copied().unwrap_or("?") == name
+fn begin_with(lines: &[Option<Line>], names: &[&str], line: &Option<Line>, name: &str) -> bool {
+    lines.get(0) == Some(line) && names.get(0).copied().unwrap_or("?") == name
 }
 
-/// The text's first line reads so.
-fn reads(
-    rt: &impl Abort,
-    alloc: Global,
-    text: &str,
-    line: Option<Line>,
-    name: &str,
-) -> Result<(), Fail> {
+/// Whether the text's first line reads so.
+fn is_read(alloc: Global, text: &str, line: &Option<Line>, name: &str) -> Option<bool> {
     let mut lines = Vec::new(alloc);
     let mut names = Vec::new(alloc);
-    read_lines(alloc, text, &mut lines, &mut names)?;
-    assert!(rt; begin_with(&lines, &names, line, name), "{text}");
-    Ok(())
+    read_lines(alloc, text, &mut lines, &mut names).ok()?;
+    Some(begin_with(&lines, &names, line, name))
+}
+
+fn reads(rt: &impl Abort, alloc: Global, text: &str, line: &Option<Line>, name: &str) {
+    let mut read = is_read(alloc, text, line, name);
+    if read.is_none() {
+        read = is_read(alloc, text, line, name);
+    }
+    assert!(rt; read == Some(true), "{text}");
 }
 
 // Lines without registers, the names beside them, and their texts.
@@ -113,18 +122,18 @@ const HEADS_AND_LABELS: [(Line, &str, &str); 9] = [
 ];
 
 #[test]
-fn heads_and_labels(rt: HostRuntime) -> Result<(), Fail> {
-    both_ways(&rt, rt.alloc(), &HEADS_AND_LABELS)
+fn heads_and_labels(rt: HostRuntime) {
+    both_ways(&rt, rt.alloc(), &HEADS_AND_LABELS);
 }
 
 #[test]
-fn arithmetic(rt: HostRuntime) -> Result<(), Fail> {
-    let target = register(&rt, 0);
+fn arithmetic(rt: HostRuntime) {
+    let target = register(0);
     let copied = Line::Arithmetic {
         width: Width::Bits64,
         operation: Operation::Move,
         target,
-        source: Operand::Register(register(&rt, 10)),
+        source: Operand::Register(register(10)),
     };
     let modulo = Line::Arithmetic {
         width: Width::Bits32,
@@ -143,13 +152,13 @@ fn arithmetic(rt: HostRuntime) -> Result<(), Fail> {
         (modulo, "", "w0 s%= -7\n"),
         (shift, "", "r0 s>>= 63\n"),
     ];
-    both_ways(&rt, rt.alloc(), &rows)
+    both_ways(&rt, rt.alloc(), &rows);
 }
 
 #[test]
-fn other_assignments(rt: HostRuntime) -> Result<(), Fail> {
-    let target = register(&rt, 0);
-    let source = register(&rt, 10);
+fn other_assignments(rt: HostRuntime) {
+    let target = register(0);
+    let source = register(10);
     let negate = Line::Negate {
         width: Width::Bits32,
         target: source,
@@ -175,25 +184,25 @@ fn other_assignments(rt: HostRuntime) -> Result<(), Fail> {
         (half, "", "w0 = s16 w10\n"),
         (swap, "", "r0 = swap32\n"),
     ];
-    both_ways(&rt, rt.alloc(), &rows)
+    both_ways(&rt, rt.alloc(), &rows);
 }
 
 #[test]
-fn jumps(rt: HostRuntime) -> Result<(), Fail> {
+fn jumps(rt: HostRuntime) {
     let forward = Target::Number(number(4));
     let back = Target::Number(Numeral::Negative(1));
     let branch = Line::Branch {
         width: Width::Bits32,
         test: Test::SignedLess,
-        left: register(&rt, 1),
+        left: register(1),
         right: Operand::Number(Numeral::Negative(0)),
         target: back,
     };
     let labelled = Line::Branch {
         width: Width::Bits64,
         test: Test::AnyBitSet,
-        left: register(&rt, 1),
-        right: Operand::Register(register(&rt, 2)),
+        left: register(1),
+        right: Operand::Register(register(2)),
         target: Target::Label,
     };
     let rows = [
@@ -203,29 +212,29 @@ fn jumps(rt: HostRuntime) -> Result<(), Fail> {
         (branch, "", "if w1 s< -1 goto -2\n"),
         (labelled, "L", "if r1 & r2 goto L\n"),
     ];
-    both_ways(&rt, rt.alloc(), &rows)
+    both_ways(&rt, rt.alloc(), &rows);
 }
 
 #[test]
-fn loads_and_stores(rt: HostRuntime) -> Result<(), Fail> {
+fn loads_and_stores(rt: HostRuntime) {
     let load = Line::Load {
         size: LoadSize::Signed32,
-        target: register(&rt, 3),
-        base: register(&rt, 1),
+        target: register(3),
+        base: register(1),
         offset: number(4),
     };
     let store = Line::Store {
         size: StoreSize::Bits16,
-        base: register(&rt, 10),
+        base: register(10),
         offset: Numeral::Negative(1),
         source: Operand::Number(number(513)),
     };
     let wide = Line::LoadNumber {
-        target: register(&rt, 0),
+        target: register(0),
         number: number(u64::MAX),
     };
     let map = Line::LoadMap {
-        target: register(&rt, 6),
+        target: register(6),
         map: number(1),
         offset: number(8),
     };
@@ -235,7 +244,7 @@ fn loads_and_stores(rt: HostRuntime) -> Result<(), Fail> {
         (wide, "", "r0 = wide 18446744073709551615\n"),
         (map, "", "r6 = map 1 8\n"),
     ];
-    both_ways(&rt, rt.alloc(), &rows)
+    both_ways(&rt, rt.alloc(), &rows);
 }
 
 /// A register of a rank, with its coefficient.
@@ -256,9 +265,9 @@ fn state(slot: Target, terms: Terms) -> Line {
 }
 
 #[test]
-fn statements(rt: HostRuntime) -> Result<(), Fail> {
-    let one = Terms::One(term(register(&rt, 1), 1));
-    let two = Terms::Two(term(register(&rt, 0), 0), term(register(&rt, 9), 2));
+fn statements(rt: HostRuntime) {
+    let one = Terms::One(term(register(1), 1));
+    let two = Terms::Two(term(register(0), 0), term(register(9), 2));
     let none = state(Target::Label, Terms::None);
     let first = state(Target::Number(number(2)), one);
     let second = state(Target::Number(number(3)), two);
@@ -272,7 +281,7 @@ fn statements(rt: HostRuntime) -> Result<(), Fail> {
         (second, "", "state 3 rank 7 r0 * 0 r9 * 2\n"),
         (bytes, "", "bytes 8 16\n"),
     ];
-    both_ways(&rt, rt.alloc(), &rows)
+    both_ways(&rt, rt.alloc(), &rows);
 }
 
 /// What a statement says of a register.
@@ -281,8 +290,8 @@ fn with(register: Register, content: Content) -> Line {
 }
 
 #[test]
-fn registers_of_statements(rt: HostRuntime) -> Result<(), Fail> {
-    let r1 = register(&rt, 1);
+fn registers_of_statements(rt: HostRuntime) {
+    let r1 = register(1);
     let range = Range {
         low: number(1),
         high: number(10),
@@ -311,7 +320,7 @@ fn registers_of_statements(rt: HostRuntime) -> Result<(), Fail> {
         ),
         (with(r1, map), "", "with r1 map 1 1 10 0 0\n"),
     ];
-    both_ways(&rt, rt.alloc(), &rows)
+    both_ways(&rt, rt.alloc(), &rows);
 }
 
 const NO_LINES: [&str; 22] = [
@@ -340,8 +349,8 @@ const NO_LINES: [&str; 22] = [
 ];
 
 #[test]
-fn what_is_no_line(rt: HostRuntime) -> Result<(), Fail> {
-    read_as_nothing(&rt, rt.alloc(), &NO_LINES)
+fn what_is_no_line(rt: HostRuntime) {
+    read_as_nothing(&rt, rt.alloc(), &NO_LINES);
 }
 
 // The least number that a line writes.
@@ -361,7 +370,7 @@ const READ: [(Line, &str, &str); 5] = [
 ];
 
 #[test]
-fn spaces_and_numbers(rt: HostRuntime) -> Result<(), Fail> {
-    both_ways(&rt, rt.alloc(), &LEAST)?;
-    read_each(&rt, rt.alloc(), &READ)
+fn spaces_and_numbers(rt: HostRuntime) {
+    both_ways(&rt, rt.alloc(), &LEAST);
+    read_each(&rt, rt.alloc(), &READ);
 }

@@ -8,13 +8,12 @@ mod runs;
 
 use crate::seats::{one_seat, two_seats};
 use interp::{Run, Trap, run_checked};
-use isa::{Code, DecodeError, DecodeFault, decode};
+use isa::{Code, decode};
 use machine::{Hook, Input, TableRow};
 use maps::{Seat, Shared};
-use std::alloc::{AllocError, Global};
+use std::alloc::Global;
 use std::fmt;
 use std::process::Abort;
-use std::test::Fail;
 use words::{Address, Prefix};
 
 // A slot is written as a number whose lowest byte is its first: the immediate, the offset, the
@@ -35,40 +34,37 @@ fn wide(register: u64, number: u64) -> [u64; 2] {
 fn bytes_of(slots: &[u64]) -> [u8; 128] {
     let mut bytes = [0; 128];
     for (index, slot) in slots.iter().take(16).enumerate() {
-        for (place, byte) in slot.to_le_bytes().iter().enumerate() {
-            bytes[index % 16 * 8 + place % 8] = *byte;
-        }
+        let place = index % 16 * 8;
+        bytes[place..place + 8].copy_from_slice(&slot.to_le_bytes());
     }
     bytes
 }
 
 // The code of at most 16 slots. One allocation may be refused, as a run of the tests with a refusal
 // makes it.
-fn code(alloc: Global, slots: &[u64]) -> Result<Code, DecodeError> {
+fn code(alloc: Global, slots: &[u64]) -> Option<Code> {
     let bytes = bytes_of(slots);
     let count = slots.len().min(16) * 8;
     match decode(alloc, &bytes[..count]) {
-        Err(error) if error.kind == DecodeFault::Memory => decode(alloc, &bytes[..count]),
-        decoded => decoded,
+        Ok(code) => Some(code),
+        Err(_) => decode(alloc, &bytes[..count]).ok(),
     }
 }
 
 // The routes 192.0.2.0/24 of cost 20 and 192.0.2.0/26 of cost 30.
-fn rows_once(alloc: Global) -> Result<Vec<TableRow>, AllocError> {
-    let mut rows = Vec::new(alloc);
-    for (length, cost) in [(24, 20), (26, 30)] {
-        if let Some(prefix) = Prefix::new(Address::new(0xc000_0200), length) {
-            rows.push(TableRow { prefix, cost })?;
-        }
-    }
-    Ok(rows)
-}
-
-fn rows(alloc: Global) -> Result<Vec<TableRow>, AllocError> {
-    match rows_once(alloc) {
-        Err(_) => rows_once(alloc),
-        made => made,
-    }
+fn rows() -> Option<[TableRow; 2]> {
+    let address = Address::new(0xc000_0200);
+    let (shorter, longer) = (Prefix::new(address, 24)?, Prefix::new(address, 26)?);
+    Some([
+        TableRow {
+            prefix: shorter,
+            cost: 20,
+        },
+        TableRow {
+            prefix: longer,
+            cost: 30,
+        },
+    ])
 }
 
 // A Hello of 44 bytes.
@@ -116,51 +112,42 @@ fn outcome_of(
     hook: Hook,
     limit: u64,
     code: &Code,
-    input: &Input,
-) -> Result<(u64, u64), Fail> {
+    rows: &[TableRow],
+) -> Option<(u64, u64)> {
     let (words, mut seat) = one_seat(alloc)?;
-    Ok(shown(run_checked(code, hook, limit, input, &words, &mut seat)))
+    let input = input(rows);
+    Some(shown(run_checked(code, hook, limit, &input, &words, &mut seat)))
 }
 
 // What a run of at most so many instructions comes to, at a hook.
-fn outcome(alloc: Global, hook: Hook, limit: u64, slots: &[u64]) -> Result<(u64, u64), Fail> {
+fn outcome(alloc: Global, hook: Hook, limit: u64, slots: &[u64]) -> Option<(u64, u64)> {
+    let rows = rows()?;
     let code = code(alloc, slots)?;
-    let rows = rows(alloc)?;
-    outcome_of(alloc, hook, limit, &code, &input(&rows))
+    outcome_of(alloc, hook, limit, &code, &rows)
 }
 
-fn comes_to_within<R: AllocGlobal + Abort>(
+// A run of at most so many instructions at the hook comes to this.
+fn comes_to_at<R: AllocGlobal + Abort>(
     rt: &R,
     hook: Hook,
     limit: u64,
     slots: &[u64],
     want: (u64, u64),
-) -> Result<(), Fail> {
-    let found = outcome(rt.alloc(), hook, limit, slots)?;
-    assert!(rt; found == want, "{:?}: {found:?}", Slots(slots));
-    Ok(())
+) {
+    let found = outcome(rt.alloc(), hook, limit, slots);
+    assert!(rt; found == Some(want), "{:?}: {found:?}", Slots(slots));
 }
 
-fn comes_to_at<R: AllocGlobal + Abort>(
-    rt: &R,
-    hook: Hook,
-    slots: &[u64],
-    want: (u64, u64),
-) -> Result<(), Fail> {
-    comes_to_within(rt, hook, 1000, slots, want)
-}
-
-fn comes_to<R: AllocGlobal + Abort>(rt: &R, slots: &[u64], want: (u64, u64)) -> Result<(), Fail> {
-    comes_to_at(rt, Hook::Count, slots, want)
+fn comes_to<R: AllocGlobal + Abort>(rt: &R, slots: &[u64], want: (u64, u64)) {
+    comes_to_at(rt, Hook::Count, 1000, slots, want);
 }
 
 // A program, and its answer and how many instructions it takes, or its trap's number and 0.
 type Row<'a> = (&'a [u64], (u64, u64));
 
-fn come_to<R: AllocGlobal + Abort>(rt: &R, programs: &[Row<'_>]) -> Result<(), Fail> {
+fn come_to<R: AllocGlobal + Abort>(rt: &R, programs: &[Row<'_>]) {
     for row in programs {
         let (slots, want) = *row;
-        comes_to(rt, slots, want)?;
+        comes_to(rt, slots, want);
     }
-    Ok(())
 }

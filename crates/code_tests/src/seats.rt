@@ -1,11 +1,10 @@
 //! New tables of the shared maps, and their seats.
-ghost use Rattle.std.specs.Prelude.{◌≡◌, length, map, IfOk};
+ghost use Rattle.std.specs.Prelude.{◌≡◌, length, map, IfOk, IfSome};
 ghost use Rattle.std.specs.List.{range_with_len};
 ghost use Rattle.maps.specs.Words.{IsOf, fresh};
 
 use maps::{MapsError, Seat, Shared};
 use std::alloc::Global;
-use std::test::Fail;
 
 /// A new table. One allocation may be refused, as a run of the tests with a refusal makes it.
 pub fn table(alloc: Global, count: usize) -> Result<(Shared, Vec<Seat>), MapsError>
@@ -19,21 +18,26 @@ pub fn table(alloc: Global, count: usize) -> Result<(Shared, Vec<Seat>), MapsErr
 }
 
 /// A new table of one seat.
-pub fn one_seat(alloc: Global) -> Result<(Shared, Seat), Fail>
-    ensures { IfOk result (λ r. IsOf r.0 r.1) }
+pub fn one_seat(alloc: Global) -> Option<(Shared, Seat)>
+    ensures { IfSome result (λ r. IsOf r.0 r.1) }
 {
-    let (shared, mut seats) = table(alloc, 1)?;
-    let seat = seats.pop().ok_or("no seat")?;
-    Ok((shared, seat))
+    let Ok((shared, mut seats)) = table(alloc, 1) else {
+        return None;
+    };
+    let seat = seats.pop()?;
+    Some((shared, seat))
 }
 
 /// A new table of two seats: the first of them, and the second.
-pub fn two_seats(alloc: Global) -> Result<(Shared, Seat, Seat), Fail>
-    ensures first { IfOk result (λ r. IsOf r.0 r.1) }
-    ensures second { IfOk result (λ r. IsOf r.0 r.2) }
+pub fn two_seats(alloc: Global) -> Option<(Shared, Seat, Seat)>
+    ensures first { IfSome result (λ r. IsOf r.0 r.1) }
+    ensures second { IfSome result (λ r. IsOf r.0 r.2) }
 {
-    let (shared, mut seats) = table(alloc, 2)?;
-    let second = seats.pop().ok_or("no second seat")?;
-    let first = seats.pop().ok_or("no first seat")?;
-    Ok((shared, first, second))
+    let Ok((shared, mut seats)) = table(alloc, 2) else {
+        return None;
+    };
+    match (seats.pop(), seats.pop()) {
+        (Some(second), Some(first)) => Some((shared, first, second)),
+        _ => None,
+    }
 }

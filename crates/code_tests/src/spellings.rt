@@ -9,7 +9,6 @@ use isa::{
     ByteOrder, Extension, Hook, LoadSize, Operation, Register, StoreSize, SwapWidth, Test, Width,
 };
 use std::process::Abort;
-use std::test::Fail;
 
 fn each_holds(rt: &impl Abort, rows: &[bool]) {
     for (row, holds) in rows.iter().enumerate() {
@@ -18,14 +17,19 @@ fn each_holds(rt: &impl Abort, rows: &[bool]) {
 }
 
 fn words_are(rt: &impl Abort, rows: &[(&str, &str)]) {
-    for (word, wanted) in rows {
+    for row in rows {
+        let (word, wanted) = *row;
         assert!(rt; word == wanted, "{word}");
     }
 }
 
+fn r10() -> Register {
+    Register::new(10).unwrap()
+}
+
 #[test]
-fn things_are_written_as_words(rt: HostRuntime) -> Result<(), Fail> {
-    let register = Register::new(10).ok_or("r10")?;
+fn things_are_written_as_words(rt: HostRuntime) {
+    let register = r10();
     let rows = [
         (operation_word(Operation::SignedDivide), "s/="),
         (operation_word(Operation::Move), "="),
@@ -38,7 +42,6 @@ fn things_are_written_as_words(rt: HostRuntime) -> Result<(), Fail> {
         (register_word(Width::Bits32, register), "w10"),
     ];
     words_are(&rt, &rows);
-    Ok(())
 }
 
 #[test]
@@ -69,8 +72,8 @@ fn sizes_and_orders_are_read(rt: HostRuntime) {
 }
 
 #[test]
-fn names_are_read(rt: HostRuntime) -> Result<(), Fail> {
-    let register = Register::new(10).ok_or("r10")?;
+fn names_are_read(rt: HostRuntime) {
+    let register = r10();
     let rows = [
         hook_of("veto") == Some(Hook::Veto),
         hook_of("vetoes").is_none(),
@@ -81,7 +84,6 @@ fn names_are_read(rt: HostRuntime) -> Result<(), Fail> {
         !is_name(""),
     ];
     each_holds(&rt, &rows);
-    Ok(())
 }
 
 #[test]

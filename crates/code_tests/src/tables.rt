@@ -6,7 +6,6 @@ use crate::seats::{table, two_seats};
 use maps::{MapsError, Seat, Shared};
 use std::alloc::{AllocError, Global};
 use std::process::Abort;
-use std::test::Fail;
 use std::thread::{Threads, join};
 
 // Adds 3 to counter 5 a thousand times, and reads it.
@@ -89,15 +88,22 @@ fn seen_and_summed<R: Threads>(
     Ok(([one, two], sums))
 }
 
+// The same of a new table.
+fn two_threads<R: Threads>(rt: &R, alloc: Global) -> Option<([u64; 2], [u64; 256])> {
+    let Ok((words, mut seats)) = table(alloc, 2) else {
+        return None;
+    };
+    match (seats.pop(), seats.pop()) {
+        (Some(second), Some(first)) => seen_and_summed(rt, words, seats, first, second).ok(),
+        _ => None,
+    }
+}
+
 #[test]
-fn two_threads_add_a_thousand_times(rt: HostRuntime) -> Result<(), Fail> {
-    let (words, mut seats) = table(rt.alloc(), 2)?;
-    let second = seats.pop().ok_or("no second seat")?;
-    let first = seats.pop().ok_or("no first seat")?;
-    let (seen, sums) = seen_and_summed(&rt, words, seats, first, second)?;
+fn two_threads_add_a_thousand_times(rt: HostRuntime) {
+    let (seen, sums) = two_threads(&rt, rt.alloc()).expect(&rt, "two seats");
     assert!(rt; seen[0] >= 3000 && seen[1] >= 3000);
     are_6000_at_5(&rt, &sums);
-    Ok(())
 }
 
 // What the seats' adds answer, and what the other seat then reads.
@@ -115,11 +121,10 @@ fn seen_by_each_other(words: &Shared, first: &mut Seat, second: &mut Seat) -> [u
 }
 
 #[test]
-fn a_read_shows_another_seats_add(rt: HostRuntime) -> Result<(), Fail> {
-    let (words, mut first, mut second) = two_seats(rt.alloc())?;
+fn a_read_shows_another_seats_add(rt: HostRuntime) {
+    let (words, mut first, mut second) = two_seats(rt.alloc()).expect(&rt, "seats");
     let found = seen_by_each_other(&words, &mut first, &mut second);
     assert!(rt; found == [0, 3, 0, 16_777_215, 0], "{found:?}");
-    Ok(())
 }
 
 // Cells 63 and 0 of both seats, once the first has set its 63 and the second its 0.
@@ -138,11 +143,10 @@ fn cells(words: &Shared, first: &mut Seat, second: &mut Seat) -> [u64; 4]
 }
 
 #[test]
-fn a_cell_is_the_seats_own(rt: HostRuntime) -> Result<(), Fail> {
-    let (words, mut first, mut second) = two_seats(rt.alloc())?;
+fn a_cell_is_the_seats_own(rt: HostRuntime) {
+    let (words, mut first, mut second) = two_seats(rt.alloc()).expect(&rt, "seats");
     let found = cells(&words, &mut first, &mut second);
     assert!(rt; found == [u64::MAX, 0, 0, 8], "{found:?}");
-    Ok(())
 }
 
 fn is_refused(alloc: Global, count: usize) -> bool {
@@ -158,20 +162,23 @@ fn last_cell(words: &Shared, seat: &mut Seat) -> u64
 }
 
 // How many seats a table of 64 gives, and what the last one's last cell holds once it is set.
-fn last_of_64(alloc: Global) -> Result<(usize, u64), Fail> {
-    let (words, mut seats) = table(alloc, 64)?;
+fn last_of_64(alloc: Global) -> Option<(usize, u64)> {
+    let Ok((words, mut seats)) = table(alloc, 64) else {
+        return None;
+    };
     let count = seats.len();
-    let mut last = seats.pop().ok_or("no last seat")?;
-    Ok((count, last_cell(&words, &mut last)))
+    let mut last = seats.pop()?;
+    Some((count, last_cell(&words, &mut last)))
 }
 
+const NO_COUNTS: [usize; 3] = [0, 65, 1000];
+
 #[test]
-fn a_table_has_one_to_sixty_four_seats(rt: HostRuntime) -> Result<(), Fail> {
-    for count in [0, 65, 1000] {
-        assert!(rt; is_refused(rt.alloc(), count), "at {count}");
+fn a_table_has_one_to_sixty_four_seats(rt: HostRuntime) {
+    for count in &NO_COUNTS {
+        assert!(rt; is_refused(rt.alloc(), *count), "at {count}");
     }
-    assert!(rt; last_of_64(rt.alloc())? == (64, 9));
-    Ok(())
+    assert!(rt; last_of_64(rt.alloc()) == Some((64, 9)));
 }
 
 const REFUSALS: [(MapsError, u8, &str); 2] = [

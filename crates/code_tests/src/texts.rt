@@ -9,25 +9,6 @@ use std::alloc::{AllocError, Global};
 use std::process::Abort;
 use std::test::Fail;
 
-/// The listing of what the first text spells is the second, which spells the same.
-fn lists(rt: &impl Abort, alloc: Global, text: &str, listed: &str) -> Result<(), Fail> {
-    let object = assemble(alloc, text)?;
-    is_listed(rt, alloc, &object, listed)
-}
-
-/// The object's listing is this text, which spells the same object.
-fn is_listed(rt: &impl Abort, alloc: Global, object: &Object, listed: &str) -> Result<(), Fail> {
-    let written = listing(alloc, object)?;
-    assert!(rt; written.as_str() == listed, "{written}");
-    spells_again(rt, alloc, &written, object)
-}
-
-fn spells_again(rt: &impl Abort, alloc: Global, text: &str, object: &Object) -> Result<(), Fail> {
-    let again = assemble(alloc, text)?;
-    assert!(rt; are_the_same(&again, object), "{text}");
-    Ok(())
-}
-
 fn are_the_same(object: &Object, other: &Object) -> bool {
     object.hook() == other.hook()
         && object.entry_rank() == other.entry_rank()
@@ -35,84 +16,92 @@ fn are_the_same(object: &Object, other: &Object) -> bool {
         && object.statements() == other.statements()
 }
 
-/// The listing of what each row's first text spells is its second, which spells the same: with this
-/// word in the place of each @.
-fn lists_rows(
-    rt: &impl Abort,
-    alloc: Global,
-    word: &str,
-    rows: &[(&str, &str)],
-) -> Result<(), Fail> {
-    for (text, listed) in rows {
-        lists_with(rt, alloc, word, text, listed)?;
+/// Whether the text spells the object.
+fn spells_again(alloc: Global, text: &str, object: &Object) -> Option<bool> {
+    let again = assemble(alloc, text).ok()?;
+    Some(are_the_same(&again, object))
+}
+
+/// Whether the object's listing is this text, which spells the same object.
+fn is_listed(alloc: Global, object: &Object, listed: &str) -> Option<bool> {
+    let written = listing(alloc, object).ok()?;
+    if written.as_str() != listed {
+        return Some(false);
     }
-    Ok(())
+    spells_again(alloc, &written, object)
 }
 
-fn lists_with(
-    rt: &impl Abort,
-    alloc: Global,
-    word: &str,
-    text: &str,
-    listed: &str,
-) -> Result<(), Fail> {
-    let text = text.replace(alloc, '@', word)?;
-    let listed = listed.replace(alloc, '@', word)?;
-    lists(rt, alloc, &text, &listed)
+/// Whether the listing of what the first text spells is the second, which spells the same.
+fn lists_once(alloc: Global, text: &str, listed: &str) -> Option<bool> {
+    let object = assemble(alloc, text).ok()?;
+    is_listed(alloc, &object, listed)
 }
 
-/// The same for each of these words.
-fn lists_words(
-    rt: &impl Abort,
-    alloc: Global,
-    words: &[&str],
-    rows: &[(&str, &str)],
-) -> Result<(), Fail> {
+// Where no answer comes, the question is asked once more: one allocation may be refused, in a run
+// of the tests with a refusal.
+
+/// The listing of what the first text spells is the second, which spells the same.
+fn lists(rt: &impl Abort, alloc: Global, text: &str, listed: &str) {
+    let mut found = lists_once(alloc, text, listed);
+    if found.is_none() {
+        found = lists_once(alloc, text, listed);
+    }
+    assert!(rt; found == Some(true), "{text}: {found:?}");
+}
+
+/// The same with this word in the place of each @.
+fn lists_with_once(alloc: Global, word: &str, text: &str, listed: &str) -> Option<bool> {
+    let text = text.replace(alloc, '@', word).ok()?;
+    let listed = listed.replace(alloc, '@', word).ok()?;
+    lists_once(alloc, &text, &listed)
+}
+
+/// The listing of what the first text spells is the second, which spells the same: with each of
+/// these words in the place of each @.
+fn lists_words(rt: &impl Abort, alloc: Global, words: &[&str], text: &str, listed: &str) {
     for word in words {
-        lists_rows(rt, alloc, word, rows)?;
+        let mut found = lists_with_once(alloc, word, text, listed);
+        if found.is_none() {
+            found = lists_with_once(alloc, word, text, listed);
+        }
+        assert!(rt; found == Some(true), "{word}: {found:?}");
     }
-    Ok(())
 }
 
 /// The text's first bad line and what is wrong with it.
-fn refuses(
-    rt: &impl Abort,
-    alloc: Global,
-    text: &str,
-    line: usize,
-    kind: AsmFault,
-) -> Result<(), Fail> {
+fn fault_of(alloc: Global, text: &str) -> Option<(usize, AsmFault)> {
+    let mut error = assemble(alloc, text).err()?;
+    if error.kind == AsmFault::Memory {
+        error = assemble(alloc, text).err()?;
+    }
+    Some((error.line, error.kind))
+}
+
+fn refuses(rt: &impl Abort, alloc: Global, text: &str, line: usize, kind: AsmFault) {
+    let found = fault_of(alloc, text);
+    assert!(rt; found == Some((line, kind)), "{text}: {found:?}");
+}
+
+/// The object of the text.
+fn object_of(alloc: Global, text: &str) -> Option<Object> {
     match assemble(alloc, text) {
-        Ok(_) => {
-            assert!(rt; false, "{text}");
-            Ok(())
-        }
-        Err(error) => {
-            if error.kind == AsmFault::Memory {
-                return Err(Fail::from(error));
-            }
-            assert!(rt;
-                error.line == line && error.kind == kind,
-                "{text}: {error:?}"
-            );
-            Ok(())
-        }
+        Ok(object) => Some(object),
+        Err(_) => assemble(alloc, text).ok(),
     }
 }
 
-/// The text spells these bytes of code.
-fn spells(rt: &impl Abort, alloc: Global, text: &str, code: &[u8]) -> Result<(), Fail> {
-    let object = assemble(alloc, text)?;
-    assert!(rt; object.code() == code, "{text}");
-    Ok(())
+/// Whether the text spells these bytes of code.
+fn spells(alloc: Global, text: &str, code: &[u8]) -> Option<bool> {
+    let object = object_of(alloc, text)?;
+    Some(object.code() == code)
 }
 
 /// Each row's text spells its bytes.
-fn spells_each(rt: &impl Abort, alloc: Global, rows: &[(&str, &[u8])]) -> Result<(), Fail> {
-    for (text, code) in rows {
-        spells(rt, alloc, text, code)?;
+fn spells_each(rt: &impl Abort, alloc: Global, rows: &[(&str, &[u8])]) {
+    for row in rows {
+        let (text, code) = *row;
+        assert!(rt; spells(alloc, text, code) == Some(true), "{text}");
     }
-    Ok(())
 }
 
 // Texts, and the bytes that their only lines spell behind `hook price` and `rank 0`.
@@ -148,8 +137,8 @@ const SPELLED: [(&str, &[u8]); 7] = [
 ];
 
 #[test]
-fn spells_bytes(rt: HostRuntime) -> Result<(), Fail> {
-    spells_each(&rt, rt.alloc(), &SPELLED)
+fn spells_bytes(rt: HostRuntime) {
+    spells_each(&rt, rt.alloc(), &SPELLED);
 }
 
 // The sum of the numbers from 10 down to 1, with a label and without.
@@ -172,10 +161,9 @@ fn is_the_sum(object: &Object) -> bool {
 }
 
 #[test]
-fn sums_a_loop(rt: HostRuntime) -> Result<(), Fail> {
-    let object = assemble(rt.alloc(), SUM)?;
+fn sums_a_loop(rt: HostRuntime) {
+    let object = object_of(rt.alloc(), SUM).expect(&rt, "an object");
     assert!(rt; is_the_sum(&object));
-    Ok(())
 }
 
 // Texts that are their own listings.
@@ -207,17 +195,11 @@ const LISTINGS: [&str; 8] = [
         with r1 number 0 1 0 0\n",
 ];
 
-/// Each of these texts is its own listing.
-fn list_themselves(rt: &impl Abort, alloc: Global, texts: &[&str]) -> Result<(), Fail> {
-    for text in texts {
-        lists(rt, alloc, text, text)?;
-    }
-    Ok(())
-}
-
 #[test]
-fn each_instruction_register_form_and_statement_is_listed(rt: HostRuntime) -> Result<(), Fail> {
-    list_themselves(&rt, rt.alloc(), &LISTINGS)
+fn each_instruction_register_form_and_statement_is_listed(rt: HostRuntime) {
+    for text in &LISTINGS {
+        lists(&rt, rt.alloc(), text, text);
+    }
 }
 
 // Texts with labels, spaces and pieces in another order, and their listings.
@@ -240,8 +222,11 @@ const LISTED: [(&str, &str); 4] = [
 ];
 
 #[test]
-fn a_listing_has_no_labels_and_the_pieces_in_order(rt: HostRuntime) -> Result<(), Fail> {
-    lists_rows(&rt, rt.alloc(), "", &LISTED)
+fn a_listing_has_no_labels_and_the_pieces_in_order(rt: HostRuntime) {
+    for row in &LISTED {
+        let (text, listed) = *row;
+        lists(&rt, rt.alloc(), text, listed);
+    }
 }
 
 const OPERATIONS: [&str; 14] = [
@@ -251,8 +236,8 @@ const OPERATIONS: [&str; 14] = [
 const OPERATED: &str = "hook tag\nrank 0\nr0 @ r10\nr9 @ -5\nw0 @ w1\nw10 @ 2147483647\n";
 
 #[test]
-fn each_operation_is_listed(rt: HostRuntime) -> Result<(), Fail> {
-    lists_words(&rt, rt.alloc(), &OPERATIONS, &[(OPERATED, OPERATED)])
+fn each_operation_is_listed(rt: HostRuntime) {
+    lists_words(&rt, rt.alloc(), &OPERATIONS, OPERATED, OPERATED);
 }
 
 const TESTS: [&str; 11] = [
@@ -270,43 +255,40 @@ const LABELLED: &str = "hook tag\nrank 0\nL:\nif r0 @ r1 goto L\nif w0 @ 7 goto 
 const LABELLED_LISTED: &str = "hook tag\nrank 0\nif r0 @ r1 goto -1\nif w0 @ 7 goto +1\nexit\n";
 
 #[test]
-fn each_test_is_listed(rt: HostRuntime) -> Result<(), Fail> {
-    lists_words(&rt, rt.alloc(), &TESTS, &[(JUMPS, JUMPS)])
+fn each_test_is_listed(rt: HostRuntime) {
+    lists_words(&rt, rt.alloc(), &TESTS, JUMPS, JUMPS);
 }
 
 #[test]
-fn each_test_is_listed_by_its_distance(rt: HostRuntime) -> Result<(), Fail> {
-    lists_words(&rt, rt.alloc(), &TESTS, &[(LABELLED, LABELLED_LISTED)])
+fn each_test_is_listed_by_its_distance(rt: HostRuntime) {
+    lists_words(&rt, rt.alloc(), &TESTS, LABELLED, LABELLED_LISTED);
 }
 
-/// What is wrong with an object whose code is no instruction.
-fn listing_of_no_code(alloc: Global) -> Result<Option<ListError>, Fail> {
-    let code = b"\xff\xff\xff\xff\xff\xff\xff\xff".to_vec(alloc)?;
-    let object = Object::new(Hook::Count, 0, code, Vec::new(alloc)).ok_or("no object")?;
-    Ok(listing(alloc, &object).err())
-}
-
-#[test]
-fn refuses_to_list(rt: HostRuntime) -> Result<(), Fail> {
-    let error = listing_of_no_code(rt.alloc())?.ok_or("a listing")?;
-    if error == ListError::Memory {
-        return Err(Fail::from(error));
+/// The refusal of an object whose code is no instruction, by its number.
+fn no_listing_once(alloc: Global) -> Option<u8> {
+    let code = b"\xff\xff\xff\xff\xff\xff\xff\xff".to_vec(alloc).ok()?;
+    let object = Object::new(Hook::Count, 0, code, Vec::new(alloc))?;
+    match listing(alloc, &object).err()? {
+        ListError::Memory => None,
+        error => Some(error.number()),
     }
-    assert!(rt; error.number() == 1 && AsmFault::Twice.number() == 4);
-    Ok(())
+}
+
+#[test]
+fn refuses_to_list(rt: HostRuntime) {
+    let mut number = no_listing_once(rt.alloc());
+    if number.is_none() {
+        number = no_listing_once(rt.alloc());
+    }
+    assert!(rt; number == Some(1) && AsmFault::Twice.number() == 4);
 }
 
 /// Each of these texts has this first bad line, and this wrong with it.
-fn refuses_each(
-    rt: &impl Abort,
-    alloc: Global,
-    rows: &[(&str, usize)],
-    kind: AsmFault,
-) -> Result<(), Fail> {
-    for (text, line) in rows {
-        refuses(rt, alloc, text, *line, kind)?;
+fn refuses_each(rt: &impl Abort, alloc: Global, rows: &[(&str, usize)], kind: AsmFault) {
+    for row in rows {
+        let (text, line) = *row;
+        refuses(rt, alloc, text, line, kind);
     }
-    Ok(())
 }
 
 const SYNTAX: [(&str, usize); 15] = [
@@ -328,8 +310,8 @@ const SYNTAX: [(&str, usize); 15] = [
 ];
 
 #[test]
-fn refuses_syntax(rt: HostRuntime) -> Result<(), Fail> {
-    refuses_each(&rt, rt.alloc(), &SYNTAX, AsmFault::Syntax)
+fn refuses_syntax(rt: HostRuntime) {
+    refuses_each(&rt, rt.alloc(), &SYNTAX, AsmFault::Syntax);
 }
 
 const LABELS: [(&str, usize); 4] = [
@@ -340,8 +322,8 @@ const LABELS: [(&str, usize); 4] = [
 ];
 
 #[test]
-fn refuses_labels(rt: HostRuntime) -> Result<(), Fail> {
-    refuses_each(&rt, rt.alloc(), &LABELS, AsmFault::Label)
+fn refuses_labels(rt: HostRuntime) {
+    refuses_each(&rt, rt.alloc(), &LABELS, AsmFault::Label);
 }
 
 const TWICE: [(&str, usize); 5] = [
@@ -362,33 +344,34 @@ const TWICE: [(&str, usize); 5] = [
 ];
 
 #[test]
-fn refuses_what_is_there_twice(rt: HostRuntime) -> Result<(), Fail> {
-    refuses_each(&rt, rt.alloc(), &TWICE, AsmFault::Twice)
+fn refuses_what_is_there_twice(rt: HostRuntime) {
+    refuses_each(&rt, rt.alloc(), &TWICE, AsmFault::Twice);
+}
+
+/// This front with this line behind it.
+fn behind_once(alloc: Global, front: &str, last: &str) -> Option<String> {
+    format!(in alloc; "{front}{last}\n").ok()
+}
+
+fn behind(alloc: Global, front: &str, last: &str) -> Option<String> {
+    match behind_once(alloc, front, last) {
+        None => behind_once(alloc, front, last),
+        made => made,
+    }
+}
+
+/// The first bad line of this front with this line behind it, and what is wrong with it.
+fn fault_behind(alloc: Global, front: &str, last: &str) -> Option<(usize, AsmFault)> {
+    let text = behind(alloc, front, last)?;
+    fault_of(alloc, &text)
 }
 
 /// Each of these lines, behind this front and the lines that it has, is out of range.
-fn refuses_lines(
-    rt: &impl Abort,
-    alloc: Global,
-    front: &str,
-    line: usize,
-    lines: &[&str],
-) -> Result<(), Fail> {
+fn refuses_lines(rt: &impl Abort, alloc: Global, front: &str, line: usize, lines: &[&str]) {
     for last in lines {
-        refuses_behind(rt, alloc, front, line, last)?;
+        let found = fault_behind(alloc, front, last);
+        assert!(rt; found == Some((line, AsmFault::Range)), "{last}: {found:?}");
     }
-    Ok(())
-}
-
-fn refuses_behind(
-    rt: &impl Abort,
-    alloc: Global,
-    front: &str,
-    line: usize,
-    last: &str,
-) -> Result<(), Fail> {
-    let text = format!(in alloc; "{front}{last}\n")?;
-    refuses(rt, alloc, &text, line, AsmFault::Range)
 }
 
 const HEADS: [(&str, usize); 3] = [
@@ -401,8 +384,8 @@ const HEADS: [(&str, usize); 3] = [
 ];
 
 #[test]
-fn refuses_ranks_and_statements_out_of_order(rt: HostRuntime) -> Result<(), Fail> {
-    refuses_each(&rt, rt.alloc(), &HEADS, AsmFault::Range)
+fn refuses_ranks_and_statements_out_of_order(rt: HostRuntime) {
+    refuses_each(&rt, rt.alloc(), &HEADS, AsmFault::Range);
 }
 
 const NUMBERS: [&str; 28] = [
@@ -437,9 +420,9 @@ const NUMBERS: [&str; 28] = [
 ];
 
 #[test]
-fn refuses_numbers(rt: HostRuntime) -> Result<(), Fail> {
+fn refuses_numbers(rt: HostRuntime) {
     let front = "hook price\nrank 0\nexit\n";
-    refuses_lines(&rt, rt.alloc(), front, 4, &NUMBERS)
+    refuses_lines(&rt, rt.alloc(), front, 4, &NUMBERS);
 }
 
 const STATES: [&str; 21] = [
@@ -467,9 +450,9 @@ const STATES: [&str; 21] = [
 ];
 
 #[test]
-fn refuses_states(rt: HostRuntime) -> Result<(), Fail> {
+fn refuses_states(rt: HostRuntime) {
     let front = "hook price\nrank 0\nexit\nexit\n";
-    refuses_lines(&rt, rt.alloc(), front, 5, &STATES)
+    refuses_lines(&rt, rt.alloc(), front, 5, &STATES);
 }
 
 // A statement with a rank over r2.
@@ -496,8 +479,8 @@ const REGISTERS: [&str; 16] = [
 ];
 
 #[test]
-fn refuses_registers(rt: HostRuntime) -> Result<(), Fail> {
-    refuses_lines(&rt, rt.alloc(), STATED, 7, &REGISTERS)
+fn refuses_registers(rt: HostRuntime) {
+    refuses_lines(&rt, rt.alloc(), STATED, 7, &REGISTERS);
 }
 
 const FIELDS: [&str; 8] = [
@@ -511,76 +494,86 @@ const FIELDS: [&str; 8] = [
     "0 0 0 18446744073709551616",
 ];
 
-/// Each of these numbers, behind the statement and this start of a line, is out of range.
-fn refuses_fields(rt: &impl Abort, alloc: Global, start: &str) -> Result<(), Fail> {
-    let front = format!(in alloc; "{STATED}{start}")?;
-    refuses_lines(rt, alloc, &front, 7, &FIELDS)
-}
+// The statement, and the start of a line that says of r1 that it is a number, or a pointer to map
+// 0.
+const NUMBER_BEGINS: &str =
+    "hook price\nrank 0\nexit\nexit\nstate 0 rank 0 r2 * 1\nwith r2 number 0 0 0 0\n\
+        with r1 number ";
+
+const MAP_BEGINS: &str =
+    "hook price\nrank 0\nexit\nexit\nstate 0 rank 0 r2 * 1\nwith r2 number 0 0 0 0\n\
+        with r1 map 0 ";
 
 #[test]
-fn refuses_numbers_of_registers(rt: HostRuntime) -> Result<(), Fail> {
-    refuses_fields(&rt, rt.alloc(), "with r1 number ")?;
-    refuses_fields(&rt, rt.alloc(), "with r1 map 0 ")
+fn refuses_numbers_of_registers(rt: HostRuntime) {
+    refuses_lines(&rt, rt.alloc(), NUMBER_BEGINS, 7, &FIELDS);
+    refuses_lines(&rt, rt.alloc(), MAP_BEGINS, 7, &FIELDS);
 }
 
 /// A text with so many lines `exit`, and then this.
-fn exits(alloc: Global, count: usize, rest: &str) -> Result<String, Fail> {
-    let front = "exit\n".repeat(alloc, count)?;
-    Ok(format!(in alloc; "hook price\nrank 0\n{front}{rest}")?)
+fn exits_once(alloc: Global, count: usize, rest: &str) -> Option<String> {
+    let front = "exit\n".repeat(alloc, count).ok()?;
+    format!(in alloc; "hook price\nrank 0\n{front}{rest}").ok()
 }
 
-fn slots_of(alloc: Global, text: &str) -> Result<usize, Fail> {
-    let object = assemble(alloc, text)?;
-    Ok(object.slots())
+fn exits(alloc: Global, count: usize, rest: &str) -> Option<String> {
+    match exits_once(alloc, count, rest) {
+        None => exits_once(alloc, count, rest),
+        made => made,
+    }
 }
 
 /// The slots of so many lines `exit`.
-fn slots_of_exits(alloc: Global, count: usize) -> Result<usize, Fail> {
+fn slots_of_exits(alloc: Global, count: usize) -> Option<usize> {
     let text = exits(alloc, count, "")?;
-    slots_of(alloc, &text)
+    let object = object_of(alloc, &text)?;
+    Some(object.slots())
 }
 
 #[test]
-fn takes_4096_slots(rt: HostRuntime) -> Result<(), Fail> {
+fn takes_4096_slots(rt: HostRuntime) {
     let slots = [
-        slots_of_exits(rt.alloc(), 4095)?,
-        slots_of_exits(rt.alloc(), 4096)?,
+        slots_of_exits(rt.alloc(), 4095),
+        slots_of_exits(rt.alloc(), 4096),
     ];
-    assert!(rt; slots == [4095, 4096], "{slots:?}");
-    Ok(())
+    assert!(rt; slots == [Some(4095), Some(4096)], "{slots:?}");
 }
 
 // How many exits there are, what follows, and the first line that is too much.
-type Much = (usize, &'static str, usize);
-
-const TOO_MUCH: &[Much] = &[
+const TOO_MUCH: &[(usize, &str, usize)] = &[
     (4096, "exit\n", 4099),
     (4095, "r0 = wide 0\n", 4098),
     (4095, "r0 = wide 0\nnonsense\n", 4098),
 ];
 
-fn refuses_so_much(rt: &impl Abort, alloc: Global, row: &Much) -> Result<(), Fail> {
-    let (count, rest, line) = *row;
+fn fault_behind_exits(alloc: Global, count: usize, rest: &str) -> Option<(usize, AsmFault)> {
     let text = exits(alloc, count, rest)?;
-    refuses(rt, alloc, &text, line, AsmFault::Range)
+    fault_of(alloc, &text)
 }
 
 #[test]
-fn refuses_more_slots(rt: HostRuntime) -> Result<(), Fail> {
+fn refuses_more_slots(rt: HostRuntime) {
     for row in TOO_MUCH {
-        refuses_so_much(&rt, rt.alloc(), row)?;
+        let (count, rest, line) = *row;
+        let found = fault_behind_exits(rt.alloc(), count, rest);
+        assert!(rt; found == Some((line, AsmFault::Range)), "{rest}: {found:?}");
     }
-    Ok(())
 }
 
-/// 300 labels and a jump to one of them behind each, and then this.
-fn many_labels(alloc: Global, rest: &str) -> Result<String, Fail> {
-    let mut text = String::new(alloc);
-    text.push_str("hook price\nrank 0\n")?;
+/// 300 labels and a jump to one of them behind each.
+fn put_labels(text: &mut String) -> Result<(), AllocError> {
     for slot in 0..300u32 {
         let place = slot * 7 % 300;
         writeln!(text, "label_{slot}:\ngoto label_{place}")?;
     }
+    Ok(())
+}
+
+/// The text of these labels and jumps, and then this.
+fn many_labels(alloc: Global, rest: &str) -> Result<String, AllocError> {
+    let mut text = String::new(alloc);
+    text.push_str("hook price\nrank 0\n")?;
+    put_labels(&mut text)?;
     text.push_str(rest)?;
     Ok(text)
 }
@@ -596,13 +589,18 @@ fn put_jump(text: &mut String, slot: u32, place: u32) -> Result<(), AllocError>
     }
 }
 
+fn put_jumps(text: &mut String) -> Result<(), AllocError> {
+    for slot in 0..300u32 {
+        put_jump(text, slot, slot * 7 % 300)?;
+    }
+    Ok(())
+}
+
 /// The listing of these jumps.
-fn many_jumps(alloc: Global) -> Result<String, Fail> {
+fn many_jumps(alloc: Global) -> Result<String, AllocError> {
     let mut text = String::new(alloc);
     text.push_str("hook price\nrank 0\n")?;
-    for slot in 0..300u32 {
-        put_jump(&mut text, slot, slot * 7 % 300)?;
-    }
+    put_jumps(&mut text)?;
     Ok(text)
 }
 
@@ -610,16 +608,17 @@ fn many_jumps(alloc: Global) -> Result<String, Fail> {
 fn finds_each_of_many_labels(rt: HostRuntime) -> Result<(), Fail> {
     let text = many_labels(rt.alloc(), "")?;
     let listed = many_jumps(rt.alloc())?;
-    lists(&rt, rt.alloc(), &text, &listed)
+    lists(&rt, rt.alloc(), &text, &listed);
+    Ok(())
 }
 
-fn refuses_again(rt: &impl Abort, alloc: Global, rest: &str) -> Result<(), Fail> {
-    let text = many_labels(alloc, rest)?;
-    refuses(rt, alloc, &text, 603, AsmFault::Twice)
-}
+const AGAIN: [&str; 2] = ["label_5:\n", "label_5:\nlabel_299:\n"];
 
 #[test]
 fn refuses_one_of_many_labels_again(rt: HostRuntime) -> Result<(), Fail> {
-    refuses_again(&rt, rt.alloc(), "label_5:\n")?;
-    refuses_again(&rt, rt.alloc(), "label_5:\nlabel_299:\n")
+    for rest in &AGAIN {
+        let text = many_labels(rt.alloc(), rest)?;
+        refuses(&rt, rt.alloc(), &text, 603, AsmFault::Twice);
+    }
+    Ok(())
 }

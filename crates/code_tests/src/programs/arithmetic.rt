@@ -147,12 +147,11 @@ fn doing(a: u64, b: u64, instruction: u64) -> [u64; 7] {
 }
 
 #[test]
-fn each_operation_gives_its_result(rt: HostRuntime) -> Result<(), Fail> {
+fn each_operation_gives_its_result(rt: HostRuntime) {
     for row in OPERATIONS {
         let (a, b, instruction, want) = *row;
-        comes_to(&rt, &doing(a, b, instruction), (want, 5))?;
+        comes_to(&rt, &doing(a, b, instruction), (want, 5));
     }
-    Ok(())
 }
 
 // The instruction on r1 = 0x1122334455667788, and r1 after.
@@ -163,12 +162,11 @@ const SWAPS: &[(u64, u64)] = &[
 ];
 
 #[test]
-fn whole_swaps(rt: HostRuntime) -> Result<(), Fail> {
+fn whole_swaps(rt: HostRuntime) {
     let first = wide(1, 0x1122_3344_5566_7788);
     for row in SWAPS {
         let (instruction, want) = *row;
         let slots = [first[0], first[1], instruction, ANSWER, EXIT];
-        comes_to(&rt, &slots, (want, 4))?;
+        comes_to(&rt, &slots, (want, 4));
     }
-    Ok(())
 }

@@ -122,13 +122,12 @@ fn testing(a: u64, b: u64, test: u64) -> [u64; 8] {
 }
 
 #[test]
-fn each_test_holds_where_it_has_to(rt: HostRuntime) -> Result<(), Fail> {
+fn each_test_holds_where_it_has_to(rt: HostRuntime) {
     for row in TESTS {
         let (a, b, test, holds) = *row;
         let want = if holds { (1, 5) } else { (0, 6) };
-        comes_to(&rt, &testing(a, b, test), want)?;
+        comes_to(&rt, &testing(a, b, test), want);
     }
-    Ok(())
 }
 
 const ONE: u64 = 0x0000_0001_0000_00b7;
@@ -153,6 +152,6 @@ const JUMPS: &[Row<'_>] = &[
 ];
 
 #[test]
-fn jumps_lead_where_they_have_to(rt: HostRuntime) -> Result<(), Fail> {
-    come_to(&rt, JUMPS)
+fn jumps_lead_where_they_have_to(rt: HostRuntime) {
+    come_to(&rt, JUMPS);
 }
