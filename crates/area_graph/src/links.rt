@@ -141,8 +141,11 @@ fn neighbor_at(area: &Area<'_>, router: RouterId, kind: EntryKind, id: u32) -> O
     }
 }
 
-// Adds the links to one place: at the root one for each own interface of this address.
-fn add_exits(
+/// Adds the links of a router to one place: at the root one for each own interface of this address.
+///
+/// # Errors
+/// Where memory for them is refused.
+pub fn add_exits(
     root: &Root,
     router: RouterId,
     address: u32,

@@ -33,6 +33,15 @@ impl Slots {
         Slots { places }
     }
 
+    /// The same slots once more.
+    ///
+    /// # Errors
+    /// Where memory for them is refused.
+    pub fn copy(&self, alloc: Global) -> Result<Self, AllocError> {
+        let places = Vec::from_slice(alloc, &self.places)?;
+        Ok(Slots { places })
+    }
+
     /// The first place of a node that isn't before this one, or their count where all are. It is
     /// looked for where the node is expected, and then by halving.
     pub fn place_of(&self, nodes: &[Node], node: &Node) -> usize

@@ -42,6 +42,8 @@ pub fn graph_of(
     ensures stands { IfOk result (λ graph. IsGraphOf (Leads (said_at moment db.now.present)
         root.now) (StandsAt nodes.now) graph.items) }
     ensures lawful { IfOk result (λ graph. IsGraph graph.items) }
+    ensures vertices { IfOk result (λ graph. AreVertices (said_at moment db.now.present)
+        root.now nodes.now graph.items) }
 {
     let bodies = db.bodies_at(alloc, Some(NETWORK_LSA), moment)?;
     let told = Advertised {

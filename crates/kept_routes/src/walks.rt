@@ -16,7 +16,7 @@ use candidates::{Calculated, External, calculate, routes_of};
 use lsdb::Lsdb;
 use offers::Ways;
 use routes::{Node, Root, Way};
-use shortest_paths::{Reached, walk};
+use shortest_paths::{Reached, copy_of, walk};
 use std::alloc::{AllocError, Global};
 use std::marker::Model;
 use words::{Route, Second};
@@ -37,17 +37,6 @@ impl Model for Routes {
     ghost Value = { KeptWalk };
 
     ghost view = { λ a. record { root = a.root; reached = a.reached; walks = a.walks } };
-}
-
-// The same root once more.
-fn copy_of(root: &Root) -> Result<Root, AllocError>
-    ensures { IfOk result (λ copy. copy ≡ root.now) }
-{
-    let addresses = root.addresses.copy()?;
-    Ok(Root {
-        router: root.router,
-        addresses,
-    })
 }
 
 impl Routes {
@@ -97,6 +86,20 @@ impl Routes {
         self.reached = reached;
         self.walks = self.walks.saturating_add(1);
         Ok(())
+    }
+
+    /// Takes a walk that was made, in place of the one that was kept.
+    pub fn take_walk(&mut self, root: Root, reached: Reached)
+        ensures { self.new ≡ record {
+          root = root;
+          reached = reached;
+          walks
+              = min (self.old.walks + 1) 18446744073709551615;
+        } }
+    {
+        self.root = root;
+        self.reached = reached;
+        self.walks = self.walks.saturating_add(1);
     }
 
     /// The candidates of a database whose walk is kept, at a moment: for each prefix that anything

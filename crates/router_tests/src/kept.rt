@@ -39,7 +39,8 @@ enum Step {
     Said(u64, Option<usize>),
 }
 
-fn later(seconds: u64) -> Second {
+/// So many seconds after every LSA came in.
+pub fn later(seconds: u64) -> Second {
     Second::new(moment().count().saturating_add(seconds))
 }
 

@@ -11,8 +11,9 @@ mod databases;
 #[cfg(test)]
 mod externals;
 #[cfg(test)]
-mod instances;
+mod graphs;
 #[cfg(test)]
+mod instances;
 mod kept;
 #[cfg(test)]
 mod lines;

@@ -5,11 +5,11 @@ ghost use Rattle.routes.specs.Said.{said_at};
 ghost use Rattle.offers.specs.Ways.{AreNear, AreWays};
 ghost use Rattle.shortest_paths.specs.Reached.{way_in};
 
-use crate::reached::{Reached, find, root_alone};
+use crate::graph::AreaGraph;
+use crate::reached::{Reached, root_alone};
 use crate::way_out::has_no_way_out;
-use area_graph::{Slots, graph_of, nodes_of};
 use lsdb::Lsdb;
-use routes::{Node, Root, least_ways};
+use routes::Root;
 use std::alloc::{AllocError, Global};
 use words::Second;
 
@@ -47,17 +47,7 @@ fn walk_on(alloc: Global, db: &Lsdb, root: &Root, moment: Second) -> Result<Reac
         (way_in reached)) }
     ensures near { IfOk result (λ reached. AreNear (way_in reached)) }
 {
-    let nodes = nodes_of(alloc, db, moment)?;
-    let slots = Slots::of_nodes(alloc, nodes.as_slice())?;
-    match find(&nodes, &slots, &Node::ARouter(root.router)) {
-        None => {
-            let reached = root_alone(alloc, root)?;
-            Ok(reached)
-        }
-        Some(at) => {
-            let graph = graph_of(alloc, db, root, moment, &nodes, &slots)?;
-            let ways = least_ways(alloc, &graph, at)?;
-            Ok(Reached::new(nodes, slots, ways))
-        }
-    }
+    let graph = AreaGraph::new(alloc, db, root, moment)?;
+    let reached = graph.walk(alloc)?;
+    Ok(reached)
 }

@@ -34,3 +34,6 @@ returns-clause-stands c =
 pub returns-clause-lawful : goal.returns-clause-lawful
 returns-clause-lawful c =
     is_graph (said_at c.args.moment c.args.db.now.present) c.args.root.now c.args.nodes.now c.in_ok-graph.graph.items c.requires.nodes c.in_ok-graph.ensures c.requires.interfaces
+
+pub returns-clause-vertices : goal.returns-clause-vertices
+returns-clause-vertices c = c.in_ok-graph.ensures

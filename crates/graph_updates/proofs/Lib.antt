@@ -1,0 +1,4 @@
+pub mod Fronts
+pub mod Keys
+pub mod Neighbors
+pub mod Stay

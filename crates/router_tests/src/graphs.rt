@@ -1,0 +1,152 @@
+//! The graph of an area after an event: followed, or to be made anew.
+ghost use Rattle.std.specs.Prelude.{◌≤◌, length};
+ghost use Rattle.std.specs.FinMap as finite;
+
+use crate::area::{database, moment, root};
+use crate::kept::later;
+use crate::lines::lsas_of;
+use crate::texts::{LinkText, Name, router};
+use crate::worked::{TWO, TWO_ADDRESSES};
+use graph_updates::follow_graph;
+use lsa::Lsa;
+use lsdb::Lsdb;
+use routes::{Root, Vertex};
+use shortest_paths::AreaGraph;
+use std::alloc::Global;
+use std::test::Fail;
+
+// The router-LSA of this router, with one link to the first one.
+fn router_lsa(alloc: Global, id: u32, kind: u8, metric: u16) -> Result<Lsa, Fail> {
+    let name = Name {
+        age: 1,
+        ls_type: 1,
+        id,
+        by: id,
+    };
+    let link = LinkText {
+        kind,
+        id: 0x0101_0101,
+        data: 0x0a00_0102,
+        metric,
+    };
+    router(alloc, name, 2, &[link])
+}
+
+// The graph of what the database holds, followed over this LSA, which comes in a second later.
+fn follow_one(
+    alloc: Global,
+    db: &mut Lsdb,
+    root: &Root,
+    lsa: Lsa,
+) -> Result<Option<AreaGraph>, Fail>
+    requires interfaces { length root.now.addresses ≤ 63 }
+    requires size { finite.len db.old.present ≤ 16384 }
+{
+    let before = moment();
+    let now = later(1);
+    if now.count() < before.count() {
+        return Err(Fail::from("the clock goes back"));
+    }
+    db.settle();
+    let graph = AreaGraph::new(alloc, db, root, before)?;
+    db.install_flooded(now, lsa)?;
+    let next = follow_graph(alloc, db, graph, before, now)?;
+    Ok(next)
+}
+
+fn have_same_links(one: &[Vertex], other: &[Vertex]) -> bool {
+    if one.len() != other.len() {
+        return false;
+    }
+    for at in 0..one.len() {
+        if one[at].links.as_slice() != other[at].links.as_slice() {
+            return false;
+        }
+    }
+    true
+}
+
+// Whether these are the links of the graph that is made of what the database holds.
+fn are_its_links(alloc: Global, db: &Lsdb, root: &Root, links: &[Vertex]) -> Result<bool, Fail> {
+    if db.len() > 16384 || root.addresses.as_slice().len() > 63 {
+        return Err(Fail::from("a database or a router that is too large"));
+    }
+    let made = AreaGraph::new(alloc, db, root, later(1))?;
+    Ok(have_same_links(&made.vertices, links))
+}
+
+// Whether the graph of the database followed this LSA to what it holds then; None where it is to be
+// made anew.
+fn followed(alloc: Global, db: &mut Lsdb, root: &Root, lsa: Lsa) -> Result<Option<bool>, Fail> {
+    if db.len() > 16384 || root.addresses.as_slice().len() > 63 {
+        return Err(Fail::from("a database or a router that is too large"));
+    }
+    match follow_one(alloc, db, root, lsa)? {
+        None => Ok(None),
+        Some(graph) => Ok(Some(are_its_links(alloc, db, root, &graph.vertices)?)),
+    }
+}
+
+// A router's LSA with one link of this kind and metric to the first router, and whether the graph
+// of two routers follows it.
+#[derive(Clone, Copy)]
+struct Change {
+    id: u32,
+    kind: u8,
+    metric: u16,
+    followed: Option<bool>,
+}
+
+const CHANGES: [Change; 5] = [
+    // the other router's link costs something else, or doesn't count
+    Change {
+        id: 0x0202_0202,
+        kind: 1,
+        metric: 3,
+        followed: Some(true),
+    },
+    Change {
+        id: 0x0202_0202,
+        kind: 1,
+        metric: 0,
+        followed: Some(true),
+    },
+    // it has a stub link alone
+    Change {
+        id: 0x0202_0202,
+        kind: 3,
+        metric: 3,
+        followed: Some(true),
+    },
+    // it has a transit link
+    Change {
+        id: 0x0202_0202,
+        kind: 2,
+        metric: 3,
+        followed: None,
+    },
+    // a third router comes
+    Change {
+        id: 0x0303_0303,
+        kind: 1,
+        metric: 3,
+        followed: None,
+    },
+];
+
+fn is_as_expected(alloc: Global, change: &Change) -> Result<bool, Fail> {
+    let lsas = lsas_of(alloc, &TWO, &[])?;
+    let mut db = database(alloc, &lsas)?;
+    let root = root(alloc, 0x0101_0101, &TWO_ADDRESSES)?;
+    let lsa = router_lsa(alloc, change.id, change.kind, change.metric)?;
+    Ok(followed(alloc, &mut db, &root, lsa)? == change.followed)
+}
+
+#[test]
+fn a_graph_follows_router_lsas(rt: HostRuntime) -> Result<(), Fail> {
+    for at in 0..CHANGES.len() {
+        let is = is_as_expected(rt.alloc(), &CHANGES[at])?;
+        assert!(rt; is, "change {at}");
+    }
+    Ok(())
+}
