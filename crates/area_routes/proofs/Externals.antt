@@ -1,5 +1,5 @@
 -- What AS-external-LSAs tell, kept over an event.
-use Rattle.std.proofs.Common.{◌≡◌, ◌∙◌, Bool, true, false, List, Option, None, Some, refl, sym, subst}
+use Rattle.std.proofs.Common.{◌≡◌, ◌∙◌, Bool, true, false, List, Option, None, Some, ap, refl, sym, subst}
 use Rattle.std.specs.Prelude.{IfSome, IsTrue}
 use Rattle.std.specs.Global.{Vec}
 use Rattle.words.specs.Numbers.{Moment, RouterNumber}
@@ -7,6 +7,7 @@ use Rattle.received.specs.Links.{Area}
 use Rattle.offers.specs.Externals.{AreExternals}
 use Rattle.offers.specs.declared.externals.External.{External}
 use Rattle.routes.specs.Said.{Said}
+use Rattle.shortest_paths.specs.declared.graph.AreaGraph.{AreaGraph}
 use Rattle.area_routes.specs.Kept.{AreOffersOf, ExternalsSayTheSame, KeptRoutes, KnowsExternals}
 
 -- it stays while they say the same
@@ -29,11 +30,18 @@ externals_after old new true kept next last same followed stays forgotten knows 
 externals_after old new false kept next last same followed stays forgotten knows =
     subst (λ (o : Option (Vec External)). IfSome o (λ told. AreExternals new told.items)) (sym (forgotten refl)) tt
 
--- candidates and walk don't rest on what is kept of them
-pub same_but : (router : RouterNumber) (area : Area) (moment : Moment) (kept : KeptRoutes) (externals : Option (Vec External)) → AreOffersOf router area moment kept
-    → AreOffersOf router area moment (record kept { externals = externals })
-same_but router area moment kept externals are = record {
+-- candidates and walk don't rest on what is kept of them, nor on the graph
+pub same_but : (router : RouterNumber) (area : Area) (moment : Moment) (kept : KeptRoutes) (externals : Option (Vec External)) (graph : Option AreaGraph)
+    → AreOffersOf router area moment kept → AreOffersOf router area moment (record kept { externals = externals; graph = graph })
+same_but router area moment kept externals graph are = record {
   walk = record { walk = are.walk.walk; root = are.walk.root };
   candidates = are.candidates;
   inner = are.inner;
 }
+
+-- what changes one of both and then the other leaves all else
+pub both_else : (kept next last : KeptRoutes) → next ≡ record kept { externals = next.externals } → last ≡ record next { graph = last.graph }
+    → last ≡ record kept { externals = last.externals; graph = last.graph }
+both_else kept next last one other =
+    other ∙ ap (λ (k : KeptRoutes). record k { graph = last.graph }) one
+    ∙ ap (λ (e : Option (Vec External)). record kept { externals = e; graph = last.graph }) (sym (ap (λ (k : KeptRoutes). k.externals) other))

@@ -19,13 +19,17 @@ use Rattle.routes.specs.Candidates.{AreCandidates}
 use Rattle.routes.specs.Said.{Said, said_at}
 use Rattle.routes.specs.Tables.{Answers, IsStale}
 use Rattle.routes.specs.declared.root.Root.{Root}
+use Rattle.shortest_paths.specs.AreaGraphs.{IsAreaGraph}
 use Rattle.shortest_paths.specs.Reached.{way_in}
+use Rattle.shortest_paths.specs.declared.graph.AreaGraph.{AreaGraph}
 
 pub record KeptRoutes : Type 0 where
   -- the walk
   pub walk : KeptWalk
   -- whether the walk may be that of an earlier event: it is made again before anything rests on it
   pub behind : Bool
+  -- the graph of the area, where one was made and each event since could be followed
+  pub graph : Option AreaGraph
   -- the candidates, where they were calculated since an LSA that they rest on said something else
   pub candidates : Option (Vec Route)
   -- what the LSAs of types 1 to 4 give, where candidates were calculated since one of them said
@@ -40,6 +44,15 @@ pub record KeptRoutes : Type 0 where
 pub record KnowsWalk (said : Said) (start : Root) (kept : KeptRoutes) : Type 0 where
   pub walk : kept.behind ≡ false → IsWalkOf said kept.walk
   pub root : kept.behind ≡ false → kept.walk.root ≡ start
+
+-- it is the graph of what the LSAs say, from this root
+pub record IsGraphFrom (said : Said) (start : Root) (graph : AreaGraph) : Type 0 where
+  pub is : IsAreaGraph said graph
+  pub starts : graph.root ≡ start
+
+-- where a graph is kept, it is that of what the LSAs say, also while the walk is behind
+abbrev pub KnowsGraph : Said → Root → KeptRoutes → Type 0
+KnowsGraph said start kept = IfSome kept.graph (IsGraphFrom said start)
 
 -- where candidates are kept, they are those of what the LSAs say
 abbrev pub KnowsCandidates : Said → Root → KeptRoutes → Type 0
@@ -122,13 +135,14 @@ pub record AreOffersOf (router : RouterNumber) (area : Area) (moment : Moment)
   pub candidates : KnowsCandidates (said_at moment area.database) (root_by router area.links) kept
   pub inner : KnowsInner (said_at moment area.database) (root_by router area.links) kept
 
--- walk, candidates and what these rest on are
+-- walk, graph, candidates and what these rest on are
 pub record AreRoutesOf (router : RouterNumber) (area : Area) (moment : Moment)
     (kept : KeptRoutes) : Type 0 where
   pub walk : KnowsWalk (said_at moment area.database) (root_by router area.links) kept
   pub candidates : KnowsCandidates (said_at moment area.database) (root_by router area.links) kept
   pub inner : KnowsInner (said_at moment area.database) (root_by router area.links) kept
   pub externals : KnowsExternals (said_at moment area.database) kept
+  pub graph : KnowsGraph (said_at moment area.database) (root_by router area.links) kept
 
 -- and so is what is known of the answers
 pub record AreKept (router : RouterNumber) (area : Area) (moment : Moment) (answers : Answers)

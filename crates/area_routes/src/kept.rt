@@ -5,7 +5,7 @@ ghost use Rattle.std.specs.FinMap as finite;
 ghost use Rattle.area_routes.specs.Kept.{AreKept, AreRoutesOf, HaveStayed, KnowsAnswered};
 ghost use Rattle.area_routes.specs.Kept.{KnowsCandidates, KnowsInner, KnowsWalk, ServesOnlyThen};
 ghost use Rattle.area_routes.specs.Kept.{AreInnerBy, AreOffersOf, AreOfOthers, BringsNoneNew};
-ghost use Rattle.area_routes.specs.Kept.{ExternalsSayTheSame, KnowsExternals};
+ghost use Rattle.area_routes.specs.Kept.{ExternalsSayTheSame, KnowsExternals, KnowsGraph};
 ghost use Rattle.offers.specs.Externals.{AreExternals};
 ghost use Rattle.area_routes.specs.Offers.{AreCandidatesOf, AreOffered, IsStaleOf, IsTableOf};
 ghost use Rattle.area_routes.specs.Offers.{root_by};
@@ -17,6 +17,7 @@ ghost use Rattle.routes.specs.Said.{Said, said_at};
 ghost use Rattle.routes.specs.Tables.{Answers};
 
 use crate::following::followed;
+use crate::graphs::{graph_after, graph_at, walk_by};
 use crate::root::{is_root_of, root_of};
 use candidates::{Calculated, External, InnerRoutes, externals_at};
 use external_updates::changed_keys;
@@ -24,6 +25,8 @@ use external_updates::laws::inner_routes_are_kept;
 use flooding::Area;
 use kept_routes::laws::{candidates_are_kept, walks_are_kept};
 use kept_routes::{Routes, leave_candidates, say_the_same};
+use routes::Root;
+use shortest_paths::AreaGraph;
 use std::alloc::{AllocError, Global};
 use std::marker::Model;
 use tables::{is_stale, rows_of, table};
@@ -43,7 +46,9 @@ pub struct Offered {
 /// something else, and few of them, those candidates alone are calculated anew of whose
 /// destinations these tell (section 16.6), and where none of these is another route, as where an
 /// AS-external-LSA leaves, all stand among the answers if they did. An event makes no walk: where
-/// it leaves none that serves, one is made once candidates are asked for.
+/// it leaves none that serves, one is made once candidates are asked for. The graph of the area is
+/// kept too, for as long as it can follow what the LSAs say: such a walk is then a search for
+/// shortest paths alone (section 16.1).
 ///
 /// Links, database and answers aren't part of it. Each call is handed them, and a clause says of
 /// which moment they are.
@@ -52,6 +57,8 @@ pub struct AreaRoutes {
     walk: Routes,
     // the walk may be that of an earlier event
     behind: bool,
+    // the graph of the area, where one was made and each event since could be followed
+    graph: Option<AreaGraph>,
     // the candidates, where they were looked at since an LSA that they rest on said something else
     candidates: Option<Vec<Route>>,
     // what the LSAs of types 1 to 4 give, where it was calculated since one said something else
@@ -70,6 +77,7 @@ impl Model for AreaRoutes {
     ghost view = { λ a. record {
       walk = a.walk;
       behind = a.behind;
+      graph = a.graph;
       candidates = a.candidates;
       inner = a.inner;
       externals = a.externals;
@@ -252,6 +260,7 @@ impl AreaRoutes {
         ensures routes { IfOk result (λ made. AreRoutesOf router area.now.present moment made) }
         ensures walks { IfOk result (λ made. made.walk.walks ≡ 1) }
         ensures behind { IfOk result (λ made. made.behind ≡ false) }
+        ensures graph { IfOk result (λ made. made.graph ≡ None) }
         ensures candidates { IfOk result (λ made. made.candidates ≡ None) }
         ensures inner { IfOk result (λ made. made.inner ≡ None) }
         ensures externals { IfOk result (λ made. made.externals ≡ None) }
@@ -263,6 +272,7 @@ impl AreaRoutes {
         Ok(AreaRoutes {
             walk,
             behind: false,
+            graph: None,
             candidates: None,
             inner: None,
             externals: None,
@@ -302,7 +312,10 @@ impl AreaRoutes {
         // of the candidates and of the answers stays too.
         ensures candidates { OnOk result (self.old.behind ≡ false
             → HaveStayed before moment router area.now.settled area.now.present self.old.walk
-            → self.new ≡ record self.old { externals = self.new.externals }) }
+            → self.new ≡ record self.old {
+              externals = self.new.externals;
+              graph = self.new.graph;
+            }) }
         // Where candidates are kept over the event, and each was one before, what is known of the
         // answers stays: they needn't be looked at where AS-external-LSAs leave.
         ensures none_new { OnOk result (BringsNoneNew self.old self.new
@@ -312,6 +325,7 @@ impl AreaRoutes {
         let stay = self.externals_stay(alloc, area, before, moment);
         self.follow_routes(alloc, router, area, before, moment)?;
         self.keep_externals(stay);
+        self.follow_graph(alloc, router, area, before, moment);
         Ok(())
     }
 
@@ -338,7 +352,27 @@ impl AreaRoutes {
         }
     }
 
-    // The same for all but what AS-external-LSAs tell.
+    // The graph follows the event, or is kept no more.
+    fn follow_graph(
+        &mut self,
+        alloc: Global,
+        router: RouterId,
+        area: &Area,
+        before: Second,
+        moment: Second,
+    )
+        requires order { before ≤ moment }
+        requires graph { KnowsGraph (said_at before area.now.settled.database)
+            (root_by router area.now.settled.links) self.old }
+        ensures graph { KnowsGraph (said_at moment area.now.present.database)
+            (root_by router area.now.present.links) self.new }
+        ensures others { self.new ≡ record self.old { graph = self.new.graph } }
+    {
+        let kept = self.graph.take();
+        self.graph = graph_after(alloc, router, area, before, moment, kept);
+    }
+
+    // The same for all but what AS-external-LSAs tell, and the graph.
     fn follow_routes(
         &mut self,
         alloc: Global,
@@ -362,6 +396,7 @@ impl AreaRoutes {
             → self.new ≡ self.old) }
         ensures none_new { OnOk result (BringsNoneNew self.old self.new
             → self.new.answered ≡ self.old.answered) }
+        ensures graph { self.new.graph ≡ self.old.graph }
         ensures externals { self.new.externals ≡ self.old.externals }
         ensures err { OnErr result (self.new ≡ self.old) }
     {
@@ -403,6 +438,7 @@ impl AreaRoutes {
             self.old.walk.root self.old }
         ensures walk { self.new.walk ≡ self.old.walk }
         ensures behind { self.new.behind ≡ self.old.behind }
+        ensures graph { self.new.graph ≡ self.old.graph }
         ensures candidates { KnowsCandidates (said_at moment area.now.present.database)
             self.old.walk.root self.new }
         ensures inner { KnowsInner (said_at moment area.now.present.database)
@@ -440,6 +476,7 @@ impl AreaRoutes {
             self.old.walk.root self.old }
         ensures walk { self.new.walk ≡ self.old.walk }
         ensures behind { self.new.behind ≡ self.old.behind }
+        ensures graph { self.new.graph ≡ self.old.graph }
         ensures candidates { KnowsCandidates (said_at moment area.now.present.database)
             self.old.walk.root self.new }
         ensures inner { KnowsInner (said_at moment area.now.present.database)
@@ -463,6 +500,56 @@ impl AreaRoutes {
         self.candidates = Some(next.candidates);
     }
 
+    // Makes the graph from this root, unless one is kept or the root has no way out.
+    fn make_graph(
+        &mut self,
+        alloc: Global,
+        area: &Area,
+        root: &Root,
+        moment: Second,
+    ) -> Result<(), AllocError>
+        requires interfaces { length root.now.addresses ≤ 63 }
+        requires size { finite.len area.now.present.database ≤ 16384 }
+        requires graph { KnowsGraph (said_at moment area.now.present.database) root.now self.old }
+        ensures graph { KnowsGraph (said_at moment area.now.present.database) root.now self.new }
+        ensures others { self.new ≡ record self.old { graph = self.new.graph } }
+    {
+        if self.graph.is_none() {
+            self.graph = graph_at(alloc, area, root, moment)?;
+        }
+        Ok(())
+    }
+
+    // Walks again from this root, by the graph if one is kept or can be made. A graph that was made
+    // is kept even where memory for the ways is refused.
+    fn walk_again(
+        &mut self,
+        alloc: Global,
+        area: &Area,
+        root: Root,
+        moment: Second,
+    ) -> Result<(), AllocError>
+        requires interfaces { length root.addresses ≤ 63 }
+        requires size { finite.len area.now.present.database ≤ 16384 }
+        requires graph { KnowsGraph (said_at moment area.now.present.database) root self.old }
+        ensures graph { KnowsGraph (said_at moment area.now.present.database) root self.new }
+        ensures walk { OnOk result (IsWalkOf (said_at moment area.now.present.database)
+            self.new.walk) }
+        ensures root { OnOk result (self.new.walk.root ≡ root) }
+        ensures walks { OnOk result (self.new.walk.walks
+            ≡ min (self.old.walk.walks + 1) 18446744073709551615) }
+        ensures others { self.new ≡ record self.old {
+          walk = self.new.walk;
+          graph = self.new.graph;
+        } }
+        ensures err { OnErr result (self.new.walk ≡ self.old.walk) }
+    {
+        self.make_graph(alloc, area, &root, moment)?;
+        let reached = walk_by(alloc, area, &root, moment, &self.graph)?;
+        self.walk.take_walk(root, reached);
+        Ok(())
+    }
+
     // Makes the walk that serves now, where the one that is kept doesn't.
     fn catch_up(
         &mut self,
@@ -477,9 +564,13 @@ impl AreaRoutes {
             (root_by router area.now.present.links) self.old }
         requires inner { KnowsInner (said_at moment area.now.present.database)
             (root_by router area.now.present.links) self.old }
+        requires graph { KnowsGraph (said_at moment area.now.present.database)
+            (root_by router area.now.present.links) self.old }
         ensures walk { KnowsWalk (said_at moment area.now.present.database)
             (root_by router area.now.present.links) self.new }
         ensures inner { KnowsInner (said_at moment area.now.present.database)
+            (root_by router area.now.present.links) self.new }
+        ensures graph { KnowsGraph (said_at moment area.now.present.database)
             (root_by router area.now.present.links) self.new }
         ensures behind { OnOk result (self.new.behind ≡ false) }
         ensures stays { self.old.behind ≡ false → self.new.walk ≡ self.old.walk }
@@ -488,12 +579,11 @@ impl AreaRoutes {
         ensures candidates { self.new.candidates ≡ self.old.candidates }
         ensures externals { self.new.externals ≡ self.old.externals }
         ensures answered { self.new.answered ≡ self.old.answered }
-        ensures err { OnErr result (self.new ≡ self.old) }
+        ensures err { OnErr result (self.new ≡ record self.old { graph = self.new.graph }) }
     {
         if self.behind {
             let root = root_of(alloc, router, area)?;
-            let db = area.database();
-            self.walk.walk(alloc, db, &root, moment)?;
+            self.walk_again(alloc, area, root, moment)?;
             self.inner = None;
             self.behind = false;
         }
@@ -624,6 +714,7 @@ impl AreaRoutes {
             ↔ IsStaleOf router area.now.present moment answers.now) }
         ensures walk { self.new.walk ≡ self.old.walk }
         ensures behind { self.new.behind ≡ self.old.behind }
+        ensures graph { self.new.graph ≡ self.old.graph }
         ensures candidates { KnowsCandidates (said_at moment area.now.present.database)
             (root_by router area.now.present.links) self.new }
         ensures inner { KnowsInner (said_at moment area.now.present.database)

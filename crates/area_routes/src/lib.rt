@@ -3,6 +3,7 @@
 #![tactic(auto)]
 
 mod following;
+mod graphs;
 mod kept;
 mod root;
 

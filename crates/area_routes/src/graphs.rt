@@ -1,0 +1,119 @@
+//! The graph of the area from one event to the next (RFC 2328, section 16.1).
+ghost use Rattle.std.specs.Prelude.{◌≡◌, ◌≤◌, length, IfOk, IfSome};
+ghost use Rattle.std.specs.FinMap as finite;
+ghost use Rattle.area_routes.specs.Kept.{IsGraphFrom};
+ghost use Rattle.area_routes.specs.Offers.{root_by};
+ghost use Rattle.offers.specs.Ways.{AreNear, AreWays};
+ghost use Rattle.routes.specs.Said.{said_at};
+ghost use Rattle.shortest_paths.specs.AreaGraphs.{IsAreaGraph};
+ghost use Rattle.shortest_paths.specs.Reached.{way_in};
+
+use crate::root::is_root_of;
+use flooding::Area;
+use graph_updates::follow_graph;
+use routes::Root;
+use shortest_paths::{AreaGraph, Reached, has_no_way_out, walk};
+use std::alloc::{AllocError, Global};
+use words::{RouterId, Second};
+
+/// The graph of the area at a moment, from this root. None where the root has no way out, and is
+/// reached alone.
+///
+/// # Errors
+/// Where memory for the graph is refused.
+pub fn graph_at(
+    alloc: Global,
+    area: &Area,
+    root: &Root,
+    moment: Second,
+) -> Result<Option<AreaGraph>, AllocError>
+    requires interfaces { length root.now.addresses ≤ 63 }
+    requires size { finite.len area.now.present.database ≤ 16384 }
+    ensures { IfOk result (λ made. IfSome made
+        (IsGraphFrom (said_at moment area.now.present.database) root.now)) }
+{
+    let db = area.database();
+    if has_no_way_out(db, root, moment) {
+        return Ok(None);
+    }
+    let graph = AreaGraph::new(alloc, db, root, moment)?;
+    Ok(Some(graph))
+}
+
+/// The ways from this root at a moment: where the graph is kept, by a search in it alone.
+///
+/// # Errors
+/// Where memory for the ways, or for a graph where none is kept, is refused.
+pub fn walk_by(
+    alloc: Global,
+    area: &Area,
+    root: &Root,
+    moment: Second,
+    kept: &Option<AreaGraph>,
+) -> Result<Reached, AllocError>
+    requires interfaces { length root.now.addresses ≤ 63 }
+    requires size { finite.len area.now.present.database ≤ 16384 }
+    requires graph { IfSome kept.now
+        (IsGraphFrom (said_at moment area.now.present.database) root.now) }
+    ensures ways { IfOk result (λ reached. AreWays (said_at moment area.now.present.database)
+        root.now (way_in reached)) }
+    ensures near { IfOk result (λ reached. AreNear (way_in reached)) }
+{
+    match kept {
+        Some(graph) => {
+            let reached = graph.walk(alloc)?;
+            Ok(reached)
+        }
+        None => {
+            let db = area.database();
+            let reached = walk(alloc, db, root, moment)?;
+            Ok(reached)
+        }
+    }
+}
+
+// The graph after an event, from the one before it; None where it has to be made anew, or memory
+// is refused.
+fn followed(
+    alloc: Global,
+    area: &Area,
+    before: Second,
+    moment: Second,
+    graph: AreaGraph,
+) -> Option<AreaGraph>
+    requires order { before ≤ moment }
+    requires graph { IsAreaGraph (said_at before area.now.settled.database) graph }
+    ensures graph { IfSome result (IsAreaGraph (said_at moment area.now.present.database)) }
+    ensures root { IfSome result (λ next. next.root ≡ graph.root) }
+{
+    let db = area.database();
+    match follow_graph(alloc, db, graph, before, moment) {
+        Ok(next) => next,
+        Err(_) => None,
+    }
+}
+
+/// The graph after an event where there may be none, and where it may be that of another root.
+pub fn graph_after(
+    alloc: Global,
+    router: RouterId,
+    area: &Area,
+    before: Second,
+    moment: Second,
+    kept: Option<AreaGraph>,
+) -> Option<AreaGraph>
+    requires order { before ≤ moment }
+    requires graph { IfSome kept (IsAreaGraph (said_at before area.now.settled.database)) }
+    ensures { IfSome result (IsGraphFrom (said_at moment area.now.present.database)
+        (root_by router area.now.present.links)) }
+{
+    match kept {
+        None => None,
+        Some(graph) => {
+            if is_root_of(&graph.root, router, area) {
+                return followed(alloc, area, before, moment, graph);
+            }
+            None
+        }
+    }
+}
