@@ -238,12 +238,6 @@ fn kept_or(kept: Option<Vec<External>>, made: Option<Vec<External>>) -> Option<V
     }
 }
 
-fn both(one: bool, other: bool) -> bool
-    ensures { result ≡ (one && other) }
-{
-    one && other
-}
-
 impl AreaRoutes {
     /// The first walk of a router, at a moment. There are at most 63 links and 16,384 LSAs.
     ///
@@ -496,7 +490,7 @@ impl AreaRoutes {
             self.answered = false;
             return;
         };
-        self.answered = both(self.answered, next.none_new);
+        self.answered &= next.none_new;
         self.candidates = Some(next.candidates);
     }
 

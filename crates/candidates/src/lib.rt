@@ -123,7 +123,8 @@ pub fn calculate<W: Ways>(
     Ok(Calculated { inner, routes })
 }
 
-// The routes of what these offer and of what is offered beside it by what AS-external-LSAs tell.
+// The routes of what these offer and of what is offered beside it by what AS-external-LSAs tell:
+// where these tell nothing, the networks.
 fn with_externals(
     alloc: Global,
     root: &Root,
@@ -135,6 +136,10 @@ fn with_externals(
         → AreInner said root.now ways inner.now → AreExternals said externals.now
         → AreCandidates said root.now routes.items) }
 {
+    if externals.is_empty() {
+        let networks = Vec::from_slice(alloc, &inner.networks)?;
+        return Ok(networks);
+    }
     let by = Inner {
         routers: &inner.told,
         flagged: &inner.flagged,

@@ -92,12 +92,6 @@ fn renew(
     }
 }
 
-fn both(one: bool, other: bool) -> bool
-    ensures { result ≡ (one && other) }
-{
-    one && other
-}
-
 // The same for each of these destinations.
 fn renew_all(
     alloc: Global,
@@ -125,7 +119,7 @@ fn renew_all(
         let Some(stood) = done else {
             return Ok(None);
         };
-        none_new = both(none_new, stood);
+        none_new &= stood;
     }
     Ok(Some(none_new))
 }

@@ -32,11 +32,11 @@ loop-prefix-preserved c =
       halfway = λ old are. subst (λ (ps : List Network). AreHalfway old new root ps c.renew.new.routes.items) (sym split)
           (one_more old new root (take i xs) x routes c.renew.new.routes.items (c.loop-prefix.invariant.halfway old are) renewed);
       among = λ on r t.
-          let each = and_parts _ _ (sym c.both-none_new.ensures ∙ on) in
+          let each = and_parts _ _ (on) in
           c.loop-prefix.invariant.among each.0 r (c.in_ok-done.ensures.among (c.in-Some.is ∙ ap (λ (b : Bool). Some b) each.1) r t);
       another = λ off old are.
           subst (λ (ps : List Network). HasAnotherOf new root ps before) (sym split)
-          (elim (and_cases _ _ (sym c.both-none_new.ensures ∙ off)) [
+          (elim (and_cases _ _ (off)) [
             | inl was ↦ still_another old new root (take i xs) x before (c.loop-prefix.invariant.another was old are)
             | inr is ↦
                 first_another old new root (take i xs) x before routes are (c.loop-prefix.invariant.halfway old are)

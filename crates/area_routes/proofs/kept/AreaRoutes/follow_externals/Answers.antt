@@ -46,7 +46,7 @@ returns-clause-answered c answers knew on stale =
     let new = said_at c.args.moment c.args.area.now.present.database in
     let root = c.self.inside.walk.root in
     let same = ap (λ (k : KeptRoutes). k.walk.root) c.self.view_is in
-    let were = and_parts _ _ (sym c.both-self-inside.ensures ∙ on) in
+    let were = and_parts _ _ (on) in
     let none = subst (λ (o : Option Next). IfSome o (λ next. next.none_new ≡ true → StayAnswered old new root)) c.in-Some.is c.followed-next.ensures.none_new in
     let stays = subst (StayAnswered old new) same (none were.1) in
     knew (sym (ap (λ (k : KeptRoutes). k.answered) c.self.view_is) ∙ were.0) (stays answers stale)
@@ -61,7 +61,7 @@ returns-clause-none_new c brings =
     let another : next.none_new ≡ false → HasAnother brings.before.items brings.now.items = λ off.
     subst (λ (v : Vec Route Global). HasAnother brings.before.items v.items) are
     (subst (λ (o : Option (Vec Route Global)). HaveAnother o next.candidates.items) were (told off)) in
-    c.both-self-inside.ensures ∙ and_true c.self.inside.answered next.none_new (none_another next.none_new brings.before.items brings.now.items another brings.among)
+    and_true c.self.inside.answered next.none_new (none_another next.none_new brings.before.items brings.now.items another brings.among)
     ∙ ap (λ (k : KeptRoutes). k.answered) c.self.view_is
 
 pub returns-in_default-clause-inner : goal.returns-in_default-clause-inner
