@@ -5,7 +5,7 @@ use bench_figures::nanoseconds_since;
 use candidates::routes_of;
 use lsdb::Lsdb;
 use routes::Root;
-use shortest_paths::walk;
+use shortest_paths::AreaGraph;
 use std::alloc::Global;
 use std::rt::Clock;
 use std::time::Instant;
@@ -65,11 +65,12 @@ fn since<R: Clock>(rt: &R, start: Instant) -> Result<u64> {
     Ok(nanoseconds_since(rt, start)? / 1_000)
 }
 
-// What a walk, the routes of it, and their table took, in microseconds, and how many routes there
-// are.
+// What a walk, its search in the graph, the routes of it, and their table took, in microseconds, and
+// how many routes there are.
 #[derive(Clone, Copy)]
 struct Times {
     walk: u64,
+    search: u64,
     routes: u64,
     table: u64,
     stale: u64,
@@ -78,6 +79,7 @@ struct Times {
 
 const LONGEST: Times = Times {
     walk: u64::MAX,
+    search: u64::MAX,
     routes: u64::MAX,
     table: u64::MAX,
     stale: u64::MAX,
@@ -129,24 +131,25 @@ fn measure<R: Clock + AllocGlobal>(rt: &R, db: &Lsdb, root: &Root) -> Result<Tim
     ensure!(root.addresses.as_slice().len() <= 63, "too many interfaces");
     let now = moment();
     let start = Instant::now(rt)?;
-    let reached = walk(rt.alloc(), db, root, now)?;
+    let graph = AreaGraph::new(rt.alloc(), db, root, now)?;
+    let made = since(rt, start)?;
+    let reached = graph.walk(rt.alloc())?;
     let walk = since(rt, start)?;
-    let routes = routes_of(rt.alloc(), db, root, now, &reached)?;
+    let routes = routes_of(rt.alloc(), db, &graph.root, now, &reached)?;
     let both = since(rt, start)?;
-    times_of(rt, &routes, walk, both.saturating_sub(walk))
+    let search = walk.saturating_sub(made);
+    times_of(rt, &routes, [walk, search, both.saturating_sub(walk)])
 }
 
-// What is known of these routes, which took so long behind a walk that took so long.
-fn times_of<R: Clock + AllocGlobal>(
-    rt: &R,
-    routes: &[Route],
-    walk: u64,
-    taken: u64,
-) -> Result<Times> {
+// What is known of these routes, where the walk, its search in the graph and the routes took so
+// long.
+fn times_of<R: Clock + AllocGlobal>(rt: &R, routes: &[Route], taken: [u64; 3]) -> Result<Times> {
     let (table, stale) = measure_table(rt, routes)?;
+    let [walk, search, behind] = taken;
     Ok(Times {
         walk,
-        routes: taken,
+        search,
+        routes: behind,
         table,
         stale,
         count: routes.len(),
@@ -156,6 +159,7 @@ fn times_of<R: Clock + AllocGlobal>(
 fn least(a: Times, b: Times) -> Times {
     Times {
         walk: a.walk.min(b.walk),
+        search: a.search.min(b.search),
         routes: a.routes.min(b.routes),
         table: a.table.min(b.table),
         stale: a.stale.min(b.stale),
@@ -191,7 +195,11 @@ fn print_times<R: Print>(rt: &R, shape: Shape, times: Times) -> Result<()> {
         "{} of {routers} routers, {externals} externals{forwards}:",
         shape.name
     )?;
-    println!(rt; "  walk {}, routes {}", times.walk, times.routes)?;
+    let (walk, search) = (times.walk, times.search);
+    println!(rt;
+        "  walk {walk}, in a kept graph {search}, routes {}",
+        times.routes
+    )?;
     println!(rt; "  table {}, stale {}", times.table, times.stale)?;
     Ok(())
 }
@@ -224,12 +232,13 @@ fn print_crowd<R: Clock + Print + AllocGlobal>(rt: &R) -> Result<()> {
     print_crowd_times(rt, times_beside_crowd(rt)?)
 }
 
-/// Prints what a walk takes, what its candidates take, what their table takes and what the test
-/// whether it is stale takes, in microseconds, the least of 11 measurements: over a ring, a grid
-/// and a circle with a long step of 4,000 routers, with so many externals that there are 16,384
-/// LSAs; over a grid of 1,000 routers with 15,000 externals, without forwarding addresses and with
-/// one each; and over a grid of 16,384 routers. Last, what a walk takes beside one router that has
-/// 678 equal transit links to the Link State ID of 14,000 network-LSAs.
+/// Prints what a walk takes, what it takes in a graph that is kept, what its candidates take, what
+/// their table takes and what the test whether it is stale takes, in microseconds, the least of 11
+/// measurements: over a ring, a grid and a circle with a long step of 4,000 routers, with so many
+/// externals that there are 16,384 LSAs; over a grid of 1,000 routers with 15,000 externals,
+/// without forwarding addresses and with one each; and over a grid of 16,384 routers. Last, what a
+/// walk takes beside one router that has 678 equal transit links to the Link State ID of 14,000
+/// network-LSAs.
 ///
 /// # Errors
 /// The clock or the output failed, memory ran out, or a router or an external destination has no
