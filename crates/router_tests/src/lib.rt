@@ -1,6 +1,6 @@
 //! Tests of a router's parts by their public calls: `keyed_map`, `lsdb`, `neighbor_places`,
-//! `routes`, `shortest_paths`, `candidates`, `tables`, `kept_routes` and `forwarding_loops`; and of
-//! `words`, `lsa`, `packet` and `console`. They stand above, since a crate is proved once more for
+//! `routes`, `shortest_paths`, `candidates`, `tables`, `kept_routes`, `graph_updates` and
+//! `forwarding_loops`; and of `words`, `lsa`, `packet` and `console`. They stand above, since a crate is proved once more for
 //! its tests.
 #![tactic(auto)]
 
@@ -14,6 +14,7 @@ mod externals;
 mod graphs;
 #[cfg(test)]
 mod instances;
+#[cfg(test)]
 mod kept;
 #[cfg(test)]
 mod lines;
