@@ -1,6 +1,6 @@
 //! One search for statements and ranks, judged by the verifier.
 ghost use Rattle.std.specs.Prelude.{IfOk, IfErr};
-ghost use Rattle.annotations.specs.Verdict.{IsAttempt, IsNoVerdict};
+ghost use Rattle.annotations.specs.Verdict.{IsAttempt, IsNoVerdict, IsVerdict};
 
 use crate::shortfall::Shortfall;
 use crate::trimming::without_idle_bits;
@@ -70,6 +70,22 @@ fn endless_for(rejected: &Rejected, endless: Option<Endless>) -> Option<Endless>
     }
 }
 
+/// What the verifier says of the statements with these ranks.
+fn judged_with(
+    alloc: Global,
+    hook: Hook,
+    bytes: &[u8],
+    found: &Inference,
+    plan: &Plan,
+) -> Result<Verdict, Shortfall>
+    ensures verdict { IfOk result (IsVerdict hook bytes.now) }
+    ensures fault { IfErr result IsNoVerdict }
+{
+    let statements = statements_of(alloc, found, plan)?;
+    let entry_rank = plan.rank_at(found.stated.len()).constant;
+    judged(alloc, hook, entry_rank, bytes, statements)
+}
+
 /// The statements and ranks that were found, judged by the verifier.
 fn outcome(
     alloc: Global,
@@ -81,11 +97,9 @@ fn outcome(
     ensures attempt { IfOk result (IsAttempt hook bytes.now) }
     ensures fault { IfErr result IsNoVerdict }
 {
-    let statements = statements_of(alloc, found, &ranking.plan)?;
-    let entry_rank = ranking.plan.rank_at(found.stated.len()).constant;
-    match judged(alloc, hook, entry_rank, bytes, statements)? {
-        Verdict::Accepted(annotated) => Ok(Attempt::Accepted(annotated)),
-        Verdict::Refused(rejected) => {
+    match judged_with(alloc, hook, bytes, found, &ranking.plan) {
+        Ok(Verdict::Accepted(annotated)) => Ok(Attempt::Accepted(annotated)),
+        Ok(Verdict::Refused(rejected)) => {
             let Ranking {
                 endless,
                 unranked,
@@ -98,6 +112,7 @@ fn outcome(
                 unranked,
             }))
         }
+        Err(error) => Err(error),
     }
 }
 

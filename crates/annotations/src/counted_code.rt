@@ -5,7 +5,7 @@ ghost use Rattle.isa.specs.Flow.{jump_target};
 ghost use Rattle.annotations.specs.CountedCode.{IsCounted, detour, detour_at, detours};
 ghost use Rattle.annotations.specs.CountedCode.{distance_between, distance_of, place_of};
 ghost use Rattle.annotations.specs.CountedCode.{with_distance_if_given, redirected_from, slots_at};
-ghost use Rattle.annotations.specs.CountedCode.{with_distance, with_number};
+ghost use Rattle.annotations.specs.CountedCode.{counted_code, with_distance, with_number};
 
 use crate::count_error::CountError;
 use crate::registers::unnamed;
@@ -226,6 +226,24 @@ fn push_detours(
     Ok(())
 }
 
+/// Adds all of the counted code.
+fn push_counted(
+    builder: &mut CodeBuilder,
+    counter: Register,
+    turns: u32,
+    code: &Code,
+    heads: &[usize],
+) -> Result<(), CountError>
+    requires few { length heads.now ≤ 4096 }
+    requires turns { turns < 1000000 }
+    ensures { OnOk result (builder.new ≡ builder.old ++ counted_code counter turns heads.now
+        code.now) }
+{
+    builder.push(with_number(Operation::Move, counter, turns as i32 + 1))?;
+    push_code(builder, code, heads)?;
+    push_detours(builder, counter, code.len(), heads)
+}
+
 /// The code that counts each jump back to one of these heads, and answers 0 instead of going back
 /// more often than `turns` times in all. Each slot of the code stands one slot later in it.
 ///
@@ -247,9 +265,7 @@ pub fn counted(alloc: Global, code: &Code, heads: &[usize], turns: u32) -> Resul
         return Err(CountError::TooLong);
     }
     let mut builder = CodeBuilder::new(alloc);
-    builder.push(with_number(Operation::Move, counter, turns as i32 + 1))?;
-    push_code(&mut builder, code, heads)?;
-    push_detours(&mut builder, counter, code.len(), heads)?;
+    push_counted(&mut builder, counter, turns, code, heads)?;
     match builder.finish() {
         Some(code) => Ok(code),
         None => Err(CountError::TooLong),

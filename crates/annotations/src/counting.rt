@@ -4,7 +4,7 @@ ghost use Rattle.isa.specs.Spelling.{Spells};
 ghost use Rattle.annotations.specs.Annotated.{CountsLoops, IsCodeAnnotation};
 ghost use Rattle.annotations.specs.Verdict.{IsCountedAttempt, IsNoVerdict, IsTurnsShortfall};
 
-use crate::attempt::{Attempt, try_both};
+use crate::attempt::{Attempt, Failure, try_both};
 use crate::counted_code::counted;
 use crate::shortfall::Shortfall;
 use crate::verdict::Annotated;
@@ -39,54 +39,42 @@ fn all_moved(alloc: Global, given: &[Statement]) -> Result<Vec<Statement>, Alloc
     Ok(later)
 }
 
-/// Adds those heads that aren't counted yet.
-fn add_all(heads: &mut Vec<usize>, more: &[usize]) -> Result<(), AllocError> {
-    for head in more {
-        if !heads.contains(head) {
-            heads.push(*head)?;
-        }
+/// The slot of the code that this one is, of counted code one earlier.
+fn earlier(slot: usize, is_counted: bool) -> usize {
+    if is_counted {
+        slot.saturating_sub(1)
+    } else {
+        slot
     }
-    Ok(())
 }
 
-/// Adds the first head that isn't counted yet.
-fn add_first(heads: &mut Vec<usize>, more: &[usize]) -> Result<(), AllocError> {
-    for head in more {
-        if !heads.contains(head) {
-            heads.push(*head)?;
-            return Ok(());
-        }
-    }
-    Ok(())
-}
-
-/// The slots of the code that these are of the counted code.
-fn earlier(alloc: Global, slots: &[usize], is_counted: bool) -> Result<Vec<usize>, AllocError> {
-    let mut heads = Vec::new(alloc);
-    for slot in slots {
-        heads.push(if is_counted {
-            slot.saturating_sub(1)
-        } else {
-            *slot
-        })?;
-    }
-    Ok(heads)
-}
-
-/// Adds the loops that lack a rank. Whether there are any more.
-fn add(alloc: Global, heads: &mut Vec<usize>, unranked: &Unranked) -> Result<bool, AllocError> {
+/// Adds those of these heads that aren't counted yet, or only the first one. Whether there are any.
+fn add_heads(heads: &mut Vec<usize>, slots: &[usize], is_one: bool) -> Result<bool, AllocError> {
     let before = heads.len();
-    match unranked {
-        Unranked::Alone(slots) => {
-            let more = earlier(alloc, slots, before > 0)?;
-            add_all(heads, &more)?;
-        }
-        Unranked::Together(slots) => {
-            let more = earlier(alloc, slots, before > 0)?;
-            add_first(heads, &more)?;
+    for slot in slots {
+        let head = earlier(*slot, before > 0);
+        let is_more = !heads.contains(&head) && (!is_one || heads.len() == before);
+        if is_more && heads.push(head).is_err() {
+            return Err(AllocError);
         }
     }
     Ok(heads.len() > before)
+}
+
+/// Adds the loops that lack a rank. Whether there are any more.
+fn add(heads: &mut Vec<usize>, unranked: &Unranked) -> Result<bool, AllocError> {
+    match unranked {
+        Unranked::Alone(slots) => add_heads(heads, slots, false),
+        Unranked::Together(slots) => add_heads(heads, slots, true),
+    }
+}
+
+/// Adds the loops that lack a rank, where that is what is wrong. Whether there are any more.
+fn adds_more(heads: &mut Vec<usize>, failure: &Failure) -> Result<bool, AllocError> {
+    if failure.endless.is_none() {
+        return Ok(false);
+    }
+    add(heads, &failure.unranked)
 }
 
 /// The text of the code that counts the turns of the loops at these heads.
@@ -158,6 +146,7 @@ fn annotate_loops(
     bytes: &[u8],
     code: &Code,
     given: &[Statement],
+    heads: &mut Vec<usize>,
     turns: u32,
 ) -> Result<Annotated, Shortfall>
     requires { Spells bytes.now code.now }
@@ -165,18 +154,17 @@ fn annotate_loops(
         a.bytes.items a.accepted) }
     ensures refused { IfErr result (IsTurnsShortfall hook (Some turns) bytes.now) }
 {
-    let mut heads = Vec::new(alloc);
     for _ in 0..MOST_ROUNDS {
-        match try_heads(alloc, hook, bytes, code, given, &heads, turns)? {
+        match try_heads(alloc, hook, bytes, code, given, heads, turns)? {
             Attempt::Accepted(annotated) => return Ok(annotated),
             Attempt::Refused(failure) => {
-                if failure.endless.is_none() || !add(alloc, &mut heads, &failure.unranked)? {
+                if !adds_more(heads, &failure)? {
                     return Err(Shortfall::Refused(failure.rejected, failure.endless));
                 }
             }
         }
     }
-    match try_heads(alloc, hook, bytes, code, given, &heads, turns)? {
+    match try_heads(alloc, hook, bytes, code, given, heads, turns)? {
         Attempt::Accepted(annotated) => Ok(annotated),
         Attempt::Refused(failure) => Err(Shortfall::Refused(failure.rejected, failure.endless)),
     }
@@ -198,5 +186,6 @@ pub fn annotate_counted(
     ensures refused { IfErr result (IsTurnsShortfall hook (Some turns) bytes.now) }
 {
     let code = decode(alloc, bytes)?;
-    annotate_loops(alloc, hook, bytes, &code, given, turns)
+    let mut heads = Vec::new(alloc);
+    annotate_loops(alloc, hook, bytes, &code, given, &mut heads, turns)
 }

@@ -1,12 +1,12 @@
 //! Statements without the known bits that the verifier does without.
-ghost use Rattle.std.specs.Prelude.{◌≤◌, IfOk, IfErr};
+ghost use Rattle.std.specs.Prelude.{◌≤◌, IfOk, IfErr, IfSome};
 ghost use Rattle.annotations.specs.Annotated.{IsAnnotated};
 ghost use Rattle.annotations.specs.Verdict.{IsNoVerdict};
 
 use crate::shortfall::Shortfall;
 use crate::verdict::{Annotated, Verdict, judged};
 use isa::Hook;
-use object::{Kind, StatedNumber, Statement};
+use object::{Kind, Object, StatedNumber, Statement};
 use std::alloc::{AllocError, Global};
 
 /// So many statements are trimmed one by one at most.
@@ -57,13 +57,38 @@ fn trimmed_within(
 ) -> Result<Vec<Statement>, AllocError> {
     let mut all = Vec::new(alloc);
     for (place, statement) in statements.iter().enumerate() {
-        if from <= place && place < to {
-            all.push(trimmed(statement))?;
+        all.push(if from <= place && place < to {
+            trimmed(statement)
         } else {
-            all.push(*statement)?;
-        }
+            *statement
+        })?;
     }
     Ok(all)
+}
+
+/// The object without the known bits of these statements. None where they have none, or the
+/// verifier doesn't accept it so.
+fn retry(
+    alloc: Global,
+    hook: Hook,
+    bytes: &[u8],
+    object: &Object,
+    from: usize,
+    to: usize,
+) -> Result<Option<Annotated>, Shortfall>
+    ensures accepted { IfOk result (λ found. IfSome found (λ a. IsAnnotated hook bytes.now a.object
+        a.bytes.items a.accepted)) }
+    ensures fault { IfErr result IsNoVerdict }
+{
+    let statements = trimmed_within(alloc, object.statements(), from, to)?;
+    if statements.as_slice() == object.statements() {
+        return Ok(None);
+    }
+    match judged(alloc, hook, object.entry_rank(), bytes, statements) {
+        Ok(Verdict::Accepted(trimmed)) => Ok(Some(trimmed)),
+        Ok(Verdict::Refused(_)) => Ok(None),
+        Err(error) => Err(error),
+    }
 }
 
 /// The object without the known bits of these statements, if the verifier accepts it so; else as it
@@ -82,14 +107,10 @@ fn retried(
         a.accepted) }
     ensures fault { IfErr result IsNoVerdict }
 {
-    let statements = trimmed_within(alloc, annotated.object.statements(), from, to)?;
-    if statements.as_slice() == annotated.object.statements() {
-        return Ok(annotated);
-    }
-    let entry_rank = annotated.object.entry_rank();
-    match judged(alloc, hook, entry_rank, bytes, statements)? {
-        Verdict::Accepted(trimmed) => Ok(trimmed),
-        Verdict::Refused(_) => Ok(annotated),
+    match retry(alloc, hook, bytes, &annotated.object, from, to) {
+        Ok(Some(trimmed)) => Ok(trimmed),
+        Ok(None) => Ok(annotated),
+        Err(error) => Err(error),
     }
 }
 

@@ -7,13 +7,13 @@ use crate::edges::push_start;
 use crate::lines::instruction_lines;
 use crate::page::{Page, Texts};
 use crate::phrases::Value;
-use crate::replay::{entry_kinds, entry_statement, start};
+use crate::replay::{entry_statement, start};
 use crate::rules::{rule_hint, rule_name};
 use crate::text::Text;
 use crate::walk::{Program, push_pass};
 use inference::liveness::{Registers, live_registers};
 use isa::{Code, DecodeError, decode};
-use kinds::Target;
+use kinds::{State, Target};
 use object::{Object, ReadError, Statement};
 use object_verdicts::{VerifyError, verify_object};
 use segments::target::targets_of;
@@ -161,41 +161,64 @@ fn refusal_in(verdict: &Result<Accepted, VerifyError>) -> Option<Refusal> {
 
 /// What the verifier knows where a run begins, and then at each slot, up to the one that it
 /// refuses.
+fn push_from<'a>(
+    page: &mut Page,
+    program: &Program<'_>,
+    targets: &[Option<Target<'a, Value>>],
+    entry: &Target<'a, Value>,
+    first: State<Value>,
+) {
+    if push_start(&mut page.reasons, targets, entry, &first) {
+        page.turn(0, program.lines)
+    } else {
+        push_pass(page, program, targets, entry, first)
+    }
+}
+
+/// The same, with what is known where a run begins.
 fn push_known_by<'a>(
     alloc: Global,
     page: &mut Page,
     program: &Program<'_>,
     targets: &[Option<Target<'a, Value>>],
     statement: &'a Statement,
-) -> Result<(), AllocError> {
-    let entry = Target {
-        statement,
-        kinds: entry_kinds(alloc)?,
-    };
-    let first = start(alloc)?;
-    if push_start(&mut page.reasons, targets, &entry, &first) {
-        page.turn(0, program.lines);
-    } else {
-        push_pass(page, program, targets, &entry, first);
+    first: State<Value>,
+) {
+    match Vec::from_slice(alloc, &first.kinds) {
+        Ok(kinds) => {
+            let entry = Target { statement, kinds };
+            push_from(page, program, targets, &entry, first)
+        }
+        Err(_) => page.reasons.is_cut = true,
     }
-    Ok(())
 }
 
-/// The same of an object's program.
-fn push_object(
+/// The same of a program with these statements.
+fn push_by<'a>(
     alloc: Global,
     page: &mut Page,
     program: &Program<'_>,
-    object: &Object,
-) -> Result<(), AllocError> {
+    targets: &[Option<Target<'a, Value>>],
+    statement: &'a Statement,
+) {
+    match start(alloc) {
+        Ok(first) => push_known_by(alloc, page, program, targets, statement, first),
+        Err(_) => page.reasons.is_cut = true,
+    }
+}
+
+/// The same of an object's program.
+fn push_object(alloc: Global, page: &mut Page, program: &Program<'_>, object: &Object) {
     if object.slots() != program.code.len() {
-        return Ok(());
+        return;
     }
     let Some(statement) = entry_statement(object.entry_rank()) else {
-        return Ok(());
+        return;
     };
-    let targets = targets_of::<Value>(alloc, program.code.len(), object.statements())?;
-    push_known_by(alloc, page, program, &targets, &statement)
+    match targets_of::<Value>(alloc, program.code.len(), object.statements()) {
+        Ok(targets) => push_by(alloc, page, program, &targets, &statement),
+        Err(_) => page.reasons.is_cut = true,
+    }
 }
 
 /// The hook, and the rank at the entry.
@@ -209,7 +232,7 @@ fn push_head(out: &mut Text, object: &Object) {
 fn page_of(alloc: Global, object: &Object, program: &Program<'_>) -> Result<Texts, AllocError> {
     let mut page = Page::new(alloc);
     push_head(&mut page.here, object);
-    push_object(alloc, &mut page, program, object)?;
+    push_object(alloc, &mut page, program, object);
     page.finish()
 }
 

@@ -15,3 +15,4 @@ mod walk;
 pub use explaining::{ExplainError, Explanation, explain};
 pub use lines::{instruction_lines, line_at};
 pub use rules::{rule_hint, rule_name};
+pub use text::Text;

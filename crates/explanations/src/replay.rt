@@ -16,17 +16,16 @@ pub(crate) fn entry_statement(rank: u32) -> Option<Statement> {
     Statement::new(0, constant, [Stated::Empty; 10], StackBytes::new())
 }
 
-pub(crate) fn entry_kinds(alloc: Global) -> Result<Vec<Kind<Value>>, AllocError> {
-    let mut kinds = vec![in alloc; Kind::Empty; 10]?;
-    kinds::put(&mut kinds, 1, Kind::Pointer(Place::Context(0)));
-    Ok(kinds)
-}
-
+/// What is known where a run begins.
 pub(crate) fn start(alloc: Global) -> Result<State<Value>, AllocError> {
+    let mut kinds = vec![in alloc; Kind::Empty; 10]?;
+    let facts = vec![in alloc; None; 10]?;
+    let entries = vec![in alloc; Entry::Unknown; 512]?;
+    kinds::put(&mut kinds, 1, Kind::Pointer(Place::Context(0)));
     Ok(State {
-        kinds: entry_kinds(alloc)?,
-        facts: vec![in alloc; None; 10]?,
-        entries: vec![in alloc; Entry::Unknown; 512]?,
+        kinds,
+        facts,
+        entries,
     })
 }
 

@@ -4,10 +4,10 @@ use std::alloc::{AllocError, Global};
 
 /// A text that grows. Where memory was refused for a part of it, there is none at its end.
 #[derive(Drop)]
-pub(crate) struct Text {
-    pub words: String,
+pub struct Text {
+    pub(crate) words: String,
     /// Whether memory was refused for a part of it.
-    pub is_cut: bool,
+    pub(crate) is_cut: bool,
 }
 
 impl Text {

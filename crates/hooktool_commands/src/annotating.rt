@@ -9,73 +9,68 @@ use crate::fault::Fault;
 use crate::files;
 use crate::report::Report;
 use annotations::{Annotated, CountError, Endless, Rejected, Shortfall, Trouble, annotate_file};
-use explanations::{Explanation, explain};
+use explanations::{Explanation, Text, explain};
 use isa::Hook;
 use std::alloc::{AllocError, Global};
 use std::rt::Files;
 
 /// Why a loop has no rank.
-fn push_trouble(out: &mut String, trouble: Trouble) -> Result<(), AllocError> {
+fn push_trouble(out: &mut Text, trouble: Trouble) {
     match trouble {
-        Trouble::Rises { register } => {
-            writeln!(out, "r{register} rises with each turn, and none falls")
-        }
-        Trouble::TooHigh { register, from } => writeln!(
-            out,
-            "r{register} falls from up to {from}, which takes too long"
+        Trouble::Rises { register } => out.numbered(
+            "r",
+            u64::from(register),
+            " rises with each turn, and none falls\n",
         ),
+        Trouble::TooHigh { register, from } => {
+            out.numbered("r", u64::from(register), " falls from up to ");
+            out.numbered("", from, ", which takes too long\n")
+        }
         Trouble::NoneFalls => {
-            out.push_str("no register falls by a single number on each way round\n")
+            out.push("no register falls by a single number on each way round\n")
         }
     }
 }
 
 /// Which loop has no rank and why, and what an author can do.
-fn push_endless(out: &mut String, endless: &Endless) -> Result<(), AllocError> {
-    let slot = endless.slot;
-    write!(out, "the loop at slot {slot} has no rank: ")?;
-    push_trouble(out, endless.trouble)?;
-    out.push_str(
+fn push_endless(out: &mut Text, endless: &Endless) {
+    out.numbered("the loop at slot ", endless.slot as u64, " has no rank: ");
+    push_trouble(out, endless.trouble);
+    out.push(
         "  either let a register fall with each turn (DOWN and EACH of examples/c/leafrunt.h \
             do)\n  or count the turns: --fuel N\n",
     )
 }
 
-/// The last two texts of an explanation. An error where the verifier was refused memory.
-fn last_told(explanation: Explanation) -> Result<String, AllocError> {
-    let Explanation {
-        last,
-        told,
-        verdict,
-        ..
-    } = explanation;
-    if lacks_memory(&verdict) {
+/// The last two texts of an explanation, and which loop has no rank. An error where the verifier
+/// was refused memory.
+fn last_told(
+    alloc: Global,
+    explanation: &Explanation,
+    endless: &Option<Endless>,
+) -> Result<String, AllocError> {
+    if lacks_memory(&explanation.verdict) {
         return Err(AllocError);
     }
-    let mut text = last;
-    text.push_str(told.as_str())?;
-    Ok(text)
-}
-
-/// Where the verifier refuses the object file that these bytes are, and why.
-fn why_refused(alloc: Global, bytes: &[u8]) -> Result<String, AllocError> {
-    match explain(alloc, bytes) {
-        Ok(explanation) => last_told(explanation),
-        Err(_) => Err(AllocError),
+    let mut text = Text::new(alloc);
+    text.push(explanation.last.as_str());
+    text.push(explanation.told.as_str());
+    if let Some(endless) = endless {
+        push_endless(&mut text, endless);
     }
+    text.finish()
 }
 
-/// The same, and which loop has no rank.
+/// Where the verifier refuses the object, and why, and which loop has no rank.
 fn rejection_text(
     alloc: Global,
     rejected: &Rejected,
     endless: &Option<Endless>,
 ) -> Result<String, AllocError> {
-    let mut text = why_refused(alloc, &rejected.bytes)?;
-    if let Some(endless) = endless {
-        push_endless(&mut text, endless)?;
+    match explain(alloc, &rejected.bytes) {
+        Ok(explanation) => last_told(alloc, &explanation, endless),
+        Err(_) => Err(AllocError),
     }
-    Ok(text)
 }
 
 /// What is told of a program that the verifier refuses.

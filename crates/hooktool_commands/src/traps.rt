@@ -1,10 +1,9 @@
 //! Runs that gave no answer.
 
-use explanations::line_at;
+use explanations::{Text, line_at};
 use interp::Trap;
 use isa::Code;
 use machine::{Content, Fault, Pointer};
-use std::alloc::AllocError;
 use trial_runs::Ending;
 
 /// The name of a fault, as docs/MACHINE.md has it.
@@ -23,55 +22,56 @@ fn fault_name(fault: Fault) -> &'static str {
     }
 }
 
-fn push_pointer(out: &mut String, pointer: Pointer) -> Result<(), AllocError> {
+fn push_pointer(out: &mut Text, pointer: Pointer) {
     match pointer {
-        Pointer::Context(at) => write!(out, "context, byte {at}"),
-        Pointer::Stack(at) => write!(out, "stack, byte {at}"),
+        Pointer::Context(at) => out.numbered("context, byte ", at, "\n"),
+        Pointer::Stack(at) => out.numbered("stack, byte ", at, "\n"),
         Pointer::Map(map, at) => {
-            let number = map.number();
-            write!(out, "map {number}, byte {at}")
+            out.numbered("map ", u64::from(map.number()), ", byte ");
+            out.numbered("", at, "\n")
         }
     }
 }
 
 /// A line for each register that isn't empty.
-fn push_registers(out: &mut String, registers: &[Content]) -> Result<(), AllocError> {
+fn push_registers(out: &mut Text, registers: &[Content]) {
     for (number, content) in registers.iter().enumerate() {
         match *content {
             Content::Nothing => {}
-            Content::Number(word) => writeln!(out, "  r{number}: {word}")?,
+            Content::Number(word) => {
+                out.numbered("  r", number as u64, ": ");
+                out.numbered("", word, "\n")
+            }
             Content::Address(pointer) => {
-                write!(out, "  r{number}: ")?;
-                push_pointer(out, pointer)?;
-                out.push_str("\n")?;
+                out.numbered("  r", number as u64, ": ");
+                push_pointer(out, pointer)
             }
         }
     }
-    Ok(())
+}
+
+/// The trap's number, and what it is.
+fn push_name(out: &mut Text, trap: Trap) {
+    match trap {
+        Trap::Stuck(fault) => {
+            out.numbered("trap ", u64::from(trap.number()), " ");
+            out.push(fault_name(fault));
+            out.push(" at slot ")
+        }
+        Trap::Limit => out.numbered(
+            "trap ",
+            u64::from(trap.number()),
+            ": all instructions were used, at slot ",
+        ),
+    }
 }
 
 /// The trap, the slot and the instruction at which it is, and the registers there.
-pub(crate) fn push_trap(
-    out: &mut String,
-    trap: Trap,
-    ending: &Ending,
-    code: &Code,
-    lines: &str,
-) -> Result<(), AllocError> {
-    let number = trap.number();
+pub(crate) fn push_trap(out: &mut Text, trap: Trap, ending: &Ending, code: &Code, lines: &str) {
     let slot = ending.slot;
-    let line = line_at(lines, code, slot).unwrap_or("no instruction begins there");
-    match trap {
-        Trap::Stuck(fault) => {
-            let name = fault_name(fault);
-            writeln!(out, "trap {number} {name} at slot {slot}: {line}")?;
-        }
-        Trap::Limit => {
-            writeln!(
-                out,
-                "trap {number}: all instructions were used, at slot {slot}: {line}"
-            )?;
-        }
-    }
+    push_name(out, trap);
+    out.numbered("", slot, ": ");
+    out.push(line_at(lines, code, slot).unwrap_or("no instruction begins there"));
+    out.push("\n");
     push_registers(out, &ending.registers)
 }

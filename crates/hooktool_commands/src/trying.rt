@@ -9,7 +9,7 @@ use crate::fault::Fault;
 use crate::files;
 use crate::report::Report;
 use crate::traps::push_trap;
-use explanations::instruction_lines;
+use explanations::{Text, instruction_lines};
 use hooktool_line::{Packet, Question};
 use isa::{Code, Hook, decode};
 use object::Object;
@@ -60,51 +60,45 @@ fn bound_of(object: &Object) -> u64 {
 }
 
 /// How a run ended: its answer and how many instructions it took, or its trap.
-fn push_ending(out: &mut String, program: &Program, ending: &Ending) -> Result<(), AllocError> {
+fn push_ending(out: &mut Text, program: &Program, ending: &Ending) {
     match ending.outcome {
         Ok(run) => {
-            push_answer(out, program.hook, run.answer)?;
-            let used = run.used;
-            let bound = program.bound;
-            writeln!(out, ", used {used} of {bound}")
+            push_answer(out, program.hook, run.answer);
+            out.numbered(", used ", run.used, " of ");
+            out.numbered("", program.bound, "\n")
         }
         Err(trap) => push_trap(out, trap, ending, &program.code, program.lines.as_str()),
     }
 }
 
 /// The same of each run, with its number where there are several.
-fn push_endings(out: &mut String, program: &Program, endings: &[Ending]) -> Result<(), AllocError> {
+fn push_endings(out: &mut Text, program: &Program, endings: &[Ending]) {
     for (index, ending) in endings.iter().enumerate() {
         if endings.len() > 1 {
-            let number = index + 1;
-            write!(out, "run {number}: ")?;
+            out.numbered("run ", index as u64 + 1, ": ");
         }
-        push_ending(out, program, ending)?;
+        push_ending(out, program, ending)
     }
-    Ok(())
 }
 
 /// A line for each number that isn't 0.
-fn push_numbers(out: &mut String, name: &str, numbers: &[u64]) -> Result<(), AllocError> {
+fn push_numbers(out: &mut Text, name: &str, numbers: &[u64]) {
     for (index, number) in numbers.iter().enumerate() {
         if *number > 0 {
-            writeln!(out, "{name} {index} {number}")?;
+            out.push(name);
+            out.numbered(" ", index as u64, " ");
+            out.numbered("", *number, "\n")
         }
     }
-    Ok(())
 }
 
 /// Each run's end, and what was left in counters and cells.
-fn push_trial(out: &mut String, program: &Program, trial: &Trial) -> Result<(), AllocError> {
-    push_endings(out, program, &trial.endings)?;
-    push_numbers(out, "counter", &trial.counters)?;
-    push_numbers(out, "cell", &trial.cells)
-}
-
 fn text_of(alloc: Global, program: &Program, trial: &Trial) -> Result<String, AllocError> {
-    let mut text = String::new(alloc);
-    push_trial(&mut text, program, trial)?;
-    Ok(text)
+    let mut text = Text::new(alloc);
+    push_endings(&mut text, program, &trial.endings);
+    push_numbers(&mut text, "counter", &trial.counters);
+    push_numbers(&mut text, "cell", &trial.cells);
+    text.finish()
 }
 
 fn is_any_stuck(endings: &[Ending]) -> bool

@@ -65,15 +65,6 @@ pub struct Arrival<'a> {
     pub limits: &'a [u64],
 }
 
-/// So many places without a statement.
-fn unstated(alloc: Global, size: usize) -> Result<Vec<Option<Statement>>, AllocError> {
-    let mut places = Vec::new(alloc);
-    for _ in 0..size {
-        places.push(None)?;
-    }
-    Ok(places)
-}
-
 fn held(places: &[Option<Statement>], site: usize) -> Option<&Statement> {
     match places.get(site) {
         Some(Some(statement)) => Some(statement),
@@ -105,7 +96,7 @@ fn widening_after(changes: u32) -> Widening {
 impl Draft {
     pub fn new(alloc: Global, size: usize) -> Result<Draft, AllocError> {
         let marks = vec![in alloc; UNMARKED; size]?;
-        let stated = unstated(alloc, size)?;
+        let stated = vec![in alloc; None; size]?;
         Ok(Draft {
             purpose: Purpose::Rise,
             is_lenient: false,
@@ -139,13 +130,20 @@ impl Draft {
     }
 
     /// Starts a pass.
-    pub fn begin(&mut self, alloc: Global, purpose: Purpose) -> Result<(), AllocError> {
+    pub fn begin(&mut self, alloc: Global, purpose: Purpose) {
         self.purpose = purpose;
         self.has_changed = false;
         if matches!(purpose, Purpose::Fall) {
-            self.found = unstated(alloc, self.stated.len())?;
+            match vec![in alloc; None; self.stated.len()] {
+                Ok(found) => self.found = found,
+                Err(_) => self.is_short = true,
+            }
         }
-        Ok(())
+    }
+
+    /// Whether another pass would find nothing more.
+    pub fn is_done(&self) -> bool {
+        self.is_short || !self.has_changed
     }
 
     /// Makes what a falling pass found the statements. A site that nothing came to keeps its own.

@@ -25,8 +25,14 @@ const MOST_FALLS: u32 = 12;
 /// How often a statement can change, at most, before its bounds are given up, and after.
 const MOST_CHANGES: usize = 64;
 
+/// Passes over the code once.
+fn pass(program: &Program<'_>, draft: &mut Draft, purpose: Purpose) {
+    draft.begin(program.alloc, purpose);
+    program.pass(draft)
+}
+
 /// Widens the statements until no edge leads out of them.
-fn rise(program: &Program<'_>, draft: &mut Draft) -> Result<(), AllocError> {
+fn rise(program: &Program<'_>, draft: &mut Draft) {
     draft.renew();
     for _ in 0..program
         .sites
@@ -34,36 +40,28 @@ fn rise(program: &Program<'_>, draft: &mut Draft) -> Result<(), AllocError> {
         .saturating_mul(MOST_CHANGES)
         .saturating_add(1)
     {
-        draft.begin(program.alloc, Purpose::Rise)?;
-        program.pass(draft)?;
-        if !draft.has_changed {
-            return Ok(());
+        pass(program, draft, Purpose::Rise);
+        if draft.is_done() {
+            return;
         }
     }
-    Ok(())
 }
 
 /// Narrows the statements to what comes along their edges.
-fn fall(program: &Program<'_>, draft: &mut Draft) -> Result<(), AllocError> {
+fn fall(program: &Program<'_>, draft: &mut Draft) {
     for _ in 0..MOST_FALLS {
-        draft.begin(program.alloc, Purpose::Fall)?;
-        program.pass(draft)?;
+        pass(program, draft, Purpose::Fall);
         draft.settle();
-        if !draft.has_changed {
-            return Ok(());
+        if draft.is_done() {
+            return;
         }
     }
-    Ok(())
 }
 
 /// Widens the statements, also for edges that no run takes if that is so, and narrows them.
-fn widen_and_narrow(
-    program: &Program<'_>,
-    draft: &mut Draft,
-    is_lenient: bool,
-) -> Result<(), AllocError> {
+fn widen_and_narrow(program: &Program<'_>, draft: &mut Draft, is_lenient: bool) {
     draft.is_lenient = is_lenient;
-    rise(program, draft)?;
+    rise(program, draft);
     draft.is_lenient = false;
     fall(program, draft)
 }
@@ -77,21 +75,23 @@ fn keep(program: &Program<'_>, draft: &mut Draft, kept: &[Statement]) {
     }
 }
 
-/// Finds the statements of the program without ranks, and the edges between them. Those that are
-/// kept stay as they are.
-fn find(program: &Program<'_>, draft: &mut Draft, kept: &[Statement]) -> Result<(), AllocError> {
+/// Finds the statements of the program without ranks, and the edges between them, as far as memory
+/// goes. Those that are kept stay as they are.
+fn find(program: &Program<'_>, draft: &mut Draft, kept: &[Statement]) {
     keep(program, draft, kept);
-    widen_and_narrow(program, draft, false)?;
-    widen_and_narrow(program, draft, true)?;
-    draft.begin(program.alloc, Purpose::Gather)?;
-    program.pass(draft)
+    widen_and_narrow(program, draft, false);
+    widen_and_narrow(program, draft, true);
+    pass(program, draft, Purpose::Gather)
 }
 
 /// What is found for the program.
 fn drafted(program: &Program<'_>, kept: &[Statement]) -> Result<Draft, AllocError> {
     let mut draft = Draft::new(program.alloc, program.sites.len())?;
-    find(program, &mut draft, kept)?;
-    Ok(draft)
+    find(program, &mut draft, kept);
+    match draft.all() {
+        Ok(()) => Ok(draft),
+        Err(error) => Err(error),
+    }
 }
 
 /// The same for code with these sites.

@@ -51,11 +51,13 @@ struct Branch {
 /// What is known where a run begins.
 fn start(alloc: Global) -> Result<State<Value>, AllocError> {
     let mut kinds = vec![in alloc; Kind::Empty; 10]?;
+    let facts = vec![in alloc; None; 10]?;
+    let entries = vec![in alloc; Entry::Unknown; 512]?;
     put(&mut kinds, 1, Kind::Pointer(Place::Context(0)));
     Ok(State {
         kinds,
-        facts: vec![in alloc; None; 10]?,
-        entries: vec![in alloc; Entry::Unknown; 512]?,
+        facts,
+        entries,
     })
 }
 
@@ -282,11 +284,14 @@ impl<'a> Program<'a> {
     }
 
     /// Passes over the code once.
-    pub fn pass(&self, draft: &mut Draft) -> Result<(), AllocError> {
-        let state = start(self.alloc)?;
-        let here = self.enter_start(draft, state);
-        self.pass_from(draft, here);
-        draft.all()
+    pub fn pass(&self, draft: &mut Draft) {
+        match start(self.alloc) {
+            Ok(state) => {
+                let here = self.enter_start(draft, state);
+                self.pass_from(draft, here)
+            }
+            Err(_) => draft.is_short = true,
+        }
     }
 }
 

@@ -210,7 +210,9 @@ fn bytes_of(state: &State<Value>, others: Option<&StackBytes>) -> StackBytes {
 
 /// A statement of what is known.
 pub fn first_statement(slot: usize, live: Registers, state: &State<Value>) -> Option<Statement> {
-    let slot = u32::try_from(slot).ok()?;
+    let Ok(slot) = u32::try_from(slot) else {
+        return None;
+    };
     let kinds = kinds_of(live, state);
     Statement::new(slot, NO_RANK, kinds, bytes_of(state, None))
 }
@@ -235,12 +237,13 @@ pub fn joined_statement(
 
 /// A statement for a slot that nothing comes to: what is read is any number.
 pub fn idle_statement(slot: usize, live: Registers) -> Option<Statement> {
-    let slot = u32::try_from(slot).ok()?;
-    let any = StatedNumber::new(0, u64::MAX, 0, 0)?;
+    let Ok(slot) = u32::try_from(slot) else {
+        return None;
+    };
     let mut kinds = [Kind::Empty; 10];
     for register in 0..10 {
         if has(live, register) {
-            kinds[register] = Kind::Number(any);
+            kinds[register] = number_of(Value::top());
         }
     }
     Statement::new(slot, NO_RANK, kinds, StackBytes::new())

@@ -1,15 +1,15 @@
 //! Loops among the sites, and how a number is carried round one.
 
 use crate::loops::{edges_within, is_marked, loop_through};
+use crate::rooms::Rooms;
 use crate::weights::Bounds;
 use inference::{Edge, Sites};
 use kinds::{Fact, put};
-use std::alloc::{AllocError, Global};
 
 /// The edges between the sites, and what they start with.
 #[derive(Clone, Copy)]
 pub struct Graph<'a> {
-    pub alloc: Global,
+    pub rooms: &'a Rooms,
     pub sites: &'a Sites,
     pub edges: &'a [Edge],
     /// Which of the edges a loop may take: each one.
@@ -69,26 +69,27 @@ impl<'a> Graph<'a> {
     }
 
     /// The loop through the site by these edges.
-    pub fn circle(&self, kept: &[bool], head: usize) -> Result<Option<Circle>, AllocError> {
-        let found = loop_through(self.alloc, self.edges, kept, self.nodes(), head)?;
-        let Some(members) = found else {
-            return Ok(None);
-        };
-        let within = edges_within(self.alloc, self.edges, kept, &members)?;
-        Ok(Some(Circle { members, within }))
+    pub fn circle(&self, kept: &[bool], head: usize) -> Option<Circle> {
+        match loop_through(self.rooms, self.edges, kept, self.nodes(), head) {
+            Some(members) => {
+                let within = edges_within(self.rooms, self.edges, kept, &members);
+                Some(Circle { members, within })
+            }
+            None => None,
+        }
     }
 
     /// Whether these edges of a loop have no loop among them.
-    pub fn is_straight(&self, circle: &Circle, kept: &[bool]) -> Result<bool, AllocError> {
+    pub fn is_straight(&self, circle: &Circle, kept: &[bool]) -> bool {
         for head in 0..self.sites.len() {
             if self.sites.is_head(head)
                 && is_marked(&circle.members, head)
-                && self.circle(kept, head)?.is_some()
+                && self.circle(kept, head).is_some()
             {
-                return Ok(false);
+                return false;
             }
         }
-        Ok(true)
+        true
     }
 
     /// Marks the sites of the loop.
@@ -117,58 +118,56 @@ impl<'a> Graph<'a> {
     }
 
     /// In which register the number is at each site that is in this one at the head.
-    fn traced(
-        &self,
-        circle: &Circle,
-        head: usize,
-        register: u8,
-    ) -> Result<Vec<Option<u8>>, AllocError> {
-        let mut registers = vec![in self.alloc; None; self.nodes()]?;
+    fn traced(&self, circle: &Circle, head: usize, register: u8) -> Vec<Option<u8>> {
+        let mut registers = self.rooms.registers(self.nodes());
         put(&mut registers, head, Some(register));
         for _ in 0..self.nodes() {
             if !self.trace(circle, &mut registers) {
                 break;
             }
         }
-        Ok(registers)
+        registers
+    }
+
+    /// Notes on which edges of the loop the number falls, and whether it rises on any. Whether no
+    /// edge loses it.
+    fn follow(&self, circle: &Circle, carried: &mut Carried) -> bool {
+        for (index, edge) in self.edges.iter().enumerate() {
+            if is_marked(&circle.within, index) {
+                let Some(fact) = followed(&carried.registers, edge) else {
+                    return false;
+                };
+                put(&mut carried.falls, index, fact.up < fact.down);
+                carried.has_fall = carried.has_fall || fact.up < fact.down;
+                carried.has_rise = carried.has_rise || fact.down < fact.up;
+            }
+        }
+        true
     }
 
     /// How the number that the register has at the head is carried round the loop. None where an
     /// edge of the loop loses it.
-    pub fn carried(
-        &self,
-        circle: &Circle,
-        head: usize,
-        register: u8,
-    ) -> Result<Option<Carried>, AllocError> {
-        let registers = self.traced(circle, head, register)?;
-        let mut falls = vec![in self.alloc; false; self.edges.len()]?;
-        let mut has_fall = false;
-        let mut has_rise = false;
-        for (index, edge) in self.edges.iter().enumerate() {
-            if is_marked(&circle.within, index) {
-                let Some(fact) = followed(&registers, edge) else {
-                    return Ok(None);
-                };
-                put(&mut falls, index, fact.up < fact.down);
-                has_fall = has_fall || fact.up < fact.down;
-                has_rise = has_rise || fact.down < fact.up;
-            }
+    pub fn carried(&self, circle: &Circle, head: usize, register: u8) -> Option<Carried> {
+        let mut carried = Carried {
+            registers: self.traced(circle, head, register),
+            falls: self.rooms.marks(false, self.edges.len()),
+            has_fall: false,
+            has_rise: false,
+        };
+        if self.follow(circle, &mut carried) {
+            Some(carried)
+        } else {
+            None
         }
-        Ok(Some(Carried {
-            registers,
-            falls,
-            has_fall,
-            has_rise,
-        }))
     }
 
     /// The edges of the loop on which the number doesn't fall.
-    pub fn rest(&self, circle: &Circle, carried: &Carried) -> Result<Vec<bool>, AllocError> {
-        let mut rest = Vec::new(self.alloc);
+    pub fn rest(&self, circle: &Circle, carried: &Carried) -> Vec<bool> {
+        let mut rest = self.rooms.marks(false, self.edges.len());
         for index in 0..self.edges.len() {
-            rest.push(is_marked(&circle.within, index) && !is_marked(&carried.falls, index))?;
+            let stays = is_marked(&circle.within, index) && !is_marked(&carried.falls, index);
+            put(&mut rest, index, stays);
         }
-        Ok(rest)
+        rest
     }
 }

@@ -7,6 +7,7 @@ mod loops;
 mod plan;
 mod planning;
 mod ranking;
+mod rooms;
 mod trouble;
 mod unranked;
 mod weights;

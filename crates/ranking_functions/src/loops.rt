@@ -1,8 +1,8 @@
 //! Loops among the sites.
 
+use crate::rooms::Rooms;
 use inference::Edge;
 use kinds::put;
-use std::alloc::{AllocError, Global};
 
 /// Whether the place is marked.
 pub fn is_marked(marks: &[bool], place: usize) -> bool {
@@ -42,14 +42,14 @@ fn spread(edges: &[Edge], kept: &[bool], is_forward: bool, marks: &mut Vec<bool>
 
 /// The sites that are reached from this one, or that reach it, by one kept edge or more.
 fn reached(
-    alloc: Global,
+    rooms: &Rooms,
     edges: &[Edge],
     kept: &[bool],
     is_forward: bool,
     nodes: usize,
     head: usize,
-) -> Result<Vec<bool>, AllocError> {
-    let mut marks = vec![in alloc; false; nodes]?;
+) -> Vec<bool> {
+    let mut marks = rooms.marks(false, nodes);
     for (index, edge) in edges.iter().enumerate() {
         let (here, there) = if is_forward {
             (edge.from, edge.to)
@@ -65,43 +65,38 @@ fn reached(
             break;
         }
     }
-    Ok(marks)
+    marks
 }
 
 /// The sites of the loop that goes through this one by kept edges. None where there is no such
 /// loop.
 pub fn loop_through(
-    alloc: Global,
+    rooms: &Rooms,
     edges: &[Edge],
     kept: &[bool],
     nodes: usize,
     head: usize,
-) -> Result<Option<Vec<bool>>, AllocError> {
-    let mut members = reached(alloc, edges, kept, true, nodes, head)?;
-    let behind = reached(alloc, edges, kept, false, nodes, head)?;
+) -> Option<Vec<bool>> {
+    let mut members = reached(rooms, edges, kept, true, nodes, head);
+    let behind = reached(rooms, edges, kept, false, nodes, head);
     for node in 0..nodes {
         if !is_marked(&behind, node) {
             put(&mut members, node, false);
         }
     }
     if is_marked(&members, head) {
-        Ok(Some(members))
+        Some(members)
     } else {
-        Ok(None)
+        None
     }
 }
 
 /// Which of the kept edges lie within the loop.
-pub fn edges_within(
-    alloc: Global,
-    edges: &[Edge],
-    kept: &[bool],
-    members: &[bool],
-) -> Result<Vec<bool>, AllocError> {
-    let mut within = Vec::new(alloc);
+pub fn edges_within(rooms: &Rooms, edges: &[Edge], kept: &[bool], members: &[bool]) -> Vec<bool> {
+    let mut within = rooms.marks(false, edges.len());
     for (index, edge) in edges.iter().enumerate() {
         let is_inside = is_marked(members, edge.from) && is_marked(members, edge.to);
-        within.push(is_marked(kept, index) && is_inside)?;
+        put(&mut within, index, is_marked(kept, index) && is_inside);
     }
-    Ok(within)
+    within
 }

@@ -1,9 +1,9 @@
 //! Ranks as they are being made: at each site the terms, and the constant that they need.
 
+use crate::rooms::Rooms;
 use crate::trouble::Endless;
 use kinds::put;
 use object::{Rank, RankTerm};
-use std::alloc::{AllocError, Global};
 
 /// Which of the two terms of a rank.
 #[derive(Clone, Copy)]
@@ -12,22 +12,27 @@ pub enum Term {
     Second,
 }
 
-/// Terms and constants, a place for each site and the last one for the entry.
+/// Ranks, a place for each site and the last one for the entry.
 #[derive(Drop)]
 pub struct Plan {
-    firsts: Vec<Option<RankTerm>>,
-    seconds: Vec<Option<RankTerm>>,
-    constants: Vec<Constant>,
+    places: Vec<Place>,
 }
 
-/// A constant, and what it begins with when it is raised.
+/// The terms and the constant of a rank, and what the constant begins with when it is raised.
 #[derive(Clone, Copy)]
-struct Constant {
+struct Place {
+    first: Option<RankTerm>,
+    second: Option<RankTerm>,
     now: u64,
     least: u64,
 }
 
-const NO_CONSTANT: Constant = Constant { now: 0, least: 0 };
+const NO_RANK: Place = Place {
+    first: None,
+    second: None,
+    now: 0,
+    least: 0,
+};
 
 /// Ranks; where a loop has none, which one and why.
 #[derive(Drop)]
@@ -48,94 +53,98 @@ pub enum Unranked {
 
 impl Plan {
     /// Ranks that are 0.
-    pub fn new(alloc: Global, nodes: usize) -> Result<Plan, AllocError> {
-        let constants = vec![in alloc; NO_CONSTANT; nodes]?;
-        let firsts = vec![in alloc; None; nodes]?;
-        let seconds = vec![in alloc; None; nodes]?;
-        Ok(Plan {
-            firsts,
-            seconds,
-            constants,
-        })
+    pub fn new(rooms: &Rooms, nodes: usize) -> Plan {
+        match vec![in rooms.alloc; NO_RANK; nodes] {
+            Ok(places) => Plan { places },
+            Err(_) => {
+                rooms.cut();
+                Plan {
+                    places: Vec::new(rooms.alloc),
+                }
+            }
+        }
+    }
+
+    fn at(&self, node: usize) -> Place {
+        self.places.get(node).copied().unwrap_or(NO_RANK)
     }
 
     /// The first term.
     pub fn first_at(&self, node: usize) -> Option<RankTerm> {
-        self.firsts.get(node).copied().unwrap_or(None)
+        self.at(node).first
     }
 
     /// The second term.
     pub fn second_at(&self, node: usize) -> Option<RankTerm> {
-        self.seconds.get(node).copied().unwrap_or(None)
-    }
-
-    /// The constant and what it begins with.
-    fn constants_at(&self, node: usize) -> Constant {
-        self.constants.get(node).copied().unwrap_or(NO_CONSTANT)
+        self.at(node).second
     }
 
     /// The constant.
     pub fn constant_at(&self, node: usize) -> u64 {
-        self.constants_at(node).now
+        self.at(node).now
     }
 
     /// The rank without its constant.
     pub fn slope_at(&self, node: usize) -> Rank {
+        let Place { first, second, .. } = self.at(node);
         Rank {
             constant: 0,
-            first: self.first_at(node),
-            second: self.second_at(node),
+            first,
+            second,
         }
     }
 
     /// The rank.
     pub fn rank_at(&self, node: usize) -> Rank {
+        let place = self.at(node);
         Rank {
-            constant: self.constant_at(node).min(1_000_000) as u32,
-            first: self.first_at(node),
-            second: self.second_at(node),
+            constant: place.now.min(1_000_000) as u32,
+            first: place.first,
+            second: place.second,
         }
+    }
+
+    /// Makes the rank this one, whose constant is what it begins with.
+    pub fn give(&mut self, node: usize, rank: Rank) {
+        let place = Place {
+            first: rank.first,
+            second: rank.second,
+            now: 0,
+            least: u64::from(rank.constant),
+        };
+        put(&mut self.places, node, place)
     }
 
     /// Puts one of the terms.
     pub fn set_term(&mut self, node: usize, which: Term, term: Option<RankTerm>) {
+        let mut place = self.at(node);
         match which {
-            Term::First => put(&mut self.firsts, node, term),
-            Term::Second => put(&mut self.seconds, node, term),
+            Term::First => place.first = term,
+            Term::Second => place.second = term,
         }
+        put(&mut self.places, node, place)
     }
 
     /// Takes both terms away.
     pub fn clear(&mut self, node: usize) {
-        put(&mut self.firsts, node, None);
-        put(&mut self.seconds, node, None);
+        let mut place = self.at(node);
+        place.first = None;
+        place.second = None;
+        put(&mut self.places, node, place)
     }
 
     /// Makes a constant this one.
     pub fn set_constant(&mut self, node: usize, constant: u64) {
-        let least = self.constants_at(node).least;
-        let after = Constant {
-            now: constant,
-            least,
-        };
-        put(&mut self.constants, node, after);
-    }
-
-    /// Has the constant be raised from this one.
-    pub fn set_least(&mut self, node: usize, constant: u64) {
-        let now = self.constants_at(node).now;
-        let after = Constant {
-            now,
-            least: constant,
-        };
-        put(&mut self.constants, node, after);
+        let mut place = self.at(node);
+        place.now = constant;
+        put(&mut self.places, node, place)
     }
 
     /// Makes all constants what they begin with.
     pub fn flatten(&mut self) {
-        for node in 0..self.constants.len() {
-            let least = self.constants_at(node).least;
-            self.constants[node] = Constant { now: least, least };
+        for node in 0..self.places.len() {
+            let least = self.at(node).least;
+            self.set_constant(node, least)
         }
     }
 }

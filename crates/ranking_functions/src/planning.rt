@@ -1,7 +1,8 @@
 //! Ranks for all statements of a program.
 
 use crate::circles::Graph;
-use crate::plan::{Plan, Ranking, Term, Unranked};
+use crate::plan::{Plan, Ranking, Unranked};
+use crate::rooms::Rooms;
 use crate::trouble::unranked_loop;
 use crate::weights::{Ending, bounds_of, settle};
 use inference::Inference;
@@ -9,17 +10,14 @@ use object::Statement;
 use std::alloc::{AllocError, Global};
 
 /// The ranks of the statements that are given.
-fn given_ranks(graph: &Graph<'_>, given: &[Statement]) -> Result<Plan, AllocError> {
-    let mut plan = Plan::new(graph.alloc, graph.nodes())?;
+fn given_ranks(graph: &Graph<'_>, given: &[Statement]) -> Plan {
+    let mut plan = Plan::new(graph.rooms, graph.nodes());
     for statement in given {
         if let Some(site) = graph.sites.at(statement.slot() as usize) {
-            let rank = statement.rank();
-            plan.set_term(site, Term::First, rank.first);
-            plan.set_term(site, Term::Second, rank.second);
-            plan.set_least(site, u64::from(rank.constant));
+            plan.give(site, statement.rank());
         }
     }
-    Ok(plan)
+    plan
 }
 
 /// Whether the plan's terms do for all of the program: then it has the constants that they need.
@@ -38,53 +36,52 @@ fn settled(alloc: Global, plan: Plan) -> Ranking {
 }
 
 /// What is wrong where no plan does.
-fn unsettled(graph: &Graph<'_>, plan: Plan, failed: Option<usize>) -> Result<Ranking, AllocError> {
+fn unsettled(graph: &Graph<'_>, plan: Plan, failed: Option<usize>) -> Ranking {
     let mut plan = plan;
     plan.flatten();
-    let endless = unranked_loop(graph, failed)?;
-    let unranked = graph.unranked_loops(&mut plan, failed)?;
-    Ok(Ranking {
+    let endless = unranked_loop(graph, failed);
+    let unranked = graph.unranked_loops(&mut plan, failed);
+    Ranking {
         plan,
         endless,
         unranked,
-    })
+    }
 }
 
-/// Terms by the program's loops, and the head of the first loop that has none.
-fn by_loops(graph: &Graph<'_>) -> Result<(Plan, Option<usize>), AllocError> {
-    let mut plan = Plan::new(graph.alloc, graph.nodes())?;
-    let failed = graph.rank_loops(&mut plan)?;
-    Ok((plan, failed))
-}
-
-/// Ranks by one of the two plans, or what is wrong with the one by loops. The hints were tried
-/// before if they are kept.
-fn chosen(
-    graph: &Graph<'_>,
-    hints: Plan,
-    are_kept: bool,
-    plan: Plan,
-    failed: Option<usize>,
-) -> Result<Ranking, AllocError> {
-    let mut hints = hints;
-    let mut plan = plan;
+/// Ranks by the program's loops, or by the hints where those do and may be used, or what is wrong
+/// with those by loops.
+fn by_loops(graph: &Graph<'_>, hints: Option<Plan>) -> Ranking {
+    let mut plan = Plan::new(graph.rooms, graph.nodes());
+    let failed = graph.rank_loops(&mut plan);
     if is_settled(graph, &mut plan) {
-        return Ok(settled(graph.alloc, plan));
+        return settled(graph.rooms.alloc, plan);
     }
-    if !are_kept && is_settled(graph, &mut hints) {
-        return Ok(settled(graph.alloc, hints));
+    match by_hints(graph, hints) {
+        Some(ranking) => ranking,
+        None => unsettled(graph, plan, failed),
     }
-    unsettled(graph, plan, failed)
+}
+
+/// Ranks by the hints, where there are any and they do.
+fn by_hints(graph: &Graph<'_>, hints: Option<Plan>) -> Option<Ranking> {
+    let mut hints = hints?;
+    if is_settled(graph, &mut hints) {
+        Some(settled(graph.rooms.alloc, hints))
+    } else {
+        None
+    }
 }
 
 /// Ranks for the program, by the terms that are given or by its loops.
-fn planned(graph: &Graph<'_>, given: &[Statement], are_kept: bool) -> Result<Ranking, AllocError> {
-    let mut hints = given_ranks(graph, given)?;
-    if are_kept && is_settled(graph, &mut hints) {
-        return Ok(settled(graph.alloc, hints));
+fn planned(graph: &Graph<'_>, given: &[Statement], are_kept: bool) -> Ranking {
+    let hints = given_ranks(graph, given);
+    if !are_kept {
+        return by_loops(graph, Some(hints));
     }
-    let (plan, failed) = by_loops(graph)?;
-    chosen(graph, hints, are_kept, plan, failed)
+    match by_hints(graph, Some(hints)) {
+        Some(ranking) => ranking,
+        None => by_loops(graph, None),
+    }
 }
 
 /// Finds ranks for the statements. The ranks of those that are given come first where they are
@@ -98,14 +95,19 @@ pub fn rank_statements(
     most: u64,
 ) -> Result<Ranking, AllocError> {
     let bounds = bounds_of(alloc, &found.stated)?;
-    let all = vec![in alloc; true; found.edges.len()]?;
+    let rooms = Rooms::new(alloc);
+    let all = rooms.marks(true, found.edges.len());
     let graph = Graph {
-        alloc,
+        rooms: &rooms,
         sites: &found.sites,
         edges: &found.edges,
         all: &all,
         bounds: &bounds,
         most,
     };
-    planned(&graph, given, are_kept)
+    let ranking = planned(&graph, given, are_kept);
+    match rooms.all() {
+        Ok(()) => Ok(ranking),
+        Err(error) => Err(error),
+    }
 }

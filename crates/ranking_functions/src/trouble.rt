@@ -1,7 +1,6 @@
 //! Why a loop has no rank.
 
 use crate::circles::{Carried, Circle, Graph};
-use std::alloc::AllocError;
 
 /// Why a loop has no rank.
 #[derive(Clone, Copy)]
@@ -22,75 +21,72 @@ pub struct Endless {
 }
 
 /// A register that rises with each turn of the loop.
-fn rising(graph: &Graph<'_>, circle: &Circle, head: usize) -> Result<Option<u8>, AllocError> {
+fn rising(graph: &Graph<'_>, circle: &Circle, head: usize) -> Option<u8> {
     for register in 0..10u8 {
-        if let Some(carried) = graph.carried(circle, head, register)? {
+        if let Some(carried) = graph.carried(circle, head, register) {
             if carried.has_rise {
-                return Ok(Some(register));
+                return Some(register);
             }
         }
     }
-    Ok(None)
+    None
 }
 
 /// Whether the number falls with each turn of the loop.
-fn falls(graph: &Graph<'_>, circle: &Circle, carried: &Carried) -> Result<bool, AllocError> {
+fn falls(graph: &Graph<'_>, circle: &Circle, carried: &Carried) -> bool {
     if carried.has_rise {
-        return Ok(false);
+        return false;
     }
-    let rest = graph.rest(circle, carried)?;
+    let rest = graph.rest(circle, carried);
     graph.is_straight(circle, &rest)
 }
 
 /// A register that falls with each turn of the loop, though it doesn't do.
-fn falling(graph: &Graph<'_>, circle: &Circle, head: usize) -> Result<Option<u8>, AllocError> {
+fn falling(graph: &Graph<'_>, circle: &Circle, head: usize) -> Option<u8> {
     for register in 0..10u8 {
-        if let Some(carried) = graph.carried(circle, head, register)? {
-            if falls(graph, circle, &carried)? {
-                return Ok(Some(register));
+        if let Some(carried) = graph.carried(circle, head, register) {
+            if falls(graph, circle, &carried) {
+                return Some(register);
             }
         }
     }
-    Ok(None)
+    None
 }
 
-fn trouble_at(graph: &Graph<'_>, circle: &Circle, head: usize) -> Result<Trouble, AllocError> {
-    if let Some(register) = falling(graph, circle, head)? {
+fn trouble_at(graph: &Graph<'_>, circle: &Circle, head: usize) -> Trouble {
+    if let Some(register) = falling(graph, circle, head) {
         let from = graph.high(head, register).unwrap_or(u64::MAX);
-        return Ok(Trouble::TooHigh { register, from });
+        return Trouble::TooHigh { register, from };
     }
-    match rising(graph, circle, head)? {
-        Some(register) => Ok(Trouble::Rises { register }),
-        None => Ok(Trouble::NoneFalls),
+    match rising(graph, circle, head) {
+        Some(register) => Trouble::Rises { register },
+        None => Trouble::NoneFalls,
     }
 }
 
 /// What is wrong with the loop through the site, if there is one.
-fn endless_at(graph: &Graph<'_>, head: usize) -> Result<Option<Endless>, AllocError> {
-    match graph.circle(graph.all, head)? {
-        Some(circle) => Ok(Some(Endless {
+fn endless_at(graph: &Graph<'_>, head: usize) -> Option<Endless> {
+    match graph.circle(graph.all, head) {
+        Some(circle) => Some(Endless {
             slot: graph.sites.slot(head),
-            trouble: trouble_at(graph, &circle, head)?,
-        })),
-        None => Ok(None),
+            trouble: trouble_at(graph, &circle, head),
+        }),
+        None => None,
     }
 }
 
 /// What is wrong with the loop through the site, or with the first one.
-pub fn unranked_loop(
-    graph: &Graph<'_>,
-    failed: Option<usize>,
-) -> Result<Option<Endless>, AllocError> {
+pub fn unranked_loop(graph: &Graph<'_>, failed: Option<usize>) -> Option<Endless> {
     if let Some(head) = failed {
         return endless_at(graph, head);
     }
     for head in 0..graph.sites.len() {
         if graph.sites.is_head(head) {
-            let found = endless_at(graph, head)?;
+            let found = endless_at(graph, head);
             if found.is_some() {
-                return Ok(found);
+                return found;
             }
         }
     }
-    Ok(None)
+    None
 }

@@ -1,94 +1,94 @@
 //! Which loops have no rank.
 
-use crate::circles::Graph;
+use crate::circles::{Circle, Graph};
 use crate::loops::is_marked;
 use crate::plan::{Plan, Unranked};
 use kinds::put;
-use std::alloc::AllocError;
 
 impl<'a> Graph<'a> {
     /// The edges between this site and those behind it.
-    fn edges_from(&self, head: usize) -> Result<Vec<bool>, AllocError> {
-        let mut kept = Vec::new(self.alloc);
-        for edge in self.edges {
-            kept.push(head <= edge.from && head <= edge.to)?;
+    fn edges_from(&self, head: usize) -> Vec<bool> {
+        let mut kept = self.rooms.marks(false, self.edges.len());
+        for (index, edge) in self.edges.iter().enumerate() {
+            put(&mut kept, index, head <= edge.from && head <= edge.to);
         }
-        Ok(kept)
+        kept
+    }
+
+    /// Whether one of the loop's sites is marked.
+    fn has_marked(&self, circle: &Circle, marks: &[bool]) -> bool {
+        for site in 0..self.nodes() {
+            if is_marked(&circle.members, site) && is_marked(marks, site) {
+                return true;
+            }
+        }
+        false
     }
 
     /// Whether a loop begins at the site that has no rank on its own, though those within it have
     /// one.
-    fn is_unranked(
-        &self,
-        plan: &mut Plan,
-        unranked: &[bool],
-        head: usize,
-    ) -> Result<bool, AllocError> {
-        let kept = self.edges_from(head)?;
-        let Some(circle) = self.circle(&kept, head)? else {
-            return Ok(false);
-        };
-        for inner in head..self.nodes() {
-            if is_marked(&circle.members, inner) && is_marked(unranked, inner) {
-                return Ok(false);
+    fn is_unranked(&self, plan: &mut Plan, unranked: &[bool], head: usize) -> bool {
+        let kept = self.edges_from(head);
+        match self.circle(&kept, head) {
+            Some(circle) => {
+                !self.has_marked(&circle, unranked) && !self.rank_circle(plan, &circle, head)
             }
+            None => false,
         }
-        Ok(!self.rank_circle(plan, &circle, head)?)
     }
 
     /// The slots of the heads that are marked.
-    fn slots_of(&self, marks: &[bool]) -> Result<Vec<usize>, AllocError> {
-        let mut slots = Vec::new(self.alloc);
+    fn slots_of(&self, marks: &[bool]) -> Vec<usize> {
+        let mut slots = Vec::new(self.rooms.alloc);
         for site in 0..self.sites.len() {
             if self.sites.is_head(site) && is_marked(marks, site) {
-                slots.push(self.sites.slot(site))?;
+                self.rooms.push(&mut slots, self.sites.slot(site));
             }
         }
-        Ok(slots)
+        slots
     }
 
-    /// The sites of the loop through this one, of all sites where there is none.
-    fn together(&self, failed: Option<usize>) -> Result<Vec<bool>, AllocError> {
-        if let Some(head) = failed {
-            if let Some(circle) = self.circle(self.all, head)? {
-                return Ok(circle.members);
+    /// The loop through this site.
+    fn circle_at(&self, failed: Option<usize>) -> Option<Circle> {
+        match failed {
+            Some(head) => self.circle(self.all, head),
+            None => None,
+        }
+    }
+
+    /// The slots of the heads of the loop through this site, of all heads where there is none.
+    fn slots_together(&self, failed: Option<usize>) -> Vec<usize> {
+        match self.circle_at(failed) {
+            Some(circle) => self.slots_of(&circle.members),
+            None => {
+                let all = self.rooms.marks(true, self.nodes());
+                self.slots_of(&all)
             }
         }
-        vec![in self.alloc; true; self.nodes()]
     }
 
     /// The heads of loops that have no rank on their own, though those within them have one.
-    fn unranked(&self, plan: &mut Plan) -> Result<Vec<bool>, AllocError> {
-        let mut unranked = vec![in self.alloc; false; self.nodes()]?;
+    fn unranked(&self, plan: &mut Plan) -> Vec<bool> {
+        let mut unranked = self.rooms.marks(false, self.nodes());
         let count = self.sites.len();
         for passed in 0..count {
             let head = count - 1 - passed;
-            if self.sites.is_head(head) && self.is_unranked(plan, &unranked, head)? {
+            if self.sites.is_head(head) && self.is_unranked(plan, &unranked, head) {
                 put(&mut unranked, head, true);
             }
         }
-        Ok(unranked)
+        unranked
     }
 
-    /// The same where each loop has a rank on its own: those that have none together.
-    fn unranked_together(&self, failed: Option<usize>) -> Result<Unranked, AllocError> {
-        let members = self.together(failed)?;
-        let slots = self.slots_of(&members)?;
-        Ok(Unranked::Together(slots))
-    }
-
-    /// At which slots the loops begin that lack a rank.
-    pub fn unranked_loops(
-        &self,
-        plan: &mut Plan,
-        failed: Option<usize>,
-    ) -> Result<Unranked, AllocError> {
-        let unranked = self.unranked(plan)?;
-        let slots = self.slots_of(&unranked)?;
+    /// At which slots the loops begin that lack a rank. Where each has one on its own, those that
+    /// have none together.
+    pub fn unranked_loops(&self, plan: &mut Plan, failed: Option<usize>) -> Unranked {
+        let unranked = self.unranked(plan);
+        let slots = self.slots_of(&unranked);
         if slots.is_empty() {
-            self.unranked_together(failed)
+            Unranked::Together(self.slots_together(failed))
         } else {
-            Ok(Unranked::Alone(slots))
+            Unranked::Alone(slots)
         }
     }
 }
