@@ -12,6 +12,7 @@ mod slots;
 mod starts;
 mod vertices;
 
+pub use advertised::NETWORK_LSA;
 pub use links::add_exits;
 pub use nodes::{is_before, nodes_of};
 pub use slots::Slots;

@@ -4,7 +4,6 @@ use Rattle.std.specs.Prelude.{IfSome}
 use Rattle.std.specs.Global.{Vec}
 use Rattle.words.specs.declared.route.Route.{Route}
 use Rattle.area_routes.specs.Kept.{AreInnerBy, StayAnswered}
-use Rattle.candidates.specs.Inner.{AreInner}
 use Rattle.candidates.specs.declared.inner.InnerRoutes.{InnerRoutes}
 use Rattle.kept_routes.specs.Kept.{KeptWalk}
 use Rattle.kept_routes.specs.Sameness.{SayTheSame}

@@ -3,14 +3,14 @@ use Rattle.std.proofs.Common.{◌≡◌, ◌<◌, ◌⊎◌, ℕ, inl, inr, List
 use Rattle.std.proofs.lemmas.Option.{none-some, same_Some}
 use Rattle.std.specs.List.{Contains}
 use Rattle.lsa.specs.declared.body.Link.{Link as Told}
-use Rattle.lsa.specs.declared.body.LinkKind.TheVariants.{PointToPoint, Transit}
+use Rattle.lsa.specs.declared.body.LinkKind.TheVariants.{PointToPoint}
 use Rattle.lsa.specs.declared.body.RouterLsa.{RouterLsa}
 use Rattle.area_graph.proofs.KeyNodes.{router_said}
 use Rattle.area_graph.proofs.Lists.{adds_none, adds_same}
-use Rattle.area_graph.proofs.Whole.{one_place, placed}
-use Rattle.area_graph.specs.Graphs.{Adds, AreLinksFrom, IsLinkFrom, IsNoDearer, OfEach, StandsAt}
+use Rattle.area_graph.proofs.Whole.{one_place}
+use Rattle.area_graph.specs.Graphs.{Adds, AreLinksFrom, IsLinkFrom, OfEach, StandsAt}
 use Rattle.area_graph.specs.Links.{IsExitTo}
-use Rattle.area_graph.specs.Nodes.{AreNodes, Ascend, router_in, router_lsa}
+use Rattle.area_graph.specs.Nodes.{Ascend, router_in, router_lsa}
 use Rattle.graph_updates.specs.Links.{HasNoTransit, IsNeighbor, IsToNeighbor, Names}
 use Rattle.routes.proofs.Lists.{of_empty}
 use Rattle.routes.specs.Links.{Counts, IsRouterLsa, LeadsTo, LinksBack}

@@ -1,23 +1,23 @@
 -- Nodes stay where router-LSAs alone that were noted say something else, and so does each vertex whose place wasn't noted.
-use Rattle.std.proofs.Common.{◌≡◌, ◌≤◌, ◌⊎◌, ◌↔◌, ℕ, inl, inr, List, [], ◌∷◌, ◌++◌, Option, Some, length, slice_get, refl, sym, subst, ◌∙◌, ap, arith}
+use Rattle.std.proofs.Common.{◌≡◌, ◌≤◌, ◌⊎◌, ◌↔◌, ℕ, inl, inr, List, [], ◌∷◌, ◌++◌, Option, Some, length, slice_get, sym, subst, ◌∙◌, ap, arith}
 use Rattle.std.proofs.lemmas.Bool.{cases_eq}
 use Rattle.std.proofs.lemmas.List.Elements.{Contains-push_cases}
-use Rattle.std.specs.List.{All, Contains}
+use Rattle.std.specs.List.{Contains}
 use Rattle.lsa.specs.declared.body.Body.{Body}
 use Rattle.lsa.specs.declared.body.Body.TheVariants as body
 use Rattle.lsa.specs.declared.body.Link.{Link as Told}
 use Rattle.lsa.specs.declared.body.LinkKind.{LinkKind}
 use Rattle.lsa.specs.declared.body.LinkKind.TheVariants.{PointToPoint, Transit}
 use Rattle.lsa.specs.declared.body.RouterLsa.{RouterLsa}
-use Rattle.area_graph.specs.Graphs.{AreLinksFrom, AreVertices, IsLinkFrom, IsVertexOf, StandsAt}
+use Rattle.area_graph.specs.Graphs.{AreVertices, IsVertexOf, StandsAt}
 use Rattle.area_graph.specs.Nodes.{AreNodes, HasLsa}
 use Rattle.graph_updates.specs.Changes.{AreCovered, IsCovered, IsNoted}
-use Rattle.graph_updates.specs.Vertices.{AreEither, IsRenewed, StayUnlessAmong}
+use Rattle.graph_updates.specs.Vertices.{IsRenewed, StayUnlessAmong}
 use Rattle.graph_updates.proofs.Keys.{among_or_not}
 use Rattle.kept_routes.specs.Sameness.{SayTheSame}
 use Rattle.routes.proofs.Lists.{of_empty}
 use Rattle.routes.specs.Graphs.{Graph}
-use Rattle.routes.specs.Links.{Counts, HasLink, IsRouterLsa, LeadsTo, LinksBack, ListsRouter, network_key, router_key}
+use Rattle.routes.specs.Links.{Counts, HasLink, LeadsTo, LinksBack, ListsRouter, network_key, router_key}
 use Rattle.routes.specs.Said.{Said}
 use Rattle.routes.specs.declared.graph.Link.{Link}
 use Rattle.routes.specs.declared.graph.Vertex.{Vertex}
@@ -28,6 +28,15 @@ use Rattle.words.specs.declared.key.Key.{Key}
 
 same_lsa : (a b : RouterLsa) → ◌≡◌ {A = Option Body} (Some (body.Router a)) (Some (body.Router b)) → a ≡ b
 same_lsa a b e = cc
+
+-- each vertex is one of what LSAs say now, or, where its place isn't among these, of what they said
+pub record AreEither (old : Said) (new : Said) (root : Root) (nodes : List Node)
+    (places : List ℕ) (graph : Graph) : Type 0 where
+  pub count : length graph ≡ length nodes
+  pub each : (at : ℕ) (node : Node) (vertex : Vertex) → StandsAt nodes node at
+      → slice_get graph at ≡ Some vertex
+      → IsVertexOf new root nodes node vertex
+      ⊎ (IsVertexOf old root nodes node vertex × (Contains places at → ⊥))
 
 -- all LSAs of routers and networks are covered
 abbrev pub AllCovered : Said → Said → List Node → List ℕ → Type 0

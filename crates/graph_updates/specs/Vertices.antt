@@ -1,5 +1,5 @@
 -- Vertices that are made anew, one after the other.
-use Rattle.std.specs.Prelude.{◌≡◌, ◌≢◌, ◌⊎◌, ℕ, List, Some, length, slice_get}
+use Rattle.std.specs.Prelude.{◌≡◌, ◌≢◌, ℕ, List, Some, length, slice_get}
 use Rattle.std.specs.List.{Contains}
 use Rattle.area_graph.specs.Graphs.{IsVertexOf, StandsAt}
 use Rattle.routes.specs.Graphs.{Graph}
@@ -15,15 +15,6 @@ pub record IsRenewed (said : Said) (root : Root) (nodes : List Node) (at : ℕ) 
   pub others : (place : ℕ) → place ≢ at → slice_get new place ≡ slice_get old place
   pub own : (node : Node) (vertex : Vertex) → StandsAt nodes node at
       → slice_get new at ≡ Some vertex → IsVertexOf said root nodes node vertex
-
--- each vertex is one of what LSAs say now, or, where its place isn't among these, of what they said
-pub record AreEither (old : Said) (new : Said) (root : Root) (nodes : List Node)
-    (places : List ℕ) (graph : Graph) : Type 0 where
-  pub count : length graph ≡ length nodes
-  pub each : (at : ℕ) (node : Node) (vertex : Vertex) → StandsAt nodes node at
-      → slice_get graph at ≡ Some vertex
-      → IsVertexOf new root nodes node vertex
-      ⊎ (IsVertexOf old root nodes node vertex × (Contains places at → ⊥))
 
 -- what stands at a place that isn't among these is a vertex still
 abbrev pub StayUnlessAmong : (old : Said) → (new : Said) → Root → List Node → (places : List ℕ)

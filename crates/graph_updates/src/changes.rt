@@ -11,14 +11,12 @@ ghost use Rattle.routes.specs.Links.{router_key};
 ghost use Rattle.routes.specs.Said.{said_at};
 
 use crate::links::{Surroundings, has_transit, is_point_to_point};
+use area_graph::NETWORK_LSA;
 use lsa::{Body, RouterLsa};
 use routes::Node;
 use shortest_paths::find;
 use std::alloc::{AllocError, Global};
 use words::{Key, RouterId, Second};
-
-/// The types of router-LSAs and network-LSAs are at most this (RFC 2328, section A.4.1).
-pub const NETWORK_LSA: u32 = 2;
 
 // Notes the place of a router, if it is a node.
 fn note_router(

@@ -5,8 +5,9 @@ ghost use Rattle.graph_updates.specs.Vertices.{IsRenewed, StayUnlessAmong};
 ghost use Rattle.routes.specs.Said.{said_at};
 ghost use Rattle.shortest_paths.specs.AreaGraphs.{IsAreaGraph};
 
-use crate::changes::{NETWORK_LSA, places_to_renew};
+use crate::changes::places_to_renew;
 use crate::links::{Surroundings, links_of};
+use area_graph::NETWORK_LSA;
 use external_updates::changed_keys;
 use kept_routes::say_the_same;
 use lsdb::Lsdb;

@@ -10,7 +10,7 @@ use isa::DecodeError;
 use object::ReadError;
 use object_runs::RunError;
 use std::alloc::{AllocError, AllocFailed};
-use std::fmt;
+use thiserror::Error;
 
 /// The statuses that the program ends with.
 pub const DONE: u8 = 0;
@@ -24,43 +24,36 @@ pub const OUTSIDE: u8 = 3;
 pub const MEMORY: u8 = 4;
 
 /// Why a command didn't do what it was asked. The text is the line that is printed.
-#[derive(Drop)]
+#[derive(Debug, Drop, Error)]
 pub enum Fault<'a> {
     /// A file can't be opened or read.
+    #[error("cannot read {path}")]
     Read { path: &'a str },
     /// A file can't be written.
+    #[error("cannot write {path}")]
     Write { path: &'a str },
     /// Bytes that are no code: the number of the refusal, and the slot of the first bad
     /// instruction.
+    #[error("code refusal {number} slot {slot}")]
     Code { number: u8, slot: u64 },
     /// Bytes that are no object file: the number of the refusal.
+    #[error("object refusal {number}")]
     Object { number: u8 },
     /// An object that is for another hook than the one that was named.
+    #[error("the object is for {hook}")]
     OtherHook { hook: &'static str },
     /// Code in which turns can't be counted, and why.
+    #[error("{reason}")]
     Uncounted { reason: &'static str },
     /// The words of the command line are wrong: the text says how.
+    #[error("{0}")]
     Usage(clap::Error),
     /// The output can't be written.
+    #[error("cannot write the output")]
     Output,
     /// An allocation was refused.
+    #[error("out of memory")]
     Memory,
-}
-
-impl<'a> fmt::Display for Fault<'a> {
-    fn fmt<W: fmt::Write>(&self, f: &mut fmt::Formatter<W>) -> fmt::Result {
-        match self {
-            Fault::Read { path } => write!(f, "cannot read {path}"),
-            Fault::Write { path } => write!(f, "cannot write {path}"),
-            Fault::Code { number, slot } => write!(f, "code refusal {number} slot {slot}"),
-            Fault::Object { number } => write!(f, "object refusal {number}"),
-            Fault::OtherHook { hook } => write!(f, "the object is for {hook}"),
-            Fault::Uncounted { reason } => write!(f, "{reason}"),
-            Fault::Usage(error) => write!(f, "{error}"),
-            Fault::Output => write!(f, "cannot write the output"),
-            Fault::Memory => write!(f, "out of memory"),
-        }
-    }
 }
 
 impl<'a> From<AllocError> for Fault<'a> {

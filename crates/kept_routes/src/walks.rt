@@ -1,5 +1,5 @@
 //! The walk of a database, kept.
-ghost use Rattle.std.specs.Prelude.{◌≡◌, ◌+◌, ◌≤◌, min, length, IfOk, OnOk, OnErr};
+ghost use Rattle.std.specs.Prelude.{◌≡◌, ◌+◌, ◌≤◌, min, length, IfOk};
 ghost use Rattle.std.specs.FinMap as finite;
 ghost use Rattle.std.specs.List.{Contains};
 ghost use Rattle.words.specs.declared.route.Route.{Route as RouteValue};
@@ -59,33 +59,6 @@ impl Routes {
             reached,
             walks: 1,
         })
-    }
-
-    /// Walks again, at a moment, in place of the walk that was kept.
-    ///
-    /// # Errors
-    /// Where memory for the walk is refused; the walk that was kept stays then.
-    pub fn walk(
-        &mut self,
-        alloc: Global,
-        db: &Lsdb,
-        root: &Root,
-        moment: Second,
-    ) -> Result<(), AllocError>
-        requires interfaces { length root.now.addresses ≤ 63 }
-        requires size { finite.len db.now.present ≤ 16384 }
-        ensures walk { OnOk result (IsWalkOf (said_at moment db.now.present) self.new) }
-        ensures root { OnOk result (self.new.root ≡ root.now) }
-        ensures walks { OnOk result (self.new.walks
-            ≡ min (self.old.walks + 1) 18446744073709551615) }
-        ensures err { OnErr result (self.new ≡ self.old) }
-    {
-        let own = copy_of(root)?;
-        let reached = walk(alloc, db, root, moment)?;
-        self.root = own;
-        self.reached = reached;
-        self.walks = self.walks.saturating_add(1);
-        Ok(())
     }
 
     /// Takes a walk that was made, in place of the one that was kept.

@@ -1,7 +1,7 @@
 //! Loops among the sites, and how a number is carried round one.
 
 use crate::loops::{edges_within, is_marked, loop_through};
-use crate::rooms::Rooms;
+use crate::memory::Memory;
 use crate::weights::Bounds;
 use inference::{Edge, Sites};
 use kinds::{Fact, put};
@@ -9,7 +9,7 @@ use kinds::{Fact, put};
 /// The edges between the sites, and what they start with.
 #[derive(Clone, Copy)]
 pub struct Graph<'a> {
-    pub rooms: &'a Rooms,
+    pub memory: &'a Memory,
     pub sites: &'a Sites,
     pub edges: &'a [Edge],
     /// Which of the edges a loop may take: each one.
@@ -70,9 +70,9 @@ impl<'a> Graph<'a> {
 
     /// The loop through the site by these edges.
     pub fn circle(&self, kept: &[bool], head: usize) -> Option<Circle> {
-        match loop_through(self.rooms, self.edges, kept, self.nodes(), head) {
+        match loop_through(self.memory, self.edges, kept, self.nodes(), head) {
             Some(members) => {
-                let within = edges_within(self.rooms, self.edges, kept, &members);
+                let within = edges_within(self.memory, self.edges, kept, &members);
                 Some(Circle { members, within })
             }
             None => None,
@@ -119,7 +119,7 @@ impl<'a> Graph<'a> {
 
     /// In which register the number is at each site that is in this one at the head.
     fn traced(&self, circle: &Circle, head: usize, register: u8) -> Vec<Option<u8>> {
-        let mut registers = self.rooms.registers(self.nodes());
+        let mut registers = self.memory.registers(self.nodes());
         put(&mut registers, head, Some(register));
         for _ in 0..self.nodes() {
             if !self.trace(circle, &mut registers) {
@@ -150,7 +150,7 @@ impl<'a> Graph<'a> {
     pub fn carried(&self, circle: &Circle, head: usize, register: u8) -> Option<Carried> {
         let mut carried = Carried {
             registers: self.traced(circle, head, register),
-            falls: self.rooms.marks(false, self.edges.len()),
+            falls: self.memory.marks(false, self.edges.len()),
             has_fall: false,
             has_rise: false,
         };
@@ -163,7 +163,7 @@ impl<'a> Graph<'a> {
 
     /// The edges of the loop on which the number doesn't fall.
     pub fn rest(&self, circle: &Circle, carried: &Carried) -> Vec<bool> {
-        let mut rest = self.rooms.marks(false, self.edges.len());
+        let mut rest = self.memory.marks(false, self.edges.len());
         for index in 0..self.edges.len() {
             let stays = is_marked(&circle.within, index) && !is_marked(&carried.falls, index);
             put(&mut rest, index, stays);

@@ -4,10 +4,10 @@
 
 mod circles;
 mod loops;
+mod memory;
 mod plan;
 mod planning;
 mod ranking;
-mod rooms;
 mod trouble;
 mod unranked;
 mod weights;

@@ -1,6 +1,6 @@
 //! Loops among the sites.
 
-use crate::rooms::Rooms;
+use crate::memory::Memory;
 use inference::Edge;
 use kinds::put;
 
@@ -42,14 +42,14 @@ fn spread(edges: &[Edge], kept: &[bool], is_forward: bool, marks: &mut Vec<bool>
 
 /// The sites that are reached from this one, or that reach it, by one kept edge or more.
 fn reached(
-    rooms: &Rooms,
+    memory: &Memory,
     edges: &[Edge],
     kept: &[bool],
     is_forward: bool,
     nodes: usize,
     head: usize,
 ) -> Vec<bool> {
-    let mut marks = rooms.marks(false, nodes);
+    let mut marks = memory.marks(false, nodes);
     for (index, edge) in edges.iter().enumerate() {
         let (here, there) = if is_forward {
             (edge.from, edge.to)
@@ -71,14 +71,14 @@ fn reached(
 /// The sites of the loop that goes through this one by kept edges. None where there is no such
 /// loop.
 pub fn loop_through(
-    rooms: &Rooms,
+    memory: &Memory,
     edges: &[Edge],
     kept: &[bool],
     nodes: usize,
     head: usize,
 ) -> Option<Vec<bool>> {
-    let mut members = reached(rooms, edges, kept, true, nodes, head);
-    let behind = reached(rooms, edges, kept, false, nodes, head);
+    let mut members = reached(memory, edges, kept, true, nodes, head);
+    let behind = reached(memory, edges, kept, false, nodes, head);
     for node in 0..nodes {
         if !is_marked(&behind, node) {
             put(&mut members, node, false);
@@ -92,8 +92,8 @@ pub fn loop_through(
 }
 
 /// Which of the kept edges lie within the loop.
-pub fn edges_within(rooms: &Rooms, edges: &[Edge], kept: &[bool], members: &[bool]) -> Vec<bool> {
-    let mut within = rooms.marks(false, edges.len());
+pub fn edges_within(memory: &Memory, edges: &[Edge], kept: &[bool], members: &[bool]) -> Vec<bool> {
+    let mut within = memory.marks(false, edges.len());
     for (index, edge) in edges.iter().enumerate() {
         let is_inside = is_marked(members, edge.from) && is_marked(members, edge.to);
         put(&mut within, index, is_marked(kept, index) && is_inside);

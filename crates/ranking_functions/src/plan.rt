@@ -1,6 +1,6 @@
 //! Ranks as they are being made: at each site the terms, and the constant that they need.
 
-use crate::rooms::Rooms;
+use crate::memory::Memory;
 use crate::trouble::Endless;
 use kinds::put;
 use object::{Rank, RankTerm};
@@ -53,13 +53,13 @@ pub enum Unranked {
 
 impl Plan {
     /// Ranks that are 0.
-    pub fn new(rooms: &Rooms, nodes: usize) -> Plan {
-        match vec![in rooms.alloc; NO_RANK; nodes] {
+    pub fn new(memory: &Memory, nodes: usize) -> Plan {
+        match vec![in memory.alloc; NO_RANK; nodes] {
             Ok(places) => Plan { places },
             Err(_) => {
-                rooms.cut();
+                memory.note_refusal();
                 Plan {
-                    places: Vec::new(rooms.alloc),
+                    places: Vec::new(memory.alloc),
                 }
             }
         }

@@ -1,8 +1,8 @@
 //! Ranks for all statements of a program.
 
 use crate::circles::Graph;
+use crate::memory::Memory;
 use crate::plan::{Plan, Ranking, Unranked};
-use crate::rooms::Rooms;
 use crate::trouble::unranked_loop;
 use crate::weights::{Ending, bounds_of, settle};
 use inference::Inference;
@@ -11,7 +11,7 @@ use std::alloc::{AllocError, Global};
 
 /// The ranks of the statements that are given.
 fn given_ranks(graph: &Graph<'_>, given: &[Statement]) -> Plan {
-    let mut plan = Plan::new(graph.rooms, graph.nodes());
+    let mut plan = Plan::new(graph.memory, graph.nodes());
     for statement in given {
         if let Some(site) = graph.sites.at(statement.slot() as usize) {
             plan.give(site, statement.rank());
@@ -51,10 +51,10 @@ fn unsettled(graph: &Graph<'_>, plan: Plan, failed: Option<usize>) -> Ranking {
 /// Ranks by the program's loops, or by the hints where those do and may be used, or what is wrong
 /// with those by loops.
 fn by_loops(graph: &Graph<'_>, hints: Option<Plan>) -> Ranking {
-    let mut plan = Plan::new(graph.rooms, graph.nodes());
+    let mut plan = Plan::new(graph.memory, graph.nodes());
     let failed = graph.rank_loops(&mut plan);
     if is_settled(graph, &mut plan) {
-        return settled(graph.rooms.alloc, plan);
+        return settled(graph.memory.alloc, plan);
     }
     match by_hints(graph, hints) {
         Some(ranking) => ranking,
@@ -66,7 +66,7 @@ fn by_loops(graph: &Graph<'_>, hints: Option<Plan>) -> Ranking {
 fn by_hints(graph: &Graph<'_>, hints: Option<Plan>) -> Option<Ranking> {
     let mut hints = hints?;
     if is_settled(graph, &mut hints) {
-        Some(settled(graph.rooms.alloc, hints))
+        Some(settled(graph.memory.alloc, hints))
     } else {
         None
     }
@@ -95,10 +95,10 @@ pub fn rank_statements(
     most: u64,
 ) -> Result<Ranking, AllocError> {
     let bounds = bounds_of(alloc, &found.stated)?;
-    let rooms = Rooms::new(alloc);
-    let all = rooms.marks(true, found.edges.len());
+    let memory = Memory::new(alloc);
+    let all = memory.marks(true, found.edges.len());
     let graph = Graph {
-        rooms: &rooms,
+        memory: &memory,
         sites: &found.sites,
         edges: &found.edges,
         all: &all,
@@ -106,7 +106,7 @@ pub fn rank_statements(
         most,
     };
     let ranking = planned(&graph, given, are_kept);
-    match rooms.all() {
+    match memory.enough() {
         Ok(()) => Ok(ranking),
         Err(error) => Err(error),
     }

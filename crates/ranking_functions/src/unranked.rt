@@ -8,7 +8,7 @@ use kinds::put;
 impl<'a> Graph<'a> {
     /// The edges between this site and those behind it.
     fn edges_from(&self, head: usize) -> Vec<bool> {
-        let mut kept = self.rooms.marks(false, self.edges.len());
+        let mut kept = self.memory.marks(false, self.edges.len());
         for (index, edge) in self.edges.iter().enumerate() {
             put(&mut kept, index, head <= edge.from && head <= edge.to);
         }
@@ -39,10 +39,10 @@ impl<'a> Graph<'a> {
 
     /// The slots of the heads that are marked.
     fn slots_of(&self, marks: &[bool]) -> Vec<usize> {
-        let mut slots = Vec::new(self.rooms.alloc);
+        let mut slots = Vec::new(self.memory.alloc);
         for site in 0..self.sites.len() {
             if self.sites.is_head(site) && is_marked(marks, site) {
-                self.rooms.push(&mut slots, self.sites.slot(site));
+                self.memory.push(&mut slots, self.sites.slot(site));
             }
         }
         slots
@@ -61,7 +61,7 @@ impl<'a> Graph<'a> {
         match self.circle_at(failed) {
             Some(circle) => self.slots_of(&circle.members),
             None => {
-                let all = self.rooms.marks(true, self.nodes());
+                let all = self.memory.marks(true, self.nodes());
                 self.slots_of(&all)
             }
         }
@@ -69,7 +69,7 @@ impl<'a> Graph<'a> {
 
     /// The heads of loops that have no rank on their own, though those within them have one.
     fn unranked(&self, plan: &mut Plan) -> Vec<bool> {
-        let mut unranked = self.rooms.marks(false, self.nodes());
+        let mut unranked = self.memory.marks(false, self.nodes());
         let count = self.sites.len();
         for passed in 0..count {
             let head = count - 1 - passed;

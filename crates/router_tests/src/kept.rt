@@ -11,6 +11,7 @@ use kept_routes::{Routes, say_the_same};
 use lsa::{Body, Lsa};
 use lsdb::Lsdb;
 use routes::Root;
+use shortest_paths::{copy_of, walk};
 use std::alloc::Global;
 use std::test::Fail;
 use words::{Key, LinkStateId, RouterId, Second};
@@ -253,7 +254,8 @@ fn walked_again(
     requires size { finite.len db.now.present ≤ 16384 }
 {
     let now = moment();
-    kept.walk(alloc, db, root, now)?;
+    let reached = walk(alloc, db, root, now)?;
+    kept.take_walk(copy_of(root)?, reached);
     let found = kept.candidates(alloc, db, now)?;
     Ok((rows(alloc, &found)?, kept.walks()))
 }

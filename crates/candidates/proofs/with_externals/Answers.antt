@@ -9,7 +9,6 @@ use Rattle.offers.specs.Externals.{OfTold}
 use Rattle.routes.specs.Summaries.{OffersInside}
 use Rattle.routes.specs.declared.offer.Offer.{Offer}
 use Rattle.candidates.proofs.All.{are_candidates}
-use Rattle.routes.proofs.Lists.{of_empty}
 use Rattle.routes.proofs.OneMore.{same_offers}
 use Rattle.routes.specs.Candidates.{AreCandidates}
 use Rattle.routes.specs.Routes.{AreRoutesAmong}

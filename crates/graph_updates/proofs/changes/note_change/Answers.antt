@@ -1,4 +1,3 @@
-use Rattle.std.proofs.Common.{ℕ}
 use Rattle.graph_updates.proofs.changes.note_change.Goals as goal
 
 pub returns-clause-noted : goal.returns-clause-noted

@@ -1,5 +1,4 @@
-use Rattle.std.proofs.Common.{◌≡◌, ◌≤◌, ◌⊎◌, ℕ, inl, inr, List, refl, arith, ap}
-use Rattle.std.specs.List.{Contains}
+use Rattle.std.proofs.Common.{◌≡◌, ◌≤◌, ◌⊎◌, ℕ, List, arith}
 use Rattle.graph_updates.specs.Changes.{IsCovered}
 use Rattle.graph_updates.proofs.Fronts.{front_all, front_more}
 use Rattle.graph_updates.proofs.Stay.{covered_more}

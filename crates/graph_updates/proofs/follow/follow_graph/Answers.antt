@@ -1,6 +1,5 @@
 use Rattle.std.proofs.Common.{◌≡◌, ℕ, List, [], Some, Option, sym, subst, ◌∙◌}
 use Rattle.std.specs.Prelude.{IfSome}
-use Rattle.std.specs.List.{Contains}
 use Rattle.external_updates.specs.Changes.{OthersSayTheSame}
 use Rattle.graph_updates.specs.Changes.{AreCovered}
 use Rattle.graph_updates.specs.Vertices.{StayUnlessAmong}

@@ -2,8 +2,8 @@ use Rattle.std.proofs.Common.{◌≡◌, true, ℕ, List, take, get_or, sym, sub
 use Rattle.std.proofs.lemmas.List.{take_all, take_more}
 use Rattle.area_graph.proofs.Whole.{is_graph}
 use Rattle.area_graph.specs.Graphs.{AreVertices}
-use Rattle.graph_updates.specs.Vertices.{AreEither, IsRenewed}
-use Rattle.graph_updates.proofs.Stay.{all_renewed, one_renewed}
+use Rattle.graph_updates.specs.Vertices.{IsRenewed}
+use Rattle.graph_updates.proofs.Stay.{AreEither, all_renewed, one_renewed}
 use Rattle.routes.specs.Said.{Said, said_at}
 use Rattle.routes.specs.declared.node.Node.{Node}
 use Rattle.graph_updates.proofs.follow.renewed.Goals as goal

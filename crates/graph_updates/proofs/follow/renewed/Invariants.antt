@@ -1,5 +1,5 @@
 use Rattle.std.proofs.Common.{take}
-use Rattle.graph_updates.specs.Vertices.{AreEither}
+use Rattle.graph_updates.proofs.Stay.{AreEither}
 use Rattle.routes.specs.Said.{said_at}
 use Rattle.graph_updates.proofs.follow.renewed.Given as goal
 

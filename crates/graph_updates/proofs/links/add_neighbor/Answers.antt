@@ -1,4 +1,4 @@
-use Rattle.std.proofs.Common.{◌≡◌, None, Some, Option, ℕ, sym, subst}
+use Rattle.std.proofs.Common.{◌≡◌, Some, Option, ℕ, subst}
 use Rattle.area_graph.proofs.Steps.{on_ok}
 use Rattle.area_graph.specs.Graphs.{Adds}
 use Rattle.area_graph.specs.Links.{IsExitTo}

@@ -1,4 +1,4 @@
-use Rattle.std.proofs.Common.{◌≡◌, None, Some, Option, ℕ, slice_get, sym, subst, ◌∙◌, ap}
+use Rattle.std.proofs.Common.{◌≡◌, None, Some, Option, ℕ, slice_get, sym, ◌∙◌, ap}
 use Rattle.std.specs.Prelude.{IfNone, IfSome}
 use Rattle.std.specs.Option.{option_copied}
 use Rattle.area_graph.proofs.Whole.{placed}

@@ -6,23 +6,23 @@ use std::cell::Cell;
 /// Makes lists. Where memory is refused for one, that is shorter, and what is found is of no use:
 /// that is told once, at the end.
 #[derive(Drop)]
-pub struct Rooms {
+pub struct Memory {
     pub alloc: Global,
     /// Whether memory was refused for a list.
-    is_short: Cell<bool>,
+    is_refused: Cell<bool>,
 }
 
-impl Rooms {
-    pub fn new(alloc: Global) -> Rooms {
-        Rooms {
+impl Memory {
+    pub fn new(alloc: Global) -> Memory {
+        Memory {
             alloc,
-            is_short: Cell::new(false),
+            is_refused: Cell::new(false),
         }
     }
 
     /// Notes that memory was refused.
-    pub fn cut(&self) {
-        self.is_short.set(true)
+    pub fn note_refusal(&self) {
+        self.is_refused.set(true)
     }
 
     /// So many marks.
@@ -30,7 +30,7 @@ impl Rooms {
         match vec![in self.alloc; mark; size] {
             Ok(marks) => marks,
             Err(_) => {
-                self.cut();
+                self.note_refusal();
                 Vec::new(self.alloc)
             }
         }
@@ -41,7 +41,7 @@ impl Rooms {
         match vec![in self.alloc; None; size] {
             Ok(registers) => registers,
             Err(_) => {
-                self.cut();
+                self.note_refusal();
                 Vec::new(self.alloc)
             }
         }
@@ -50,13 +50,13 @@ impl Rooms {
     /// Adds a slot.
     pub fn push(&self, slots: &mut Vec<usize>, slot: usize) {
         if slots.push(slot).is_err() {
-            self.cut()
+            self.note_refusal()
         }
     }
 
     /// Whether memory was refused for no list.
-    pub fn all(&self) -> Result<(), AllocError> {
-        if self.is_short.get() {
+    pub fn enough(&self) -> Result<(), AllocError> {
+        if self.is_refused.get() {
             Err(AllocError)
         } else {
             Ok(())
