@@ -13,6 +13,5 @@ mod search;
 pub use acts::{Act, chosen};
 pub use phase::{Look, Phase, Sum};
 pub use plan::{Plan, Scenario};
-pub use play::Play;
 pub use run::{Outcome, play_scenario};
 pub use search::{Search, Sought, Stage};

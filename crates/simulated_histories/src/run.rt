@@ -2,9 +2,7 @@
 use crate::phase::{Look, Phase};
 use crate::plan::{Plan, Scenario};
 use flood::Event;
-use simulated_networks::{
-    Counts, Fault, Faults, NOBODY, Network, Random, Tables, Topology, prefix,
-};
+use simulated_networks::{Counts, Fault, Faults, NOBODY, Network, Random, Topology, prefix};
 use std::alloc::Global;
 
 /// What came of a plan.
@@ -35,7 +33,6 @@ impl Outcome {
 // It has no `Drop`, since a network has none.
 struct Run<'a> {
     network: Network,
-    tables: Tables,
     // who announces each destination
     owners: Vec<usize>,
     // how long each link stays down yet
@@ -43,6 +40,8 @@ struct Run<'a> {
     random: Random,
     plan: &'a Plan,
     events: &'a [Event],
+    // memory was refused for something that the network doesn't hold
+    lacks_memory: bool,
 }
 
 fn small(count: usize) -> u32 {
@@ -50,8 +49,21 @@ fn small(count: usize) -> u32 {
 }
 
 impl<'a> Run<'a> {
+    // Why something is left out: memory was refused, or the times aren't allowed.
+    fn fault(&self) -> Option<Fault> {
+        if self.lacks_memory {
+            Some(Fault::Memory)
+        } else {
+            self.network.fault()
+        }
+    }
+
     fn owner(&self, number: usize) -> usize {
-        self.owners.get(number).copied().unwrap_or(NOBODY)
+        if number < self.owners.len() {
+            self.owners[number]
+        } else {
+            NOBODY
+        }
     }
 
     fn set_owner(&mut self, number: usize, place: usize) {
@@ -60,22 +72,20 @@ impl<'a> Run<'a> {
         }
     }
 
-    fn announces(&mut self, number: usize, place: usize) -> Result<(), Fault> {
+    fn announces(&mut self, number: usize, place: usize) {
         let events = self.events;
-        let Some(event) = events.get(number) else {
-            return Ok(());
-        };
-        self.set_owner(number, place);
-        self.network.happens(place, event)
+        if let Some(event) = events.get(number) {
+            self.set_owner(number, place);
+            self.network.happens(place, event);
+        }
     }
 
-    fn withdraws(&mut self, number: usize) -> Result<(), Fault> {
+    fn withdraws(&mut self, number: usize) {
         let place = self.owner(number);
-        let Some(prefix) = prefix(small(number)) else {
-            return Ok(());
-        };
-        self.set_owner(number, NOBODY);
-        self.network.happens(place, &Event::Withdraw(prefix))
+        if let Some(prefix) = prefix(small(number)) {
+            self.set_owner(number, NOBODY);
+            self.network.happens(place, &Event::Withdraw(prefix));
+        }
     }
 
     // Who is to announce the destination: announcers are spread over all places.
@@ -85,252 +95,253 @@ impl<'a> Run<'a> {
         turn.wrapping_mul(self.network.count()) / many
     }
 
-    fn announces_all(&mut self) -> Result<(), Fault> {
+    fn announces_all(&mut self) {
         for number in 0..self.events.len() {
             let place = self.announcer(number);
-            self.announces(number, place)?;
+            self.announces(number, place);
         }
-        Ok(())
     }
 
-    fn withdraws_all(&mut self) -> Result<(), Fault> {
+    fn withdraws_all(&mut self) {
         for number in 0..self.owners.len() {
             if self.owner(number) != NOBODY {
-                self.withdraws(number)?;
+                self.withdraws(number);
             }
         }
-        Ok(())
     }
 
-    fn restarts(&mut self, place: usize) -> Result<(), Fault> {
-        self.network.restarts(place)?;
+    fn restarts(&mut self, place: usize) {
+        self.network.restarts(place);
         for number in 0..self.owners.len() {
             if self.owner(number) == place {
-                self.announces(number, place)?;
+                self.announces(number, place);
             }
         }
-        Ok(())
     }
 
     fn links(&self) -> usize {
-        self.network.topology().links.len()
+        self.network.links().len()
     }
 
     fn middle(&self) -> usize {
         self.links() / 2
     }
 
-    fn restarts_in_the_middle(&mut self) -> Result<(), Fault> {
-        match self.network.topology().links.get(self.middle()).copied() {
-            Some(link) => self.restarts(link.one),
-            None => Ok(()),
+    fn restarts_in_the_middle(&mut self) {
+        if let Some(link) = self.network.links().get(self.middle()).copied() {
+            self.restarts(link.one);
         }
     }
 
-    fn flaps(&mut self, second: u64) -> Result<(), Fault> {
+    fn flaps(&mut self, second: u64) {
         let link = self.middle();
         match second % 10 {
             1 => self.network.set_link(link, false, true),
             6 => self.network.set_link(link, true, false),
-            _ => Ok(()),
+            _ => (),
+        }
+    }
+
+    // Whether the link joins the two halves of the places.
+    fn joins_halves(&self, number: usize) -> bool {
+        let half = self.network.count() / 2;
+        match self.network.links().get(number) {
+            Some(link) => (link.one < half) != (link.other < half),
+            None => false,
         }
     }
 
     // The links between the halves of the places go up or down.
-    fn divides(&mut self, up: bool) -> Result<(), Fault> {
-        let half = self.network.count() / 2;
+    fn divides(&mut self, up: bool) {
         for number in 0..self.links() {
-            if let Some(link) = self.network.topology().links.get(number).copied() {
-                if (link.one < half) != (link.other < half) {
-                    self.network.set_link(number, up, true)?;
-                }
+            if self.joins_halves(number) {
+                self.network.set_link(number, up, true);
             }
         }
-        Ok(())
+    }
+
+    fn divides_and_joins(&mut self, second: u64) {
+        match second {
+            1 => self.divides(false),
+            61 => self.divides(true),
+            _ => (),
+        }
+    }
+
+    // How many seconds the link stays down yet; 0 where it is up or there is none.
+    fn left(&self, number: usize) -> u64 {
+        if number < self.down.len() {
+            self.down[number]
+        } else {
+            0
+        }
+    }
+
+    fn set_left(&mut self, number: usize, seconds: u64) {
+        if number < self.down.len() {
+            self.down[number] = seconds;
+        }
     }
 
     // A link that is down for a while comes up again when that is over.
-    fn waits_for(&mut self, number: usize) -> Result<(), Fault> {
-        if number >= self.down.len() {
-            return Ok(());
-        }
-        let left = self.down[number];
-        self.down[number] = left.saturating_sub(1);
+    fn waits_for(&mut self, number: usize) {
+        let left = self.left(number);
+        self.set_left(number, left.saturating_sub(1));
         if left == 1 {
-            self.network.set_link(number, true, false)?;
+            self.network.set_link(number, true, false);
         }
-        Ok(())
     }
 
-    fn loses_a_link(&mut self) -> Result<(), Fault> {
+    fn loses_a_link(&mut self) {
         let links = self.links();
         let number = self.random.place(links);
         let seconds = u64::from(self.random.below(20)).saturating_add(1);
         let notice = self.random.below(2) == 0;
-        if number >= self.down.len() || self.down[number] > 0 {
-            return Ok(());
+        if self.left(number) == 0 {
+            self.set_left(number, seconds);
+            self.network.set_link(number, false, notice);
         }
-        self.down[number] = seconds;
-        self.network.set_link(number, false, notice)
     }
 
-    fn changes_a_destination(&mut self) -> Result<(), Fault> {
-        let count = self.owners.len();
-        let number = self.random.place(count);
-        if number >= count {
-            return Ok(());
-        }
+    fn changes_a_destination(&mut self) {
+        let number = self.random.place(self.owners.len());
         if self.owner(number) == NOBODY {
             let place = self.announcer(number);
-            self.announces(number, place)
+            self.announces(number, place);
         } else {
-            self.withdraws(number)
+            self.withdraws(number);
         }
     }
 
-    fn restarts_any(&mut self) -> Result<(), Fault> {
+    fn restarts_any(&mut self) {
         let count = self.network.count();
         let place = self.random.place(count);
-        self.restarts(place)
+        self.restarts(place);
     }
 
-    fn storms(&mut self, second: u64) -> Result<(), Fault> {
+    fn storms(&mut self, second: u64) {
         for number in 0..self.down.len() {
-            self.waits_for(number)?;
+            self.waits_for(number);
         }
-        if second > 120 {
-            return Ok(());
+        if second <= 120 {
+            self.strikes();
         }
-        self.strikes()
     }
 
-    fn strikes(&mut self) -> Result<(), Fault> {
+    fn strikes(&mut self) {
         if self.random.below(100) < 30 {
-            self.loses_a_link()?;
+            self.loses_a_link();
         }
         if self.random.below(100) < 5 {
-            self.restarts_any()?;
+            self.restarts_any();
         }
         if self.random.below(100) < 30 {
-            self.changes_a_destination()?;
+            self.changes_a_destination();
         }
-        Ok(())
     }
 
-    // What is done in this second of the scenario.
-    fn acts(&mut self, scenario: Scenario, second: u64) -> Result<(), Fault> {
-        if second > scenario.last_act() {
-            return Ok(());
-        }
+    // What is done in this second of the scenario, up to the last one in which something is.
+    fn acts(&mut self, scenario: Scenario, second: u64) {
         let link = self.middle();
         match scenario {
-            Scenario::Start => Ok(()),
+            Scenario::Start => (),
             Scenario::Link => self.network.set_link(link, false, true),
             Scenario::Silent => self.network.set_link(link, false, false),
             Scenario::Restart => self.restarts_in_the_middle(),
             Scenario::Flap => self.flaps(second),
-            Scenario::Partition if second == 1 => self.divides(false),
-            Scenario::Partition if second == 61 => self.divides(true),
-            Scenario::Partition => Ok(()),
+            Scenario::Partition => self.divides_and_joins(second),
             Scenario::Announce => self.announces_all(),
             Scenario::Withdraw => self.withdraws_all(),
             Scenario::Storm => self.storms(second),
         }
     }
 
-    fn second(&mut self, scenario: Scenario, second: u64) -> Result<(), Fault> {
-        self.network.passes()?;
-        self.acts(scenario, second)?;
-        self.network.delivers()
+    fn second(&mut self, scenario: Scenario, second: u64) {
+        self.network.passes();
+        if second <= scenario.last_act() {
+            self.acts(scenario, second);
+        }
+        self.network.delivers();
     }
 
-    fn look(&mut self, second: u64, watches: bool) -> Result<Look, Fault> {
-        let not_full = self.network.not_full();
-        self.tables.note(&mut self.network);
-        let differ = if not_full == 0 {
-            Some(self.tables.differ(&self.network))
-        } else {
-            None
-        };
-        let seen = if watches || differ == Some(0) {
-            Some(self.tables.see(&self.network, &self.owners)?)
-        } else {
-            None
-        };
-        Ok(Look {
+    fn look(&mut self, second: u64, watches: bool) -> Look {
+        let mut look = Look {
             second,
-            not_full,
-            differ,
-            seen,
-        })
+            not_full: self.network.not_full(),
+            differ: None,
+            seen: None,
+        };
+        let mut sees = watches;
+        if look.not_full == 0 {
+            let differ = self.network.differ();
+            look.differ = Some(differ);
+            sees = watches || differ == 0;
+        }
+        if sees {
+            look.seen = Some(self.network.see(&self.owners));
+        }
+        look
     }
 
-    // A second of the scenario. Tells whether all has been calm for a while since the last act.
-    fn goes_on(
-        &mut self,
-        scenario: Scenario,
-        second: u64,
-        phase: &mut Phase,
-    ) -> Result<bool, Fault> {
-        self.second(scenario, second)?;
-        let look = self.look(second, self.plan.watches)?;
-        phase.note(look)?;
-        Ok(second > scenario.last_act() && phase.has_settled_for(self.plan.stay))
+    fn notes(&mut self, second: u64, watches: bool, phase: &mut Phase) {
+        let look = self.look(second, watches);
+        if !phase.note(look) {
+            self.lacks_memory = true;
+        }
+    }
+
+    // A second of the scenario. Tells whether all has been calm for a while since the last act, or
+    // memory was refused.
+    fn goes_on(&mut self, scenario: Scenario, second: u64, phase: &mut Phase) -> bool {
+        self.second(scenario, second);
+        self.notes(second, self.plan.watches, phase);
+        let is_over = second > scenario.last_act() && phase.has_settled_for(self.plan.stay);
+        is_over || self.fault().is_some()
     }
 
     // Seconds until all is calm for a while after the last act.
-    fn phase(&mut self, scenario: Scenario, phase: &mut Phase) -> Result<(), Fault> {
+    fn phase(&mut self, scenario: Scenario, phase: &mut Phase) {
         for before in 0..self.plan.seconds {
-            if self.goes_on(scenario, before.saturating_add(1), phase)? {
-                return Ok(());
+            if self.goes_on(scenario, before.saturating_add(1), phase) {
+                return;
             }
         }
-        Ok(())
-    }
-
-    fn idles(&mut self) -> Result<(), Fault> {
-        self.network.passes()?;
-        self.network.delivers()
     }
 
     // Seconds in which nothing is lost, late or repeated, of which the last is looked at.
-    fn rests(&mut self, phase: &mut Phase) -> Result<(), Fault> {
+    fn rests(&mut self, phase: &mut Phase) {
         self.network.set_faults(Faults::NONE);
         for _second in 0..self.plan.calm {
-            self.idles()?;
+            self.second(Scenario::Start, 0);
         }
-        let look = self.look(self.plan.calm, true)?;
-        phase.note(look)?;
-        Ok(())
+        self.notes(self.plan.calm, true, phase);
     }
 
     // Nobody announces a destination, and each link is up.
-    fn clears(&mut self) -> Result<(), Fault> {
-        let (destinations, links) = (self.events.len(), self.links());
-        self.tables.begin(&self.network, destinations)?;
-        self.owners.resize(destinations, NOBODY)?;
-        self.down.resize(links, 0)?;
-        Ok(())
+    fn clears(&mut self) {
+        let links = self.links();
+        let owned = self.owners.resize(self.events.len(), NOBODY).is_ok();
+        let counted = self.down.resize(links, 0).is_ok();
+        self.lacks_memory = !(owned && counted);
     }
 
-    fn begins(&mut self) -> Result<(), Fault> {
-        self.clears()?;
+    fn begins(&mut self) {
+        self.clears();
         self.network.set_faults(self.plan.faults);
         match self.plan.scenario {
-            Scenario::Announce => Ok(()),
+            Scenario::Announce => (),
             _ => self.announces_all(),
         }
     }
 
-    fn plays(&mut self, outcome: &mut Outcome) -> Result<(), Fault> {
-        self.begins()?;
-        self.phase(Scenario::Start, &mut outcome.start)?;
+    fn plays(&mut self, outcome: &mut Outcome) {
+        self.begins();
+        self.phase(Scenario::Start, &mut outcome.start);
         if self.plan.scenario != Scenario::Start {
-            self.phase(self.plan.scenario, &mut outcome.change)?;
+            self.phase(self.plan.scenario, &mut outcome.change);
         }
-        self.rests(&mut outcome.rest)?;
+        self.rests(&mut outcome.rest);
         self.tells(outcome);
-        Ok(())
     }
 
     fn tells(&self, outcome: &mut Outcome) {
@@ -346,12 +357,12 @@ impl<'a> Run<'a> {
     fn close(self) {
         let Run {
             network,
-            tables: _,
             owners: _,
             down: _,
             random: _,
             plan: _,
             events: _,
+            lacks_memory: _,
         } = self;
         network.close();
     }
@@ -370,40 +381,44 @@ fn unplayed(alloc: Global) -> Outcome {
     }
 }
 
-fn network_of(alloc: Global, plan: &Plan, random: &mut Random) -> Result<Network, Fault> {
-    let topology = Topology::new(
-        alloc,
-        random,
-        plan.topology,
-        plan.routers as usize,
-        plan.spread,
-    )?;
-    Network::new(alloc, topology, plan.times, plan.seed)
-}
-
-// Plays the plan with this network, and lets it go.
-fn play_with(
+// Plays the plan with routers that begin in this topology, and lets them go. Tells what stopped it.
+fn play_in(
     alloc: Global,
-    network: Network,
+    topology: Topology,
     random: Random,
     plan: &Plan,
     events: &[Event],
-) -> Result<Outcome, Fault> {
+    outcome: &mut Outcome,
+) -> Option<Fault> {
     let mut run = Run {
-        network,
-        tables: Tables::new(alloc),
+        network: Network::new(alloc, topology, plan.times, plan.seed),
         owners: Vec::new(alloc),
         down: Vec::new(alloc),
         random,
         plan,
         events,
+        lacks_memory: false,
     };
-    let mut outcome = unplayed(alloc);
-    let played = run.plays(&mut outcome);
+    if run.fault().is_none() {
+        run.plays(outcome);
+    }
+    let fault = run.fault();
     run.close();
-    match played {
-        Ok(()) => Ok(outcome),
-        Err(fault) => Err(fault),
+    fault
+}
+
+fn play_into(
+    alloc: Global,
+    plan: &Plan,
+    events: &[Event],
+    outcome: &mut Outcome,
+) -> Result<(), Fault> {
+    let mut random = Random::new(plan.seed);
+    let routers = plan.routers as usize;
+    let topology = Topology::new(alloc, &mut random, plan.topology, routers, plan.spread)?;
+    match play_in(alloc, topology, random, plan, events, outcome) {
+        None => Ok(()),
+        Some(fault) => Err(fault),
     }
 }
 
@@ -412,7 +427,9 @@ fn play_with(
 /// # Errors
 /// Where memory is refused, or the times aren't allowed.
 pub fn play_scenario(alloc: Global, plan: &Plan, events: &[Event]) -> Result<Outcome, Fault> {
-    let mut random = Random::new(plan.seed);
-    let network = network_of(alloc, plan, &mut random)?;
-    play_with(alloc, network, random, plan, events)
+    let mut outcome = unplayed(alloc);
+    match play_into(alloc, plan, events, &mut outcome) {
+        Ok(()) => Ok(outcome),
+        Err(fault) => Err(fault),
+    }
 }

@@ -103,11 +103,11 @@ impl Search {
     }
 
     // Whether the play ends with what is sought.
-    fn is_seen(&self, play: &mut Play<'_>, acts: &[Act]) -> Result<bool, Fault> {
-        play.does_all(acts)?;
-        play.does(Act::Calm(self.calm))?;
+    fn is_seen(&self, play: &mut Play<'_>, acts: &[Act]) -> bool {
+        play.does_all(acts);
+        play.does(Act::Calm(self.calm));
         match self.sought {
-            Sought::Databases => Ok(play.differ()),
+            Sought::Databases => play.differ(),
             Sought::Loops => play.loop_between_two(),
         }
     }
@@ -117,10 +117,14 @@ impl Search {
     /// # Errors
     /// Where memory is refused, or the times aren't allowed.
     pub fn shows(&self, stage: Stage<'_>, acts: &[Act]) -> Result<bool, Fault> {
-        let mut play = Play::new(stage, self.times)?;
+        let mut play = Play::new(stage, self.times);
         let seen = self.is_seen(&mut play, acts);
+        let fault = play.fault();
         play.close();
-        seen
+        match fault {
+            None => Ok(seen),
+            Some(fault) => Err(fault),
+        }
     }
 
     // Takes so many acts out from a place on, if the rest still shows what is sought. Tells

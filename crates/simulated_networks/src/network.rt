@@ -1,101 +1,80 @@
 //! Routers, their links, and time that goes on second by second.
-use crate::counts::{Counts, is_update};
+use crate::counts::{Counts, add, is_update};
 use crate::fault::Fault;
 use crate::random::{Faults, Random};
-use crate::routers::{Routers, Times, sees_full};
+use crate::router::Times;
+use crate::routers::Routers;
 use crate::topology::{End, Topology};
 use crate::wires::{Coming, Wires};
 use flood::{Core, Event, Out};
 use forwarding_loops::Link;
-use std::alloc::{AllocError, Global};
+use std::alloc::Global;
 
 // In a second there are fewer rounds.
 const MOST_ROUNDS: u32 = 100_000;
 
-/// A network. It has no `Drop`: who has one closes it.
+/// A network. It has no `Drop`: who has one closes it. What is refused for want of memory is left
+/// out, and `fault` tells so from then on.
 pub struct Network {
-    alloc: Global,
+    pub(crate) alloc: Global,
+    pub(crate) topology: Topology,
+    pub(crate) routers: Routers,
+    pub(crate) wires: Wires,
     moment: u64,
-    topology: Topology,
-    times: Times,
-    routers: Routers,
-    // since it was last asked, something has come to the router that may change its table
-    has_changed: Vec<bool>,
-    wires: Wires,
     faults: Faults,
     random: Random,
     counts: Counts,
 }
 
-// All have changed; all links are up.
-fn add_marks(topology: &Topology, has_changed: &mut Vec<bool>, wires: &mut Wires) -> bool {
-    let mut fits = true;
-    for _place in 0..topology.ends.len() {
-        fits = has_changed.push(true).is_ok() && fits;
+// An Update that comes may change the table, and so may all that isn't a packet or a Tick.
+fn may_change_tables(event: &Event) -> bool {
+    match event {
+        Event::Tick => false,
+        Event::Packet(_, bytes) => is_update(bytes.as_slice()),
+        _ => true,
     }
-    for _link in 0..topology.links.len() {
-        fits = wires.add_link() && fits;
-    }
-    fits
-}
-
-fn memory(fits: bool) -> Result<(), Fault> {
-    if fits { Ok(()) } else { Err(Fault::Memory) }
 }
 
 impl Network {
     /// The routers of the topology, which begin at 0 and know nothing, with the numbers of this
     /// seed. Nothing is lost, late or repeated.
-    ///
-    /// # Errors
-    /// Where memory is refused, or the times aren't allowed.
-    pub fn new(
-        alloc: Global,
-        topology: Topology,
-        times: Times,
-        seed: u64,
-    ) -> Result<Network, Fault> {
-        let mut network = Network {
+    pub fn new(alloc: Global, topology: Topology, times: Times, seed: u64) -> Network {
+        let routers = Routers::new(alloc, &topology, times);
+        let wires = Wires::new(alloc, topology.links.len());
+        Network {
             alloc,
-            moment: 0,
             topology,
-            times,
-            routers: Routers::new(alloc),
-            has_changed: Vec::new(alloc),
-            wires: Wires::new(alloc),
+            routers,
+            wires,
+            moment: 0,
             faults: Faults::NONE,
             random: Random::new(seed),
             counts: Counts::ZERO,
-        };
-        match network.begin() {
-            Ok(()) => Ok(network),
-            Err(fault) => {
-                network.close();
-                Err(fault)
-            }
         }
-    }
-
-    fn begin(&mut self) -> Result<(), Fault> {
-        self.routers.begin(self.alloc, &self.topology, self.times)?;
-        memory(add_marks(&self.topology, &mut self.has_changed, &mut self.wires))
     }
 
     /// Lets the routers go.
     pub fn close(self) {
         let Network {
             alloc: _,
-            moment: _,
             topology: _,
-            times: _,
             routers,
-            has_changed: _,
             wires: _,
+            moment: _,
             faults: _,
             random: _,
             counts: _,
         } = self;
         routers.close();
+    }
+
+    /// Why something is left out: memory was refused, or the times aren't allowed.
+    pub fn fault(&self) -> Option<Fault> {
+        if self.wires.lack_memory {
+            Some(Fault::Memory)
+        } else {
+            self.routers.fault()
+        }
     }
 
     /// How many routers there are.
@@ -108,19 +87,21 @@ impl Network {
         self.routers.get(place)
     }
 
-    /// What joins them.
-    pub fn topology(&self) -> &Topology {
-        &self.topology
+    /// The links, whether they are up or down.
+    pub fn links(&self) -> &[Link] {
+        self.topology.links.as_slice()
     }
 
     /// What was counted.
     pub fn counts(&self) -> Counts {
-        self.counts
+        let mut counts = self.counts;
+        counts.refused = self.routers.refused();
+        counts
     }
 
-    /// Tells whether the link is up.
-    pub fn is_up(&self, link: usize) -> bool {
-        self.wires.is_up(link)
+    /// How many walks the routers have made and kept.
+    pub fn walks(&self) -> u64 {
+        self.routers.walks()
     }
 
     /// From now on so many packets are lost, late and repeated.
@@ -128,256 +109,132 @@ impl Network {
         self.faults = faults;
     }
 
-    /// Tells whether the router's table may be another one than when this was last asked.
-    pub fn takes_change(&mut self, place: usize) -> bool {
-        if place >= self.has_changed.len() {
-            return false;
-        }
-        let changed = self.has_changed[place];
-        self.has_changed[place] = false;
-        changed
-    }
-
-    fn note_change(&mut self, place: usize) {
-        if place < self.has_changed.len() {
-            self.has_changed[place] = true;
-        }
-    }
-
-    // How many neighbors of the router are Full.
-    fn fulls(&self, place: usize) -> usize {
-        let Some(core) = self.routers.get(place) else {
-            return 0;
-        };
-        let mut count = 0_usize;
-        for interface in 1..64_u8 {
-            if usize::from(interface) > core.interface_count() {
-                return count;
-            }
-            if sees_full(core, interface) {
-                count = count.wrapping_add(1);
-            }
-        }
-        count
-    }
-
     // The event is under way to the end, at once or up to three seconds later.
-    fn goes(&mut self, end: &End, event: Event) -> bool {
+    fn goes(&mut self, end: &End, event: Event) {
+        let mut due = self.moment;
         if self.random.happens(self.faults.late) {
-            let wait = u64::from(self.random.below(3)).saturating_add(1);
-            let due = self.moment.saturating_add(wait);
-            self.wires.send_late(end, event, due)
-        } else {
-            self.wires.send(end, event)
+            let wait = self.random.below(3).saturating_add(1);
+            due = due.saturating_add(u64::from(wait));
         }
+        let coming = Coming {
+            place: end.place,
+            link: end.link,
+            event,
+            due,
+        };
+        self.wires.send(coming, self.moment);
     }
 
-    fn goes_again(&mut self, end: &End, event: &Event) -> bool {
+    fn goes_again(&mut self, end: &End, event: &Event) {
         match event.copy() {
             Ok(copy) => self.goes(end, copy),
-            Err(_) => false,
+            Err(_) => self.routers.note_refusal(),
         }
     }
 
     // What goes out to an end, unless it is lost.
-    fn sends_to(&mut self, end: &End, event: Event) -> bool {
+    fn goes_out(&mut self, end: &End, event: Event) {
         if self.random.happens(self.faults.loss) {
-            self.counts.count_loss();
-            return true;
+            add(&mut self.counts.lost, 1);
+            return;
         }
-        if self.random.happens(self.faults.twice) && !self.goes_again(end, &event) {
-            return false;
+        if self.random.happens(self.faults.twice) {
+            self.goes_again(end, &event);
         }
-        self.goes(end, event)
+        self.goes(end, event);
     }
 
     // What the router sends at an interface, if that leads somewhere.
-    fn sends(&mut self, place: usize, out: Out) -> bool {
-        self.counts.count_sent(out.bytes.as_slice());
-        if is_update(out.bytes.as_slice()) {
-            self.note_change(place);
-        }
-        match self.topology.end(place, out.interface) {
-            None => true,
-            Some(end) => self.sends_to(&end, Event::Packet(u16::from(end.interface), out.bytes)),
+    fn sends(&mut self, place: usize, out: Out) {
+        if let Some(end) = self.topology.end(place, out.interface) {
+            self.goes_out(&end, Event::Packet(u16::from(end.interface), out.bytes));
         }
     }
 
-    fn sends_all(&mut self, place: usize, outs: Vec<Out>) -> bool {
-        let mut fits = true;
-        for out in outs {
-            fits = self.sends(place, out) && fits;
-        }
-        fits
-    }
-
-    // An Update that comes may change the table, and so may all that isn't a packet or a Tick.
-    fn notes(&mut self, place: usize, event: &Event) {
-        let may_change = match event {
-            Event::Tick => false,
-            Event::Packet(_, bytes) => is_update(bytes.as_slice()),
-            _ => true,
-        };
-        if may_change {
-            self.note_change(place);
+    fn counts_sent(&mut self, place: usize, bytes: &[u8]) {
+        self.counts.count_sent(bytes);
+        if is_update(bytes) {
+            self.routers.note_change(place);
         }
     }
 
-    fn steps(&mut self, place: usize, event: &Event) -> Result<(), Fault> {
-        self.counts.count_event();
-        match self.routers.step(place, self.moment, event)? {
-            Some(outs) => memory(self.sends_all(place, outs)),
-            None => {
-                self.counts.count_refusal();
-                Ok(())
-            }
+    fn steps(&mut self, place: usize, event: &Event) {
+        for out in self.routers.step(place, self.moment, event) {
+            self.counts_sent(place, out.bytes.as_slice());
+            self.sends(place, out);
         }
     }
 
     /// The event happens to the router at the place; nothing, where there is none. An event that
     /// the router refuses is counted.
-    ///
-    /// # Errors
-    /// Where memory is refused.
-    pub fn happens(&mut self, place: usize, event: &Event) -> Result<(), Fault> {
-        self.notes(place, event);
-        let before = self.fulls(place);
-        self.steps(place, event)?;
+    pub fn happens(&mut self, place: usize, event: &Event) {
+        add(&mut self.counts.events, 1);
+        let before = self.routers.fulls(place);
+        self.steps(place, event);
         // a router without Full neighbors sends no Update of what it originates
-        if self.fulls(place) != before {
-            self.note_change(place);
+        if may_change_tables(event) || self.routers.fulls(place) != before {
+            self.routers.note_change(place);
         }
-        Ok(())
     }
 
     /// Time goes on by a second, with a Tick at each router, the first of them by chance.
-    ///
-    /// # Errors
-    /// Where memory is refused.
-    pub fn passes(&mut self) -> Result<(), Fault> {
+    pub fn passes(&mut self) {
         self.moment = self.moment.saturating_add(1);
-        memory(self.wires.wake(self.moment))?;
+        self.wires.wake(self.moment);
         let count = self.routers.count();
         let first = self.random.place(count);
-        for place in first..count {
-            self.happens(place, &Event::Tick)?;
+        let tick = Event::Tick;
+        for step in 0..count {
+            self.happens(first.wrapping_add(step) % count, &tick);
         }
-        for place in 0..first {
-            self.happens(place, &Event::Tick)?;
-        }
-        Ok(())
     }
 
-    fn comes(&mut self, coming: &Coming) -> bool {
+    fn comes(&mut self, coming: &Coming) {
         if self.wires.is_up(coming.link) {
-            self.happens(coming.place, &coming.event).is_ok()
-        } else {
-            true
+            self.happens(coming.place, &coming.event);
         }
     }
 
     // All that is under way comes.
-    fn round(&mut self) -> bool {
+    fn round(&mut self) {
         let all = self.wires.take();
         self.counts.count_under_way(all.len());
-        let mut fits = true;
-        for coming in all {
-            fits = fits && self.comes(&coming);
+        for coming in &all {
+            self.comes(coming);
         }
-        fits
     }
 
     /// All that is under way comes, and what is sent then, until nothing is.
-    ///
-    /// # Errors
-    /// Where memory is refused.
-    pub fn delivers(&mut self) -> Result<(), Fault> {
+    pub fn delivers(&mut self) {
         for _round in 0..MOST_ROUNDS {
             if self.wires.is_quiet() {
-                return Ok(());
+                return;
             }
-            memory(self.round())?;
+            self.round();
         }
-        Ok(())
     }
 
-    fn goes_down(&mut self, place: usize, interface: u8) -> Result<(), Fault> {
-        self.happens(place, &Event::LinkDown(u16::from(interface)))
+    fn goes_down(&mut self, place: usize, interface: u8) {
+        self.happens(place, &Event::LinkDown(u16::from(interface)));
     }
 
     /// The link goes down or up; with notice, the routers at both ends are told that it is down.
-    ///
-    /// # Errors
-    /// Where memory is refused.
-    pub fn set_link(&mut self, number: usize, up: bool, notice: bool) -> Result<(), Fault> {
+    pub fn set_link(&mut self, number: usize, up: bool, notice: bool) {
         self.wires.set_up(number, up);
-        let Some(link) = self.topology.links.get(number).copied() else {
-            return Ok(());
-        };
         if notice && !up {
-            self.goes_down(link.one, link.one_interface)?;
-            self.goes_down(link.other, link.other_interface)?;
+            self.tells_ends(number);
         }
-        Ok(())
+    }
+
+    fn tells_ends(&mut self, number: usize) {
+        if let Some(link) = self.topology.links.get(number).copied() {
+            self.goes_down(link.one, link.one_interface);
+            self.goes_down(link.other, link.other_interface);
+        }
     }
 
     /// The router at the place begins anew, and knows nothing.
-    ///
-    /// # Errors
-    /// Where memory is refused.
-    pub fn restarts(&mut self, place: usize) -> Result<(), Fault> {
-        self.routers
-            .restart(self.alloc, &self.topology, place, self.times, self.moment)?;
-        self.note_change(place);
-        Ok(())
-    }
-
-    fn sees(&self, place: usize, interface: u8) -> bool {
-        match self.routers.get(place) {
-            Some(core) => sees_full(core, interface),
-            None => false,
-        }
-    }
-
-    /// Tells whether the link is up and both ends see each other as Full.
-    pub fn is_full(&self, number: usize) -> bool {
-        match self.topology.links.get(number) {
-            Some(link) => {
-                self.is_up(number)
-                    && self.sees(link.one, link.one_interface)
-                    && self.sees(link.other, link.other_interface)
-            }
-            None => false,
-        }
-    }
-
-    /// The links that are up.
-    ///
-    /// # Errors
-    /// Where memory is refused.
-    pub fn links_up(&self, alloc: Global) -> Result<Vec<Link>, AllocError> {
-        let mut links = Vec::new(alloc);
-        for (number, link) in self.topology.links.iter().enumerate() {
-            if self.is_up(number) {
-                links.push(*link)?;
-            }
-        }
-        Ok(links)
-    }
-
-    /// How many links are up and not Full.
-    pub fn not_full(&self) -> usize {
-        let mut count = 0_usize;
-        for link in 0..self.topology.links.len() {
-            if self.is_up(link) && !self.is_full(link) {
-                count = count.wrapping_add(1);
-            }
-        }
-        count
-    }
-
-    /// How many walks the routers have made and kept.
-    pub fn walks(&self) -> u64 {
-        self.routers.walks()
+    pub fn restarts(&mut self, place: usize) {
+        self.routers.restart(&self.topology, place, self.moment);
     }
 }

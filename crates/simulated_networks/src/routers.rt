@@ -1,233 +1,208 @@
-//! Routers as they begin, and what two of them have in common.
-use crate::addresses::on_link;
+//! The routers of a network.
 use crate::fault::Fault;
+use crate::router::{Router, Times, begun, fulls_of, sees_full};
 use crate::topology::{End, Topology};
-use flood::{Config, Core, CoreError, Event, Interface, Out, State};
-use lsa::Header;
-use std::alloc::{AllocError, AllocFailed, Global};
-use std::mem::replace;
-use words::{Address, Key, RouterId, Second, Sequence};
-
-/// The times of all interfaces, in seconds.
-#[derive(Clone, Copy)]
-pub struct Times {
-    pub hello: u16,
-    pub dead: u32,
-    pub retransmit: u16,
-}
-
-// The Router ID of the router at a place: 0.0.0.1 and so on.
-fn router_at(place: usize) -> RouterId {
-    RouterId::new(u32::try_from(place.wrapping_add(1)).unwrap_or(1))
-}
-
-// The end of a link at the router with the lower place has its first address.
-fn address(end: &End, place: usize) -> Address {
-    let number = u32::try_from(end.link).unwrap_or(0);
-    let host = if place < end.place { 1 } else { 2 };
-    on_link(number, host)
-}
-
-fn interface(end: &End, address: Address, times: Times) -> Interface {
-    Interface {
-        address,
-        length: 30,
-        cost: end.cost,
-        hello_interval: times.hello,
-        dead_interval: times.dead,
-        retransmit_interval: times.retransmit,
-        delay: 1,
-    }
-}
-
-fn interfaces(
-    alloc: Global,
-    ends: &[End],
-    place: usize,
-    times: Times,
-) -> Result<Vec<Interface>, AllocError> {
-    let mut made = Vec::new(alloc);
-    for end in ends {
-        made.push(interface(end, address(end, place), times))?;
-    }
-    Ok(made)
-}
-
-fn configuration(
-    alloc: Global,
-    topology: &Topology,
-    place: usize,
-    times: Times,
-    moment: u64,
-) -> Result<Config, AllocError> {
-    let made = match topology.ends.get(place) {
-        Some(ends) => interfaces(alloc, ends, place, times)?,
-        None => Vec::new(alloc),
-    };
-    Ok(Config {
-        router: router_at(place),
-        start: Second::new(moment),
-        interfaces: Sequence::from_vec(made),
-    })
-}
-
-// The router at a place as it begins at this moment.
-fn begun(
-    alloc: Global,
-    topology: &Topology,
-    place: usize,
-    times: Times,
-    moment: u64,
-) -> Result<Core, Fault> {
-    let config = configuration(alloc, topology, place, times, moment)?;
-    match Core::new(alloc, &config) {
-        Ok(core) => Ok(core),
-        Err(error) => Err(Fault::from(error)),
-    }
-}
-
-// What the router sends at an event; None where it refuses the event for another reason than that
-// memory is refused.
-fn stepped(core: &mut Core, moment: u64, event: &Event) -> Result<Option<Vec<Out>>, Fault> {
-    match core.step(Second::new(moment), event) {
-        Ok(outs) => Ok(Some(outs)),
-        Err(CoreError::Memory) => Err(Fault::Memory),
-        Err(_) => Ok(None),
-    }
-}
-
-/// Tells whether the router sees its neighbor at the interface as Full.
-pub fn sees_full(core: &Core, interface: u8) -> bool {
-    match core.neighbor(u16::from(interface)) {
-        Some((_, State::Full)) => true,
-        _ => false,
-    }
-}
-
-fn are_instances_of_one(a: &Header, b: &Header) -> bool {
-    a.sequence == b.sequence && a.checksum == b.checksum && a.length == b.length
-}
-
-fn both_hold(one: &Core, other: &Core, key: &Key) -> bool {
-    match (one.database().get(key), other.database().get(key)) {
-        (Some(a), Some(b)) => are_instances_of_one(&a.lsa.header(), &b.lsa.header()),
-        _ => false,
-    }
-}
-
-/// Tells whether both hold LSAs of the same keys with the same lengths, sequence numbers and
-/// checksums.
-pub fn holds_the_same(one: &Core, other: &Core) -> bool {
-    if one.database().len() != other.database().len() {
-        return false;
-    }
-    for key in one.database().keys() {
-        if !both_hold(one, other, &key) {
-            return false;
-        }
-    }
-    true
-}
+use crate::ways::{NONE, way_at};
+use flood::{Core, CoreError, Event, Out};
+use forwarding_loops::Way;
+use std::alloc::{AllocFailed, Global};
+use words::Second;
 
 /// The routers of a network, by their places. They have no `Drop`: who has them closes them, so
 /// that no other crate proves once more how the parts of a router are let go.
+///
+/// What is refused for want of memory is left out, and `fault` tells so from then on.
 pub struct Routers {
-    cores: Vec<Core>,
+    alloc: Global,
+    times: Times,
+    list: Vec<Router>,
+    refused: u64,
+    fault: Option<Fault>,
 }
 
 impl Routers {
-    /// None yet.
-    pub fn new(alloc: Global) -> Routers {
-        Routers {
-            cores: Vec::new(alloc),
+    /// Those of the topology, which begin at 0.
+    pub fn new(alloc: Global, topology: &Topology, times: Times) -> Routers {
+        let mut routers = Routers {
+            alloc,
+            times,
+            list: Vec::new(alloc),
+            refused: 0,
+            fault: None,
+        };
+        for ends in &topology.ends {
+            routers.add(ends);
+        }
+        routers
+    }
+
+    fn add(&mut self, ends: &[End]) {
+        match begun(self.alloc, ends, self.list.len(), self.times, 0) {
+            Ok(core) => self.keep(core),
+            Err(fault) => self.fault = Some(fault),
         }
     }
 
-    /// Adds those of the topology, which begin at 0.
-    ///
-    /// # Errors
-    /// Where memory is refused, or the times aren't allowed.
-    pub fn begin(&mut self, alloc: Global, topology: &Topology, times: Times) -> Result<(), Fault> {
-        for place in 0..topology.ends.len() {
-            let core = begun(alloc, topology, place, times, 0)?;
-            self.add(core)?;
-        }
-        Ok(())
-    }
-
-    fn add(&mut self, core: Core) -> Result<(), Fault> {
-        match self.cores.push(core) {
-            Ok(()) => Ok(()),
+    fn keep(&mut self, core: Core) {
+        match self.list.push(Router::new(self.alloc, core)) {
+            Ok(()) => (),
             Err(failed) => {
                 let AllocFailed { value } = failed;
                 value.close();
-                Err(Fault::Memory)
+                self.note_refusal();
             }
         }
     }
 
+    /// Why something is left out: memory was refused, or the times aren't allowed.
+    pub fn fault(&self) -> Option<Fault> {
+        self.fault
+    }
+
+    /// Notes that memory was refused.
+    pub(crate) fn note_refusal(&mut self) {
+        self.fault = Some(Fault::Memory);
+    }
+
     /// How many there are.
     pub fn count(&self) -> usize {
-        self.cores.len()
+        self.list.len()
     }
 
     /// The router at a place.
     pub fn get(&self, place: usize) -> Option<&Core> {
-        self.cores.get(place)
+        match self.list.get(place) {
+            Some(router) => Some(&router.core),
+            None => None,
+        }
     }
 
-    /// What the router at a place sends at an event; None where there is no router, or it refuses
-    /// the event for another reason than that memory is refused.
-    ///
-    /// # Errors
-    /// Where memory is refused.
-    pub fn step(
+    fn answered(
         &mut self,
         place: usize,
         moment: u64,
         event: &Event,
-    ) -> Result<Option<Vec<Out>>, Fault> {
-        match self.cores.get_mut(place) {
-            Some(core) => stepped(core, moment, event),
-            None => Ok(None),
+    ) -> Result<Vec<Out>, CoreError> {
+        match self.list.get_mut(place) {
+            Some(router) => router.core.step(Second::new(moment), event),
+            None => Err(CoreError::NoInterface),
         }
     }
 
-    /// The router at a place begins anew at this moment; nothing, where there is none.
-    ///
-    /// # Errors
-    /// Where memory is refused, or the times aren't allowed.
-    pub fn restart(
-        &mut self,
-        alloc: Global,
-        topology: &Topology,
-        place: usize,
-        times: Times,
-        moment: u64,
-    ) -> Result<(), Fault> {
-        let core = begun(alloc, topology, place, times, moment)?;
-        match self.cores.get_mut(place) {
-            None => core.close(),
-            Some(old) => replace(old, core).close(),
+    // An event was refused.
+    fn note(&mut self, error: CoreError) {
+        self.refused = self.refused.saturating_add(1);
+        match error {
+            CoreError::Memory => self.note_refusal(),
+            _ => (),
         }
-        Ok(())
+    }
+
+    /// What the router at a place sends at an event; nothing, where there is no router, or it
+    /// refuses the event.
+    pub fn step(&mut self, place: usize, moment: u64, event: &Event) -> Vec<Out> {
+        match self.answered(place, moment, event) {
+            Ok(outs) => outs,
+            Err(error) => {
+                self.note(error);
+                Vec::new(self.alloc)
+            }
+        }
+    }
+
+    /// How many events were refused.
+    pub fn refused(&self) -> u64 {
+        self.refused
+    }
+
+    /// The router at a place begins anew at this moment; nothing, where there is none.
+    pub fn restart(&mut self, topology: &Topology, place: usize, moment: u64) {
+        if let (Some(router), Some(ends)) = (self.list.get_mut(place), topology.ends.get(place)) {
+            match begun(self.alloc, ends, place, self.times, moment) {
+                Ok(core) => router.begin_anew(core),
+                Err(fault) => self.fault = Some(fault),
+            }
+        }
+    }
+
+    /// The router's table may be another one than it was.
+    pub(crate) fn note_change(&mut self, place: usize) {
+        if let Some(router) = self.list.get_mut(place) {
+            router.note_change();
+        }
+    }
+
+    /// How many neighbors of the router are Full.
+    pub(crate) fn fulls(&self, place: usize) -> usize {
+        match self.get(place) {
+            Some(core) => fulls_of(core),
+            None => 0,
+        }
+    }
+
+    /// Tells whether the router sees its neighbor at the interface as Full.
+    pub(crate) fn sees(&self, place: usize, interface: u8) -> bool {
+        match self.get(place) {
+            Some(core) => sees_full(core, interface),
+            None => false,
+        }
+    }
+
+    /// Looks at all databases.
+    pub(crate) fn take_prints(&mut self) {
+        for router in &mut self.list {
+            router.take_print();
+        }
+    }
+
+    /// A number that the instances give which the router held when its database was looked at.
+    pub(crate) fn print(&self, place: usize) -> u64 {
+        match self.list.get(place) {
+            Some(router) => router.print,
+            None => 0,
+        }
+    }
+
+    /// Looks at all tables, for so many prefixes, of which the first are those of so many links.
+    pub(crate) fn take_ways(&mut self, links: usize, prefixes: usize) {
+        let mut fits = true;
+        for router in &mut self.list {
+            fits = router.take_ways(links, prefixes) && fits;
+        }
+        if !fits {
+            self.note_refusal();
+        }
+    }
+
+    /// The router's way to the prefix of this number when its table was looked at.
+    pub(crate) fn way(&self, place: usize, number: usize) -> Way {
+        match self.list.get(place) {
+            Some(router) => way_at(&router.ways, number),
+            None => NONE,
+        }
     }
 
     /// How many walks they have made and kept.
     pub fn walks(&self) -> u64 {
         let mut walks = 0_u64;
-        for core in &self.cores {
-            walks = walks.saturating_add(core.walks());
+        for router in &self.list {
+            walks = walks.saturating_add(router.core.walks());
         }
         walks
     }
 
     /// Lets the routers go.
     pub fn close(self) {
-        let Routers { mut cores } = self;
-        while let Some(core) = cores.pop() {
-            core.close();
+        let Routers {
+            alloc: _,
+            times: _,
+            mut list,
+            refused: _,
+            fault: _,
+        } = self;
+        while let Some(router) = list.pop() {
+            router.close();
         }
-        cores.destroy_empty();
+        list.destroy_empty();
     }
 }
