@@ -4,6 +4,8 @@
 #![tactic(auto)]
 
 mod acts;
+mod director;
+mod mail;
 mod phase;
 mod plan;
 mod play;

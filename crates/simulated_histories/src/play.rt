@@ -1,31 +1,20 @@
 //! Acts, played one by one.
 use crate::acts::Act;
+use crate::mail::Mail;
 use crate::search::Stage;
-use flood::{Core, Event, Out};
+use flood::{Core, Event};
 use simulated_networks::{Fault, Link, Routers, Times, holds_the_same, prefix, sees_full};
 use words::Route;
 
 // In a second there are fewer packets.
 const MOST_PACKETS: u32 = 20_000;
 
-// What is under way to the router at a place, or has come.
-#[derive(Drop)]
-struct Sent {
-    place: usize,
-    event: Event,
-}
-
 /// A network, whose packets come one by one. It has no `Drop`: who has one closes it. What is
 /// refused for want of memory is left out, and `fault` tells so from then on.
 pub struct Play<'a> {
-    stage: Stage<'a>,
-    moment: u64,
     routers: Routers,
-    // all that was sent; what stands before `at` has come, or was lost
-    packets: Vec<Sent>,
-    at: usize,
-    // memory was refused for something that the routers don't hold
-    lacks_memory: bool,
+    mail: Mail<'a>,
+    moment: u64,
 }
 
 fn leads_by(route: &Route, interface: u8) -> bool {
@@ -86,96 +75,66 @@ impl<'a> Play<'a> {
     /// The routers of the stage, which begin at 0.
     pub fn new(stage: Stage<'a>, times: Times) -> Play<'a> {
         Play {
-            stage,
-            moment: 0,
             routers: Routers::new(stage.alloc, stage.topology, times),
-            packets: Vec::new(stage.alloc),
-            at: 0,
-            lacks_memory: false,
+            mail: Mail::new(stage),
+            moment: 0,
         }
     }
 
     /// Why something is left out: memory was refused, or the times aren't allowed.
     pub fn fault(&self) -> Option<Fault> {
-        if self.lacks_memory {
+        if self.mail.lacks_memory {
             Some(Fault::Memory)
         } else {
-            self.routers.fault()
+            self.routers.fault
         }
     }
 
     /// Lets the routers go.
     pub fn close(self) {
         let Play {
-            stage: _,
-            moment: _,
             routers,
-            packets: _,
-            at: _,
-            lacks_memory: _,
+            mail: _,
+            moment: _,
         } = self;
         routers.close();
-    }
-
-    fn keeps(&mut self, sent: Sent) {
-        if self.packets.push(sent).is_err() {
-            self.lacks_memory = true;
-        }
-    }
-
-    fn sends(&mut self, place: usize, out: Out) {
-        if let Some(end) = self.stage.topology.end(place, out.interface) {
-            self.keeps(Sent {
-                place: end.place,
-                event: Event::Packet(u16::from(end.interface), out.bytes),
-            });
-        }
-    }
-
-    fn sends_all(&mut self, place: usize, outs: Vec<Out>) {
-        for out in outs {
-            self.sends(place, out);
-        }
     }
 
     // The event happens to the router at the place; nothing, where there is none or it refuses the
     // event.
     fn takes(&mut self, place: usize, event: &Event) {
         let outs = self.routers.step(place, self.moment, event);
-        self.sends_all(place, outs);
+        self.mail.send_all(place, outs);
     }
 
     // The packet of this index comes, once more or for the first time.
     fn comes(&mut self, index: usize) {
-        if let Some(sent) = self.packets.get(index) {
+        if index < self.mail.packets.len() {
+            let sent = &self.mail.packets[index];
             let place = sent.place;
             let outs = self.routers.step(place, self.moment, &sent.event);
-            self.sends_all(place, outs);
+            self.mail.send_all(place, outs);
         }
     }
 
-    fn goes_on(&mut self) {
-        self.at = self.packets.len().min(self.at.saturating_add(1));
-    }
-
     fn next_comes(&mut self) {
-        self.comes(self.at);
-        self.goes_on();
+        self.comes(self.mail.at);
+        self.mail.goes_on();
     }
 
     fn comes_again(&mut self, back: u32) {
-        let sent = self.packets.len();
+        let sent = self.mail.packets.len();
         self.comes(sent.wrapping_sub(back as usize));
     }
 
     fn next_two_are_exchanged(&mut self) {
-        self.comes(self.at.saturating_add(1));
+        self.comes(self.mail.at.saturating_add(1));
         self.next_comes();
-        self.goes_on();
+        self.mail.goes_on();
     }
 
     fn next_comes_twice(&mut self) {
-        self.comes(self.at);
+        self.comes(self.mail.at);
         self.next_comes();
     }
 
@@ -189,7 +148,7 @@ impl<'a> Play<'a> {
 
     fn delivers(&mut self) {
         for _packet in 0..MOST_PACKETS {
-            if self.at >= self.packets.len() {
+            if self.mail.is_quiet() {
                 return;
             }
             self.next_comes();
@@ -204,9 +163,9 @@ impl<'a> Play<'a> {
     }
 
     fn announces(&mut self, place: usize, number: u32) {
-        let events = self.stage.events;
-        if let Some(event) = events.get(number as usize) {
-            self.takes(place, event);
+        let events = self.mail.stage.events;
+        if (number as usize) < events.len() {
+            self.takes(place, &events[number as usize]);
         }
     }
 
@@ -223,24 +182,32 @@ impl<'a> Play<'a> {
 
     fn restarts(&mut self, place: usize) {
         self.routers
-            .restart(self.stage.topology, place, self.moment);
+            .restart(self.mail.stage.topology, place, self.moment);
+    }
+
+    // Does what is done at a single router.
+    fn does_at_one(&mut self, act: Act) {
+        match act {
+            Act::Tick(place) => self.takes(place as usize, &Event::Tick),
+            Act::Announce(place, number) => self.announces(place as usize, number),
+            Act::Withdraw(place, number) => self.withdraws(place as usize, number),
+            Act::LinkDown(place, number) => self.goes_down(place as usize, number),
+            Act::Restart(place) => self.restarts(place as usize),
+            _ => (),
+        }
     }
 
     /// Does the act. What an act names and isn't there is left alone.
     pub fn does(&mut self, act: Act) {
         match act {
             Act::Comes => self.next_comes(),
-            Act::Lost => self.goes_on(),
+            Act::Lost => self.mail.goes_on(),
             Act::Twice => self.next_comes_twice(),
             Act::Exchanged => self.next_two_are_exchanged(),
             Act::Again(back) => self.comes_again(back),
-            Act::Tick(place) => self.takes(place as usize, &Event::Tick),
             Act::Passes => self.passes(),
-            Act::Announce(place, number) => self.announces(place as usize, number),
-            Act::Withdraw(place, number) => self.withdraws(place as usize, number),
-            Act::LinkDown(place, number) => self.goes_down(place as usize, number),
-            Act::Restart(place) => self.restarts(place as usize),
             Act::Calm(seconds) => self.is_calm_for(seconds),
+            _ => self.does_at_one(act),
         }
     }
 
@@ -281,7 +248,7 @@ impl<'a> Play<'a> {
 
     /// Tells whether two neighbors that see each other as Full hold different databases.
     pub fn differ(&self) -> bool {
-        for link in &self.stage.topology.links {
+        for link in &self.mail.stage.topology.links {
             if self.differ_over(link) {
                 return true;
             }
@@ -300,12 +267,12 @@ impl<'a> Play<'a> {
     /// Tells whether two neighbors hand packets for a prefix to each other that neither of them
     /// announces.
     pub fn loop_between_two(&mut self) -> bool {
-        let topology = self.stage.topology;
+        let topology = self.mail.stage.topology;
         for link in &topology.links {
             match self.loop_over(link) {
                 Some(false) => (),
                 Some(true) => return true,
-                None => self.lacks_memory = true,
+                None => self.mail.lacks_memory = true,
             }
         }
         false

@@ -29,10 +29,12 @@ impl Counts {
         most_under_way: 0,
     };
 
-    pub(crate) fn count_sent(&mut self, bytes: &[u8]) {
+    // Counts a packet that is sent, and tells whether it is a Link State Update.
+    pub(crate) fn count_sent(&mut self, bytes: &[u8]) -> bool {
         add(&mut self.packets, 1);
         add(&mut self.bytes, bytes.len() as u64);
         add(&mut self.copies, lsas_in(bytes));
+        is_update(bytes)
     }
 
     pub(crate) fn count_under_way(&mut self, packets: usize) {

@@ -1,14 +1,11 @@
-//! A router as it begins, what was last read off it, and what two of them have in common.
-use crate::addresses::{number_at, on_link};
+//! Routers as they begin, what is read off one, and what two of them have in common.
+use crate::addresses::on_link;
 use crate::fault::Fault;
 use crate::topology::End;
-use crate::ways::{NONE, way_of};
 use flood::{Config, Core, Interface, State};
-use forwarding_loops::Way;
 use lsa::Header;
 use std::alloc::Global;
-use std::mem::replace;
-use words::{Address, Key, Route, RouterId, Second, Sequence};
+use words::{Address, Hops, Key, RouterId, Second, Sequence};
 
 /// The times of all interfaces, in seconds.
 #[derive(Clone, Copy)]
@@ -88,15 +85,16 @@ pub fn sees_full(core: &Core, interface: u8) -> bool {
     }
 }
 
-/// How many neighbors of the router are Full.
-pub fn fulls_of(core: &Core) -> usize {
-    let mut count = 0_usize;
-    for place in 0..core.interface_count() {
-        if sees_full(core, u8::try_from(place.wrapping_add(1)).unwrap_or(0)) {
-            count = count.wrapping_add(1);
+/// The interfaces of the router with a Full neighbor.
+pub fn fulls_of(core: &Core) -> Hops {
+    let count = core.interface_count();
+    let mut full = Hops::NONE;
+    for interface in 1..64_u8 {
+        if usize::from(interface) <= count && sees_full(core, interface) {
+            full = full.join(Hops::only(interface));
         }
     }
-    count
+    full
 }
 
 fn are_instances_of_one(a: &Header, b: &Header) -> bool {
@@ -132,8 +130,8 @@ fn mixed_with(hash: u64, header: &Header) -> u64 {
     mixed(of_sequence, u64::from(header.checksum))
 }
 
-// A number that the instances give which the router holds below MaxAge.
-fn print_of(core: &Core) -> u64 {
+/// A number that the instances give which the router holds below MaxAge.
+pub fn print_of(core: &Core) -> u64 {
     let mut hash = 1_u64;
     for key in core.database().keys() {
         if let Some(copy) = core.database().get(&key) {
@@ -143,83 +141,4 @@ fn print_of(core: &Core) -> u64 {
         }
     }
     hash
-}
-
-/// A router, and what its table and its database were when they were last looked at. It has no
-/// `Drop`: who has one closes it.
-pub struct Router {
-    pub core: Core,
-    /// The way to each prefix: those of the links come first.
-    pub ways: Vec<Way>,
-    /// A number that the database's instances give; 0 where it isn't known.
-    pub print: u64,
-    // the table may be another one than the ways
-    has_changed: bool,
-}
-
-impl Router {
-    /// A router that wasn't looked at yet.
-    pub fn new(alloc: Global, core: Core) -> Router {
-        Router {
-            core,
-            ways: Vec::new(alloc),
-            print: 0,
-            has_changed: true,
-        }
-    }
-
-    /// The table and the database may be others than they were.
-    pub fn note_change(&mut self) {
-        self.has_changed = true;
-        self.print = 0;
-    }
-
-    /// This one is in its place from now on.
-    pub fn begin_anew(&mut self, core: Core) {
-        replace(&mut self.core, core).close();
-        self.note_change();
-    }
-
-    /// Looks at the database.
-    pub fn take_print(&mut self) {
-        if self.print == 0 {
-            self.print = print_of(&self.core);
-        }
-    }
-
-    /// Looks at the table, for so many prefixes, of which the first are those of so many links.
-    /// False where memory is refused.
-    pub fn take_ways(&mut self, links: usize, prefixes: usize) -> bool {
-        if !self.has_changed {
-            return true;
-        }
-        match self.core.candidates() {
-            Ok(routes) => self.take_routes(&routes, links, prefixes),
-            Err(_) => false,
-        }
-    }
-
-    fn take_routes(&mut self, routes: &[Route], links: usize, prefixes: usize) -> bool {
-        self.has_changed = false;
-        self.ways.clear();
-        let fits = self.ways.resize(prefixes, NONE).is_ok();
-        for route in routes {
-            let number = number_at(route.prefix.address(), links);
-            if number < self.ways.len() {
-                self.ways[number] = way_of(route);
-            }
-        }
-        fits
-    }
-
-    /// Lets it go.
-    pub fn close(self) {
-        let Router {
-            core,
-            ways: _,
-            print: _,
-            has_changed: _,
-        } = self;
-        core.close();
-    }
 }

@@ -1,34 +1,33 @@
 //! The routers of a network.
 use crate::fault::Fault;
-use crate::router::{Router, Times, begun, fulls_of, sees_full};
+use crate::router::{Times, begun, fulls_of, print_of};
 use crate::topology::{End, Topology};
-use crate::ways::{NONE, way_at};
 use flood::{Core, CoreError, Event, Out};
-use forwarding_loops::Way;
-use std::alloc::{AllocFailed, Global};
-use words::Second;
+use std::alloc::{AllocError, AllocFailed, Global};
+use std::mem::replace;
+use words::{Hops, Route, Second};
 
 /// The routers of a network, by their places. They have no `Drop`: who has them closes them, so
 /// that no other crate proves once more how the parts of a router are let go.
-///
-/// What is refused for want of memory is left out, and `fault` tells so from then on.
 pub struct Routers {
+    /// Why something is left out: memory was refused, or the times aren't allowed.
+    pub fault: Option<Fault>,
+    /// How many events were refused.
+    pub refused: u64,
     alloc: Global,
     times: Times,
-    list: Vec<Router>,
-    refused: u64,
-    fault: Option<Fault>,
+    cores: Vec<Core>,
 }
 
 impl Routers {
     /// Those of the topology, which begin at 0.
     pub fn new(alloc: Global, topology: &Topology, times: Times) -> Routers {
         let mut routers = Routers {
+            fault: None,
+            refused: 0,
             alloc,
             times,
-            list: Vec::new(alloc),
-            refused: 0,
-            fault: None,
+            cores: Vec::new(alloc),
         };
         for ends in &topology.ends {
             routers.add(ends);
@@ -37,43 +36,34 @@ impl Routers {
     }
 
     fn add(&mut self, ends: &[End]) {
-        match begun(self.alloc, ends, self.list.len(), self.times, 0) {
+        match begun(self.alloc, ends, self.cores.len(), self.times, 0) {
             Ok(core) => self.keep(core),
             Err(fault) => self.fault = Some(fault),
         }
     }
 
     fn keep(&mut self, core: Core) {
-        match self.list.push(Router::new(self.alloc, core)) {
+        match self.cores.push(core) {
             Ok(()) => (),
             Err(failed) => {
                 let AllocFailed { value } = failed;
                 value.close();
-                self.note_refusal();
+                self.fault = Some(Fault::Memory);
             }
         }
     }
 
-    /// Why something is left out: memory was refused, or the times aren't allowed.
-    pub fn fault(&self) -> Option<Fault> {
-        self.fault
-    }
-
-    /// Notes that memory was refused.
-    pub(crate) fn note_refusal(&mut self) {
-        self.fault = Some(Fault::Memory);
-    }
-
     /// How many there are.
     pub fn count(&self) -> usize {
-        self.list.len()
+        self.cores.len()
     }
 
     /// The router at a place.
     pub fn get(&self, place: usize) -> Option<&Core> {
-        match self.list.get(place) {
-            Some(router) => Some(&router.core),
-            None => None,
+        if place < self.cores.len() {
+            Some(&self.cores[place])
+        } else {
+            None
         }
     }
 
@@ -83,18 +73,10 @@ impl Routers {
         moment: u64,
         event: &Event,
     ) -> Result<Vec<Out>, CoreError> {
-        match self.list.get_mut(place) {
-            Some(router) => router.core.step(Second::new(moment), event),
-            None => Err(CoreError::NoInterface),
-        }
-    }
-
-    // An event was refused.
-    fn note(&mut self, error: CoreError) {
-        self.refused = self.refused.saturating_add(1);
-        match error {
-            CoreError::Memory => self.note_refusal(),
-            _ => (),
+        if place < self.cores.len() {
+            self.cores[place].step(Second::new(moment), event)
+        } else {
+            Err(CoreError::NoInterface)
         }
     }
 
@@ -104,89 +86,70 @@ impl Routers {
         match self.answered(place, moment, event) {
             Ok(outs) => outs,
             Err(error) => {
-                self.note(error);
+                self.refused = self.refused.saturating_add(1);
+                self.fault = fault_after(self.fault, error);
                 Vec::new(self.alloc)
             }
         }
     }
 
-    /// How many events were refused.
-    pub fn refused(&self) -> u64 {
-        self.refused
+    fn put(&mut self, place: usize, core: Core) {
+        if place < self.cores.len() {
+            replace(&mut self.cores[place], core).close();
+        } else {
+            core.close();
+        }
     }
 
     /// The router at a place begins anew at this moment; nothing, where there is none.
     pub fn restart(&mut self, topology: &Topology, place: usize, moment: u64) {
-        if let (Some(router), Some(ends)) = (self.list.get_mut(place), topology.ends.get(place)) {
-            match begun(self.alloc, ends, place, self.times, moment) {
-                Ok(core) => router.begin_anew(core),
-                Err(fault) => self.fault = Some(fault),
-            }
+        match begun(
+            self.alloc,
+            topology.ends_of(place),
+            place,
+            self.times,
+            moment,
+        ) {
+            Ok(core) => self.put(place, core),
+            Err(fault) => self.fault = Some(fault),
         }
     }
 
-    /// The router's table may be another one than it was.
-    pub(crate) fn note_change(&mut self, place: usize) {
-        if let Some(router) = self.list.get_mut(place) {
-            router.note_change();
+    /// The interfaces of the router with a Full neighbor.
+    pub(crate) fn fulls(&self, place: usize) -> Hops {
+        if place < self.cores.len() {
+            fulls_of(&self.cores[place])
+        } else {
+            Hops::NONE
         }
     }
 
-    /// How many neighbors of the router are Full.
-    pub(crate) fn fulls(&self, place: usize) -> usize {
-        match self.get(place) {
-            Some(core) => fulls_of(core),
-            None => 0,
-        }
-    }
-
-    /// Tells whether the router sees its neighbor at the interface as Full.
-    pub(crate) fn sees(&self, place: usize, interface: u8) -> bool {
-        match self.get(place) {
-            Some(core) => sees_full(core, interface),
-            None => false,
-        }
-    }
-
-    /// Looks at all databases.
-    pub(crate) fn take_prints(&mut self) {
-        for router in &mut self.list {
-            router.take_print();
-        }
-    }
-
-    /// A number that the instances give which the router held when its database was looked at.
+    /// A number that the instances give which the router holds below MaxAge.
     pub(crate) fn print(&self, place: usize) -> u64 {
-        match self.list.get(place) {
-            Some(router) => router.print,
-            None => 0,
+        if place < self.cores.len() {
+            print_of(&self.cores[place])
+        } else {
+            0
         }
     }
 
-    /// Looks at all tables, for so many prefixes, of which the first are those of so many links.
-    pub(crate) fn take_ways(&mut self, links: usize, prefixes: usize) {
-        let mut fits = true;
-        for router in &mut self.list {
-            fits = router.take_ways(links, prefixes) && fits;
-        }
-        if !fits {
-            self.note_refusal();
-        }
-    }
-
-    /// The router's way to the prefix of this number when its table was looked at.
-    pub(crate) fn way(&self, place: usize, number: usize) -> Way {
-        match self.list.get(place) {
-            Some(router) => way_at(&router.ways, number),
-            None => NONE,
+    /// The routes that the router has for its table.
+    ///
+    /// # Errors
+    /// Where memory is refused.
+    pub(crate) fn routes(&self, place: usize) -> Result<Vec<Route>, AllocError> {
+        if place < self.cores.len() {
+            self.cores[place].candidates()
+        } else {
+            Ok(Vec::new(self.alloc))
         }
     }
 
     /// How many walks they have made and kept.
     pub fn walks(&self) -> u64 {
         let mut walks = 0_u64;
-        for router in &self.list {
-            walks = walks.saturating_add(router.core.walks());
+        for core in &self.cores {
+            walks = walks.saturating_add(core.walks());
         }
         walks
     }
@@ -194,15 +157,22 @@ impl Routers {
     /// Lets the routers go.
     pub fn close(self) {
         let Routers {
+            fault: _,
+            refused: _,
             alloc: _,
             times: _,
-            mut list,
-            refused: _,
-            fault: _,
+            mut cores,
         } = self;
-        while let Some(router) = list.pop() {
-            router.close();
+        while let Some(core) = cores.pop() {
+            core.close();
         }
-        list.destroy_empty();
+        cores.destroy_empty();
+    }
+}
+
+fn fault_after(before: Option<Fault>, error: CoreError) -> Option<Fault> {
+    match error {
+        CoreError::Memory => Some(Fault::Memory),
+        _ => before,
     }
 }

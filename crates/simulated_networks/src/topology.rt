@@ -94,35 +94,35 @@ impl Topology {
         }
     }
 
+    /// What the router's interfaces lead to; nothing, where there is no router.
+    pub fn ends_of(&self, place: usize) -> &[End] {
+        if place < self.ends.len() {
+            self.ends[place].as_slice()
+        } else {
+            &[]
+        }
+    }
+
     /// What the router's interface of this number leads to.
     pub fn end(&self, place: usize, interface: u16) -> Option<End> {
-        match self.ends.get(place) {
-            Some(ends) => ends.get(usize::from(interface).wrapping_sub(1)).copied(),
-            None => None,
-        }
+        let ends = self.ends_of(place);
+        ends.get(usize::from(interface).wrapping_sub(1)).copied()
     }
 
     // Whether the router has an interface left, and none that leads to the other one.
     fn may_join(&self, place: usize, other: usize) -> bool {
-        match self.ends.get(place) {
-            Some(ends) => ends.len() < MOST_INTERFACES && !lead_to(ends, other),
-            None => false,
-        }
+        let ends = self.ends_of(place);
+        place < self.ends.len() && ends.len() < MOST_INTERFACES && !lead_to(ends, other)
     }
 
     // The number of the router's next interface.
     fn next_interface(&self, place: usize) -> u8 {
-        match self.ends.get(place) {
-            Some(ends) => u8::try_from(ends.len().wrapping_add(1)).unwrap_or(1),
-            None => 1,
-        }
+        u8::try_from(self.ends_of(place).len().wrapping_add(1)).unwrap_or(1)
     }
 
     fn add_end(&mut self, place: usize, end: End) {
-        if let Some(ends) = self.ends.get_mut(place) {
-            if ends.push(end).is_err() {
-                self.lacks_memory = true;
-            }
+        if place < self.ends.len() && self.ends[place].push(end).is_err() {
+            self.lacks_memory = true;
         }
     }
 
