@@ -4,6 +4,8 @@
 #![tactic(auto)]
 
 mod acts;
+mod director;
+mod mail;
 mod phase;
 mod plan;
 mod play;
@@ -13,6 +15,5 @@ mod search;
 pub use acts::{Act, chosen};
 pub use phase::{Look, Phase, Sum};
 pub use plan::{Plan, Scenario};
-pub use play::Play;
 pub use run::{Outcome, play_scenario};
 pub use search::{Search, Sought, Stage};

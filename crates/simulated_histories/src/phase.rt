@@ -1,6 +1,6 @@
 //! What was seen, second by second.
 use simulated_networks::Seen;
-use std::alloc::{AllocError, Global};
+use std::alloc::Global;
 
 /// What was seen at the end of a second.
 #[derive(Clone, Copy)]
@@ -18,7 +18,7 @@ impl Look {
     /// All links are Full, all databases the same, and all tables those of the rules.
     pub fn is_calm(&self) -> bool {
         match (self.differ, self.seen) {
-            (Some(0), Some(seen)) => self.not_full == 0 && seen == Seen::NOTHING,
+            (Some(0), Some(seen)) => self.not_full == 0 && seen.is_nothing(),
             _ => false,
         }
     }
@@ -76,12 +76,8 @@ impl Phase {
         }
     }
 
-    /// Takes note of what was seen at the end of a second.
-    ///
-    /// # Errors
-    /// Where memory is refused.
-    pub fn note(&mut self, look: Look) -> Result<(), AllocError> {
-        self.looks.push(look)?;
+    /// Takes note of what was seen at the end of a second. False where memory is refused for it.
+    pub fn note(&mut self, look: Look) -> bool {
         self.seconds = look.second;
         if look.not_full > 0 {
             self.full = look.second;
@@ -93,7 +89,7 @@ impl Phase {
             self.looping.add(seen.looping);
             self.nowhere.add(seen.nowhere);
         }
-        Ok(())
+        self.looks.push(look).is_ok()
     }
 
     /// Tells whether all has been calm for so many seconds.

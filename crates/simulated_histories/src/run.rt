@@ -1,10 +1,9 @@
 //! A network from its start over a change to rest.
+use crate::director::{Deed, Director};
 use crate::phase::{Look, Phase};
 use crate::plan::{Plan, Scenario};
 use flood::Event;
-use simulated_networks::{
-    Counts, Fault, Faults, NOBODY, Network, Random, Tables, Topology, prefix,
-};
+use simulated_networks::{Counts, Fault, Faults, Network, Random, Topology};
 use std::alloc::Global;
 
 /// What came of a plan.
@@ -23,6 +22,20 @@ pub struct Outcome {
 }
 
 impl Outcome {
+    // Nothing yet.
+    fn new(alloc: Global) -> Outcome {
+        Outcome {
+            routers: 0,
+            links: 0,
+            lsas: 0,
+            walks: 0,
+            counts: Counts::ZERO,
+            start: Phase::new(alloc),
+            change: Phase::new(alloc),
+            rest: Phase::new(alloc),
+        }
+    }
+
     /// All was calm at the end.
     pub fn is_at_rest(&self) -> bool {
         match self.rest.last() {
@@ -34,376 +47,187 @@ impl Outcome {
 
 // It has no `Drop`, since a network has none.
 struct Run<'a> {
-    network: Network,
-    tables: Tables,
-    // who announces each destination
-    owners: Vec<usize>,
-    // how long each link stays down yet
-    down: Vec<u64>,
-    random: Random,
-    plan: &'a Plan,
+    network: Network<'a>,
+    director: Director<'a>,
     events: &'a [Event],
-}
-
-fn small(count: usize) -> u32 {
-    u32::try_from(count).unwrap_or(0)
+    // memory was refused for what was seen
+    lacks_memory: bool,
 }
 
 impl<'a> Run<'a> {
-    fn owner(&self, number: usize) -> usize {
-        self.owners.get(number).copied().unwrap_or(NOBODY)
-    }
-
-    fn set_owner(&mut self, number: usize, place: usize) {
-        if number < self.owners.len() {
-            self.owners[number] = place;
+    // Why something is left out: memory was refused, or the times aren't allowed.
+    fn fault(&self) -> Option<Fault> {
+        if self.lacks_memory || self.director.lacks_memory {
+            Some(Fault::Memory)
+        } else {
+            self.network.fault()
         }
     }
 
-    fn announces(&mut self, number: usize, place: usize) -> Result<(), Fault> {
+    fn announces(&mut self, place: usize, number: usize) {
         let events = self.events;
-        let Some(event) = events.get(number) else {
-            return Ok(());
-        };
-        self.set_owner(number, place);
-        self.network.happens(place, event)
-    }
-
-    fn withdraws(&mut self, number: usize) -> Result<(), Fault> {
-        let place = self.owner(number);
-        let Some(prefix) = prefix(small(number)) else {
-            return Ok(());
-        };
-        self.set_owner(number, NOBODY);
-        self.network.happens(place, &Event::Withdraw(prefix))
-    }
-
-    // Who is to announce the destination: announcers are spread over all places.
-    fn announcer(&self, number: usize) -> usize {
-        let many = (self.plan.announcers as usize).max(1);
-        let turn = number % many;
-        turn.wrapping_mul(self.network.count()) / many
-    }
-
-    fn announces_all(&mut self) -> Result<(), Fault> {
-        for number in 0..self.events.len() {
-            let place = self.announcer(number);
-            self.announces(number, place)?;
+        if number < events.len() {
+            self.network.happens(place, &events[number]);
         }
-        Ok(())
     }
 
-    fn withdraws_all(&mut self) -> Result<(), Fault> {
-        for number in 0..self.owners.len() {
-            if self.owner(number) != NOBODY {
-                self.withdraws(number)?;
+    fn does(&mut self, deed: Deed) {
+        match deed {
+            Deed::LinkUp(link) => self.network.link_up(link),
+            Deed::LinkDown(link, notice) => self.network.link_down(link, notice),
+            Deed::Announce(place, number) => self.announces(place, number),
+            Deed::Withdraw(place, prefix) => {
+                self.network.happens(place, &Event::Withdraw(prefix))
             }
-        }
-        Ok(())
-    }
-
-    fn restarts(&mut self, place: usize) -> Result<(), Fault> {
-        self.network.restarts(place)?;
-        for number in 0..self.owners.len() {
-            if self.owner(number) == place {
-                self.announces(number, place)?;
-            }
-        }
-        Ok(())
-    }
-
-    fn links(&self) -> usize {
-        self.network.topology().links.len()
-    }
-
-    fn middle(&self) -> usize {
-        self.links() / 2
-    }
-
-    fn restarts_in_the_middle(&mut self) -> Result<(), Fault> {
-        match self.network.topology().links.get(self.middle()).copied() {
-            Some(link) => self.restarts(link.one),
-            None => Ok(()),
+            Deed::Restart(place) => self.network.restarts(place),
         }
     }
 
-    fn flaps(&mut self, second: u64) -> Result<(), Fault> {
-        let link = self.middle();
-        match second % 10 {
-            1 => self.network.set_link(link, false, true),
-            6 => self.network.set_link(link, true, false),
-            _ => Ok(()),
+    fn does_all(&mut self) {
+        let deeds = self.director.take();
+        for deed in &deeds {
+            self.does(*deed);
         }
     }
 
-    // The links between the halves of the places go up or down.
-    fn divides(&mut self, up: bool) -> Result<(), Fault> {
-        let half = self.network.count() / 2;
-        for number in 0..self.links() {
-            if let Some(link) = self.network.topology().links.get(number).copied() {
-                if (link.one < half) != (link.other < half) {
-                    self.network.set_link(number, up, true)?;
-                }
-            }
+    fn second(&mut self, scenario: Scenario, second: u64) {
+        self.network.passes();
+        if second <= scenario.last_act() {
+            self.director.acts(scenario, second);
         }
-        Ok(())
+        self.does_all();
+        self.network.delivers();
     }
 
-    // A link that is down for a while comes up again when that is over.
-    fn waits_for(&mut self, number: usize) -> Result<(), Fault> {
-        if number >= self.down.len() {
-            return Ok(());
-        }
-        let left = self.down[number];
-        self.down[number] = left.saturating_sub(1);
-        if left == 1 {
-            self.network.set_link(number, true, false)?;
-        }
-        Ok(())
-    }
-
-    fn loses_a_link(&mut self) -> Result<(), Fault> {
-        let links = self.links();
-        let number = self.random.place(links);
-        let seconds = u64::from(self.random.below(20)).saturating_add(1);
-        let notice = self.random.below(2) == 0;
-        if number >= self.down.len() || self.down[number] > 0 {
-            return Ok(());
-        }
-        self.down[number] = seconds;
-        self.network.set_link(number, false, notice)
-    }
-
-    fn changes_a_destination(&mut self) -> Result<(), Fault> {
-        let count = self.owners.len();
-        let number = self.random.place(count);
-        if number >= count {
-            return Ok(());
-        }
-        if self.owner(number) == NOBODY {
-            let place = self.announcer(number);
-            self.announces(number, place)
-        } else {
-            self.withdraws(number)
-        }
-    }
-
-    fn restarts_any(&mut self) -> Result<(), Fault> {
-        let count = self.network.count();
-        let place = self.random.place(count);
-        self.restarts(place)
-    }
-
-    fn storms(&mut self, second: u64) -> Result<(), Fault> {
-        for number in 0..self.down.len() {
-            self.waits_for(number)?;
-        }
-        if second > 120 {
-            return Ok(());
-        }
-        self.strikes()
-    }
-
-    fn strikes(&mut self) -> Result<(), Fault> {
-        if self.random.below(100) < 30 {
-            self.loses_a_link()?;
-        }
-        if self.random.below(100) < 5 {
-            self.restarts_any()?;
-        }
-        if self.random.below(100) < 30 {
-            self.changes_a_destination()?;
-        }
-        Ok(())
-    }
-
-    // What is done in this second of the scenario.
-    fn acts(&mut self, scenario: Scenario, second: u64) -> Result<(), Fault> {
-        if second > scenario.last_act() {
-            return Ok(());
-        }
-        let link = self.middle();
-        match scenario {
-            Scenario::Start => Ok(()),
-            Scenario::Link => self.network.set_link(link, false, true),
-            Scenario::Silent => self.network.set_link(link, false, false),
-            Scenario::Restart => self.restarts_in_the_middle(),
-            Scenario::Flap => self.flaps(second),
-            Scenario::Partition if second == 1 => self.divides(false),
-            Scenario::Partition if second == 61 => self.divides(true),
-            Scenario::Partition => Ok(()),
-            Scenario::Announce => self.announces_all(),
-            Scenario::Withdraw => self.withdraws_all(),
-            Scenario::Storm => self.storms(second),
-        }
-    }
-
-    fn second(&mut self, scenario: Scenario, second: u64) -> Result<(), Fault> {
-        self.network.passes()?;
-        self.acts(scenario, second)?;
-        self.network.delivers()
-    }
-
-    fn look(&mut self, second: u64, watches: bool) -> Result<Look, Fault> {
-        let not_full = self.network.not_full();
-        self.tables.note(&mut self.network);
-        let differ = if not_full == 0 {
-            Some(self.tables.differ(&self.network))
-        } else {
-            None
-        };
-        let seen = if watches || differ == Some(0) {
-            Some(self.tables.see(&self.network, &self.owners)?)
-        } else {
-            None
-        };
-        Ok(Look {
+    fn look(&mut self, second: u64, watches: bool) -> Look {
+        let mut look = Look {
             second,
-            not_full,
-            differ,
-            seen,
-        })
+            not_full: self.network.not_full(),
+            differ: None,
+            seen: None,
+        };
+        let mut sees = watches;
+        if look.not_full == 0 {
+            let differ = self.network.differ();
+            look.differ = Some(differ);
+            sees = watches || differ == 0;
+        }
+        if sees {
+            look.seen = Some(self.network.see(&self.director.owners));
+        }
+        look
     }
 
-    // A second of the scenario. Tells whether all has been calm for a while since the last act.
-    fn goes_on(
-        &mut self,
-        scenario: Scenario,
-        second: u64,
-        phase: &mut Phase,
-    ) -> Result<bool, Fault> {
-        self.second(scenario, second)?;
-        let look = self.look(second, self.plan.watches)?;
-        phase.note(look)?;
-        Ok(second > scenario.last_act() && phase.has_settled_for(self.plan.stay))
+    fn notes(&mut self, second: u64, watches: bool, phase: &mut Phase) {
+        let look = self.look(second, watches);
+        if !phase.note(look) {
+            self.lacks_memory = true;
+        }
+    }
+
+    // A second of the scenario. Tells whether all has been calm for a while since the last act, or
+    // memory was refused.
+    fn goes_on(&mut self, plan: &Plan, scenario: Scenario, now: u64, phase: &mut Phase) -> bool {
+        self.second(scenario, now);
+        self.notes(now, plan.watches, phase);
+        let is_over = now > scenario.last_act() && phase.has_settled_for(plan.stay);
+        is_over || self.fault().is_some()
     }
 
     // Seconds until all is calm for a while after the last act.
-    fn phase(&mut self, scenario: Scenario, phase: &mut Phase) -> Result<(), Fault> {
-        for before in 0..self.plan.seconds {
-            if self.goes_on(scenario, before.saturating_add(1), phase)? {
-                return Ok(());
+    fn phase(&mut self, plan: &Plan, scenario: Scenario, phase: &mut Phase) {
+        for before in 0..plan.seconds {
+            if self.goes_on(plan, scenario, before.saturating_add(1), phase) {
+                return;
             }
         }
-        Ok(())
     }
 
-    fn idles(&mut self) -> Result<(), Fault> {
-        self.network.passes()?;
-        self.network.delivers()
+    fn begins(&mut self, plan: &Plan) {
+        self.network.wires.faults = plan.faults;
+        if plan.scenario != Scenario::Announce {
+            self.director.announces_all();
+        }
+        self.does_all();
     }
 
     // Seconds in which nothing is lost, late or repeated, of which the last is looked at.
-    fn rests(&mut self, phase: &mut Phase) -> Result<(), Fault> {
-        self.network.set_faults(Faults::NONE);
-        for _second in 0..self.plan.calm {
-            self.idles()?;
+    fn rests(&mut self, seconds: u64, phase: &mut Phase) {
+        self.network.wires.faults = Faults::NONE;
+        for _second in 0..seconds {
+            self.second(Scenario::Start, 0);
         }
-        let look = self.look(self.plan.calm, true)?;
-        phase.note(look)?;
-        Ok(())
+        self.notes(seconds, true, phase);
     }
 
-    // Nobody announces a destination, and each link is up.
-    fn clears(&mut self) -> Result<(), Fault> {
-        let (destinations, links) = (self.events.len(), self.links());
-        self.tables.begin(&self.network, destinations)?;
-        self.owners.resize(destinations, NOBODY)?;
-        self.down.resize(links, 0)?;
-        Ok(())
-    }
-
-    fn begins(&mut self) -> Result<(), Fault> {
-        self.clears()?;
-        self.network.set_faults(self.plan.faults);
-        match self.plan.scenario {
-            Scenario::Announce => Ok(()),
-            _ => self.announces_all(),
+    fn plays(&mut self, plan: &Plan, outcome: &mut Outcome) {
+        self.begins(plan);
+        self.phase(plan, Scenario::Start, &mut outcome.start);
+        if plan.scenario != Scenario::Start {
+            self.phase(plan, plan.scenario, &mut outcome.change);
         }
-    }
-
-    fn plays(&mut self, outcome: &mut Outcome) -> Result<(), Fault> {
-        self.begins()?;
-        self.phase(Scenario::Start, &mut outcome.start)?;
-        if self.plan.scenario != Scenario::Start {
-            self.phase(self.plan.scenario, &mut outcome.change)?;
-        }
-        self.rests(&mut outcome.rest)?;
+        self.rests(plan.calm, &mut outcome.rest);
         self.tells(outcome);
-        Ok(())
     }
 
     fn tells(&self, outcome: &mut Outcome) {
-        outcome.routers = self.network.count();
-        outcome.links = self.links();
-        if let Some(core) = self.network.core(0) {
+        let routers = &self.network.routers;
+        outcome.routers = routers.count();
+        outcome.links = self.network.wires.topology.links.len();
+        if let Some(core) = routers.get(0) {
             outcome.lsas = core.database().len();
         }
-        outcome.walks = self.network.walks();
-        outcome.counts = self.network.counts();
+        outcome.walks = routers.walks();
+        outcome.counts = self.network.wires.counts;
+        outcome.counts.refused = routers.refused;
     }
 
     fn close(self) {
         let Run {
             network,
-            tables: _,
-            owners: _,
-            down: _,
-            random: _,
-            plan: _,
+            director: _,
             events: _,
+            lacks_memory: _,
         } = self;
         network.close();
     }
 }
 
-fn unplayed(alloc: Global) -> Outcome {
-    Outcome {
-        routers: 0,
-        links: 0,
-        lsas: 0,
-        walks: 0,
-        counts: Counts::ZERO,
-        start: Phase::new(alloc),
-        change: Phase::new(alloc),
-        rest: Phase::new(alloc),
-    }
-}
-
-fn network_of(alloc: Global, plan: &Plan, random: &mut Random) -> Result<Network, Fault> {
-    let topology = Topology::new(
-        alloc,
-        random,
-        plan.topology,
-        plan.routers as usize,
-        plan.spread,
-    )?;
-    Network::new(alloc, topology, plan.times, plan.seed)
-}
-
-// Plays the plan with this network, and lets it go.
-fn play_with(
+// Plays the plan with routers that begin in this topology, and tells what stopped it.
+fn play_in(
     alloc: Global,
-    network: Network,
+    topology: &Topology,
     random: Random,
     plan: &Plan,
     events: &[Event],
-) -> Result<Outcome, Fault> {
+    outcome: &mut Outcome,
+) -> Option<Fault> {
     let mut run = Run {
-        network,
-        tables: Tables::new(alloc),
-        owners: Vec::new(alloc),
-        down: Vec::new(alloc),
-        random,
-        plan,
+        network: Network::new(alloc, topology, plan.times, plan.seed),
+        director: Director::new(alloc, plan, topology, random, events.len()),
         events,
+        lacks_memory: false,
     };
-    let mut outcome = unplayed(alloc);
-    let played = run.plays(&mut outcome);
+    if run.fault().is_none() {
+        run.plays(plan, outcome);
+    }
+    let fault = run.fault();
     run.close();
-    match played {
-        Ok(()) => Ok(outcome),
-        Err(fault) => Err(fault),
+    fault
+}
+
+fn play_into(
+    alloc: Global,
+    plan: &Plan,
+    events: &[Event],
+    outcome: &mut Outcome,
+) -> Result<(), Fault> {
+    let mut random = Random::new(plan.seed);
+    let routers = plan.routers as usize;
+    let topology = Topology::new(alloc, &mut random, plan.topology, routers, plan.spread)?;
+    match play_in(alloc, &topology, random, plan, events, outcome) {
+        None => Ok(()),
+        Some(fault) => Err(fault),
     }
 }
 
@@ -412,7 +236,9 @@ fn play_with(
 /// # Errors
 /// Where memory is refused, or the times aren't allowed.
 pub fn play_scenario(alloc: Global, plan: &Plan, events: &[Event]) -> Result<Outcome, Fault> {
-    let mut random = Random::new(plan.seed);
-    let network = network_of(alloc, plan, &mut random)?;
-    play_with(alloc, network, random, plan, events)
+    let mut outcome = Outcome::new(alloc);
+    match play_into(alloc, plan, events, &mut outcome) {
+        Ok(()) => Ok(outcome),
+        Err(fault) => Err(fault),
+    }
 }

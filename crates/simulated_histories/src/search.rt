@@ -43,6 +43,15 @@ pub struct Stage<'a> {
     pub events: &'a [Event],
 }
 
+// What came of a turn.
+#[derive(Clone, Copy)]
+struct Turn {
+    // something was taken out or made simpler
+    some: bool,
+    // what stopped it
+    fault: Option<Fault>,
+}
+
 // How many acts are left out at once.
 const PARTS: [usize; 10] = [512, 256, 128, 64, 32, 16, 8, 4, 2, 1];
 
@@ -103,11 +112,11 @@ impl Search {
     }
 
     // Whether the play ends with what is sought.
-    fn is_seen(&self, play: &mut Play<'_>, acts: &[Act]) -> Result<bool, Fault> {
-        play.does_all(acts)?;
-        play.does(Act::Calm(self.calm))?;
+    fn is_seen(&self, play: &mut Play<'_>, acts: &[Act]) -> bool {
+        play.does_all(acts);
+        play.does(Act::Calm(self.calm));
         match self.sought {
-            Sought::Databases => Ok(play.differ()),
+            Sought::Databases => play.differ(),
             Sought::Loops => play.loop_between_two(),
         }
     }
@@ -117,10 +126,28 @@ impl Search {
     /// # Errors
     /// Where memory is refused, or the times aren't allowed.
     pub fn shows(&self, stage: Stage<'_>, acts: &[Act]) -> Result<bool, Fault> {
-        let mut play = Play::new(stage, self.times)?;
+        let mut play = Play::new(stage, self.times);
         let seen = self.is_seen(&mut play, acts);
+        let fault = play.fault();
         play.close();
-        seen
+        match fault {
+            None => Ok(seen),
+            Some(fault) => Err(fault),
+        }
+    }
+
+    // Tells whether the history ends with what is sought; not where something stopped the turn.
+    fn shows_yet(&self, stage: Stage<'_>, acts: &[Act], turn: &mut Turn) -> bool {
+        if turn.fault.is_some() {
+            return false;
+        }
+        match self.shows(stage, acts) {
+            Ok(shown) => shown,
+            Err(fault) => {
+                turn.fault = Some(fault);
+                false
+            }
+        }
     }
 
     // Takes so many acts out from a place on, if the rest still shows what is sought. Tells
@@ -131,88 +158,76 @@ impl Search {
         kept: &mut Vec<Act>,
         from: usize,
         many: usize,
-    ) -> Result<bool, Fault>
+        turn: &mut Turn,
+    ) -> bool
         requires { from ≤ vec_len kept.old }
         ensures fewer { vec_len kept.new ≤ vec_len kept.old }
-        ensures left { IfOk result (λ shows. kept.new.items ≡ (if shows
+        ensures left { kept.new.items ≡ (if result
             then take from kept.old.items ++ drop (from + many) kept.old.items
-            else kept.old.items)) }
+            else kept.old.items) }
     {
-        let fewer = without(stage.alloc, kept.as_slice(), from, many)?;
-        if !self.shows(stage, &fewer)? {
-            return Ok(false);
+        let Ok(fewer) = without(stage.alloc, kept.as_slice(), from, many) else {
+            turn.fault = Some(Fault::Memory);
+            return false;
+        };
+        if !self.shows_yet(stage, &fewer, turn) {
+            return false;
         }
         *kept = fewer;
-        Ok(true)
+        turn.some = true;
+        true
     }
 
     // Takes parts of so many acts out one after the other, each where the rest still shows what is
-    // sought. Tells whether one was taken out.
-    fn leave_out(&self, stage: Stage<'_>, kept: &mut Vec<Act>, many: usize) -> Result<bool, Fault>
+    // sought.
+    fn leave_out(&self, stage: Stage<'_>, kept: &mut Vec<Act>, many: usize, turn: &mut Turn)
         ensures { vec_len kept.new ≤ vec_len kept.old }
     {
         let mut from = 0_usize;
-        let mut some = false;
         for _ in 0..kept.len() {
             if from >= kept.len() {
-                return Ok(some);
+                return;
             }
-            if self.leaves_out(stage, kept, from, many)? {
-                some = true;
-            } else {
+            if !self.leaves_out(stage, kept, from, many, turn) {
                 from = from.saturating_add(many);
             }
         }
-        Ok(some)
     }
 
-    // Puts a simpler act at the place, if the history still shows what is sought. Tells whether.
-    fn makes_simpler(
-        &self,
-        stage: Stage<'_>,
-        kept: &mut Vec<Act>,
-        place: usize,
-    ) -> Result<bool, Fault>
+    // Puts this act at the place, if the history still shows what is sought.
+    fn puts(&self, stage: Stage<'_>, kept: &mut Vec<Act>, place: usize, act: Act, turn: &mut Turn)
+        requires { place < vec_len kept.old }
         ensures { vec_len kept.new ≡ vec_len kept.old }
     {
-        if place >= kept.len() {
-            return Ok(false);
-        }
-        let Some(act) = kept[place].simpler() else {
-            return Ok(false);
+        let Ok(tried) = with_other(stage.alloc, kept.as_slice(), place, act) else {
+            turn.fault = Some(Fault::Memory);
+            return;
         };
-        let tried = with_other(stage.alloc, kept.as_slice(), place, act)?;
-        if !self.shows(stage, &tried)? {
-            return Ok(false);
+        if !self.shows_yet(stage, &tried, turn) {
+            return;
         }
         *kept = tried;
-        Ok(true)
+        turn.some = true;
     }
 
-    fn make_simpler(&self, stage: Stage<'_>, kept: &mut Vec<Act>) -> Result<bool, Fault>
+    // Puts a simpler act at each place, where the history still shows what is sought.
+    fn make_simpler(&self, stage: Stage<'_>, kept: &mut Vec<Act>, turn: &mut Turn)
         ensures { vec_len kept.new ≡ vec_len kept.old }
     {
-        let mut some = false;
         for place in 0..kept.len() {
-            if self.makes_simpler(stage, kept, place)? {
-                some = true;
+            if let Some(act) = kept[place].simpler() {
+                self.puts(stage, kept, place, act, turn);
             }
         }
-        Ok(some)
     }
 
-    // Tells whether something was taken out or made simpler.
-    fn shorten_once(&self, stage: Stage<'_>, kept: &mut Vec<Act>) -> Result<bool, Fault>
+    fn shorten_once(&self, stage: Stage<'_>, kept: &mut Vec<Act>, turn: &mut Turn)
         ensures { vec_len kept.new ≤ vec_len kept.old }
     {
-        let mut some = false;
         for many in &PARTS {
-            if self.leave_out(stage, kept, *many)? {
-                some = true;
-            }
+            self.leave_out(stage, kept, *many, turn);
         }
-        let simpler = self.make_simpler(stage, kept)?;
-        Ok(some || simpler)
+        self.make_simpler(stage, kept, turn);
     }
 
     /// Makes a history that shows what is sought shorter, as long as what is left still does: then
@@ -225,8 +240,15 @@ impl Search {
         ensures { vec_len kept.new ≤ vec_len kept.old }
     {
         for _ in 0..TURNS {
-            if !self.shorten_once(stage, kept)? {
-                return Ok(());
+            let mut turn = Turn {
+                some: false,
+                fault: None,
+            };
+            self.shorten_once(stage, kept, &mut turn);
+            match turn.fault {
+                Some(fault) => return Err(fault),
+                None if turn.some => (),
+                None => return Ok(()),
             }
         }
         Ok(())
@@ -236,11 +258,11 @@ impl Search {
     fn shorten_shown(&self, stage: Stage<'_>, kept: &mut Vec<Act>) -> Result<bool, Fault>
         ensures { vec_len kept.new ≤ vec_len kept.old }
     {
-        if !self.shows(stage, kept.as_slice())? {
-            return Ok(false);
+        let shown = self.shows(stage, kept.as_slice())?;
+        if shown {
+            self.shorten(stage, kept)?;
         }
-        self.shorten(stage, kept)?;
-        Ok(true)
+        Ok(shown)
     }
 
     /// The short history that is left of that of this seed, if that shows what is sought.
@@ -251,9 +273,10 @@ impl Search {
         ensures { IfOk result (λ found. IfSome found (λ acts. vec_len acts ≤ self.now.steps + 1)) }
     {
         let mut acts = self.history(stage.alloc, seed)?;
-        if !self.shorten_shown(stage, &mut acts)? {
-            return Ok(None);
+        match self.shorten_shown(stage, &mut acts) {
+            Ok(true) => Ok(Some(acts)),
+            Ok(false) => Ok(None),
+            Err(fault) => Err(fault),
         }
-        Ok(Some(acts))
     }
 }

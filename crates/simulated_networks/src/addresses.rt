@@ -21,17 +21,14 @@ pub fn of_destination(number: u32) -> Address {
     Address::new(FIRST_DESTINATION.wrapping_add(number.wrapping_mul(256)))
 }
 
-/// The number of the link of this address; None where it is none of a link.
-pub fn link_at(address: Address) -> Option<u32> {
-    let offset = address.bits().wrapping_sub(FIRST_LINK);
+/// The number of the prefix at this address: that of its link, or that of its destination behind
+/// so many links.
+pub fn number_at(address: Address, links: usize) -> usize {
+    let bits = address.bits();
+    let offset = bits.wrapping_sub(FIRST_LINK);
     if offset < LINK_ADDRESSES {
-        Some(offset / 4)
+        (offset / 4) as usize
     } else {
-        None
+        links.wrapping_add((bits.wrapping_sub(FIRST_DESTINATION) / 256) as usize)
     }
-}
-
-/// The number of the destination of this address.
-pub fn destination_at(address: Address) -> u32 {
-    address.bits().wrapping_sub(FIRST_DESTINATION) / 256
 }

@@ -1,4 +1,5 @@
 //! What a run counts.
+use words::u32_at;
 
 /// How much a network did. No count passes its greatest value.
 #[derive(Clone, Copy)]
@@ -28,24 +29,12 @@ impl Counts {
         most_under_way: 0,
     };
 
-    pub(crate) fn count_event(&mut self) {
-        self.events = self.events.saturating_add(1);
-    }
-
-    pub(crate) fn count_refusal(&mut self) {
-        self.refused = self.refused.saturating_add(1);
-    }
-
-    pub(crate) fn count_loss(&mut self) {
-        self.lost = self.lost.saturating_add(1);
-    }
-
-    pub(crate) fn count_sent(&mut self, bytes: &[u8]) {
-        self.packets = self.packets.saturating_add(1);
-        self.bytes = self.bytes.saturating_add(bytes.len() as u64);
-        if is_update(bytes) {
-            self.copies = self.copies.saturating_add(lsas_in(bytes));
-        }
+    // Counts a packet that is sent, and tells whether it is a Link State Update.
+    pub(crate) fn count_sent(&mut self, bytes: &[u8]) -> bool {
+        add(&mut self.packets, 1);
+        add(&mut self.bytes, bytes.len() as u64);
+        add(&mut self.copies, lsas_in(bytes));
+        is_update(bytes)
     }
 
     pub(crate) fn count_under_way(&mut self, packets: usize) {
@@ -53,19 +42,21 @@ impl Counts {
     }
 }
 
-/// Tells whether the packet is a Link State Update (RFC 2328, A.3.1).
-pub fn is_update(bytes: &[u8]) -> bool {
-    match bytes.get(1) {
-        Some(kind) => *kind == 4,
-        None => false,
-    }
+/// Counts so many more.
+pub fn add(count: &mut u64, more: u64) {
+    *count = count.saturating_add(more);
 }
 
-// How many LSAs stand in the Update (RFC 2328, A.3.5).
+/// Tells whether the packet is a Link State Update (RFC 2328, A.3.1).
+pub fn is_update(bytes: &[u8]) -> bool {
+    bytes.len() > 1 && bytes[1] == 4
+}
+
+// How many LSAs stand in the packet, if it is an Update (RFC 2328, A.3.5).
 fn lsas_in(bytes: &[u8]) -> u64 {
-    let mut count = 0_u64;
-    for byte in bytes.get(24..28).unwrap_or(&[]) {
-        count = count.wrapping_mul(256).wrapping_add(u64::from(*byte));
+    if is_update(bytes) && bytes.len() >= 28 {
+        u64::from(u32_at(bytes, 24))
+    } else {
+        0
     }
-    count
 }

@@ -15,14 +15,13 @@ pub fn prefix(number: u32) -> Option<Prefix> {
     Prefix::new(of_destination(number), 24)
 }
 
-fn destination(number: u32) -> Option<External> {
-    let prefix = prefix(number)?;
-    Some(External {
+fn destination(prefix: Prefix) -> External {
+    External {
         prefix,
         metric: 20,
         kind: ExternalType::Type2,
         tag: 0,
-    })
+    }
 }
 
 // The destination is to be announced as it is configured.
@@ -35,22 +34,27 @@ fn answered(
     requires { IsOf shared.now seat.old }
     ensures { IsOf shared.now seat.new }
 {
-    let tag = asker.tag(external, Second::new(0), &[], shared, seat)?;
-    let price = asker.price(external, Second::new(0), &[], shared, seat)?;
-    Some(Event::Redistribute(tag, price))
+    let tag = asker.tag(external, Second::new(0), &[], shared, seat);
+    let price = asker.price(external, Second::new(0), &[], shared, seat);
+    match (tag, price) {
+        (Some(tag), Some(price)) => Some(Event::Redistribute(tag, price)),
+        _ => None,
+    }
 }
 
-fn announcement(
-    asker: &mut Asker,
-    shared: &Shared,
-    seat: &mut Seat,
-    number: u32,
-) -> Result<Event, Fault>
+fn announcement(asker: &mut Asker, shared: &Shared, seat: &mut Seat, number: u32) -> Option<Event>
     requires { IsOf shared.now seat.old }
     ensures { IsOf shared.now seat.new }
 {
-    match destination(number) {
-        Some(external) => answered(asker, shared, seat, &external).ok_or(Fault::Destination),
+    match prefix(number) {
+        Some(prefix) => answered(asker, shared, seat, &destination(prefix)),
+        None => None,
+    }
+}
+
+fn add(events: &mut Vec<Event>, event: Option<Event>) -> Result<(), Fault> {
+    match event {
+        Some(event) => Ok(events.push(event)?),
         None => Err(Fault::Destination),
     }
 }
@@ -65,27 +69,43 @@ fn add_announcements(
     requires { IsOf shared.now seat.old }
 {
     for number in 0..count {
-        let event = announcement(asker, shared, seat, number)?;
-        events.push(event)?;
+        add(events, announcement(asker, shared, seat, number))?;
     }
     Ok(())
+}
+
+fn announced(
+    alloc: Global,
+    asker: &mut Asker,
+    shared: &Shared,
+    seat: &mut Seat,
+    count: u32,
+) -> Result<Vec<Event>, Fault>
+    requires { IsOf shared.now seat.old }
+{
+    let mut events = Vec::new(alloc);
+    match add_announcements(&mut events, asker, shared, seat, count) {
+        Ok(()) => Ok(events),
+        Err(fault) => Err(fault),
+    }
 }
 
 // The announcements of so many destinations, where no program is published.
 fn unprogrammed<R: Wait + Drop>(
     alloc: Global,
     rt: R,
+    shared: &Shared,
+    seat: &mut Seat,
     count: u32,
-    events: &mut Vec<Event>,
-) -> Result<(), Fault> {
-    let (shared, mut seats) = Shared::new(alloc, 1)?;
-    let (loader, mut askers) = programs(alloc, rt, 1)?;
-    let (Some(mut seat), Some(mut asker)) = (seats.pop(), askers.pop()) else {
-        return Err(Fault::Destination);
-    };
-    let made = add_announcements(events, &mut asker, &shared, &mut seat, count);
-    drop(loader);
-    made
+) -> Result<Vec<Event>, Fault>
+    requires { IsOf shared.now seat.old }
+{
+    // without the loader an asker answers nothing
+    let (_loader, mut askers) = programs(alloc, rt, 1)?;
+    match askers.first_mut() {
+        Some(asker) => announced(alloc, asker, shared, seat, count),
+        None => Err(Fault::Destination),
+    }
 }
 
 /// The announcements of so many destinations, by their numbers.
@@ -97,9 +117,9 @@ pub fn announcements<R: Wait + Drop + Copy>(
     rt: R,
     count: u32,
 ) -> Result<Vec<Event>, Fault> {
-    let mut events = Vec::new(alloc);
-    match unprogrammed(alloc, rt, count, &mut events) {
-        Ok(()) => Ok(events),
-        Err(fault) => Err(fault),
+    let (shared, mut seats) = Shared::new(alloc, 1)?;
+    match seats.pop() {
+        Some(mut seat) => unprogrammed(alloc, rt, &shared, &mut seat, count),
+        None => Err(Fault::Destination),
     }
 }

@@ -1,167 +1,54 @@
-//! Routers as they begin, and what two of them have in common.
-use crate::addresses::on_link;
+//! The routers of a network.
 use crate::fault::Fault;
+use crate::router::{Times, begun, fulls_of, print_of};
 use crate::topology::{End, Topology};
-use flood::{Config, Core, CoreError, Event, Interface, Out, State};
-use lsa::Header;
+use flood::{Core, CoreError, Event, Out};
 use std::alloc::{AllocError, AllocFailed, Global};
 use std::mem::replace;
-use words::{Address, Key, RouterId, Second, Sequence};
-
-/// The times of all interfaces, in seconds.
-#[derive(Clone, Copy)]
-pub struct Times {
-    pub hello: u16,
-    pub dead: u32,
-    pub retransmit: u16,
-}
-
-// The Router ID of the router at a place: 0.0.0.1 and so on.
-fn router_at(place: usize) -> RouterId {
-    RouterId::new(u32::try_from(place.wrapping_add(1)).unwrap_or(1))
-}
-
-// The end of a link at the router with the lower place has its first address.
-fn address(end: &End, place: usize) -> Address {
-    let number = u32::try_from(end.link).unwrap_or(0);
-    let host = if place < end.place { 1 } else { 2 };
-    on_link(number, host)
-}
-
-fn interface(end: &End, address: Address, times: Times) -> Interface {
-    Interface {
-        address,
-        length: 30,
-        cost: end.cost,
-        hello_interval: times.hello,
-        dead_interval: times.dead,
-        retransmit_interval: times.retransmit,
-        delay: 1,
-    }
-}
-
-fn interfaces(
-    alloc: Global,
-    ends: &[End],
-    place: usize,
-    times: Times,
-) -> Result<Vec<Interface>, AllocError> {
-    let mut made = Vec::new(alloc);
-    for end in ends {
-        made.push(interface(end, address(end, place), times))?;
-    }
-    Ok(made)
-}
-
-fn configuration(
-    alloc: Global,
-    topology: &Topology,
-    place: usize,
-    times: Times,
-    moment: u64,
-) -> Result<Config, AllocError> {
-    let made = match topology.ends.get(place) {
-        Some(ends) => interfaces(alloc, ends, place, times)?,
-        None => Vec::new(alloc),
-    };
-    Ok(Config {
-        router: router_at(place),
-        start: Second::new(moment),
-        interfaces: Sequence::from_vec(made),
-    })
-}
-
-// The router at a place as it begins at this moment.
-fn begun(
-    alloc: Global,
-    topology: &Topology,
-    place: usize,
-    times: Times,
-    moment: u64,
-) -> Result<Core, Fault> {
-    let config = configuration(alloc, topology, place, times, moment)?;
-    match Core::new(alloc, &config) {
-        Ok(core) => Ok(core),
-        Err(error) => Err(Fault::from(error)),
-    }
-}
-
-// What the router sends at an event; None where it refuses the event for another reason than that
-// memory is refused.
-fn stepped(core: &mut Core, moment: u64, event: &Event) -> Result<Option<Vec<Out>>, Fault> {
-    match core.step(Second::new(moment), event) {
-        Ok(outs) => Ok(Some(outs)),
-        Err(CoreError::Memory) => Err(Fault::Memory),
-        Err(_) => Ok(None),
-    }
-}
-
-/// Tells whether the router sees its neighbor at the interface as Full.
-pub fn sees_full(core: &Core, interface: u8) -> bool {
-    match core.neighbor(u16::from(interface)) {
-        Some((_, State::Full)) => true,
-        _ => false,
-    }
-}
-
-fn are_instances_of_one(a: &Header, b: &Header) -> bool {
-    a.sequence == b.sequence && a.checksum == b.checksum && a.length == b.length
-}
-
-fn both_hold(one: &Core, other: &Core, key: &Key) -> bool {
-    match (one.database().get(key), other.database().get(key)) {
-        (Some(a), Some(b)) => are_instances_of_one(&a.lsa.header(), &b.lsa.header()),
-        _ => false,
-    }
-}
-
-/// Tells whether both hold LSAs of the same keys with the same lengths, sequence numbers and
-/// checksums.
-pub fn holds_the_same(one: &Core, other: &Core) -> bool {
-    if one.database().len() != other.database().len() {
-        return false;
-    }
-    for key in one.database().keys() {
-        if !both_hold(one, other, &key) {
-            return false;
-        }
-    }
-    true
-}
+use words::{Hops, Route, Second};
 
 /// The routers of a network, by their places. They have no `Drop`: who has them closes them, so
 /// that no other crate proves once more how the parts of a router are let go.
 pub struct Routers {
+    /// Why something is left out: memory was refused, or the times aren't allowed.
+    pub fault: Option<Fault>,
+    /// How many events were refused.
+    pub refused: u64,
+    alloc: Global,
+    times: Times,
     cores: Vec<Core>,
 }
 
 impl Routers {
-    /// None yet.
-    pub fn new(alloc: Global) -> Routers {
-        Routers {
+    /// Those of the topology, which begin at 0.
+    pub fn new(alloc: Global, topology: &Topology, times: Times) -> Routers {
+        let mut routers = Routers {
+            fault: None,
+            refused: 0,
+            alloc,
+            times,
             cores: Vec::new(alloc),
+        };
+        for ends in &topology.ends {
+            routers.add(ends);
+        }
+        routers
+    }
+
+    fn add(&mut self, ends: &[End]) {
+        match begun(self.alloc, ends, self.cores.len(), self.times, 0) {
+            Ok(core) => self.keep(core),
+            Err(fault) => self.fault = Some(fault),
         }
     }
 
-    /// Adds those of the topology, which begin at 0.
-    ///
-    /// # Errors
-    /// Where memory is refused, or the times aren't allowed.
-    pub fn begin(&mut self, alloc: Global, topology: &Topology, times: Times) -> Result<(), Fault> {
-        for place in 0..topology.ends.len() {
-            let core = begun(alloc, topology, place, times, 0)?;
-            self.add(core)?;
-        }
-        Ok(())
-    }
-
-    fn add(&mut self, core: Core) -> Result<(), Fault> {
+    fn keep(&mut self, core: Core) {
         match self.cores.push(core) {
-            Ok(()) => Ok(()),
+            Ok(()) => (),
             Err(failed) => {
                 let AllocFailed { value } = failed;
                 value.close();
-                Err(Fault::Memory)
+                self.fault = Some(Fault::Memory);
             }
         }
     }
@@ -173,44 +60,89 @@ impl Routers {
 
     /// The router at a place.
     pub fn get(&self, place: usize) -> Option<&Core> {
-        self.cores.get(place)
+        if place < self.cores.len() {
+            Some(&self.cores[place])
+        } else {
+            None
+        }
     }
 
-    /// What the router at a place sends at an event; None where there is no router, or it refuses
-    /// the event for another reason than that memory is refused.
-    ///
-    /// # Errors
-    /// Where memory is refused.
-    pub fn step(
+    fn answered(
         &mut self,
         place: usize,
         moment: u64,
         event: &Event,
-    ) -> Result<Option<Vec<Out>>, Fault> {
-        match self.cores.get_mut(place) {
-            Some(core) => stepped(core, moment, event),
-            None => Ok(None),
+    ) -> Result<Vec<Out>, CoreError> {
+        if place < self.cores.len() {
+            self.cores[place].step(Second::new(moment), event)
+        } else {
+            Err(CoreError::NoInterface)
+        }
+    }
+
+    /// What the router at a place sends at an event; nothing, where there is no router, or it
+    /// refuses the event.
+    pub fn step(&mut self, place: usize, moment: u64, event: &Event) -> Vec<Out> {
+        match self.answered(place, moment, event) {
+            Ok(outs) => outs,
+            Err(error) => {
+                self.refused = self.refused.saturating_add(1);
+                self.fault = fault_after(self.fault, error);
+                Vec::new(self.alloc)
+            }
+        }
+    }
+
+    fn put(&mut self, place: usize, core: Core) {
+        if place < self.cores.len() {
+            replace(&mut self.cores[place], core).close();
+        } else {
+            core.close();
         }
     }
 
     /// The router at a place begins anew at this moment; nothing, where there is none.
+    pub fn restart(&mut self, topology: &Topology, place: usize, moment: u64) {
+        match begun(
+            self.alloc,
+            topology.ends_of(place),
+            place,
+            self.times,
+            moment,
+        ) {
+            Ok(core) => self.put(place, core),
+            Err(fault) => self.fault = Some(fault),
+        }
+    }
+
+    /// The interfaces of the router with a Full neighbor.
+    pub(crate) fn fulls(&self, place: usize) -> Hops {
+        if place < self.cores.len() {
+            fulls_of(&self.cores[place])
+        } else {
+            Hops::NONE
+        }
+    }
+
+    /// A number that the instances give which the router holds below MaxAge.
+    pub(crate) fn print(&self, place: usize) -> u64 {
+        if place < self.cores.len() {
+            print_of(&self.cores[place])
+        } else {
+            0
+        }
+    }
+
+    /// The routes that the router has for its table.
     ///
     /// # Errors
-    /// Where memory is refused, or the times aren't allowed.
-    pub fn restart(
-        &mut self,
-        alloc: Global,
-        topology: &Topology,
-        place: usize,
-        times: Times,
-        moment: u64,
-    ) -> Result<(), Fault> {
-        let core = begun(alloc, topology, place, times, moment)?;
-        match self.cores.get_mut(place) {
-            None => core.close(),
-            Some(old) => replace(old, core).close(),
+    /// Where memory is refused.
+    pub(crate) fn routes(&self, place: usize) -> Result<Vec<Route>, AllocError> {
+        if place < self.cores.len() {
+            self.cores[place].candidates()
+        } else {
+            Ok(Vec::new(self.alloc))
         }
-        Ok(())
     }
 
     /// How many walks they have made and kept.
@@ -224,10 +156,23 @@ impl Routers {
 
     /// Lets the routers go.
     pub fn close(self) {
-        let Routers { mut cores } = self;
+        let Routers {
+            fault: _,
+            refused: _,
+            alloc: _,
+            times: _,
+            mut cores,
+        } = self;
         while let Some(core) = cores.pop() {
             core.close();
         }
         cores.destroy_empty();
+    }
+}
+
+fn fault_after(before: Option<Fault>, error: CoreError) -> Option<Fault> {
+    match error {
+        CoreError::Memory => Some(Fault::Memory),
+        _ => before,
     }
 }

@@ -1,7 +1,8 @@
 //! What the tables of all routers say together.
+use crate::counts::add;
 
 /// How many pairs of a router and a prefix show this.
-#[derive(Clone, Copy, PartialEq)]
+#[derive(Clone, Copy)]
 pub struct Seen {
     /// A walk over next hops comes back to the router.
     pub looping: u64,
@@ -25,12 +26,17 @@ impl Seen {
         stray: 0,
     };
 
+    /// Tells whether none shows any of it.
+    pub fn is_nothing(&self) -> bool {
+        (self.looping | self.nowhere | self.missing | self.other_cost | self.stray) == 0
+    }
+
     /// Both together.
     pub fn add(&mut self, more: &Seen) {
-        self.looping = self.looping.saturating_add(more.looping);
-        self.nowhere = self.nowhere.saturating_add(more.nowhere);
-        self.missing = self.missing.saturating_add(more.missing);
-        self.other_cost = self.other_cost.saturating_add(more.other_cost);
-        self.stray = self.stray.saturating_add(more.stray);
+        add(&mut self.looping, more.looping);
+        add(&mut self.nowhere, more.nowhere);
+        add(&mut self.missing, more.missing);
+        add(&mut self.other_cost, more.other_cost);
+        add(&mut self.stray, more.stray);
     }
 }

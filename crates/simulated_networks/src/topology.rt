@@ -34,6 +34,8 @@ pub struct Topology {
     pub links: Vec<Link>,
     // costs are 10 and less than so many more
     spread: u32,
+    // memory was refused: something is left out
+    lacks_memory: bool,
 }
 
 // A router has no more interfaces.
@@ -56,207 +58,165 @@ impl Topology {
             ends: Vec::new(alloc),
             links: Vec::new(alloc),
             spread,
+            lacks_memory: false,
         };
-        match made.grow(alloc, random, kind, routers) {
-            Ok(()) => Ok(made),
-            Err(error) => Err(error),
+        made.grow(alloc, random, kind, routers);
+        if made.lacks_memory {
+            Err(AllocError)
+        } else {
+            Ok(made)
         }
     }
 
-    fn grow(
-        &mut self,
-        alloc: Global,
-        random: &mut Random,
-        kind: Kind,
-        routers: usize,
-    ) -> Result<(), AllocError> {
+    fn grow(&mut self, alloc: Global, random: &mut Random, kind: Kind, routers: usize) {
         let half = half_of(routers);
         let count = match kind {
             Kind::FatTree => half.wrapping_mul(half).wrapping_mul(5),
             _ => routers,
         };
-        self.add_routers(alloc, count)?;
+        self.add_routers(alloc, count);
         match kind {
-            Kind::Grid => self.join_grid(random, count),
-            Kind::Row => self.join_row(random, count),
+            Kind::Grid => self.join_grid(random, count, count.isqrt()),
+            // a row is a grid that is as wide as it has routers
+            Kind::Row => self.join_grid(random, count, count),
             Kind::Ring => self.join_ring(random, count),
             Kind::FatTree => self.join_pods(random, half),
             Kind::Random => self.join_any(random, count),
         }
     }
 
-    fn add_routers(&mut self, alloc: Global, count: usize) -> Result<(), AllocError> {
+    fn add_routers(&mut self, alloc: Global, count: usize) {
         for _place in 0..count {
             let none: Vec<End> = Vec::new(alloc);
-            self.ends.push(none)?;
+            if self.ends.push(none).is_err() {
+                self.lacks_memory = true;
+            }
         }
-        Ok(())
+    }
+
+    /// What the router's interfaces lead to; nothing, where there is no router.
+    pub fn ends_of(&self, place: usize) -> &[End] {
+        if place < self.ends.len() {
+            self.ends[place].as_slice()
+        } else {
+            &[]
+        }
     }
 
     /// What the router's interface of this number leads to.
     pub fn end(&self, place: usize, interface: u16) -> Option<End> {
-        let ends = self.ends.get(place)?;
+        let ends = self.ends_of(place);
         ends.get(usize::from(interface).wrapping_sub(1)).copied()
     }
 
-    // How many interfaces the router has; where there is no router, as many as there may be.
-    fn interfaces(&self, place: usize) -> usize {
-        match self.ends.get(place) {
-            Some(ends) => ends.len(),
-            None => MOST_INTERFACES,
+    // Whether the router has an interface left, and none that leads to the other one.
+    fn may_join(&self, place: usize, other: usize) -> bool {
+        let ends = self.ends_of(place);
+        place < self.ends.len() && ends.len() < MOST_INTERFACES && !lead_to(ends, other)
+    }
+
+    // The number of the router's next interface.
+    fn next_interface(&self, place: usize) -> u8 {
+        u8::try_from(self.ends_of(place).len().wrapping_add(1)).unwrap_or(1)
+    }
+
+    fn add_end(&mut self, place: usize, end: End) {
+        if place < self.ends.len() && self.ends[place].push(end).is_err() {
+            self.lacks_memory = true;
         }
     }
 
-    fn are_joined(&self, one: usize, other: usize) -> bool {
-        match self.ends.get(one) {
-            Some(ends) => ends.iter().any(|end| end.place == other),
-            None => true,
-        }
-    }
-
-    fn add_end(&mut self, place: usize, end: End) -> Result<(), AllocError> {
-        if let Some(ends) = self.ends.get_mut(place) {
-            ends.push(end)?;
-        }
-        Ok(())
-    }
-
-    fn add_link(
-        &mut self,
-        random: &mut Random,
-        one: usize,
-        other: usize,
-    ) -> Result<(), AllocError> {
+    fn add_link(&mut self, random: &mut Random, one: usize, other: usize) {
         let cost = u16::try_from(random.below(self.spread).wrapping_add(10)).unwrap_or(10);
-        let link = self.links.len();
-        let one_interface = next_interface(self.interfaces(one));
-        let other_interface = next_interface(self.interfaces(other));
-        self.add_end(
-            one,
-            End {
-                place: other,
-                interface: other_interface,
-                link,
-                cost,
-            },
-        )?;
-        self.add_end(
-            other,
-            End {
-                place: one,
-                interface: one_interface,
-                link,
-                cost,
-            },
-        )?;
-        self.links.push(Link {
+        let one_interface = self.next_interface(one);
+        let other_interface = self.next_interface(other);
+        let mut end = End {
+            place: other,
+            interface: other_interface,
+            link: self.links.len(),
+            cost,
+        };
+        self.add_end(one, end);
+        end.place = one;
+        end.interface = one_interface;
+        self.add_end(other, end);
+        let link = Link {
             one,
             one_interface,
             other,
             other_interface,
-        })?;
-        Ok(())
+        };
+        if self.links.push(link).is_err() {
+            self.lacks_memory = true;
+        }
     }
 
     // Joins two routers, unless they are joined or one has no interface left.
-    fn join(&mut self, random: &mut Random, one: usize, other: usize) -> Result<(), AllocError> {
-        if one == other
-            || self.interfaces(one) >= MOST_INTERFACES
-            || self.interfaces(other) >= MOST_INTERFACES
-            || self.are_joined(one, other)
-        {
-            return Ok(());
+    fn join(&mut self, random: &mut Random, one: usize, other: usize) {
+        if one != other && self.may_join(one, other) && self.may_join(other, one) {
+            self.add_link(random, one, other);
         }
-        self.add_link(random, one, other)
     }
 
-    fn join_grid(&mut self, random: &mut Random, count: usize) -> Result<(), AllocError> {
-        let width = root_of(count);
+    // Joins a router to so many others from a place on.
+    fn join_all(&mut self, random: &mut Random, one: usize, first: usize, count: usize) {
+        for step in 0..count {
+            self.join(random, one, first.wrapping_add(step));
+        }
+    }
+
+    fn join_grid(&mut self, random: &mut Random, count: usize, width: usize) {
         for place in 0..count {
             let right = place.wrapping_add(1);
             if width > 0 && right % width != 0 {
-                self.join(random, place, right)?;
+                self.join(random, place, right);
             }
-            self.join(random, place, place.wrapping_add(width))?;
+            self.join(random, place, place.wrapping_add(width));
         }
-        Ok(())
     }
 
-    fn join_row(&mut self, random: &mut Random, count: usize) -> Result<(), AllocError> {
-        for place in 1..count {
-            self.join(random, place.wrapping_sub(1), place)?;
-        }
-        Ok(())
+    fn join_ring(&mut self, random: &mut Random, count: usize) {
+        self.join_grid(random, count, count);
+        self.join(random, count.wrapping_sub(1), 0);
     }
 
-    fn join_ring(&mut self, random: &mut Random, count: usize) -> Result<(), AllocError> {
-        self.join_row(random, count)?;
-        self.join(random, count.wrapping_sub(1), 0)
-    }
-
-    fn join_any(&mut self, random: &mut Random, count: usize) -> Result<(), AllocError> {
+    fn join_any(&mut self, random: &mut Random, count: usize) {
         for place in 1..count {
             let other = random.place(place);
-            self.join(random, place, other)?;
+            self.join(random, place, other);
         }
         for _link in 0..count {
-            let (one, other) = (random.place(count), random.place(count));
-            self.join(random, one, other)?;
+            let one = random.place(count);
+            let other = random.place(count);
+            self.join(random, one, other);
         }
-        Ok(())
-    }
-
-    // Joins the upper switch of a pod to the lower ones of the pod, and to its switches at the
-    // core.
-    fn join_upper(
-        &mut self,
-        random: &mut Random,
-        half: usize,
-        base: usize,
-        upper: usize,
-    ) -> Result<(), AllocError> {
-        let place = base.wrapping_add(upper);
-        for lower in 0..half {
-            self.join(random, place, base.wrapping_add(half).wrapping_add(lower))?;
-        }
-        for one in 0..half {
-            self.join(random, place, upper.wrapping_mul(half).wrapping_add(one))?;
-        }
-        Ok(())
     }
 
     // First the switches at the core, half times half; then pods of twice half, half of them upper
-    // ones.
-    fn join_pods(&mut self, random: &mut Random, half: usize) -> Result<(), AllocError> {
+    // ones. An upper one is joined to the lower ones of its pod, and to its switches at the core.
+    fn join_pods(&mut self, random: &mut Random, half: usize) {
         let pods = half.wrapping_mul(2);
         for pod in 0..pods {
             let base = half.wrapping_mul(half).wrapping_add(pod.wrapping_mul(pods));
             for upper in 0..half {
-                self.join_upper(random, half, base, upper)?;
+                let place = base.wrapping_add(upper);
+                self.join_all(random, place, base.wrapping_add(half), half);
+                self.join_all(random, place, upper.wrapping_mul(half), half);
             }
         }
-        Ok(())
     }
 }
 
-// The number of the interface behind so many, of which there are at most 63.
-fn next_interface(count: usize) -> u8 {
-    u8::try_from(count.wrapping_add(1)).unwrap_or(1)
-}
-
-// The greatest number below 65,536 whose square is at most the count.
-fn root_of(count: usize) -> usize {
-    let mut root = 0_usize;
-    for next in 1..65_536_usize {
-        if next.wrapping_mul(next) > count {
-            return root;
+fn lead_to(ends: &[End], place: usize) -> bool {
+    for end in ends {
+        if end.place == place {
+            return true;
         }
-        root = next;
     }
-    root
+    false
 }
 
 // Half of the ports of a switch in the greatest fat tree of at most so many, and at least 1.
 fn half_of(routers: usize) -> usize {
-    root_of(routers / 5).max(1)
+    (routers / 5).isqrt().max(1)
 }

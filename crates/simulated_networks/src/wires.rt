@@ -1,6 +1,9 @@
-//! What is under way over the links.
-use crate::topology::End;
-use flood::Event;
+//! What is under way over the links, and what becomes of it.
+use crate::counts::{Counts, add};
+use crate::random::{Faults, Random};
+use crate::topology::{End, Topology};
+use flood::{Event, Out};
+use forwarding_loops::Link;
 use std::alloc::Global;
 use std::mem::replace;
 
@@ -14,53 +17,46 @@ pub struct Coming {
     due: u64,
 }
 
-/// The links, and what is under way over them.
+/// The links, and what is under way over them. What is refused for want of memory is left out.
 #[derive(Drop)]
-pub struct Wires {
+pub struct Wires<'a> {
+    pub topology: &'a Topology,
+    pub moment: u64,
+    pub counts: Counts,
+    /// How many packets are lost, late and repeated.
+    pub faults: Faults,
+    pub random: Random,
+    /// Memory was refused: something isn't under way that should be.
+    pub lacks_memory: bool,
     alloc: Global,
     is_up: Vec<bool>,
     next: Vec<Coming>,
     late: Vec<Coming>,
 }
 
-fn keep(list: &mut Vec<Coming>, coming: Coming) -> bool {
-    list.push(coming).is_ok()
-}
-
-fn add(list: &mut Vec<Coming>, end: &End, event: Event, due: u64) -> bool {
-    let coming = Coming {
-        place: end.place,
-        link: end.link,
-        event,
-        due,
-    };
-    keep(list, coming)
-}
-
-// All of the list, which is empty then.
-fn taken(list: &mut Vec<Coming>, alloc: Global) -> Vec<Coming> {
-    replace(list, Vec::new(alloc))
-}
-
-impl Wires {
-    /// No links yet.
-    pub fn new(alloc: Global) -> Wires {
+impl<'a> Wires<'a> {
+    /// Those of the topology, which are up, with the numbers of this seed. Nothing is lost, late
+    /// or repeated.
+    pub fn new(alloc: Global, topology: &'a Topology, seed: u64) -> Wires<'a> {
+        let mut is_up = Vec::new(alloc);
+        let lacks_memory = is_up.resize(topology.links.len(), true).is_err();
         Wires {
+            topology,
+            moment: 0,
+            counts: Counts::ZERO,
+            faults: Faults::NONE,
+            random: Random::new(seed),
+            lacks_memory,
             alloc,
-            is_up: Vec::new(alloc),
+            is_up,
             next: Vec::new(alloc),
             late: Vec::new(alloc),
         }
     }
 
-    /// One more link, which is up. False where memory is refused.
-    pub fn add_link(&mut self) -> bool {
-        self.is_up.push(true).is_ok()
-    }
-
     /// Tells whether the link is up.
     pub fn is_up(&self, link: usize) -> bool {
-        self.is_up.get(link).copied().unwrap_or(false)
+        link < self.is_up.len() && self.is_up[link]
     }
 
     /// The link goes up or down.
@@ -70,39 +66,102 @@ impl Wires {
         }
     }
 
-    /// The event is under way to an end, and comes with the next round. False where memory is
-    /// refused.
-    pub fn send(&mut self, end: &End, event: Event) -> bool {
-        add(&mut self.next, end, event, 0)
-    }
-
-    /// The event is under way to an end, and comes at a later moment. False where memory is
-    /// refused.
-    pub fn send_late(&mut self, end: &End, event: Event, due: u64) -> bool {
-        add(&mut self.late, end, event, due)
-    }
-
-    fn sort(&mut self, coming: Coming, moment: u64) -> bool {
-        if coming.due <= moment {
-            keep(&mut self.next, coming)
-        } else {
-            keep(&mut self.late, coming)
-        }
-    }
-
-    /// What is due at the moment comes with the next round. False where memory is refused.
-    pub fn wake(&mut self, moment: u64) -> bool {
-        let waiting = taken(&mut self.late, self.alloc);
+    /// Adds the links that are up. False where memory is refused.
+    pub fn add_links_up(&self, up: &mut Vec<Link>) -> bool {
+        let links = self.topology.links.as_slice();
         let mut fits = true;
-        for coming in waiting {
-            fits = self.sort(coming, moment) && fits;
+        for number in 0..links.len() {
+            if self.is_up(number) {
+                fits = up.push(links[number]).is_ok() && fits;
+            }
         }
         fits
     }
 
+    // The event is under way. Where it is due, it comes with the next round.
+    fn put(&mut self, coming: Coming) {
+        let list = if coming.due <= self.moment {
+            &mut self.next
+        } else {
+            &mut self.late
+        };
+        if list.push(coming).is_err() {
+            self.lacks_memory = true;
+        }
+    }
+
+    // The moment at which an event comes that is sent now: at once or up to three seconds later.
+    fn due(&mut self) -> u64 {
+        if self.random.happens(self.faults.late) {
+            let wait = self.random.below(3).saturating_add(1);
+            self.moment.saturating_add(u64::from(wait))
+        } else {
+            self.moment
+        }
+    }
+
+    fn goes(&mut self, end: &End, event: Event) {
+        let due = self.due();
+        self.put(Coming {
+            place: end.place,
+            link: end.link,
+            event,
+            due,
+        });
+    }
+
+    fn goes_again(&mut self, end: &End, event: &Event) {
+        match event.copy() {
+            Ok(copy) => self.goes(end, copy),
+            Err(_) => self.lacks_memory = true,
+        }
+    }
+
+    // What goes out to an end, and isn't lost.
+    fn goes_out(&mut self, end: &End, event: Event) {
+        if self.random.happens(self.faults.twice) {
+            self.goes_again(end, &event);
+        }
+        self.goes(end, event);
+    }
+
+    fn is_lost(&mut self) -> bool {
+        let lost = self.random.happens(self.faults.loss);
+        add(&mut self.counts.lost, u64::from(lost));
+        lost
+    }
+
+    // What the router sends at an interface, if that leads somewhere.
+    fn sends(&mut self, place: usize, out: Out) {
+        if let Some(end) = self.topology.end(place, out.interface) {
+            if !self.is_lost() {
+                self.goes_out(&end, Event::Packet(u16::from(end.interface), out.bytes));
+            }
+        }
+    }
+
+    /// The router at the place sends all of this. Tells whether a Link State Update is among it.
+    pub fn send_all(&mut self, place: usize, outs: Vec<Out>) -> bool {
+        let mut updates = false;
+        for out in outs {
+            updates = self.counts.count_sent(out.bytes.as_slice()) || updates;
+            self.sends(place, out);
+        }
+        updates
+    }
+
+    /// A second goes by: what is due then comes with the next round.
+    pub fn wake(&mut self) {
+        self.moment = self.moment.saturating_add(1);
+        for coming in replace(&mut self.late, Vec::new(self.alloc)) {
+            self.put(coming);
+        }
+    }
+
     /// All that comes with this round.
     pub fn take(&mut self) -> Vec<Coming> {
-        taken(&mut self.next, self.alloc)
+        self.counts.count_under_way(self.next.len());
+        replace(&mut self.next, Vec::new(self.alloc))
     }
 
     /// Tells whether nothing comes with the next round.

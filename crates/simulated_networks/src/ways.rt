@@ -1,0 +1,36 @@
+//! The ways of routers to prefixes.
+use forwarding_loops::Way;
+use words::{Route, RouteKind};
+
+/// The cost where there is no way.
+pub const NO_COST: u32 = 0xffff_ffff;
+
+/// There is no way.
+pub const NONE: Way = Way {
+    hops: 0,
+    cost: NO_COST,
+};
+
+/// The way ends at the router itself, which announces the prefix.
+pub const HERE: Way = Way { hops: 1, cost: 0 };
+
+/// The way of this route.
+pub fn way_of(route: &Route) -> Way {
+    let cost = match route.kind {
+        RouteKind::External2 => route.distance,
+        _ => route.cost,
+    };
+    Way {
+        hops: route.hops.bits(),
+        cost,
+    }
+}
+
+/// The way at this place; none, where there is none.
+pub fn way_at(ways: &[Way], place: usize) -> Way {
+    if place < ways.len() {
+        ways[place]
+    } else {
+        NONE
+    }
+}
