@@ -103,6 +103,9 @@ impl Routers {
 
     /// The router at a place begins anew at this moment; nothing, where there is none.
     pub fn restart(&mut self, topology: &Topology, place: usize, moment: u64) {
+        if place >= self.cores.len() {
+            return;
+        }
         match begun(
             self.alloc,
             topology.ends_of(place),
