@@ -139,8 +139,10 @@ fn length_of(place: Place<Value>) -> u64 {
     }
 }
 
-/// The bytes of an access, as `8 bytes at r6 + 4: map 1, offset 4`.
-fn push_access(out: &mut Text, state: &State<Value>, access: &Access) {
+/// The bytes of an access, as `8 bytes at r6 + 4: map 1, offset 4`. Returns the greatest offset
+/// that is allowed there, if the place is known.
+fn push_access(out: &mut Text, state: &State<Value>, instruction: &Instruction) -> Option<u64> {
+    let access = access_of(instruction)?;
     let words = if access.offset < 0 {
         "  {} bytes at r{} + -{}: "
     } else {
@@ -149,27 +151,23 @@ fn push_access(out: &mut Text, state: &State<Value>, access: &Access) {
     let base = access.base.index() as u128;
     let distance = u128::from(access.offset.unsigned_abs());
     out.fill(words, &[u128::from(access.length), base, distance]);
-    if let Some(place) = place_of(state, access) {
-        push_place(out, place);
-    }
-    out.push("\n")
+    let Some(place) = place_of(state, &access) else {
+        out.push("\n");
+        return None;
+    };
+    push_place(out, place);
+    out.push("\n");
+    Some(length_of(place).saturating_sub(access.length))
 }
 
 fn push_bounds(out: &mut Text, state: &State<Value>, instruction: &Instruction) {
-    let Some(access) = access_of(instruction) else {
-        return;
-    };
-    push_access(out, state, &access);
-    if let Some(place) = place_of(state, &access) {
-        let most = length_of(place).saturating_sub(access.length);
+    if let Some(most) = push_access(out, state, instruction) {
         out.numbered("  allowed: 0..", most, "\n");
     }
 }
 
 fn push_align(out: &mut Text, state: &State<Value>, instruction: &Instruction) {
-    if let Some(access) = access_of(instruction) {
-        push_access(out, state, &access);
-    }
+    let _most = push_access(out, state, instruction);
     out.push("  allowed: in a map 8 bytes at a multiple of 8\n")
 }
 
@@ -250,28 +248,28 @@ pub(crate) fn push_reason(
 pub(crate) fn push_misplaced(out: &mut Text, slot: usize, instruction: &Instruction, rule: Rule)
     requires { slot < 4096 }
 {
-    let (words, number) = match (rule, jump_of(slot, instruction)) {
-        (Rule::Target, Some(to)) => (
-            "  it jumps to slot {}, where no instruction begins\n  allowed: a slot of the code \
-                where one begins\n",
-            to,
+    let to = jump_of(slot, instruction).unwrap_or(slot);
+    match rule {
+        Rule::Target => out.numbered(
+            "  it jumps to slot ",
+            to as u64,
+            ", where no instruction begins\n  allowed: a slot of the code where one begins\n",
         ),
-        (Rule::Unstated, Some(to)) => (
-            "  it jumps to slot {}, which has no statement\n  allowed: a slot that is stated\n",
-            to,
+        Rule::Unstated => out.numbered(
+            "  it jumps to slot ",
+            to as u64,
+            ", which has no statement\n  allowed: a slot that is stated\n",
         ),
-        (Rule::FallsOff, _) => {
-            return out.push(
-                "  behind it the code ends\n  allowed: an exit or a goto as the last instruction\n",
-            );
-        }
-        _ => (
-            "  slot {} has no statement, and nothing comes from the slot before\n  allowed: a slot \
-                that is stated\n",
-            slot,
+        Rule::FallsOff => out.push(
+            "  behind it the code ends\n  allowed: an exit or a goto as the last instruction\n",
         ),
-    };
-    out.fill(words, &[number as u128])
+        _ => out.numbered(
+            "  slot ",
+            slot as u64,
+            " has no statement, and nothing comes from the slot before\n  allowed: a slot that is \
+                stated\n",
+        ),
+    }
 }
 
 /// What is wrong with a statement where no instruction begins.
