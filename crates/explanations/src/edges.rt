@@ -1,46 +1,42 @@
 //! What breaks a rule where a statement is entered.
 ghost use Rattle.std.specs.Prelude.{◌<◌};
 
-use crate::phrases::{Value, push_kind, push_rank};
+use crate::phrases::{Value, followed_at, is_byte, known_at, push_kind, push_rank};
 use crate::text::Text;
-use isa::{Instruction, Register, Source, Test, Width};
-use kinds::{Entry, Kind, State, Target, kind_within};
+use isa::{Hook, Instruction};
+use kinds::{Fact, State, Target, kind_within};
 use object::RankTerm;
 use segments::edge::enter;
+use segments::follow::Operands;
 use segments::places::{jump_of, slots_of};
 use segments::target::stated_at;
 use transfer::branch::{Edges, refined, tested};
+use transfer::straight::straight;
 use verifier::Rule;
 
-fn known_at(kinds: &[Kind<Value>], register: usize) -> Kind<Value> {
-    kinds.get(register).copied().unwrap_or(Kind::Empty)
-}
-
-/// A line for each register that isn't within the statement.
-fn push_registers_outside(out: &mut Text, target: &Target<'_, Value>, state: &State<Value>) {
-    for register in 0..10usize {
-        let known = known_at(&state.kinds, register);
-        let stated = known_at(&target.kinds, register);
-        if !kind_within(known, stated) {
-            push_register_outside(out, register, known, stated);
-        }
+/// What is known of the register, and what is stated there, unless that is within it.
+fn push_register_outside(
+    out: &mut Text,
+    target: &Target<'_, Value>,
+    state: &State<Value>,
+    register: usize,
+) {
+    let known = known_at(&state.kinds, register);
+    let stated = known_at(&target.kinds, register);
+    if !kind_within(known, stated) {
+        out.numbered("  r", register as u64, ": ");
+        push_kind(out, known);
+        out.numbered("\n  allowed: r", register as u64, " ");
+        push_kind(out, stated);
+        out.push(", as is stated there\n")
     }
-}
-
-/// What is known of the register, and what is stated there.
-fn push_register_outside(out: &mut Text, register: usize, known: Kind<Value>, stated: Kind<Value>) {
-    out.numbered("  r", register as u64, ": ");
-    push_kind(out, known);
-    out.numbered("\n  allowed: r", register as u64, " ");
-    push_kind(out, stated);
-    out.push(", as is stated there\n");
 }
 
 /// The first byte of the stack that isn't within the statement.
 fn byte_outside(target: &Target<'_, Value>, state: &State<Value>) -> Option<usize> {
+    let stated = target.statement.stack();
     for place in 0..512usize {
-        let is_byte = matches!(state.entries.get(place), Some(Entry::Byte));
-        if target.statement.stack().contains(place) && !is_byte {
+        if stated.contains(place) & !is_byte(&state.entries, place) {
             return Some(place);
         }
     }
@@ -50,7 +46,9 @@ fn byte_outside(target: &Target<'_, Value>, state: &State<Value>) -> Option<usiz
 /// A line for each register that isn't within the statement, and for the first such byte of the
 /// stack.
 fn push_outside(out: &mut Text, target: &Target<'_, Value>, state: &State<Value>) {
-    push_registers_outside(out, target, state);
+    for register in 0..10usize {
+        push_register_outside(out, target, state, register);
+    }
     if let Some(place) = byte_outside(target, state) {
         out.numbered(
             "  stack ",
@@ -60,25 +58,24 @@ fn push_outside(out: &mut Text, target: &Target<'_, Value>, state: &State<Value>
     }
 }
 
+/// How a register follows from the statement above.
+fn push_followed(out: &mut Text, fact: Option<Fact>) {
+    match fact {
+        Some(Fact { origin, up, down }) => out.fill(
+            "; r{} of the statement above + {} - {}\n",
+            &[u128::from(origin), up, down],
+        ),
+        None => out.push("; not followed from the statement above\n"),
+    }
+}
+
+/// A line for the register of a rank's term.
 fn push_term(out: &mut Text, state: &State<Value>, term: &Option<RankTerm>) {
-    let Some(term) = term else {
-        return;
-    };
-    let register = usize::from(term.register());
-    out.numbered("  r", register as u64, ": ");
-    push_kind(out, known_at(&state.kinds, register));
-    match state.facts.get(register) {
-        Some(Some(fact)) => {
-            let origin = fact.origin;
-            let up = fact.up;
-            let down = fact.down;
-            out.numbered("; r", u64::from(origin), " of the statement above + ");
-            out.wide(up);
-            out.push(" - ");
-            out.wide(down);
-            out.push("\n");
-        }
-        _ => out.push("; not followed from the statement above\n"),
+    if let Some(term) = term {
+        let register = usize::from(term.register());
+        out.numbered("  r", register as u64, ": ");
+        push_kind(out, known_at(&state.kinds, register));
+        push_followed(out, followed_at(&state.facts, register))
     }
 }
 
@@ -91,91 +88,125 @@ fn push_ranks(
     state: &State<Value>,
 ) {
     let there = target.statement.rank();
-    let own = segment.statement.rank();
-    out.push("  the rank there: ");
-    push_rank(out, &there);
-    out.push("\n");
+    push_rank(out, "  the rank there: ", &there, "\n");
     push_term(out, state, &there.first);
     push_term(out, state, &there.second);
-    out.push(if is_back {
+    let allowed = if is_back {
         "  allowed: less than "
     } else {
         "  allowed: at most "
-    });
-    push_rank(out, &own);
-    out.push(", the rank of the statement above, or of the entry\n")
+    };
+    let behind = ", the rank of the statement above, or of the entry\n";
+    push_rank(out, allowed, &segment.statement.rank(), behind)
 }
 
-/// What is wrong where a run begins, if slot 0 is stated and anything is.
-pub(crate) fn push_start<'a>(
-    out: &mut Text,
-    targets: &[Option<Target<'a, Value>>],
-    entry: &Target<'a, Value>,
-    state: &State<Value>,
-) -> bool {
-    let Some(target) = stated_at(targets, 0) else {
-        return false;
-    };
-    let Err(rule) = enter(target, false, entry, state) else {
-        return false;
-    };
-    out.push("  on the way from the entry to slot 0\n");
-    push_edge(out, target, false, entry, state, rule);
-    true
+/// The ways from a slot.
+#[derive(Clone, Copy)]
+pub(crate) struct Ways<'a> {
+    pub targets: &'a [Option<Target<'a, Value>>],
+    /// The statement of the slot's segment.
+    pub segment: &'a Target<'a, Value>,
+    /// None at the entry.
+    pub slot: Option<usize>,
 }
 
-/// What is wrong on the way to a statement, by this rule.
-fn push_edge(
-    out: &mut Text,
-    target: &Target<'_, Value>,
-    is_back: bool,
-    segment: &Target<'_, Value>,
-    state: &State<Value>,
-    rule: Rule,
-) {
-    if rule == Rule::NotWithin {
-        push_outside(out, target, state)
-    } else {
-        push_ranks(out, target, is_back, segment, state)
+impl Ways<'_> {
+    /// Whether the way to the slot leads back.
+    fn leads_back(&self, to: usize) -> bool {
+        match self.slot {
+            Some(slot) => to <= slot,
+            None => false,
+        }
+    }
+
+    /// A line for the way to the slot.
+    fn push_way(&self, out: &mut Text, to: usize) {
+        match self.slot {
+            Some(slot) => out.fill(
+                "  on the way from slot {} to slot {}\n",
+                &[slot as u128, to as u128],
+            ),
+            None => out.numbered("  on the way from the entry to slot ", to as u64, "\n"),
+        }
+    }
+
+    /// What is wrong on the way to a statement at the slot, by this rule.
+    fn push_wrong(
+        &self,
+        out: &mut Text,
+        target: &Target<'_, Value>,
+        to: usize,
+        state: &State<Value>,
+        rule: Rule,
+    ) {
+        self.push_way(out, to);
+        if rule == Rule::NotWithin {
+            push_outside(out, target, state)
+        } else {
+            push_ranks(out, target, self.leads_back(to), self.segment, state)
+        }
     }
 }
 
-/// What is wrong on the way to the slot, if that is stated and anything is.
-fn push_to<'a>(
-    out: &mut Text,
-    targets: &[Option<Target<'a, Value>>],
-    segment: &Target<'a, Value>,
-    slot: usize,
-    to: usize,
-    state: &State<Value>,
-) -> bool {
-    let Some(target) = stated_at(targets, to) else {
+/// What is wrong on the way to the slot. Whether that is stated and anything is.
+pub(crate) fn push_to(out: &mut Text, ways: &Ways<'_>, to: usize, state: &State<Value>) -> bool {
+    let Some(target) = stated_at(ways.targets, to) else {
         return false;
     };
-    let is_back = to <= slot;
-    let Err(rule) = enter(target, is_back, segment, state) else {
-        return false;
-    };
-    out.numbered("  on the way from slot ", slot as u64, " to slot ");
-    out.number(to as u64);
-    out.push("\n");
-    push_edge(out, target, is_back, segment, state, rule);
-    true
+    match enter(target, ways.leads_back(to), ways.segment, state) {
+        Ok(()) => false,
+        Err(rule) => {
+            ways.push_wrong(out, target, to, state, rule);
+            true
+        }
+    }
 }
 
-/// What is wrong on the ways from an instruction, where what it leaves is known.
-pub(crate) fn push_ways<'a>(
+/// What is wrong on a way from a conditional jump, where its operands have these values. The state
+/// serves the other way afterwards. None where anything is wrong.
+fn push_narrowed(
     out: &mut Text,
-    targets: &[Option<Target<'a, Value>>],
-    segment: &Target<'a, Value>,
-    slot: usize,
-    instruction: &Instruction,
+    ways: &Ways<'_>,
+    operands: &Operands,
+    values: Option<(Value, Value)>,
+    to: usize,
     state: State<Value>,
-)
-    requires { slot < 4096 }
-{
-    let next = slot + slots_of(instruction);
-    let to = jump_of(slot, instruction);
+) -> Option<State<Value>> {
+    let Some(values) = values else {
+        return Some(state);
+    };
+    let there = refined(state, operands.left, operands.right, values);
+    if push_to(out, ways, to, &there) {
+        None
+    } else {
+        Some(there)
+    }
+}
+
+/// What is wrong on the way of a conditional jump, and else on the other one.
+fn push_both(
+    out: &mut Text,
+    ways: &Ways<'_>,
+    operands: &Operands,
+    edges: Edges<Value>,
+    to: usize,
+    next: usize,
+    state: State<Value>,
+) {
+    if let Some(state) = push_narrowed(out, ways, operands, edges.taken, to, state) {
+        let _left = push_narrowed(out, ways, operands, edges.passed, next, state);
+    }
+}
+
+/// What is wrong on the ways from a jump.
+fn push_jump(
+    out: &mut Text,
+    ways: &Ways<'_>,
+    instruction: &Instruction,
+    to: usize,
+    next: usize,
+    state: State<Value>,
+) {
     match *instruction {
         Instruction::Branch {
             width,
@@ -184,72 +215,45 @@ pub(crate) fn push_ways<'a>(
             right,
             ..
         } => {
-            let branch = Branch {
-                width,
-                test,
-                left,
-                right,
-                to: to.unwrap_or(next),
-                next,
-            };
-            push_branch(out, targets, segment, slot, &branch, state)
+            let operands = Operands { left, right };
+            if let Ok(edges) = tested(&state, width, test, operands.left, operands.right) {
+                push_both(out, ways, &operands, edges, to, next, state)
+            }
         }
         _ => {
-            let _is_wrong = push_to(out, targets, segment, slot, to.unwrap_or(next), &state);
+            let _is_wrong = push_to(out, ways, to, &state);
         }
     }
 }
 
-/// A conditional jump, and the two slots that it may lead to.
-#[derive(Clone, Copy)]
-struct Branch {
-    width: Width,
-    test: Test,
-    left: Register,
-    right: Source,
-    to: usize,
+/// What is wrong on the way to the next slot, from an instruction that is no jump.
+fn push_straight(
+    out: &mut Text,
+    ways: &Ways<'_>,
+    hook: Hook,
+    instruction: &Instruction,
     next: usize,
-}
-
-/// What is wrong on a way from a conditional jump.
-fn push_branch<'a>(
-    out: &mut Text,
-    targets: &[Option<Target<'a, Value>>],
-    segment: &Target<'a, Value>,
-    slot: usize,
-    branch: &Branch,
     state: State<Value>,
 ) {
-    match tested(&state, branch.width, branch.test, branch.left, branch.right) {
-        Ok(edges) => push_both(out, targets, segment, slot, branch, edges, state),
-        Err(_) => {}
+    if let Ok(after) = straight(state, hook, *instruction) {
+        let _is_wrong = push_to(out, ways, next, &after);
     }
 }
 
-/// What is wrong on the way of the jump, and else on the other one.
-fn push_both<'a>(
+/// What is wrong on the ways from an instruction, where this is known at it.
+pub(crate) fn push_ways(
     out: &mut Text,
-    targets: &[Option<Target<'a, Value>>],
-    segment: &Target<'a, Value>,
+    ways: &Ways<'_>,
+    hook: Hook,
     slot: usize,
-    branch: &Branch,
-    edges: Edges<Value>,
+    instruction: &Instruction,
     state: State<Value>,
-) {
-    let there = narrowed(state, branch, edges.taken);
-    if edges.taken.is_some() && push_to(out, targets, segment, slot, branch.to, &there) {
-        return;
-    }
-    let here = narrowed(there, branch, edges.passed);
-    if edges.passed.is_some() {
-        let _is_wrong = push_to(out, targets, segment, slot, branch.next, &here);
-    }
-}
-
-/// What is known where the operands have these values.
-fn narrowed(state: State<Value>, branch: &Branch, values: Option<(Value, Value)>) -> State<Value> {
-    match values {
-        Some(values) => refined(state, branch.left, branch.right, values),
-        None => state,
+)
+    requires { slot < 4096 }
+{
+    let next = slot + slots_of(instruction);
+    match jump_of(slot, instruction) {
+        Some(to) => push_jump(out, ways, instruction, to, next, state),
+        None => push_straight(out, ways, hook, instruction, next, state),
     }
 }

@@ -3,9 +3,9 @@ ghost use Rattle.std.specs.Prelude.{◌≡◌, ◌++◌, IfErr, IfOk, string_byt
 ghost use Rattle.explanations.specs.Told.{TellsVerdict, accepted_line, refused_words};
 ghost use Rattle.object_verdicts.specs.Verdicts.{Accepts, Refuses};
 
-use crate::edges::push_start;
+use crate::edges::{Ways, push_to};
 use crate::lines::instruction_lines;
-use crate::page::{Page, Texts};
+use crate::page::Page;
 use crate::phrases::Value;
 use crate::replay::{entry_statement, start};
 use crate::rules::{rule_hint, rule_name};
@@ -17,7 +17,7 @@ use kinds::{State, Target};
 use object::{Object, ReadError, Statement};
 use object_verdicts::{VerifyError, verify_object};
 use segments::target::targets_of;
-use std::alloc::{AllocError, AllocFailed, Global};
+use std::alloc::{AllocError, Global};
 use verifier::{Accepted, Refusal, Rule};
 
 /// What is to be told of an object, and what the verifier says of it.
@@ -41,18 +41,6 @@ pub enum ExplainError {
     Memory,
 }
 
-impl From<AllocError> for ExplainError {
-    fn from(_: AllocError) -> ExplainError {
-        ExplainError::Memory
-    }
-}
-
-impl<T: Drop> From<AllocFailed<T>> for ExplainError {
-    fn from(_: AllocFailed<T>) -> ExplainError {
-        ExplainError::Memory
-    }
-}
-
 impl From<ReadError> for ExplainError {
     fn from(error: ReadError) -> ExplainError {
         ExplainError::Object(error)
@@ -68,13 +56,12 @@ impl From<DecodeError> for ExplainError {
 /// What the bound is made of, where that is too great.
 fn push_budget(out: &mut Text, object: &Object) {
     let rank = object.entry_rank();
-    let slots = object.slots();
-    let bound = u64::from(rank)
-        .saturating_add(1)
-        .saturating_mul(slots as u64);
-    out.numbered("  (", u64::from(rank), " + 1) * ");
-    out.number(slots as u64);
-    out.numbered(" is ", bound, "\n  allowed: up to 1000000\n");
+    let slots = object.slots() as u64;
+    let bound = u64::from(rank).saturating_add(1).saturating_mul(slots);
+    out.fill(
+        "  ({} + 1) * {} is {}\n  allowed: up to 1000000\n",
+        &[u128::from(rank), u128::from(slots), u128::from(bound)],
+    )
 }
 
 /// The line for a program that is accepted with this bound.
@@ -94,25 +81,14 @@ fn refused(alloc: Global, refusal: Refusal) -> Result<String, AllocError>
 }
 
 /// What is told behind that: the rule by its name, the reasons, and a hint.
-fn refusal_words(
-    alloc: Global,
-    object: &Object,
-    rule: Rule,
-    reasons: &str,
-) -> Result<String, AllocError> {
-    let mut out = Text::new(alloc);
-    out.push(" ");
-    out.push(rule_name(rule));
-    out.push("\n");
+fn push_refusal(out: &mut Text, object: &Object, rule: Rule, reasons: &str) {
+    out.line(" ", rule_name(rule));
     if rule == Rule::Budget {
-        push_budget(&mut out, object);
+        push_budget(out, object);
     } else {
         out.push(reasons);
     }
-    out.push("  hint: ");
-    out.push(rule_hint(rule));
-    out.push("\n");
-    out.finish()
+    out.line("  hint: ", rule_hint(rule))
 }
 
 /// The refusal in words: where and by which rule, and then these.
@@ -124,25 +100,22 @@ fn refusal_told(alloc: Global, refusal: Refusal, more: &str) -> Result<String, A
     Ok(text)
 }
 
-/// The verdict in words.
+/// The verdict in words, if no memory was refused for the page.
 #[tactic(auto, using(crate::proofs::Refusals::tells_refusal))]
 fn verdict_told(
     alloc: Global,
-    object: &Object,
     verdict: &Result<Accepted, VerifyError>,
-    reasons: &str,
+    page: &Page<'_>,
 ) -> Result<String, AllocError>
     ensures { IfOk result (λ text. TellsVerdict verdict.now (string_bytes text)) }
 {
+    if page.is_cut() {
+        return Err(AllocError);
+    }
     match verdict {
-        Ok(program) => {
-            let text = accepted(alloc, program.bound())?;
-            Ok(text)
-        }
+        Ok(program) => accepted(alloc, program.bound()),
         Err(VerifyError::Refused(refusal)) => {
-            let more = refusal_words(alloc, object, refusal.rule, reasons)?;
-            let text = refusal_told(alloc, *refusal, more.as_str())?;
-            Ok(text)
+            refusal_told(alloc, *refusal, page.told.words.as_str())
         }
         Err(VerifyError::Object(_)) | Err(VerifyError::Code(_)) => Ok(String::new(alloc)),
     }
@@ -159,64 +132,91 @@ fn refusal_in(verdict: &Result<Accepted, VerifyError>) -> Option<Refusal> {
     }
 }
 
-/// What the verifier knows where a run begins, and then at each slot, up to the one that it
-/// refuses.
-fn push_from<'a>(
-    page: &mut Page,
+/// What the verifier knows at each slot, up to the one that it refuses, where this is known as a
+/// run begins.
+fn push_from(
+    page: &mut Page<'_>,
     program: &Program<'_>,
-    targets: &[Option<Target<'a, Value>>],
-    entry: &Target<'a, Value>,
+    entry: &Target<'_, Value>,
     first: State<Value>,
 ) {
-    if push_start(&mut page.reasons, targets, entry, &first) {
-        page.turn(0, program.lines)
+    let ways = Ways {
+        targets: program.targets,
+        segment: entry,
+        slot: None,
+    };
+    if push_to(&mut page.reasons, &ways, 0, &first) {
+        page.turn(0)
     } else {
-        push_pass(page, program, targets, entry, first)
+        push_pass(page, program, entry, first)
     }
 }
 
-/// The same, with what is known where a run begins.
-fn push_known_by<'a>(
+/// The same, with this statement at the entry.
+fn push_entered(
     alloc: Global,
-    page: &mut Page,
+    page: &mut Page<'_>,
     program: &Program<'_>,
-    targets: &[Option<Target<'a, Value>>],
-    statement: &'a Statement,
+    statement: &Statement,
     first: State<Value>,
 ) {
     match Vec::from_slice(alloc, &first.kinds) {
         Ok(kinds) => {
             let entry = Target { statement, kinds };
-            push_from(page, program, targets, &entry, first)
+            push_from(page, program, &entry, first)
         }
         Err(_) => page.reasons.is_cut = true,
     }
 }
 
-/// The same of a program with these statements.
-fn push_by<'a>(
-    alloc: Global,
-    page: &mut Page,
-    program: &Program<'_>,
-    targets: &[Option<Target<'a, Value>>],
-    statement: &'a Statement,
-) {
+/// The same of a program with this rank at the entry.
+fn push_ranked(alloc: Global, page: &mut Page<'_>, program: &Program<'_>, rank: u32) {
+    let Some(statement) = entry_statement(rank) else {
+        return;
+    };
     match start(alloc) {
-        Ok(first) => push_known_by(alloc, page, program, targets, statement, first),
+        Ok(first) => push_entered(alloc, page, program, &statement, first),
+        Err(_) => page.reasons.is_cut = true,
+    }
+}
+
+/// The same of an object's program, with the registers that may be read from each slot on.
+fn push_live(
+    alloc: Global,
+    page: &mut Page<'_>,
+    object: &Object,
+    code: &Code,
+    refusal: Option<Refusal>,
+    live: &[Registers],
+) {
+    if object.slots() != code.len() {
+        return;
+    }
+    match targets_of::<Value>(alloc, code.len(), object.statements()) {
+        Ok(targets) => {
+            let program = Program {
+                code,
+                hook: object.hook(),
+                live,
+                targets: &targets,
+                refusal,
+            };
+            push_ranked(alloc, page, &program, object.entry_rank())
+        }
         Err(_) => page.reasons.is_cut = true,
     }
 }
 
 /// The same of an object's program.
-fn push_object(alloc: Global, page: &mut Page, program: &Program<'_>, object: &Object) {
-    if object.slots() != program.code.len() {
-        return;
-    }
-    let Some(statement) = entry_statement(object.entry_rank()) else {
-        return;
-    };
-    match targets_of::<Value>(alloc, program.code.len(), object.statements()) {
-        Ok(targets) => push_by(alloc, page, program, &targets, &statement),
+fn push_object(
+    alloc: Global,
+    page: &mut Page<'_>,
+    object: &Object,
+    code: &Code,
+    refusal: Option<Refusal>,
+) {
+    match live_registers(alloc, code, object.hook()) {
+        Ok(live) => push_live(alloc, page, object, code, refusal, &live),
         Err(_) => page.reasons.is_cut = true,
     }
 }
@@ -228,48 +228,23 @@ fn push_head(out: &mut Text, object: &Object) {
     out.numbered(", rank ", u64::from(object.entry_rank()), " at the entry\n");
 }
 
-/// What the verifier knows where a run of the object's program begins, and at each slot.
-fn page_of(alloc: Global, object: &Object, program: &Program<'_>) -> Result<Texts, AllocError> {
-    let mut page = Page::new(alloc);
+/// All that is told of the object and its verdict, but how the verdict begins.
+fn push_all(
+    alloc: Global,
+    page: &mut Page<'_>,
+    object: &Object,
+    code: &Code,
+    verdict: &Result<Accepted, VerifyError>,
+) {
     push_head(&mut page.here, object);
-    push_object(alloc, &mut page, program, object);
-    page.finish()
+    push_object(alloc, page, object, code, refusal_in(verdict));
+    if let Err(VerifyError::Refused(refusal)) = verdict {
+        let reasons = page.reasons.words.as_str();
+        push_refusal(&mut page.told, object, refusal.rule, reasons)
+    }
 }
 
-/// The same, told by these lines of the instructions.
-fn texts_by(
-    alloc: Global,
-    object: &Object,
-    code: &Code,
-    refusal: Option<Refusal>,
-    live: &[Registers],
-    listed: &str,
-) -> Result<Texts, AllocError> {
-    let lines: Vec<&str> = listed.lines().collect(alloc)?;
-    let program = Program {
-        code,
-        hook: object.hook(),
-        live,
-        lines: &lines,
-        refusal,
-    };
-    page_of(alloc, object, &program)
-}
-
-/// The same, up to the slot that it refuses.
-fn texts_of(
-    alloc: Global,
-    object: &Object,
-    code: &Code,
-    refusal: Option<Refusal>,
-) -> Result<Texts, ExplainError> {
-    let live = live_registers(alloc, code, object.hook())?;
-    let listed = instruction_lines(alloc, object)?;
-    let texts = texts_by(alloc, object, code, refusal, &live, listed.as_str())?;
-    Ok(texts)
-}
-
-/// The texts on the object's program, and the verdict on these bytes.
+/// The texts of the page, with the verdict on these bytes.
 fn explained(
     alloc: Global,
     bytes: &[u8],
@@ -281,16 +256,22 @@ fn explained(
     ensures told { IfOk result (λ explanation. TellsVerdict explanation.verdict
         (string_bytes explanation.told)) }
 {
+    let lines = instruction_lines(alloc, object)?;
     let verdict = verify_object(alloc, bytes);
-    let texts = texts_of(alloc, object, code, refusal_in(&verdict))?;
-    let told = verdict_told(alloc, object, &verdict, texts.reasons.as_str())?;
-    let Texts { before, here, .. } = texts;
-    Ok(Explanation {
-        before,
-        last: here,
-        told,
-        verdict,
-    })
+    let mut page = Page::new(alloc, lines.as_str());
+    push_all(alloc, &mut page, object, code, &verdict);
+    match verdict_told(alloc, &verdict, &page) {
+        Ok(told) => {
+            let Page { before, here, .. } = page;
+            Ok(Explanation {
+                before: before.words,
+                last: here.words,
+                told,
+                verdict,
+            })
+        }
+        Err(_) => Err(ExplainError::Memory),
+    }
 }
 
 /// What the verifier knows at each slot of the object's program, up to the one that it refuses, and

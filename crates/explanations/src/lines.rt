@@ -1,51 +1,43 @@
 //! The instructions of a program in assembly.
 
 use crate::explaining::ExplainError;
-use crate::text::Text;
 use asm::listing;
-use isa::{Code, Slot};
-use object::{Object, Statement};
-use std::alloc::{AllocError, Global};
+use isa::Code;
+use object::Object;
+use segments::places::begins;
+use std::alloc::Global;
 
-/// The listing of the object's code, without its statements.
-fn bare_listing(alloc: Global, object: &Object) -> Result<String, ExplainError> {
-    let code = Vec::from_slice(alloc, object.code())?;
-    let none: Vec<Statement> = Vec::new(alloc);
-    let Some(bare) = Object::new(object.hook(), object.entry_rank(), code, none) else {
-        return Err(ExplainError::Memory);
-    };
-    match listing(alloc, &bare) {
-        Ok(text) => Ok(text),
-        Err(_) => Err(ExplainError::Memory),
-    }
+/// The object without its statements. None where memory is refused.
+fn bare_object(alloc: Global, object: &Object) -> Option<Object> {
+    let code = Vec::from_slice(alloc, object.code()).ok()?;
+    Object::new(object.hook(), object.entry_rank(), code, Vec::new(alloc))
 }
 
-/// The lines of a listing behind its first two, which tell the hook and the rank.
-fn lines_behind(alloc: Global, text: &str) -> Result<String, AllocError> {
-    let mut lines = Text::new(alloc);
-    for line in text.lines().skip(2) {
-        lines.push(line);
-        lines.push("\n");
-    }
-    lines.finish()
+/// The lines of the object's listing behind its first two, which tell the hook and the rank. None
+/// where memory is refused.
+fn lines_of(alloc: Global, object: &Object) -> Option<String> {
+    let text = listing(alloc, object).ok()?;
+    let lines = text.splitn(3, '\n').nth(2).unwrap_or("");
+    String::from_str(alloc, lines).ok()
 }
 
 /// The instructions of the object's code in assembly, a line for each.
 pub fn instruction_lines(alloc: Global, object: &Object) -> Result<String, ExplainError> {
-    let text = bare_listing(alloc, object)?;
-    Ok(lines_behind(alloc, text.as_str())?)
+    match bare_object(alloc, object) {
+        Some(bare) => lines_of(alloc, &bare).ok_or(ExplainError::Memory),
+        None => Err(ExplainError::Memory),
+    }
 }
 
 /// The line of the instruction that begins at the slot, of these lines.
 pub fn line_at<'a>(lines: &'a str, code: &Code, slot: u64) -> Option<&'a str> {
-    let mut lines = lines.lines();
-    for here in 0..code.len() {
-        if let Some(Slot::Start(_)) = code.at(here as u64) {
-            let line = lines.next();
-            if here as u64 == slot {
-                return line;
-            }
-        }
+    let slot = slot as usize;
+    if !begins(code, slot) {
+        return None;
     }
-    None
+    let mut before = 0usize;
+    for other in 0..slot {
+        before = before.wrapping_add(usize::from(begins(code, other)));
+    }
+    lines.lines().nth(before)
 }

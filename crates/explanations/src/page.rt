@@ -1,61 +1,42 @@
 //! The text of an explanation as it grows.
 
 use crate::text::Text;
-use std::alloc::{AllocError, Global};
+use std::alloc::Global;
+use std::str::Lines;
 
 /// What was told of the slots before, what of this one, and why the program is refused.
 #[derive(Drop)]
-pub(crate) struct Page {
+pub(crate) struct Page<'a> {
     pub before: Text,
     pub here: Text,
     pub reasons: Text,
-    /// How many instructions were told of.
-    told: usize,
+    /// The verdict behind its slot and rule: the reasons, and a hint.
+    pub told: Text,
+    /// The lines of the instructions that come.
+    lines: Lines<'a>,
 }
 
-/// The three texts of a page.
-#[derive(Drop)]
-pub(crate) struct Texts {
-    pub before: String,
-    pub here: String,
-    pub reasons: String,
-}
-
-impl Page {
-    pub fn new(alloc: Global) -> Page {
+impl<'a> Page<'a> {
+    pub fn new(alloc: Global, lines: &'a str) -> Page<'a> {
         Page {
             before: Text::new(alloc),
             here: Text::new(alloc),
             reasons: Text::new(alloc),
-            told: 0,
+            told: Text::new(alloc),
+            lines: lines.lines(),
         }
     }
 
     /// Begins to tell of the next slot, by the next instruction's line.
-    pub fn turn(&mut self, slot: usize, lines: &[&str]) {
+    pub fn turn(&mut self, slot: usize) {
         self.before.take(&mut self.here);
-        let line = lines.get(self.told).copied().unwrap_or("");
-        self.told = self.told.saturating_add(1);
+        let line = self.lines.next().unwrap_or("");
         self.here.numbered("slot ", slot as u64, ": ");
-        self.here.push(line);
-        self.here.push("\n");
+        self.here.line("", line);
     }
 
-    /// The texts, if no memory was refused for them.
-    pub fn finish(self) -> Result<Texts, AllocError> {
-        let Page {
-            before,
-            here,
-            reasons,
-            ..
-        } = self;
-        if before.is_cut || here.is_cut || reasons.is_cut {
-            return Err(AllocError);
-        }
-        Ok(Texts {
-            before: before.words,
-            here: here.words,
-            reasons: reasons.words,
-        })
+    /// Whether memory was refused for a part of it.
+    pub fn is_cut(&self) -> bool {
+        self.before.is_cut | self.here.is_cut | self.reasons.is_cut | self.told.is_cut
     }
 }

@@ -15,15 +15,9 @@ fn span(high: u64) -> u64 {
     u64::MAX.checked_shr(high.leading_zeros()).unwrap_or(0)
 }
 
-/// A range of numbers.
-fn push_range(out: &mut Text, low: u64, high: u64) {
-    if low == high {
-        out.number(low);
-    } else {
-        out.number(low);
-        out.push("..");
-        out.number(high);
-    }
+/// Which bits are known, beyond what the range and the multiple say.
+fn push_known_bits(out: &mut Text, known: u64, set: u64) {
+    out.is_cut |= write!(out.words, ", of the bits {known:x} (hex) {set:x} are set").is_err();
 }
 
 /// What is known of the bits beyond what the range says.
@@ -31,57 +25,56 @@ fn push_bits(out: &mut Text, value: Value, high: u64) {
     let multiple = value.multiple();
     let unit = if multiple < 64 { 1u64 << multiple } else { 0 };
     if unit > 1 {
-        out.push(", multiple of ");
-        out.number(unit);
+        out.numbered(", multiple of ", unit, "");
     }
     let known = value.second.mask & span(high) & !unit.wrapping_sub(1);
     if known != 0 {
-        let bits = value.second.value & known;
-        out.push(", of the bits ");
-        out.hex(known);
-        out.push(" (hex) ");
-        out.hex(bits);
-        out.push(" are set");
+        push_known_bits(out, known, value.second.value & known);
     }
 }
 
 /// The numbers of a value.
 pub(crate) fn push_numbers(out: &mut Text, value: Value) {
     let (low, high) = value.range();
-    push_range(out, low, high);
-    if low != high {
-        push_bits(out, value, high);
+    if low == high {
+        out.number(u128::from(low))
+    } else {
+        out.fill("{}..{}", &[u128::from(low), u128::from(high)]);
+        push_bits(out, value, high)
     }
 }
 
 fn push_number(out: &mut Text, value: Value) {
     let (low, high) = value.range();
-    if low == 0 && high == u64::MAX {
+    if (low == 0) & (high == u64::MAX) {
         out.push("any number");
-        push_bits(out, value, high);
+        push_bits(out, value, high)
     } else {
         out.push("number ");
-        push_numbers(out, value);
+        push_numbers(out, value)
     }
 }
 
 /// Where a pointer points.
 pub(crate) fn push_place(out: &mut Text, place: Place<Value>) {
     match place {
-        Place::Context(at) => {
-            out.push("context, byte ");
-            out.number(at);
-        }
-        Place::Stack(at) => {
-            out.push("stack, byte ");
-            out.number(at);
-        }
+        Place::Context(at) => out.numbered("context, byte ", at, ""),
+        Place::Stack(at) => out.numbered("stack, byte ", at, ""),
         Place::Map(map, value) => {
-            let number = map.number();
-            out.numbered("map ", u64::from(number), ", offset ");
+            out.numbered("map ", u64::from(map.number()), ", offset ");
             push_numbers(out, value)
         }
     }
+}
+
+/// What is known of the register, of these.
+pub(crate) fn known_at(kinds: &[Kind<Value>], register: usize) -> Kind<Value> {
+    kinds.get(register).copied().unwrap_or(Kind::Empty)
+}
+
+/// How the register follows from the last statement, where that is known.
+pub(crate) fn followed_at(facts: &[Option<Fact>], register: usize) -> Option<Fact> {
+    facts.get(register).copied().unwrap_or(None)
 }
 
 /// What is known of a register.
@@ -96,40 +89,35 @@ pub(crate) fn push_kind(out: &mut Text, kind: Kind<Value>) {
 /// How a register follows from the last statement.
 pub(crate) fn push_fact(out: &mut Text, fact: Fact, begun: usize) {
     let Fact { origin, up, down } = fact;
-    out.numbered("; r", u64::from(origin), " at slot ");
-    out.number(begun as u64);
+    out.fill("; r{} at slot {}", &[u128::from(origin), begun as u128]);
     if up > 0 {
         out.push(" + ");
-        out.wide(up);
+        out.number(up);
     }
     if down > 0 {
         out.push(" - ");
-        out.wide(down);
+        out.number(down);
     }
 }
 
 fn push_term(out: &mut Text, term: &Option<RankTerm>) {
-    match term {
-        Some(term) => {
-            let register = term.register();
-            let coefficient = term.coefficient();
-            out.numbered(" + r", u64::from(register), " * ");
-            out.number(u64::from(coefficient));
-        }
-        None => {}
+    if let Some(term) = term {
+        let register = u128::from(term.register());
+        let coefficient = u128::from(term.coefficient());
+        out.fill(" + r{} * {}", &[register, coefficient])
     }
 }
 
-/// A rank.
-pub(crate) fn push_rank(out: &mut Text, rank: &Rank) {
-    let constant = rank.constant;
-    out.number(u64::from(constant));
+/// A rank between these words.
+pub(crate) fn push_rank(out: &mut Text, before: &str, rank: &Rank, behind: &str) {
+    out.numbered(before, u64::from(rank.constant), "");
     push_term(out, &rank.first);
-    push_term(out, &rank.second)
+    push_term(out, &rank.second);
+    out.push(behind)
 }
 
 /// Whether a byte is known at the place of the stack.
-fn is_byte(entries: &[Entry<Value>], place: usize) -> bool {
+pub(crate) fn is_byte(entries: &[Entry<Value>], place: usize) -> bool {
     matches!(entries.get(place), Some(Entry::Byte))
 }
 
@@ -150,9 +138,7 @@ pub(crate) fn push_stack(out: &mut Text, entries: &[Entry<Value>]) {
         if place >= done && is_byte(entries, place) {
             done = end_of(entries, place);
             let last = done.saturating_sub(1);
-            out.numbered("    stack ", place as u64, "..");
-            out.number(last as u64);
-            out.push(": bytes\n");
+            out.fill("    stack {}..{}: bytes\n", &[place as u128, last as u128]);
         }
         if let Some(Entry::Kept(kept)) = entries.get(place) {
             out.numbered("    stack ", place as u64, ": ");

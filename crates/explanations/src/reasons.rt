@@ -1,12 +1,12 @@
 //! What breaks a rule at an instruction, and what is allowed.
 ghost use Rattle.std.specs.Prelude.{◌<◌};
 
-use crate::phrases::{Value, push_kind, push_place};
+use crate::phrases::{Value, is_byte, known_at, push_kind, push_place};
 use crate::text::Text;
 use absdom::Domain;
 use inference::liveness::{has, reads};
 use isa::{Hook, Instruction, Operation, Register, Width};
-use kinds::{Entry, Kind, Place, State, kind_at};
+use kinds::{Kind, Place, State, kind_at};
 use machine::Helper;
 use segments::places::jump_of;
 use transfer::load::{load_length, map_length};
@@ -52,21 +52,15 @@ fn place_of(state: &State<Value>, access: &Access) -> Option<Place<Value>> {
     reached(kind_at(state, access.base), access.offset).ok()
 }
 
-fn push_register(out: &mut Text, state: &State<Value>, number: u8) {
-    let Some(register) = Register::new(number) else {
-        return;
-    };
-    out.numbered("  r", u64::from(number), ": ");
-    push_kind(out, kind_at(state, register));
+fn push_register(out: &mut Text, state: &State<Value>, register: usize) {
+    out.numbered("  r", register as u64, ": ");
+    push_kind(out, known_at(&state.kinds, register));
     out.push("\n")
 }
 
-/// Whether the register of this number may be empty.
-fn is_empty(state: &State<Value>, number: u8) -> bool {
-    match Register::new(number) {
-        Some(register) => matches!(kind_at(state, register), Kind::Empty),
-        None => false,
-    }
+/// Whether the register may be empty.
+fn is_empty(state: &State<Value>, register: usize) -> bool {
+    matches!(known_at(&state.kinds, register), Kind::Empty)
 }
 
 /// A line for each register that the instruction reads, or only for those that may be empty.
@@ -78,18 +72,17 @@ fn push_read(
     is_all: bool,
 ) {
     let read = reads(hook, instruction);
-    for number in 0..10u8 {
-        if has(read, usize::from(number)) && (is_all || is_empty(state, number)) {
-            push_register(out, state, number);
+    for register in 0..10usize {
+        if has(read, register) & (is_all | is_empty(state, register)) {
+            push_register(out, state, register);
         }
     }
 }
 
 /// The first byte from the place on that isn't known to be a byte.
 fn first_unknown(state: &State<Value>, start: u64, length: u64) -> Option<u64> {
-    for distance in 0..length {
-        let place = start.saturating_add(distance);
-        if place < 512 && !matches!(state.entries.get(place as usize), Some(Entry::Byte)) {
+    for place in start..start.saturating_add(length).min(512) {
+        if !is_byte(&state.entries, place as usize) {
             return Some(place);
         }
     }
@@ -135,10 +128,7 @@ fn allowed_kinds(instruction: &Instruction) -> &'static str {
 
 fn push_kinds(out: &mut Text, hook: Hook, state: &State<Value>, instruction: &Instruction) {
     push_read(out, hook, state, instruction, true);
-    let allowed = allowed_kinds(instruction);
-    out.push("  allowed: ");
-    out.push(allowed);
-    out.push("\n");
+    out.line("  allowed: ", allowed_kinds(instruction))
 }
 
 fn length_of(place: Place<Value>) -> u64 {
@@ -149,48 +139,43 @@ fn length_of(place: Place<Value>) -> u64 {
     }
 }
 
-/// The bytes of an access, as `8 bytes at r6 + 4: map 1, offset 4`.
-fn push_access(out: &mut Text, state: &State<Value>, access: &Access) {
-    let length = access.length;
-    let base = access.base.index();
-    let offset = access.offset;
-    out.numbered("  ", length, " bytes at r");
-    out.number(base as u64);
-    out.push(" + ");
-    out.signed(i64::from(offset));
-    out.push(": ");
-    if let Some(place) = place_of(state, access) {
-        push_place(out, place);
-    }
-    out.push("\n")
+/// The bytes of an access, as `8 bytes at r6 + 4: map 1, offset 4`. Returns the greatest offset
+/// that is allowed there, if the place is known.
+fn push_access(out: &mut Text, state: &State<Value>, instruction: &Instruction) -> Option<u64> {
+    let access = access_of(instruction)?;
+    let words = if access.offset < 0 {
+        "  {} bytes at r{} + -{}: "
+    } else {
+        "  {} bytes at r{} + {}: "
+    };
+    let base = access.base.index() as u128;
+    let distance = u128::from(access.offset.unsigned_abs());
+    out.fill(words, &[u128::from(access.length), base, distance]);
+    let Some(place) = place_of(state, &access) else {
+        out.push("\n");
+        return None;
+    };
+    push_place(out, place);
+    out.push("\n");
+    Some(length_of(place).saturating_sub(access.length))
 }
 
 fn push_bounds(out: &mut Text, state: &State<Value>, instruction: &Instruction) {
-    let Some(access) = access_of(instruction) else {
-        return;
-    };
-    push_access(out, state, &access);
-    if let Some(place) = place_of(state, &access) {
-        let most = length_of(place).saturating_sub(access.length);
+    if let Some(most) = push_access(out, state, instruction) {
         out.numbered("  allowed: 0..", most, "\n");
     }
 }
 
 fn push_align(out: &mut Text, state: &State<Value>, instruction: &Instruction) {
-    if let Some(access) = access_of(instruction) {
-        push_access(out, state, &access);
-    }
+    let _most = push_access(out, state, instruction);
     out.push("  allowed: in a map 8 bytes at a multiple of 8\n")
 }
 
 /// Whether the number that a register is known to hold may be above this.
-fn is_above(state: &State<Value>, number: u8, most: u64) -> bool {
-    match Register::new(number) {
-        Some(register) => match kind_at(state, register) {
-            Kind::Number(value) => value.range().1 > most,
-            _ => false,
-        },
-        None => false,
+fn is_above(state: &State<Value>, register: usize, most: u64) -> bool {
+    match known_at(&state.kinds, register) {
+        Kind::Number(value) => value.range().1 > most,
+        _ => false,
     }
 }
 
@@ -217,20 +202,20 @@ fn push_argument(out: &mut Text, hook: Hook, state: &State<Value>, instruction: 
 }
 
 fn push_helper(out: &mut Text, hook: Hook, instruction: &Instruction) {
-    let name = hook.name();
     if let Instruction::Call { helper } = *instruction {
+        let words = if helper < 0 {
+            " has no helper -{}\n"
+        } else {
+            " has no helper {}\n"
+        };
         out.push("  the hook ");
-        out.push(name);
-        out.push(" has no helper ");
-        out.signed(i64::from(helper));
-        out.push("\n");
+        out.push(hook.name());
+        out.fill(words, &[u128::from(helper.unsigned_abs())]);
     }
-    match hook {
-        Hook::Count => out.push("  allowed: 1 add, 2 read, 3 packet byte\n"),
-        Hook::Tag | Hook::Price | Hook::Veto => {
-            out.push("  allowed: 1 add, 2 read, 4 table cost\n")
-        }
-    }
+    out.push(match hook {
+        Hook::Count => "  allowed: 1 add, 2 read, 3 packet byte\n",
+        Hook::Tag | Hook::Price | Hook::Veto => "  allowed: 1 add, 2 read, 4 table cost\n",
+    })
 }
 
 /// What breaks the rule at the instruction.
@@ -263,33 +248,27 @@ pub(crate) fn push_reason(
 pub(crate) fn push_misplaced(out: &mut Text, slot: usize, instruction: &Instruction, rule: Rule)
     requires { slot < 4096 }
 {
-    match (rule, jump_of(slot, instruction)) {
-        (Rule::Target, Some(to)) => {
-            out.numbered(
-                "  it jumps to slot ",
-                to as u64,
-                ", \
-                where no instruction begins\n  allowed: a slot of the code where one begins\n",
-            );
-        }
-        (Rule::Unstated, Some(to)) => {
-            out.numbered(
-                "  it jumps to slot ",
-                to as u64,
-                ", which has no statement\n  allowed: a slot that is stated\n",
-            );
-        }
-        (Rule::FallsOff, _) => out.push(
+    let to = jump_of(slot, instruction).unwrap_or(slot);
+    match rule {
+        Rule::Target => out.numbered(
+            "  it jumps to slot ",
+            to as u64,
+            ", where no instruction begins\n  allowed: a slot of the code where one begins\n",
+        ),
+        Rule::Unstated => out.numbered(
+            "  it jumps to slot ",
+            to as u64,
+            ", which has no statement\n  allowed: a slot that is stated\n",
+        ),
+        Rule::FallsOff => out.push(
             "  behind it the code ends\n  allowed: an exit or a goto as the last instruction\n",
         ),
-        _ => {
-            out.numbered(
-                "  slot ",
-                slot as u64,
-                " has no statement, \
-                and nothing comes from the slot before\n  allowed: a slot that is stated\n",
-            );
-        }
+        _ => out.numbered(
+            "  slot ",
+            slot as u64,
+            " has no statement, and nothing comes from the slot before\n  allowed: a slot that is \
+                stated\n",
+        ),
     }
 }
 

@@ -16,7 +16,7 @@ pub(crate) fn entry_statement(rank: u32) -> Option<Statement> {
     Statement::new(0, constant, [Stated::Empty; 10], StackBytes::new())
 }
 
-/// What is known where a run begins.
+/// What is known where a run begins: r1 points to the context.
 pub(crate) fn start(alloc: Global) -> Result<State<Value>, AllocError> {
     let mut kinds = vec![in alloc; Kind::Empty; 10]?;
     let facts = vec![in alloc; None; 10]?;
@@ -31,7 +31,7 @@ pub(crate) fn start(alloc: Global) -> Result<State<Value>, AllocError> {
 
 /// Whether the register isn't as it was at the last statement.
 fn has_moved(register: usize, fact: Fact) -> bool {
-    usize::from(fact.origin) != register || fact.up != fact.down
+    (usize::from(fact.origin) != register) | (fact.up != fact.down)
 }
 
 /// A line for each live register, and for what is known of the stack.
@@ -57,7 +57,5 @@ pub(crate) fn push_known(
 }
 
 pub(crate) fn push_statement(out: &mut Text, target: &Target<'_, Value>) {
-    out.push("    stated, rank ");
-    push_rank(out, &target.statement.rank());
-    out.push("\n")
+    push_rank(out, "    stated, rank ", &target.statement.rank(), "\n")
 }

@@ -20,50 +20,42 @@ impl Text {
 
     /// Adds these words.
     pub fn push(&mut self, words: &str) {
-        if self.words.push_str(words).is_err() {
-            self.is_cut = true;
-        }
+        self.is_cut |= self.words.push_str(words).is_err();
     }
 
     /// Adds the number.
-    pub fn number(&mut self, number: u64) {
-        if write!(self.words, "{number}").is_err() {
-            self.is_cut = true;
-        }
-    }
-
-    /// Adds the number, of up to 128 bits.
-    pub fn wide(&mut self, number: u128) {
-        if write!(self.words, "{number}").is_err() {
-            self.is_cut = true;
-        }
-    }
-
-    /// Adds the number, which may be below 0.
-    pub fn signed(&mut self, number: i64) {
-        if write!(self.words, "{number}").is_err() {
-            self.is_cut = true;
-        }
-    }
-
-    /// Adds the number as hex digits.
-    pub fn hex(&mut self, number: u64) {
-        if write!(self.words, "{number:x}").is_err() {
-            self.is_cut = true;
-        }
+    pub fn number(&mut self, number: u128) {
+        self.is_cut |= write!(self.words, "{number}").is_err();
     }
 
     /// Adds the number between these words.
     pub fn numbered(&mut self, before: &str, number: u64, behind: &str) {
         self.push(before);
-        self.number(number);
+        self.number(u128::from(number));
         self.push(behind);
+    }
+
+    /// Adds the words, with the numbers in the places of their `{}`, as many as there are.
+    pub fn fill(&mut self, words: &str, numbers: &[u128]) {
+        let mut parts = words.split("{}");
+        for number in numbers {
+            self.push(parts.next().unwrap_or(""));
+            self.number(*number);
+        }
+        self.push(parts.next().unwrap_or(""));
+    }
+
+    /// Adds these words, with the end of a line.
+    pub fn line(&mut self, before: &str, words: &str) {
+        self.push(before);
+        self.push(words);
+        self.push("\n");
     }
 
     /// Adds the other text, and empties that.
     pub fn take(&mut self, other: &mut Text) {
         self.push(other.words.as_str());
-        self.is_cut = self.is_cut || other.is_cut;
+        self.is_cut |= other.is_cut;
         other.words.clear();
     }
 
