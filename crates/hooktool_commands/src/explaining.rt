@@ -22,24 +22,6 @@ impl<'a> From<ExplainError> for Fault<'a> {
     }
 }
 
-/// The three texts of an explanation, one behind the other.
-fn whole(explanation: Explanation) -> Result<String, AllocError>
-    ensures { IfOk result (λ text. string_bytes text ≡ (string_bytes explanation.before
-        ++ string_bytes explanation.last)
-        ++ string_bytes explanation.told) }
-{
-    let Explanation {
-        before,
-        last,
-        told,
-        ..
-    } = explanation;
-    let mut text = before;
-    text.push_str(last.as_str())?;
-    text.push_str(told.as_str())?;
-    Ok(text)
-}
-
 /// Whether no verdict was reached for want of memory. The bytes were read before as an object with
 /// code: if they are none now, that is want of memory too.
 pub(crate) fn lacks_memory(verdict: &Result<Accepted, VerifyError>) -> bool {
@@ -50,26 +32,57 @@ pub(crate) fn lacks_memory(verdict: &Result<Accepted, VerifyError>) -> bool {
     }
 }
 
-/// Whether the program is refused. A fault where no verdict was reached for want of memory.
-fn is_refusal<'a>(verdict: &Result<Accepted, VerifyError>) -> Result<bool, Fault<'a>>
-    ensures { IfOk result (λ refused. refused ≡ is_err verdict.now) }
+/// Puts the other texts of an explanation behind its first.
+fn join(explanation: &mut Explanation) -> Result<(), AllocError>
+    ensures text { IfOk result (λ _. string_bytes explanation.new.before
+        ≡ (string_bytes explanation.old.before ++ string_bytes explanation.old.last)
+        ++ string_bytes explanation.old.told) }
+    ensures verdict { explanation.new.verdict ≡ explanation.old.verdict }
 {
-    if lacks_memory(verdict) {
-        return Err(Fault::Memory);
+    explanation.before.push_str(explanation.last.as_str())?;
+    explanation.before.push_str(explanation.told.as_str())?;
+    Ok(())
+}
+
+/// What is told of an explanation whose verdict was reached.
+fn reached<'a>(explanation: Explanation) -> Result<Report, Fault<'a>>
+    ensures text { IfOk result (λ report. string_bytes report.text
+        ≡ (string_bytes explanation.before ++ string_bytes explanation.last)
+        ++ string_bytes explanation.told) }
+    ensures refused { IfOk result (λ report. report.is_refused ≡ is_err explanation.verdict) }
+{
+    let mut explanation = explanation;
+    match join(&mut explanation) {
+        Ok(()) => Ok(Report {
+            is_refused: explanation.verdict.is_err(),
+            text: explanation.before,
+        }),
+        Err(error) => Err(Fault::from(error)),
     }
-    Ok(verdict.is_err())
+}
+
+/// What is told of an explanation. A fault where no verdict was reached for want of memory.
+fn report_of<'a>(explanation: Explanation) -> Result<Report, Fault<'a>>
+    ensures text { IfOk result (λ report. string_bytes report.text
+        ≡ (string_bytes explanation.before ++ string_bytes explanation.last)
+        ++ string_bytes explanation.told) }
+    ensures refused { IfOk result (λ report. report.is_refused ≡ is_err explanation.verdict) }
+{
+    if lacks_memory(&explanation.verdict) {
+        Err(Fault::Memory)
+    } else {
+        reached(explanation)
+    }
 }
 
 /// What is told of the object file that these bytes are.
 fn explanation_of<'a>(alloc: Global, bytes: &[u8]) -> Result<Report, Fault<'a>>
     ensures { IfOk result (IsExplained bytes.now) }
 {
-    let explanation = explained(alloc, bytes)?;
-    let is_refused = is_refusal(&explanation.verdict)?;
-    Ok(Report {
-        text: whole(explanation)?,
-        is_refused,
-    })
+    match explained(alloc, bytes) {
+        Ok(explanation) => report_of(explanation),
+        Err(error) => Err(Fault::from(error)),
+    }
 }
 
 /// Tells what the verifier knows at each slot of the program of the object file at `path`, up to
@@ -82,6 +95,8 @@ pub(crate) fn explain<'a, R: Files + AllocGlobal>(
 ) -> Result<Report, Fault<'a>>
     ensures { IfOk result (λ report. (bytes : List ℕ) × IsExplained bytes report) }
 {
-    let bytes = files::read(rt, path)?;
-    explanation_of(rt.alloc(), bytes.as_slice())
+    match files::read(rt, path) {
+        Ok(bytes) => explanation_of(rt.alloc(), bytes.as_slice()),
+        Err(fault) => Err(fault),
+    }
 }

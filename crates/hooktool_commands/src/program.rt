@@ -1,8 +1,9 @@
 //! The whole program, over readers and writers that are handed in.
 
-ghost use Rattle.std.specs.Prelude.{◌≡◌, ◌⊎◌, map};
+ghost use Rattle.std.specs.Prelude.{◌≡◌, ◌⊎◌, map, IfOk};
 ghost use Rattle.std.specs.IoError.{error_kind};
-ghost use Rattle.hooktool_commands.specs.Endings.{Ends, EndsRequest, EndsWords, Prints, Tells};
+ghost use Rattle.hooktool_commands.specs.Endings.{Ends, EndsRequest, EndsWords, IsMadeOf, Prints};
+ghost use Rattle.hooktool_commands.specs.Endings.{Tells};
 
 use crate::annotating::annotate;
 use crate::explaining::explain;
@@ -66,6 +67,22 @@ pub fn end_without_words<O: Write, E: Write>(
     tell(&fault, output, errors)
 }
 
+// What a request makes, or why it can't be carried out.
+fn made_of<'a, R: Files + AllocGlobal>(rt: &R, request: Request<'a>) -> Result<Report, Fault<'a>>
+    ensures { IfOk result (IsMadeOf request.entry) }
+{
+    match request {
+        Request::Annotate {
+            hook,
+            code,
+            object,
+            fuel,
+        } => annotate(rt, hook, code, object, fuel),
+        Request::Explain { object } => explain(rt, object),
+        Request::Try { object, question } => try_question(rt, object, &question),
+    }
+}
+
 // Carries out a request, and answers the status.
 fn carry_out<R: Files + AllocGlobal, O: Write, E: Write>(
     rt: &R,
@@ -76,18 +93,7 @@ fn carry_out<R: Files + AllocGlobal, O: Write, E: Write>(
     ensures { EndsRequest request.entry (O.contents output.old) (O.contents output.new)
         (E.contents errors.old) (E.contents errors.new) result }
 {
-    match request {
-        Request::Annotate {
-            hook,
-            code,
-            object,
-            fuel,
-        } => end(annotate(rt, hook, code, object, fuel), output, errors),
-        Request::Explain { object } => end(explain(rt, object), output, errors),
-        Request::Try { object, question } => {
-            end(try_question(rt, object, &question), output, errors)
-        }
-    }
+    end(made_of(rt, request), output, errors)
 }
 
 /// Carries out what the words ask for (the first is the program's name), and answers the status: 0

@@ -1,0 +1,15 @@
+-- What is told of a program's runs.
+use Rattle.std.proofs.Common.{◌≡◌, ℕ, List, Ok, Err}
+use Rattle.std.specs.List.{list_any}
+use Rattle.std.specs.Prelude.{IfOk, Result, is_err}
+use Rattle.hooktool_line.specs.declared.requests.Question.{Question}
+use Rattle.trial_runs.specs.Trials.{IsTrialOn}
+use Rattle.trial_runs.specs.declared.trial.Trial.{Trial}
+use Rattle.hooktool_commands.specs.Trials.{IsTried}
+use Rattle.hooktool_commands.specs.declared.report.Report.{Report}
+
+pub tried : {E : Type 0} (bytes packet : List ℕ) (question : Question) (trial : Trial) (r : Result Report E)
+    → IsTrialOn bytes question.asked packet question.rows.items question.times trial
+    → IfOk r (λ report. report.is_refused ≡ list_any (λ ending. is_err ending.outcome) trial.endings.items) → IfOk r (IsTried bytes packet question)
+tried {E} bytes packet question trial (Ok report) ran stuck = record { trial = trial; ran = ran; stuck = stuck }
+tried {E} bytes packet question trial (Err e) ran stuck = tt
