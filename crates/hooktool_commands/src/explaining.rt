@@ -8,7 +8,7 @@ use crate::files;
 use crate::report::Report;
 use explanations::{ExplainError, Explanation, explain as explained};
 use object_verdicts::VerifyError;
-use std::alloc::{AllocError, Global};
+use std::alloc::Global;
 use std::rt::Files;
 use verifier::{Accepted, Rule};
 
@@ -32,46 +32,38 @@ pub(crate) fn lacks_memory(verdict: &Result<Accepted, VerifyError>) -> bool {
     }
 }
 
-/// Puts the other texts of an explanation behind its first.
-fn join(explanation: &mut Explanation) -> Result<(), AllocError>
-    ensures text { IfOk result (λ _. string_bytes explanation.new.before
-        ≡ (string_bytes explanation.old.before ++ string_bytes explanation.old.last)
-        ++ string_bytes explanation.old.told) }
-    ensures verdict { explanation.new.verdict ≡ explanation.old.verdict }
-{
-    explanation.before.push_str(explanation.last.as_str())?;
-    explanation.before.push_str(explanation.told.as_str())?;
-    Ok(())
-}
-
-/// What is told of an explanation whose verdict was reached.
-fn reached<'a>(explanation: Explanation) -> Result<Report, Fault<'a>>
+/// What is told of an explanation whose verdict was reached: its three texts, one behind the other.
+fn report_of<'a>(alloc: Global, explanation: &Explanation) -> Result<Report, Fault<'a>>
     ensures text { IfOk result (λ report. string_bytes report.text
-        ≡ (string_bytes explanation.before ++ string_bytes explanation.last)
-        ++ string_bytes explanation.told) }
-    ensures refused { IfOk result (λ report. report.is_refused ≡ is_err explanation.verdict) }
+        ≡ string_bytes explanation.now.before ++ (string_bytes explanation.now.last
+        ++ string_bytes explanation.now.told)) }
+    ensures refused { IfOk result (λ report. report.is_refused
+        ≡ is_err explanation.now.verdict) }
 {
-    let mut explanation = explanation;
-    match join(&mut explanation) {
-        Ok(()) => Ok(Report {
+    let before = explanation.before.as_str();
+    let last = explanation.last.as_str();
+    let told = explanation.told.as_str();
+    match format!(in alloc; "{before}{last}{told}") {
+        Ok(text) => Ok(Report {
+            text,
             is_refused: explanation.verdict.is_err(),
-            text: explanation.before,
         }),
         Err(error) => Err(Fault::from(error)),
     }
 }
 
 /// What is told of an explanation. A fault where no verdict was reached for want of memory.
-fn report_of<'a>(explanation: Explanation) -> Result<Report, Fault<'a>>
+fn told_of<'a>(alloc: Global, explanation: &Explanation) -> Result<Report, Fault<'a>>
     ensures text { IfOk result (λ report. string_bytes report.text
-        ≡ (string_bytes explanation.before ++ string_bytes explanation.last)
-        ++ string_bytes explanation.told) }
-    ensures refused { IfOk result (λ report. report.is_refused ≡ is_err explanation.verdict) }
+        ≡ string_bytes explanation.now.before ++ (string_bytes explanation.now.last
+        ++ string_bytes explanation.now.told)) }
+    ensures refused { IfOk result (λ report. report.is_refused
+        ≡ is_err explanation.now.verdict) }
 {
     if lacks_memory(&explanation.verdict) {
         Err(Fault::Memory)
     } else {
-        reached(explanation)
+        report_of(alloc, explanation)
     }
 }
 
@@ -80,7 +72,7 @@ fn explanation_of<'a>(alloc: Global, bytes: &[u8]) -> Result<Report, Fault<'a>>
     ensures { IfOk result (IsExplained bytes.now) }
 {
     match explained(alloc, bytes) {
-        Ok(explanation) => report_of(explanation),
+        Ok(explanation) => told_of(alloc, &explanation),
         Err(error) => Err(Fault::from(error)),
     }
 }

@@ -2,7 +2,7 @@
 
 ghost use Rattle.std.specs.Prelude.{◌≡◌, ◌⊎◌, map, IfOk};
 ghost use Rattle.std.specs.IoError.{error_kind};
-ghost use Rattle.hooktool_commands.specs.Endings.{Ends, EndsRequest, EndsWords, IsMadeOf, Prints};
+ghost use Rattle.hooktool_commands.specs.Endings.{Ends, EndsWords, IsMadeOf, IsOutcomeOf, Prints};
 ghost use Rattle.hooktool_commands.specs.Endings.{Tells};
 
 use crate::annotating::annotate;
@@ -83,17 +83,14 @@ fn made_of<'a, R: Files + AllocGlobal>(rt: &R, request: Request<'a>) -> Result<R
     }
 }
 
-// Carries out a request, and answers the status.
-fn carry_out<R: Files + AllocGlobal, O: Write, E: Write>(
-    rt: &R,
-    request: Request<'_>,
-    output: &mut O,
-    errors: &mut E,
-) -> u8
-    ensures { EndsRequest request.entry (O.contents output.old) (O.contents output.new)
-        (E.contents errors.old) (E.contents errors.new) result }
+// The report of what the words ask for, or why there is none.
+fn outcome_of<'a, R: Files + AllocGlobal>(rt: &R, words: &'a [&'a str]) -> Result<Report, Fault<'a>>
+    ensures { IsOutcomeOf (map (λ word. word.now) words.entry.now) result }
 {
-    end(made_of(rt, request), output, errors)
+    match hooktool_line::parse(rt.alloc(), words) {
+        Ok(request) => made_of(rt, request),
+        Err(error) => Err(Fault::from(error)),
+    }
 }
 
 /// Carries out what the words ask for (the first is the program's name), and answers the status: 0
@@ -110,8 +107,5 @@ pub fn program<R: Files + AllocGlobal, O: Write, E: Write>(
         (O.contents output.old) (O.contents output.new)
         (E.contents errors.old) (E.contents errors.new) result }
 {
-    match hooktool_line::parse(rt.alloc(), words) {
-        Ok(request) => carry_out(rt, request, output, errors),
-        Err(error) => end(Err(Fault::from(error)), output, errors),
-    }
+    end(outcome_of(rt, words), output, errors)
 }

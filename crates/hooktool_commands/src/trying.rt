@@ -117,19 +117,6 @@ fn is_any_stuck(endings: &[Ending]) -> bool
     endings.iter().any(|ending| ending.outcome.is_err())
 }
 
-/// The bytes of the packet.
-fn packet_bytes<'a, R: Files + AllocGlobal>(
-    rt: &R,
-    packet: &Packet<'a>,
-) -> Result<Vec<u8>, Fault<'a>>
-    ensures { IfOk result (λ bytes. PacketIs packet.now bytes.items) }
-{
-    match packet {
-        Packet::Bytes(bytes) => Ok(Vec::from_slice(rt.alloc(), bytes)?),
-        Packet::File(path) => files::read(rt, path),
-    }
-}
-
 /// What is told of the program's runs.
 fn report_of<'a>(alloc: Global, program: &Program, trial: &Trial) -> Result<Report, Fault<'a>>
     ensures { IfOk result (λ report. report.is_refused
@@ -192,9 +179,12 @@ fn try_bytes<'a, R: Files + AllocGlobal>(
     ensures { IfOk result (λ report. (bytes packet : List ℕ) × PacketIs question.now.packet packet
         × IsTried bytes packet question.now report) }
 {
-    match packet_bytes(rt, &question.packet) {
-        Ok(packet) => trial_of(rt.alloc(), bytes, packet.as_slice(), question),
-        Err(fault) => Err(fault),
+    match &question.packet {
+        Packet::Bytes(packet) => trial_of(rt.alloc(), bytes, packet.as_slice(), question),
+        Packet::File(path) => match files::read(rt, path) {
+            Ok(packet) => trial_of(rt.alloc(), bytes, packet.as_slice(), question),
+            Err(fault) => Err(fault),
+        },
     }
 }
 

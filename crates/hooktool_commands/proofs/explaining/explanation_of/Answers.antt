@@ -1,10 +1,9 @@
-use Rattle.std.specs.Prelude.{◌++◌, string_bytes}
+use Rattle.std.specs.Prelude.{string_bytes}
 use Rattle.hooktool_commands.proofs.Explained.{explained}
 use Rattle.hooktool_commands.proofs.explaining.explanation_of.Goals as goal
 
 pub returns-in-Ok : goal.returns-in-Ok
 returns-in-Ok c =
     let explanation = c.in-Ok.explanation in
-    explained c.args.bytes.now explanation.verdict (string_bytes explanation.before ++ string_bytes explanation.last) (string_bytes explanation.told)
-    c.report_of.result c.in-Ok.ensures.accepts c.in-Ok.ensures.refuses c.in-Ok.ensures.told c.report_of.ensures.text
-    c.report_of.ensures.refused
+    explained c.args.bytes.now explanation.verdict (string_bytes explanation.before) (string_bytes explanation.last) (string_bytes explanation.told)
+    c.told_of.result c.in-Ok.ensures.accepts c.in-Ok.ensures.refuses c.in-Ok.ensures.told c.told_of.ensures.text c.told_of.ensures.refused
