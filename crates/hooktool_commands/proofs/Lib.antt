@@ -1,2 +1,4 @@
+pub mod Explained
 pub mod Found
 pub mod Told
+pub mod Tried

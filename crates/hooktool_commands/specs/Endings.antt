@@ -29,6 +29,11 @@ IsFaultOfWords words fault =
     (fault ≡ faults.Memory) ⊎ ((error : Error) × IsMistake words error
     × (fault ≡ faults.Usage error))
 
+-- What the words ask for was carried out, or the fault is theirs.
+abbrev pub IsOutcomeOf : List (List ℕ) → Result Report Fault → Type 0
+IsOutcomeOf words outcome = ((request : Request) × Asks words request × IfOk outcome (IsMadeOf request))
+    ⊎ ((fault : Fault) × IsFaultOfWords words fault × (outcome ≡ Err fault))
+
 -- a program that is refused and a run that gave no answer have status 1
 abbrev pub status_of_refused : Bool → ℕ
 status_of_refused true = 1

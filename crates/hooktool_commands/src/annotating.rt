@@ -8,34 +8,38 @@ use crate::explaining::lacks_memory;
 use crate::fault::Fault;
 use crate::files;
 use crate::report::Report;
+use crate::sentences::push_sentence;
 use annotations::{Annotated, CountError, Endless, Rejected, Shortfall, Trouble, annotate_file};
 use explanations::{Explanation, Text, explain};
 use isa::Hook;
 use std::alloc::{AllocError, Global};
 use std::rt::Files;
 
-/// Why a loop has no rank.
-fn push_trouble(out: &mut Text, trouble: Trouble) {
-    match trouble {
-        Trouble::Rises { register } => out.numbered(
-            "r",
-            u64::from(register),
-            " rises with each turn, and none falls\n",
-        ),
-        Trouble::TooHigh { register, from } => {
-            out.numbered("r", u64::from(register), " falls from up to ");
-            out.numbered("", from, ", which takes too long\n")
-        }
-        Trouble::NoneFalls => {
-            out.push("no register falls by a single number on each way round\n")
-        }
-    }
-}
-
 /// Which loop has no rank and why, and what an author can do.
 fn push_endless(out: &mut Text, endless: &Endless) {
-    out.numbered("the loop at slot ", endless.slot as u64, " has no rank: ");
-    push_trouble(out, endless.trouble);
+    let (sentence, register, from) = match endless.trouble {
+        Trouble::Rises { register } => (
+            "the loop at slot {} has no rank: r{} rises with each turn, and none falls\n",
+            register,
+            0,
+        ),
+        Trouble::TooHigh { register, from } => (
+            "the loop at slot {} has no rank: r{} falls from up to {}, which takes too long\n",
+            register,
+            from,
+        ),
+        Trouble::NoneFalls => (
+            "the loop at slot {} has no rank: no register falls by a single number on each way \
+                round\n",
+            0,
+            0,
+        ),
+    };
+    push_sentence(
+        out,
+        sentence,
+        &[endless.slot as u64, u64::from(register), from],
+    );
     out.push(
         "  either let a register fall with each turn (DOWN and EACH of examples/c/leafrunt.h \
             do)\n  or count the turns: --fuel N\n",
@@ -74,18 +78,20 @@ fn rejection_text(
 }
 
 /// What is told of a program that the verifier refuses.
-fn rejection(
+fn rejection<'a>(
     alloc: Global,
     rejected: &Rejected,
     endless: &Option<Endless>,
-) -> Result<Report, AllocError>
+) -> Result<Report, Fault<'a>>
     ensures { IfOk result (λ report. report.is_refused ≡ true) }
 {
-    let text = rejection_text(alloc, rejected, endless)?;
-    Ok(Report {
-        text,
-        is_refused: true,
-    })
+    match rejection_text(alloc, rejected, endless) {
+        Ok(text) => Ok(Report {
+            text,
+            is_refused: true,
+        }),
+        Err(error) => Err(Fault::from(error)),
+    }
 }
 
 /// Why turns can't be counted.
@@ -102,28 +108,31 @@ fn uncounted<'a>(error: CountError) -> Fault<'a> {
 }
 
 /// What is told where nothing was accepted.
-fn shortfall<'a>(alloc: Global, shortfall: &Shortfall) -> Result<Report, Fault<'a>>
+fn shortfall<'a>(alloc: Global, shortfall: Shortfall) -> Result<Report, Fault<'a>>
     ensures { IfOk result (λ report. report.is_refused ≡ true) }
 {
     match shortfall {
-        Shortfall::Refused(rejected, endless) => Ok(rejection(alloc, rejected, endless)?),
-        Shortfall::Code(error) => Err(Fault::from(*error)),
-        Shortfall::Object(error) => Err(Fault::from(*error)),
+        Shortfall::Refused(rejected, endless) => rejection(alloc, &rejected, &endless),
+        Shortfall::Code(error) => Err(Fault::from(error)),
+        Shortfall::Object(error) => Err(Fault::from(error)),
         Shortfall::OtherHook(hook) => Err(Fault::OtherHook { hook: hook.name() }),
-        Shortfall::Uncounted(error) => Err(uncounted(*error)),
+        Shortfall::Uncounted(error) => Err(uncounted(error)),
         Shortfall::Statements | Shortfall::Memory => Err(Fault::Memory),
     }
 }
 
 /// What is told of a program that is accepted with this bound.
-fn accepted(alloc: Global, bound: u64) -> Result<Report, AllocError>
+fn accepted<'a>(alloc: Global, bound: u64) -> Result<Report, Fault<'a>>
     ensures told { IfOk result (λ report. string_bytes report.text ≡ accepted_line bound) }
     ensures done { IfOk result (λ report. report.is_refused ≡ false) }
 {
-    Ok(Report {
-        text: format!(in alloc; "accepted bound {bound}\n")?,
-        is_refused: false,
-    })
+    match format!(in alloc; "accepted bound {bound}\n") {
+        Ok(text) => Ok(Report {
+            text,
+            is_refused: false,
+        }),
+        Err(error) => Err(Fault::from(error)),
+    }
 }
 
 /// Writes the object, which the verifier accepted, and tells its bound.
@@ -137,9 +146,30 @@ fn written<'a, R: Files + AllocGlobal>(
         ≡ accepted_line annotated.now.accepted.bound) }
     ensures done { IfOk result (λ report. report.is_refused ≡ false) }
 {
-    let report = accepted(rt.alloc(), annotated.accepted.bound())?;
-    files::write_accepted(rt, path, &annotated.bytes)?;
-    Ok(report)
+    match accepted(rt.alloc(), annotated.accepted.bound()) {
+        Ok(report) => match files::write_accepted(rt, path, &annotated.bytes) {
+            Ok(()) => Ok(report),
+            Err(fault) => Err(fault),
+        },
+        Err(fault) => Err(fault),
+    }
+}
+
+/// Finds statements for the code in these bytes of a file, and writes the object file `object`, if
+/// the verifier accepts it.
+fn annotate_bytes<'a, R: Files + AllocGlobal>(
+    rt: &R,
+    hook: Hook,
+    file: &[u8],
+    object: &'a str,
+    fuel: Option<u32>,
+) -> Result<Report, Fault<'a>>
+    ensures { IfOk result (λ report. (file : List ℕ) × IsAnnotated hook fuel file report) }
+{
+    match annotate_file(rt.alloc(), hook, file, fuel) {
+        Ok(annotated) => written(rt, object, &annotated),
+        Err(error) => shortfall(rt.alloc(), error),
+    }
 }
 
 /// Finds statements for the code of the file at `code`, at the hook, and writes the object file
@@ -156,9 +186,8 @@ pub(crate) fn annotate<'a, R: Files + AllocGlobal>(
 ) -> Result<Report, Fault<'a>>
     ensures { IfOk result (λ report. (file : List ℕ) × IsAnnotated hook fuel file report) }
 {
-    let file = files::read(rt, code)?;
-    match annotate_file(rt.alloc(), hook, &file, fuel) {
-        Ok(annotated) => written(rt, object, &annotated),
-        Err(error) => shortfall(rt.alloc(), &error),
+    match files::read(rt, code) {
+        Ok(file) => annotate_bytes(rt, hook, file.as_slice(), object, fuel),
+        Err(fault) => Err(fault),
     }
 }

@@ -1,5 +1,6 @@
 //! Answers in the terms of their hooks.
 
+use crate::sentences::push_sentence;
 use explanations::Text;
 use isa::Hook;
 
@@ -11,12 +12,13 @@ const LS_INFINITY: u64 = 16_777_215;
 /// which is the low 32 bits; whether the route is installed, which it is by 0 alone. At `count` it
 /// means nothing.
 pub(crate) fn push_answer(out: &mut Text, hook: Hook, answer: u64) {
-    match hook {
-        Hook::Count => out.numbered("answer ", answer, ", which isn't used"),
-        Hook::Tag => out.numbered("tag ", answer & 0xffff_ffff, ""),
-        Hook::Price if answer >= LS_INFINITY => out.push("withheld"),
-        Hook::Price => out.numbered("metric ", answer, ""),
-        Hook::Veto if answer == 0 => out.push("installed"),
-        Hook::Veto => out.push("not installed"),
-    }
+    let (sentence, number) = match hook {
+        Hook::Count => ("answer {}, which isn't used", answer),
+        Hook::Tag => ("tag {}", answer & 0xffff_ffff),
+        Hook::Price if answer >= LS_INFINITY => ("withheld", 0),
+        Hook::Price => ("metric {}", answer),
+        Hook::Veto if answer == 0 => ("installed", 0),
+        Hook::Veto => ("not installed", 0),
+    };
+    push_sentence(out, sentence, &[number])
 }

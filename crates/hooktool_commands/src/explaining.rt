@@ -8,7 +8,7 @@ use crate::files;
 use crate::report::Report;
 use explanations::{ExplainError, Explanation, explain as explained};
 use object_verdicts::VerifyError;
-use std::alloc::{AllocError, Global};
+use std::alloc::Global;
 use std::rt::Files;
 use verifier::{Accepted, Rule};
 
@@ -22,24 +22,6 @@ impl<'a> From<ExplainError> for Fault<'a> {
     }
 }
 
-/// The three texts of an explanation, one behind the other.
-fn whole(explanation: Explanation) -> Result<String, AllocError>
-    ensures { IfOk result (λ text. string_bytes text ≡ (string_bytes explanation.before
-        ++ string_bytes explanation.last)
-        ++ string_bytes explanation.told) }
-{
-    let Explanation {
-        before,
-        last,
-        told,
-        ..
-    } = explanation;
-    let mut text = before;
-    text.push_str(last.as_str())?;
-    text.push_str(told.as_str())?;
-    Ok(text)
-}
-
 /// Whether no verdict was reached for want of memory. The bytes were read before as an object with
 /// code: if they are none now, that is want of memory too.
 pub(crate) fn lacks_memory(verdict: &Result<Accepted, VerifyError>) -> bool {
@@ -50,26 +32,49 @@ pub(crate) fn lacks_memory(verdict: &Result<Accepted, VerifyError>) -> bool {
     }
 }
 
-/// Whether the program is refused. A fault where no verdict was reached for want of memory.
-fn is_refusal<'a>(verdict: &Result<Accepted, VerifyError>) -> Result<bool, Fault<'a>>
-    ensures { IfOk result (λ refused. refused ≡ is_err verdict.now) }
+/// What is told of an explanation whose verdict was reached: its three texts, one behind the other.
+fn report_of<'a>(alloc: Global, explanation: &Explanation) -> Result<Report, Fault<'a>>
+    ensures text { IfOk result (λ report. string_bytes report.text
+        ≡ string_bytes explanation.now.before ++ (string_bytes explanation.now.last
+        ++ string_bytes explanation.now.told)) }
+    ensures refused { IfOk result (λ report. report.is_refused
+        ≡ is_err explanation.now.verdict) }
 {
-    if lacks_memory(verdict) {
-        return Err(Fault::Memory);
+    let before = explanation.before.as_str();
+    let last = explanation.last.as_str();
+    let told = explanation.told.as_str();
+    match format!(in alloc; "{before}{last}{told}") {
+        Ok(text) => Ok(Report {
+            text,
+            is_refused: explanation.verdict.is_err(),
+        }),
+        Err(error) => Err(Fault::from(error)),
     }
-    Ok(verdict.is_err())
+}
+
+/// What is told of an explanation. A fault where no verdict was reached for want of memory.
+fn told_of<'a>(alloc: Global, explanation: &Explanation) -> Result<Report, Fault<'a>>
+    ensures text { IfOk result (λ report. string_bytes report.text
+        ≡ string_bytes explanation.now.before ++ (string_bytes explanation.now.last
+        ++ string_bytes explanation.now.told)) }
+    ensures refused { IfOk result (λ report. report.is_refused
+        ≡ is_err explanation.now.verdict) }
+{
+    if lacks_memory(&explanation.verdict) {
+        Err(Fault::Memory)
+    } else {
+        report_of(alloc, explanation)
+    }
 }
 
 /// What is told of the object file that these bytes are.
 fn explanation_of<'a>(alloc: Global, bytes: &[u8]) -> Result<Report, Fault<'a>>
     ensures { IfOk result (IsExplained bytes.now) }
 {
-    let explanation = explained(alloc, bytes)?;
-    let is_refused = is_refusal(&explanation.verdict)?;
-    Ok(Report {
-        text: whole(explanation)?,
-        is_refused,
-    })
+    match explained(alloc, bytes) {
+        Ok(explanation) => told_of(alloc, &explanation),
+        Err(error) => Err(Fault::from(error)),
+    }
 }
 
 /// Tells what the verifier knows at each slot of the program of the object file at `path`, up to
@@ -82,6 +87,8 @@ pub(crate) fn explain<'a, R: Files + AllocGlobal>(
 ) -> Result<Report, Fault<'a>>
     ensures { IfOk result (λ report. (bytes : List ℕ) × IsExplained bytes report) }
 {
-    let bytes = files::read(rt, path)?;
-    explanation_of(rt.alloc(), bytes.as_slice())
+    match files::read(rt, path) {
+        Ok(bytes) => explanation_of(rt.alloc(), bytes.as_slice()),
+        Err(fault) => Err(fault),
+    }
 }

@@ -8,6 +8,7 @@ mod fault;
 mod files;
 pub mod program;
 mod report;
+mod sentences;
 mod traps;
 mod trying;
 

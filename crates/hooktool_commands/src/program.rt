@@ -1,8 +1,9 @@
 //! The whole program, over readers and writers that are handed in.
 
-ghost use Rattle.std.specs.Prelude.{◌≡◌, ◌⊎◌, map};
+ghost use Rattle.std.specs.Prelude.{◌≡◌, ◌⊎◌, map, IfOk};
 ghost use Rattle.std.specs.IoError.{error_kind};
-ghost use Rattle.hooktool_commands.specs.Endings.{Ends, EndsRequest, EndsWords, Prints, Tells};
+ghost use Rattle.hooktool_commands.specs.Endings.{Ends, EndsWords, IsMadeOf, IsOutcomeOf, Prints};
+ghost use Rattle.hooktool_commands.specs.Endings.{Tells};
 
 use crate::annotating::annotate;
 use crate::explaining::explain;
@@ -66,15 +67,9 @@ pub fn end_without_words<O: Write, E: Write>(
     tell(&fault, output, errors)
 }
 
-// Carries out a request, and answers the status.
-fn carry_out<R: Files + AllocGlobal, O: Write, E: Write>(
-    rt: &R,
-    request: Request<'_>,
-    output: &mut O,
-    errors: &mut E,
-) -> u8
-    ensures { EndsRequest request.entry (O.contents output.old) (O.contents output.new)
-        (E.contents errors.old) (E.contents errors.new) result }
+// What a request makes, or why it can't be carried out.
+fn made_of<'a, R: Files + AllocGlobal>(rt: &R, request: Request<'a>) -> Result<Report, Fault<'a>>
+    ensures { IfOk result (IsMadeOf request.entry) }
 {
     match request {
         Request::Annotate {
@@ -82,11 +77,19 @@ fn carry_out<R: Files + AllocGlobal, O: Write, E: Write>(
             code,
             object,
             fuel,
-        } => end(annotate(rt, hook, code, object, fuel), output, errors),
-        Request::Explain { object } => end(explain(rt, object), output, errors),
-        Request::Try { object, question } => {
-            end(try_question(rt, object, &question), output, errors)
-        }
+        } => annotate(rt, hook, code, object, fuel),
+        Request::Explain { object } => explain(rt, object),
+        Request::Try { object, question } => try_question(rt, object, &question),
+    }
+}
+
+// The report of what the words ask for, or why there is none.
+fn outcome_of<'a, R: Files + AllocGlobal>(rt: &R, words: &'a [&'a str]) -> Result<Report, Fault<'a>>
+    ensures { IsOutcomeOf (map (λ word. word.now) words.entry.now) result }
+{
+    match hooktool_line::parse(rt.alloc(), words) {
+        Ok(request) => made_of(rt, request),
+        Err(error) => Err(Fault::from(error)),
     }
 }
 
@@ -104,8 +107,5 @@ pub fn program<R: Files + AllocGlobal, O: Write, E: Write>(
         (O.contents output.old) (O.contents output.new)
         (E.contents errors.old) (E.contents errors.new) result }
 {
-    match hooktool_line::parse(rt.alloc(), words) {
-        Ok(request) => carry_out(rt, request, output, errors),
-        Err(error) => end(Err(Fault::from(error)), output, errors),
-    }
+    end(outcome_of(rt, words), output, errors)
 }

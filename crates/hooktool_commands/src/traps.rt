@@ -1,77 +1,61 @@
 //! Runs that gave no answer.
 
+use crate::sentences::push_sentence;
 use explanations::{Text, line_at};
 use interp::Trap;
 use isa::Code;
-use machine::{Content, Fault, Pointer};
+use machine::{Content, Pointer};
 use trial_runs::Ending;
 
-/// The name of a fault, as docs/MACHINE.md has it.
-fn fault_name(fault: Fault) -> &'static str {
-    match fault {
-        Fault::Outside => "Outside",
-        Fault::HalfWide => "HalfWide",
-        Fault::Empty => "Empty",
-        Fault::Kind => "Kind",
-        Fault::Bounds => "Bounds",
-        Fault::Align => "Align",
-        Fault::Helper => "Helper",
-        Fault::Argument => "Argument",
-        Fault::Frame => "Frame",
-        Fault::ExitKind => "ExitKind",
-    }
+// The traps in the order of their numbers, which begin with 1: the faults' names are those of
+// docs/MACHINE.md.
+const TRAPS: [&str; 11] = [
+    "trap {} Outside at slot {}: ",
+    "trap {} HalfWide at slot {}: ",
+    "trap {} Empty at slot {}: ",
+    "trap {} Kind at slot {}: ",
+    "trap {} Bounds at slot {}: ",
+    "trap {} Align at slot {}: ",
+    "trap {} Helper at slot {}: ",
+    "trap {} Argument at slot {}: ",
+    "trap {} Frame at slot {}: ",
+    "trap {} ExitKind at slot {}: ",
+    "trap {}: all instructions were used, at slot {}: ",
+];
+
+/// The trap's number, what it is, and the slot at which it is.
+fn push_name(out: &mut Text, trap: Trap, slot: u64) {
+    let number = trap.number();
+    let place = usize::from(number).saturating_sub(1);
+    let sentence = TRAPS.get(place).copied().unwrap_or("");
+    push_sentence(out, sentence, &[u64::from(number), slot])
 }
 
-fn push_pointer(out: &mut Text, pointer: Pointer) {
-    match pointer {
-        Pointer::Context(at) => out.numbered("context, byte ", at, "\n"),
-        Pointer::Stack(at) => out.numbered("stack, byte ", at, "\n"),
-        Pointer::Map(map, at) => {
-            out.numbered("map ", u64::from(map.number()), ", byte ");
-            out.numbered("", at, "\n")
+/// A line for the register, unless it is empty.
+fn push_register(out: &mut Text, register: u64, content: Content) {
+    let (sentence, first, second) = match content {
+        Content::Nothing => ("", 0, 0),
+        Content::Number(word) => ("  r{}: {}\n", word, 0),
+        Content::Address(Pointer::Context(at)) => ("  r{}: context, byte {}\n", at, 0),
+        Content::Address(Pointer::Stack(at)) => ("  r{}: stack, byte {}\n", at, 0),
+        Content::Address(Pointer::Map(map, at)) => {
+            ("  r{}: map {}, byte {}\n", u64::from(map.number()), at)
         }
-    }
+    };
+    push_sentence(out, sentence, &[register, first, second])
 }
 
 /// A line for each register that isn't empty.
 fn push_registers(out: &mut Text, registers: &[Content]) {
     for (number, content) in registers.iter().enumerate() {
-        match *content {
-            Content::Nothing => {}
-            Content::Number(word) => {
-                out.numbered("  r", number as u64, ": ");
-                out.numbered("", word, "\n")
-            }
-            Content::Address(pointer) => {
-                out.numbered("  r", number as u64, ": ");
-                push_pointer(out, pointer)
-            }
-        }
-    }
-}
-
-/// The trap's number, and what it is.
-fn push_name(out: &mut Text, trap: Trap) {
-    match trap {
-        Trap::Stuck(fault) => {
-            out.numbered("trap ", u64::from(trap.number()), " ");
-            out.push(fault_name(fault));
-            out.push(" at slot ")
-        }
-        Trap::Limit => out.numbered(
-            "trap ",
-            u64::from(trap.number()),
-            ": all instructions were used, at slot ",
-        ),
+        push_register(out, number as u64, *content)
     }
 }
 
 /// The trap, the slot and the instruction at which it is, and the registers there.
 pub(crate) fn push_trap(out: &mut Text, trap: Trap, ending: &Ending, code: &Code, lines: &str) {
-    let slot = ending.slot;
-    push_name(out, trap);
-    out.numbered("", slot, ": ");
-    out.push(line_at(lines, code, slot).unwrap_or("no instruction begins there"));
+    push_name(out, trap, ending.slot);
+    out.push(line_at(lines, code, ending.slot).unwrap_or("no instruction begins there"));
     out.push("\n");
     push_registers(out, &ending.registers)
 }

@@ -8,6 +8,7 @@ use crate::answers::push_answer;
 use crate::fault::Fault;
 use crate::files;
 use crate::report::Report;
+use crate::sentences::push_sentence;
 use crate::traps::push_trap;
 use explanations::{Text, instruction_lines};
 use hooktool_line::{Packet, Question};
@@ -36,21 +37,33 @@ struct Program {
     lines: String,
 }
 
-fn program_of<'a>(alloc: Global, bytes: &[u8]) -> Result<Program, Fault<'a>> {
-    let object = object::read(alloc, bytes)?;
-    program_in(alloc, &object)
+/// The object's program, of this code.
+fn program_with<'a>(alloc: Global, object: &Object, code: Code) -> Result<Program, Fault<'a>> {
+    match instruction_lines(alloc, object) {
+        Ok(lines) => Ok(Program {
+            hook: object.hook(),
+            bound: bound_of(object),
+            code,
+            lines,
+        }),
+        Err(error) => Err(Fault::from(error)),
+    }
 }
 
 /// The program of the object.
 fn program_in<'a>(alloc: Global, object: &Object) -> Result<Program, Fault<'a>> {
-    let code = decode(alloc, object.code())?;
-    let lines = instruction_lines(alloc, object)?;
-    Ok(Program {
-        hook: object.hook(),
-        bound: bound_of(object),
-        code,
-        lines,
-    })
+    match decode(alloc, object.code()) {
+        Ok(code) => program_with(alloc, object, code),
+        Err(error) => Err(Fault::from(error)),
+    }
+}
+
+/// The program of the object file that these bytes are.
+fn program_of<'a>(alloc: Global, bytes: &[u8]) -> Result<Program, Fault<'a>> {
+    match object::read(alloc, bytes) {
+        Ok(object) => program_in(alloc, &object),
+        Err(error) => Err(Fault::from(error)),
+    }
 }
 
 /// How many instructions the object allows.
@@ -64,8 +77,7 @@ fn push_ending(out: &mut Text, program: &Program, ending: &Ending) {
     match ending.outcome {
         Ok(run) => {
             push_answer(out, program.hook, run.answer);
-            out.numbered(", used ", run.used, " of ");
-            out.numbered("", program.bound, "\n")
+            push_sentence(out, ", used {} of {}\n", &[run.used, program.bound])
         }
         Err(trap) => push_trap(out, trap, ending, &program.code, program.lines.as_str()),
     }
@@ -81,13 +93,11 @@ fn push_endings(out: &mut Text, program: &Program, endings: &[Ending]) {
     }
 }
 
-/// A line for each number that isn't 0.
-fn push_numbers(out: &mut Text, name: &str, numbers: &[u64]) {
+/// A line for each number that isn't 0: this sentence with its index and the number.
+fn push_numbers(out: &mut Text, sentence: &str, numbers: &[u64]) {
     for (index, number) in numbers.iter().enumerate() {
         if *number > 0 {
-            out.push(name);
-            out.numbered(" ", index as u64, " ");
-            out.numbered("", *number, "\n")
+            push_sentence(out, sentence, &[index as u64, *number])
         }
     }
 }
@@ -96,8 +106,8 @@ fn push_numbers(out: &mut Text, name: &str, numbers: &[u64]) {
 fn text_of(alloc: Global, program: &Program, trial: &Trial) -> Result<String, AllocError> {
     let mut text = Text::new(alloc);
     push_endings(&mut text, program, &trial.endings);
-    push_numbers(&mut text, "counter", &trial.counters);
-    push_numbers(&mut text, "cell", &trial.cells);
+    push_numbers(&mut text, "counter {} {}\n", &trial.counters);
+    push_numbers(&mut text, "cell {} {}\n", &trial.cells);
     text.finish()
 }
 
@@ -107,16 +117,17 @@ fn is_any_stuck(endings: &[Ending]) -> bool
     endings.iter().any(|ending| ending.outcome.is_err())
 }
 
-/// The bytes of the packet.
-fn packet_bytes<'a, R: Files + AllocGlobal>(
-    rt: &R,
-    packet: &Packet<'a>,
-) -> Result<Vec<u8>, Fault<'a>>
-    ensures { IfOk result (λ bytes. PacketIs packet.now bytes.items) }
+/// What is told of the program's runs.
+fn report_of<'a>(alloc: Global, program: &Program, trial: &Trial) -> Result<Report, Fault<'a>>
+    ensures { IfOk result (λ report. report.is_refused
+        ≡ list_any (λ ending. is_err ending.outcome) trial.now.endings.items) }
 {
-    match packet {
-        Packet::Bytes(bytes) => Ok(Vec::from_slice(rt.alloc(), bytes)?),
-        Packet::File(path) => files::read(rt, path),
+    match text_of(alloc, program, trial) {
+        Ok(text) => Ok(Report {
+            text,
+            is_refused: is_any_stuck(&trial.endings),
+        }),
+        Err(error) => Err(Fault::from(error)),
     }
 }
 
@@ -131,18 +142,17 @@ fn told_of<'a>(
 ) -> Result<Report, Fault<'a>>
     ensures { IfOk result (IsTried bytes.now packet.now question.now) }
 {
-    let trial = try_object(
+    match try_object(
         alloc,
         bytes,
         &question.asked,
         packet,
         &question.rows,
         question.times,
-    )?;
-    Ok(Report {
-        text: text_of(alloc, program, &trial)?,
-        is_refused: is_any_stuck(&trial.endings),
-    })
+    ) {
+        Ok(trial) => report_of(alloc, program, &trial),
+        Err(error) => Err(Fault::from(error)),
+    }
 }
 
 /// The same, where the bytes hold a program.
@@ -154,8 +164,28 @@ fn trial_of<'a>(
 ) -> Result<Report, Fault<'a>>
     ensures { IfOk result (IsTried bytes.now packet.now question.now) }
 {
-    let program = program_of(alloc, bytes)?;
-    told_of(alloc, bytes, packet, question, &program)
+    match program_of(alloc, bytes) {
+        Ok(program) => told_of(alloc, bytes, packet, question, &program),
+        Err(fault) => Err(fault),
+    }
+}
+
+/// The same, with the packet of the question.
+fn try_bytes<'a, R: Files + AllocGlobal>(
+    rt: &R,
+    bytes: &[u8],
+    question: &Question<'a>,
+) -> Result<Report, Fault<'a>>
+    ensures { IfOk result (λ report. (bytes packet : List ℕ) × PacketIs question.now.packet packet
+        × IsTried bytes packet question.now report) }
+{
+    match &question.packet {
+        Packet::Bytes(packet) => trial_of(rt.alloc(), bytes, packet.as_slice(), question),
+        Packet::File(path) => match files::read(rt, path) {
+            Ok(packet) => trial_of(rt.alloc(), bytes, packet.as_slice(), question),
+            Err(fault) => Err(fault),
+        },
+    }
 }
 
 /// Runs the program of the object file at `path` on the question, and tells each run's end and what
@@ -170,7 +200,8 @@ pub(crate) fn try_question<'a, R: Files + AllocGlobal>(
     ensures { IfOk result (λ report. (bytes packet : List ℕ) × PacketIs question.now.packet packet
         × IsTried bytes packet question.now report) }
 {
-    let bytes = files::read(rt, path)?;
-    let packet = packet_bytes(rt, &question.packet)?;
-    trial_of(rt.alloc(), bytes.as_slice(), packet.as_slice(), question)
+    match files::read(rt, path) {
+        Ok(bytes) => try_bytes(rt, bytes.as_slice(), question),
+        Err(fault) => Err(fault),
+    }
 }

@@ -27,12 +27,24 @@ const LATEST: u64 = 4_611_686_018_427_387_903;
 pub(crate) fn numbers_of(matches: &ArgMatches<'_>) -> Option<Numbers>
     ensures { Reads (HasNumbers (rows_of (found_of matches.now))) result }
 {
-    let metric = number_of(matches, "metric", 0, 0, MOST)?;
-    let tag = number_of(matches, "tag", 0, 0, MOST)?;
-    let cost = number_of(matches, "cost", 0, 0, MOST)?;
-    let distance = number_of(matches, "distance", 0, 0, MOST)?;
-    let moment = number_of(matches, "moment", 0, 0, LATEST)?;
-    let interface = number_of(matches, "interface", 0, 0, 63)?;
+    let Some(metric) = number_of(matches, "metric", 0, 0, MOST) else {
+        return None;
+    };
+    let Some(tag) = number_of(matches, "tag", 0, 0, MOST) else {
+        return None;
+    };
+    let Some(cost) = number_of(matches, "cost", 0, 0, MOST) else {
+        return None;
+    };
+    let Some(distance) = number_of(matches, "distance", 0, 0, MOST) else {
+        return None;
+    };
+    let Some(moment) = number_of(matches, "moment", 0, 0, LATEST) else {
+        return None;
+    };
+    let Some(interface) = number_of(matches, "interface", 0, 0, 63) else {
+        return None;
+    };
     Some(Numbers {
         metric: metric as u32,
         tag: tag as u32,

@@ -21,9 +21,15 @@ pub(crate) struct Places {
 pub(crate) fn places_of(matches: &ArgMatches<'_>) -> Option<Places>
     ensures { Reads (HasPlaces (rows_of (found_of matches.now))) result }
 {
-    let prefix = prefix_in(matches)?;
-    let external = type_in(matches)?;
-    let kind = kind_in(matches)?;
+    let Some(prefix) = prefix_in(matches) else {
+        return None;
+    };
+    let Some(external) = type_in(matches) else {
+        return None;
+    };
+    let Some(kind) = kind_in(matches) else {
+        return None;
+    };
     Some(Places {
         prefix,
         external,

@@ -87,10 +87,16 @@ fn asked_of(places: Places, numbers: Numbers) -> Asked
 fn asked_in(matches: &ArgMatches<'_>) -> Option<(Asked, u32)>
     ensures { Reads (λ p. HasAsked (rows_of (found_of matches.now)) p.0 p.1) result }
 {
-    let places = places_of(matches)?;
-    let numbers = numbers_of(matches)?;
-    let times = number_of(matches, "times", 1, 1, 1000)?;
-    Some((asked_of(places, numbers), times as u32))
+    let Some(places) = places_of(matches) else {
+        return None;
+    };
+    let Some(numbers) = numbers_of(matches) else {
+        return None;
+    };
+    match number_of(matches, "times", 1, 1, 1000) {
+        Some(times) => Some((asked_of(places, numbers), times as u32)),
+        None => None,
+    }
 }
 
 /// The question of these parts. None where one of them has no meaning.
@@ -101,9 +107,15 @@ fn question_with<'a>(
 ) -> Option<Question<'a>>
     ensures { result ≡ question_with asked packet.entry rows }
 {
-    let (asked, times) = asked?;
-    let packet = packet?;
-    let rows = rows?;
+    let Some((asked, times)) = asked else {
+        return None;
+    };
+    let Some(packet) = packet else {
+        return None;
+    };
+    let Some(rows) = rows else {
+        return None;
+    };
     Some(Question {
         asked,
         packet,
@@ -147,23 +159,36 @@ fn fuel_of(matches: &ArgMatches<'_>) -> Option<Option<u32>>
 fn annotate_request<'a>(matches: &ArgMatches<'a>) -> Option<Request<'a>>
     ensures { MadeBy (codes "annotate") (rows_of (found_of matches.now)) result }
 {
-    let hook = Hook::from_name(word_of(matches, "HOOK")?)?;
-    let code = word_of(matches, "CODE")?;
-    let object = word_of(matches, "OBJECT")?;
-    let fuel = fuel_of(matches)?;
-    Some(Request::Annotate {
-        hook,
-        code,
-        object,
-        fuel,
-    })
+    let Some(hook) = word_of(matches, "HOOK") else {
+        return None;
+    };
+    let Some(hook) = Hook::from_name(hook) else {
+        return None;
+    };
+    let Some(code) = word_of(matches, "CODE") else {
+        return None;
+    };
+    let Some(object) = word_of(matches, "OBJECT") else {
+        return None;
+    };
+    match fuel_of(matches) {
+        Some(fuel) => Some(Request::Annotate {
+            hook,
+            code,
+            object,
+            fuel,
+        }),
+        None => None,
+    }
 }
 
 fn explain_request<'a>(matches: &ArgMatches<'a>) -> Option<Request<'a>>
     ensures { MadeBy (codes "explain") (rows_of (found_of matches.now)) result }
 {
-    let object = word_of(matches, "OBJECT")?;
-    Some(Request::Explain { object })
+    match word_of(matches, "OBJECT") {
+        Some(object) => Some(Request::Explain { object }),
+        None => None,
+    }
 }
 
 fn try_request<'a>(

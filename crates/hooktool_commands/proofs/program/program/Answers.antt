@@ -1,9 +1,8 @@
-use Rattle.std.proofs.Common.{inr, map}
-use Rattle.hooktool_commands.proofs.Told.{told}
+use Rattle.std.proofs.Common.{map}
+use Rattle.hooktool_commands.proofs.Told.{ended}
 use Rattle.hooktool_commands.proofs.program.program.Goals as goal
 
-pub returns-in-Err : goal.returns-in-Err
-returns-in-Err g c =
+pub returns : goal.returns
+returns g c =
     let words = map (λ word. word.now) c.args.words.now in
-    let refused = told words c.in-Err.error c.from.result c.in-Err.ensures c.from.ensures in
-    record { ended = inr (c.from.result, refused, c.end.ensures) }
+    record { ended = ended words c.outcome_of.result _ _ _ _ _ c.outcome_of.ensures c.end.ensures }

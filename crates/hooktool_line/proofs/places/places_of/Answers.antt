@@ -1,10 +1,10 @@
 use Rattle.hooktool_line.proofs.places.places_of.Goals as goal
 
-pub returns-in_err-prefix : goal.returns-in_err-prefix
-returns-in_err-prefix c = rw c.from_residual.ensures (λ places has. c.in_err-prefix.ensures places.prefix has.prefix)
+pub returns-in_default : goal.returns-in_default
+returns-in_default c = λ places has. c.in_default.ensures places.prefix has.prefix
 
-pub returns-in_err-external : goal.returns-in_err-external
-returns-in_err-external c = rw c.from_residual-in_err-external.ensures (λ places has. c.in_err-external.ensures places.external has.external)
+pub returns-in_default-type_in : goal.returns-in_default-type_in
+returns-in_default-type_in c = λ places has. c.in_default-type_in.ensures places.external has.external
 
-pub returns-in_err-kind : goal.returns-in_err-kind
-returns-in_err-kind c = rw c.from_residual-in_err-kind.ensures (λ places has. c.in_err-kind.ensures places.kind has.kind)
+pub returns-in_default-kind_in : goal.returns-in_default-kind_in
+returns-in_default-kind_in c = λ places has. c.in_default-kind_in.ensures places.kind has.kind

@@ -4,40 +4,40 @@ use Rattle.clap.specs.Walk.{rows_of}
 use Rattle.hooktool_line.proofs.Made.{has_none, has_word, no_annotate, some_is, some≢none}
 use Rattle.hooktool_line.proofs.requests.annotate_request.Goals as goal
 
-pub returns-in_err-word_of : goal.returns-in_err-word_of
-returns-in_err-word_of c =
+pub returns-in_default : goal.returns-in_default
+returns-in_default c =
     let rows = rows_of (found_of c.args.matches.now) in
-    rw c.from_residual.ensures (no_annotate rows (λ hook code object fuel has a b d. has_none rows (codes "HOOK") c.in_err-word_of.ensures _ has))
+    no_annotate rows (λ hook code object fuel has a b d. has_none rows (codes "HOOK") c.in_default.ensures _ has)
 
-pub returns-in_err-hook : goal.returns-in_err-hook
-returns-in_err-hook c =
+pub returns-in_default-from_name : goal.returns-in_default-from_name
+returns-in_default-from_name c =
     let rows = rows_of (found_of c.args.matches.now) in
-    rw c.from_residual-in_err-hook.ensures (no_annotate rows (λ hook code object fuel has a b d.
-    some≢none hook (sym (c.from_name.ensures.only hook (some_is (c.in_ok-word_of.ensures ∙ has))) ∙ c.in_err-hook.was)))
+    no_annotate rows (λ hook code object fuel has a b d.
+    some≢none hook (sym (c.from_name.ensures.only hook (some_is (c.in-Some.ensures ∙ has))) ∙ c.in_default-from_name.is))
 
-pub returns-in_err-code : goal.returns-in_err-code
-returns-in_err-code c =
+pub returns-in_default-word_of : goal.returns-in_default-word_of
+returns-in_default-word_of c =
     let rows = rows_of (found_of c.args.matches.now) in
-    rw c.from_residual-in_err-code.ensures (no_annotate rows (λ hook code object fuel a has b d. has_none rows (codes "CODE") c.in_err-code.ensures code has))
+    no_annotate rows (λ hook code object fuel a has b d. has_none rows (codes "CODE") c.in_default-word_of.ensures code has)
 
-pub returns-in_err-object : goal.returns-in_err-object
-returns-in_err-object c =
+pub returns-in_default-word_of-2 : goal.returns-in_default-word_of-2
+returns-in_default-word_of-2 c =
     let rows = rows_of (found_of c.args.matches.now) in
-    rw c.from_residual-in_err-object.ensures (no_annotate rows (λ hook code object fuel a b has d. has_none rows (codes "OBJECT") c.in_err-object.ensures object has))
+    no_annotate rows (λ hook code object fuel a b has d. has_none rows (codes "OBJECT") c.in_default-word_of-2.ensures object has)
 
-pub returns-in_err-fuel : goal.returns-in_err-fuel
-returns-in_err-fuel c =
+pub returns-in-None : goal.returns-in-None
+returns-in-None c =
     let rows = rows_of (found_of c.args.matches.now) in
-    rw c.from_residual-in_err-fuel.ensures (no_annotate rows (λ hook code object fuel a b d has. c.in_err-fuel.ensures fuel has))
+    no_annotate rows (λ hook code object fuel a b d has. c.in-None.ensures fuel has)
 
-pub returns : goal.returns
-returns c =
+pub returns-in-Some-fuel_of : goal.returns-in-Some-fuel_of
+returns-in-Some-fuel_of c =
     let rows = rows_of (found_of c.args.matches.now) in (
       refl,
       (
-        sym c.in_ok-word_of.ensures ∙ ap Some c.in_ok-hook.ensures.found,
-        has_word rows (codes "CODE") c.in_ok-code.code c.in_ok-code.ensures,
-        has_word rows (codes "OBJECT") c.in_ok-object.object c.in_ok-object.ensures,
-        c.in_ok-fuel.ensures,
+        sym c.in-Some.ensures ∙ ap Some c.in-Some-from_name.ensures.found,
+        has_word rows (codes "CODE") c.in-Some-word_of.code c.in-Some-word_of.ensures,
+        has_word rows (codes "OBJECT") c.in-Some-word_of-2.object c.in-Some-word_of-2.ensures,
+        c.in-Some-fuel_of.ensures,
       ),
     )

@@ -1,20 +1,20 @@
 use Rattle.hooktool_line.proofs.requests.asked_in.Goals as goal
 
-pub returns-in_err-places : goal.returns-in_err-places
-returns-in_err-places c = rw c.from_residual.ensures (λ p has. c.in_err-places.ensures has.places has.named)
+pub returns-in_default : goal.returns-in_default
+returns-in_default c = λ p has. c.in_default.ensures has.places has.named
 
-pub returns-in_err-numbers : goal.returns-in_err-numbers
-returns-in_err-numbers c = rw c.from_residual-in_err-numbers.ensures (λ p has. c.in_err-numbers.ensures has.numbers has.counted)
+pub returns-in_default-numbers_of : goal.returns-in_default-numbers_of
+returns-in_default-numbers_of c = λ p has. c.in_default-numbers_of.ensures has.numbers has.counted
 
-pub returns-in_err-times : goal.returns-in_err-times
-returns-in_err-times c = rw c.from_residual-in_err-times.ensures (λ p has. c.in_err-times.ensures.read p.1 has.times)
+pub returns-in-None : goal.returns-in-None
+returns-in-None c = λ p has. c.in-None.ensures.read p.1 has.times
 
-pub returns : goal.returns
-returns c = record {
-  places = c.in_ok-places.places;
-  numbers = c.in_ok-numbers.numbers;
-  named = c.in_ok-places.ensures;
-  counted = c.in_ok-numbers.ensures;
+pub returns-in-Some-number_of : goal.returns-in-Some-number_of
+returns-in-Some-number_of c = record {
+  places = c.in-Some.places;
+  numbers = c.in-Some-numbers_of.numbers;
+  named = c.in-Some.ensures;
+  counted = c.in-Some-numbers_of.ensures;
   asked = c.asked_of.ensures;
-  times = c.in_ok-times.ensures.read;
+  times = c.in-Some-number_of.ensures.read;
 }

@@ -4,12 +4,12 @@ use Rattle.clap.specs.Walk.{rows_of}
 use Rattle.hooktool_line.proofs.Made.{has_none, has_word, no_explain}
 use Rattle.hooktool_line.proofs.requests.explain_request.Goals as goal
 
-pub returns-in_err-object : goal.returns-in_err-object
-returns-in_err-object c =
+pub returns-in-None : goal.returns-in-None
+returns-in-None c =
     let rows = rows_of (found_of c.args.matches.now) in
-    rw c.from_residual.ensures (no_explain rows (has_none rows (codes "OBJECT") c.in_err-object.ensures))
+    no_explain rows (has_none rows (codes "OBJECT") c.in-None.ensures)
 
-pub returns : goal.returns
-returns c =
+pub returns-in-Some : goal.returns-in-Some
+returns-in-Some c =
     let rows = rows_of (found_of c.args.matches.now) in
-    (refl, has_word rows (codes "OBJECT") c.in_ok-object.object c.in_ok-object.ensures)
+    (refl, has_word rows (codes "OBJECT") c.in-Some.object c.in-Some.ensures)

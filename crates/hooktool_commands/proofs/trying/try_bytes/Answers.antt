@@ -1,0 +1,10 @@
+use Rattle.std.proofs.Common.{subst, sym}
+use Rattle.hooktool_commands.proofs.Tried.{of_packet}
+use Rattle.hooktool_commands.proofs.trying.try_bytes.Goals as goal
+use Rattle.hooktool_commands.specs.Trials.{PacketIs}
+use Rattle.hooktool_line.specs.declared.requests.Packet.{Packet}
+
+pub returns-in-Bytes : goal.returns-in-Bytes
+returns-in-Bytes g c =
+    of_packet c.args.question.now c.args.bytes.now c.as_slice.result.now c.trial_of.result
+    (subst (λ (p : Packet). PacketIs p c.as_slice.result.now) (sym c.in-Bytes.is) c.as_slice.ensures.value) c.trial_of.ensures
