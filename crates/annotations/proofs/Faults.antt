@@ -1,12 +1,12 @@
 -- Shortfalls that are no verdicts say nothing of the code.
-use Rattle.std.proofs.Common.{◌≡◌, ℕ, List, Option, refl, inl}
+use Rattle.std.proofs.Common.{◌≡◌, ℕ, List, Option, Some, refl, inl, inr}
 use Rattle.isa.specs.declared.hook.Hook.{Hook}
 use Rattle.annotations.specs.declared.shortfall.Shortfall.{Shortfall}
 use Rattle.annotations.specs.declared.shortfall.Shortfall.TheVariants as shortfalls
 use Rattle.object.specs.Objects.{ObjectParts}
 use Rattle.object.specs.Spelling.{Spells}
 use Rattle.verifier.specs.Programs.{Program}
-use Rattle.annotations.specs.Annotated.{HasCode, IsAnnotated, IsAnnotation, IsCodeAnnotation}
+use Rattle.annotations.specs.Annotated.{CountsLoops, HasCode, IsAnnotated, IsAnnotation, IsCodeAnnotation}
 use Rattle.annotations.specs.Verdict.{IsFileShortfall, IsNoVerdict, IsShortfall, IsTurnsShortfall}
 
 pub no_verdict : (hook : Hook) (text : List ℕ) (s : Shortfall) → IsNoVerdict s → IsShortfall hook text s
@@ -60,3 +60,17 @@ pub of_the_object : (hook : Hook) (turns : Option ℕ) (file text : List ℕ) (o
     → Spells file object → object.hook ≡ hook → object.code ≡ text → IsTurnsShortfall hook turns text s → IsFileShortfall hook turns file s
 of_the_object hook turns file text object s spells same_hook same_code h =
     of_the_file hook turns file text s (inl (record { object = object; spells = spells; same_hook = same_hook; same_code = same_code })) h
+
+-- what came of code that counts the turns came of the code
+pub of_counted_code : (hook : Hook) (turns : ℕ) (text counted : List ℕ) (s : Shortfall) → CountsLoops turns text counted → IsShortfall hook counted s → IsTurnsShortfall hook (Some turns) text s
+of_counted_code hook turns text counted (shortfalls.Code error) counts h = tt
+of_counted_code hook turns text counted (shortfalls.Object error) counts h = absurd h
+of_counted_code hook turns text counted (shortfalls.OtherHook other) counts h = absurd h
+of_counted_code hook turns text counted (shortfalls.Uncounted error) counts h = tt
+of_counted_code hook turns text counted (shortfalls.Refused r endless) counts h = record { written = counted; code_is = inr counts; rejected = h }
+of_counted_code hook turns text counted shortfalls.Statements counts h = tt
+of_counted_code hook turns text counted shortfalls.Memory counts h = tt
+
+pub counted_annotation : (hook : Hook) (turns : ℕ) (text counted : List ℕ) (object : ObjectParts) (bytes : List ℕ) (accepted : Program)
+    → CountsLoops turns text counted → IsAnnotated hook counted object bytes accepted → IsCodeAnnotation hook (Some turns) text object bytes accepted
+counted_annotation hook turns text counted object bytes accepted counts h = record { written = counted; code_is = inr counts; annotated = h }
