@@ -81,15 +81,12 @@ fn adds_more(
     outcome: &Result<Annotated, Shortfall>,
     unranked: &Unranked,
 ) -> bool {
-    match (outcome, unranked) {
-        (Err(Shortfall::Refused(_, Some(_))), Unranked::Alone(slots)) => {
-            add_heads(heads, slots, false)
-        }
-        (Err(Shortfall::Refused(_, Some(_))), Unranked::Together(slots)) => {
-            add_heads(heads, slots, true)
-        }
-        _ => false,
-    }
+    let (slots, is_one) = match unranked {
+        Unranked::Alone(slots) => (slots, false),
+        Unranked::Together(slots) => (slots, true),
+    };
+    let lacks_rank = matches!(outcome, Err(Shortfall::Refused(_, Some(_))));
+    lacks_rank && add_heads(heads, slots, is_one)
 }
 
 /// The text of the code that counts the turns of the loops at these heads.
@@ -228,13 +225,13 @@ pub fn annotate_counted(
         a.bytes.items a.accepted) }
     ensures refused { IfErr result (IsTurnsShortfall hook (Some turns) bytes.now) }
 {
-    let mut unranked = Unranked::Alone(Vec::new(alloc));
-    let mut heads = Heads {
-        slots: Vec::new(alloc),
-        lacks_memory: false,
-    };
     match decode(alloc, bytes) {
         Ok(code) => {
+            let mut unranked = Unranked::Alone(Vec::new(alloc));
+            let mut heads = Heads {
+                slots: Vec::new(alloc),
+                lacks_memory: false,
+            };
             annotate_loops(
                 alloc,
                 hook,

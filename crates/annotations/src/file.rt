@@ -16,7 +16,8 @@ use std::alloc::Global;
 fn is_object(bytes: &[u8]) -> bool
     ensures { IsTrue result ↔ (take 4 bytes.now ≡ magic) }
 {
-    bytes.len() >= 4 && bytes[0] == 0x42 && bytes[1] == 0x50 && bytes[2] == 0x46 && bytes[3] == 0x48
+    bytes.len() >= 4
+        && (bytes[0] == 0x42) & (bytes[1] == 0x50) & (bytes[2] == 0x46) & (bytes[3] == 0x48)
 }
 
 /// Finds statements and ranks for the code.
@@ -66,8 +67,9 @@ fn annotate_object(
 {
     match read(alloc, file) {
         Ok(object) => {
-            if object.hook() != hook {
-                Err(Shortfall::OtherHook(object.hook()))
+            let object_hook = object.hook();
+            if object_hook != hook {
+                Err(Shortfall::OtherHook(object_hook))
             } else {
                 annotate_code(alloc, hook, object.code(), object.statements(), turns)
             }

@@ -1,5 +1,5 @@
 //! Statements without the known bits that the verifier does without.
-ghost use Rattle.std.specs.Prelude.{◌≤◌, IfOk, IfErr};
+ghost use Rattle.std.specs.Prelude.{◌≡◌, ◌≤◌, IfOk, IfErr};
 ghost use Rattle.annotations.specs.Annotated.{IsAnnotated};
 ghost use Rattle.annotations.specs.Verdict.{IsShortfall};
 
@@ -54,6 +54,16 @@ fn trimmed_within(
     Ok(all)
 }
 
+/// The shortfall, unless it's that the verifier refuses the object.
+fn unless_refused(shortfall: Shortfall) -> Result<(), Shortfall>
+    ensures { IfErr result (λ fault. fault ≡ shortfall) }
+{
+    match shortfall {
+        Shortfall::Refused(..) => Ok(()),
+        fault => Err(fault),
+    }
+}
+
 /// Gives the object these statements, if the verifier accepts it so.
 fn try_with(
     alloc: Global,
@@ -74,8 +84,7 @@ fn try_with(
             *annotated = trimmed;
             Ok(())
         }
-        Err(Shortfall::Refused(..)) => Ok(()),
-        Err(error) => Err(error),
+        Err(shortfall) => unless_refused(shortfall),
     }
 }
 
