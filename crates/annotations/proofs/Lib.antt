@@ -1,3 +1,2 @@
 mod Faults
-mod Attempts
 mod Pushed

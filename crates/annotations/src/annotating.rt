@@ -3,17 +3,17 @@ ghost use Rattle.std.specs.Prelude.{IfOk, IfErr};
 ghost use Rattle.annotations.specs.Annotated.{IsAnnotated};
 ghost use Rattle.annotations.specs.Verdict.{IsShortfall};
 
-use crate::attempt::{Attempt, Failure, try_both};
+use crate::attempt::try_both;
 use crate::shortfall::Shortfall;
 use crate::verdict::Annotated;
 use isa::Hook;
 use object::Statement;
+use ranking_functions::Unranked;
 use std::alloc::Global;
 
 /// Finds statements and ranks for the code at the hook, with which the verifier accepts it. The
 /// statements that are given stay as they are where the verifier accepts them so; else they lend
 /// their slots, their numbers and their ranks' registers.
-#[tactic(auto, using(crate::proofs::Faults::no_verdict))]
 pub fn annotate(
     alloc: Global,
     hook: Hook,
@@ -24,15 +24,6 @@ pub fn annotate(
         a.accepted) }
     ensures refused { IfErr result (IsShortfall hook bytes.now) }
 {
-    match try_both(alloc, hook, bytes, given)? {
-        Attempt::Accepted(annotated) => Ok(annotated),
-        Attempt::Refused(failure) => {
-            let Failure {
-                rejected,
-                endless,
-                ..
-            } = failure;
-            Err(Shortfall::Refused(rejected, endless))
-        }
-    }
+    let mut unranked = Unranked::Alone(Vec::new(alloc));
+    try_both(alloc, hook, bytes, given, &mut unranked)
 }

@@ -1,38 +1,25 @@
 //! One search for statements and ranks, judged by the verifier.
 ghost use Rattle.std.specs.Prelude.{IfOk, IfErr};
-ghost use Rattle.annotations.specs.Verdict.{IsAttempt, IsNoVerdict, IsVerdict};
+ghost use Rattle.annotations.specs.Annotated.{IsAnnotated};
+ghost use Rattle.annotations.specs.Verdict.{IsShortfall};
 
 use crate::shortfall::Shortfall;
-use crate::trimming::without_idle_bits;
-use crate::verdict::{Annotated, Rejected, Verdict, judged};
+use crate::trimming::trim;
+use crate::verdict::{Annotated, judged};
 use inference::{Inference, infer_statements};
 use isa::{Code, Hook, decode};
-use object::{Kind, Statement};
-use ranking_functions::{Endless, Plan, Ranking, Unranked, rank_statements};
+use object::{Kind, Rank, Statement};
+use ranking_functions::{Plan, Ranking, Unranked, rank_statements};
 use std::alloc::{AllocError, Global};
-use verifier::{BUDGET, Rule};
-
-/// Why the object isn't accepted that has what was found, and which loops lack a rank.
-#[derive(Drop)]
-pub struct Failure {
-    pub rejected: Rejected,
-    pub endless: Option<Endless>,
-    pub unranked: Unranked,
-}
-
-/// What a search came to.
-#[derive(Drop)]
-pub enum Attempt {
-    Accepted(Annotated),
-    Refused(Failure),
-}
+use verifier::BUDGET;
 
 /// The greatest entry rank that leaves the code within its budget.
 fn most_for(code: &Code) -> u64 {
     (BUDGET / code.len() as u64).saturating_sub(1)
 }
 
-fn kinds_of(statement: &Statement) -> [Kind; 10] {
+/// What the statement says of r0 to r9.
+pub fn kinds_of(statement: &Statement) -> [Kind; 10] {
     let mut kinds = [Kind::Empty; 10];
     for (register, kind) in statement.kinds().iter().enumerate() {
         if register < 10 {
@@ -42,6 +29,14 @@ fn kinds_of(statement: &Statement) -> [Kind; 10] {
     kinds
 }
 
+/// The statement, if there is one, with its rank.
+fn ranked(stated: &Option<Statement>, rank: Rank) -> Option<Statement> {
+    match stated {
+        Some(one) => Statement::new(one.slot(), rank, kinds_of(one), *one.stack()),
+        None => None,
+    }
+}
+
 /// The statements with their ranks.
 fn statements_of(
     alloc: Global,
@@ -49,74 +44,37 @@ fn statements_of(
     plan: &Plan,
 ) -> Result<Vec<Statement>, AllocError> {
     let mut statements = Vec::new(alloc);
-    for site in 0..found.stated.len() {
-        if let Some(one) = &found.stated[site] {
-            let kinds = kinds_of(one);
-            let rank = plan.rank_at(site);
-            if let Some(ranked) = Statement::new(one.slot(), rank, kinds, *one.stack()) {
-                statements.push(ranked)?;
+    for (site, stated) in found.stated.iter().enumerate() {
+        if let Some(ranked) = ranked(stated, plan.rank_at(site)) {
+            if statements.push(ranked).is_err() {
+                return Err(AllocError);
             }
         }
     }
     Ok(statements)
 }
 
-/// Which loop has no rank, where a rank is what the object lacks.
-fn endless_for(rejected: &Rejected, endless: Option<Endless>) -> Option<Endless> {
-    if rejected.refusal.rule == Rule::Rank {
-        endless
-    } else {
-        None
-    }
-}
-
-/// What the verifier says of the statements with these ranks.
+/// The object with these statements and ranks, if the verifier accepts it.
 fn judged_with(
     alloc: Global,
     hook: Hook,
     bytes: &[u8],
     found: &Inference,
-    plan: &Plan,
-) -> Result<Verdict, Shortfall>
-    ensures verdict { IfOk result (IsVerdict hook bytes.now) }
-    ensures fault { IfErr result IsNoVerdict }
+    ranking: &Ranking,
+) -> Result<Annotated, Shortfall>
+    ensures accepted { IfOk result (λ a. IsAnnotated hook bytes.now a.object a.bytes.items
+        a.accepted) }
+    ensures refused { IfErr result (IsShortfall hook bytes.now) }
 {
-    let statements = statements_of(alloc, found, plan)?;
-    let entry_rank = plan.rank_at(found.stated.len()).constant;
-    judged(alloc, hook, entry_rank, bytes, statements)
-}
-
-/// The statements and ranks that were found, judged by the verifier.
-fn outcome(
-    alloc: Global,
-    hook: Hook,
-    bytes: &[u8],
-    found: &Inference,
-    ranking: Ranking,
-) -> Result<Attempt, Shortfall>
-    ensures attempt { IfOk result (IsAttempt hook bytes.now) }
-    ensures fault { IfErr result IsNoVerdict }
-{
-    match judged_with(alloc, hook, bytes, found, &ranking.plan) {
-        Ok(Verdict::Accepted(annotated)) => Ok(Attempt::Accepted(annotated)),
-        Ok(Verdict::Refused(rejected)) => {
-            let Ranking {
-                endless,
-                unranked,
-                ..
-            } = ranking;
-            let endless = endless_for(&rejected, endless);
-            Ok(Attempt::Refused(Failure {
-                rejected,
-                endless,
-                unranked,
-            }))
-        }
-        Err(error) => Err(error),
+    let entry_rank = ranking.plan.rank_at(found.stated.len()).constant;
+    match statements_of(alloc, found, &ranking.plan) {
+        Ok(statements) => judged(alloc, hook, entry_rank, bytes, statements, ranking.endless),
+        Err(_) => Err(Shortfall::Memory),
     }
 }
 
-/// Finds ranks for these statements, and has the verifier judge them.
+/// Finds ranks for these statements, and has the verifier judge them. Tells which loops lack a
+/// rank.
 fn try_found(
     alloc: Global,
     hook: Hook,
@@ -125,12 +83,40 @@ fn try_found(
     found: &Inference,
     given: &[Statement],
     are_kept: bool,
-) -> Result<Attempt, Shortfall>
-    ensures attempt { IfOk result (IsAttempt hook bytes.now) }
-    ensures fault { IfErr result IsNoVerdict }
+    unranked: &mut Unranked,
+) -> Result<Annotated, Shortfall>
+    ensures accepted { IfOk result (λ a. IsAnnotated hook bytes.now a.object a.bytes.items
+        a.accepted) }
+    ensures refused { IfErr result (IsShortfall hook bytes.now) }
 {
-    let ranking = rank_statements(alloc, found, given, are_kept, most_for(code))?;
-    outcome(alloc, hook, bytes, found, ranking)
+    match rank_statements(alloc, found, given, are_kept, most_for(code)) {
+        Ok(ranking) => {
+            let outcome = judged_with(alloc, hook, bytes, found, &ranking);
+            *unranked = ranking.unranked;
+            outcome
+        }
+        Err(_) => Err(Shortfall::Memory),
+    }
+}
+
+/// The same for code whose statements are to be found, too.
+fn try_code(
+    alloc: Global,
+    hook: Hook,
+    bytes: &[u8],
+    code: &Code,
+    given: &[Statement],
+    are_kept: bool,
+    unranked: &mut Unranked,
+) -> Result<Annotated, Shortfall>
+    ensures accepted { IfOk result (λ a. IsAnnotated hook bytes.now a.object a.bytes.items
+        a.accepted) }
+    ensures refused { IfErr result (IsShortfall hook bytes.now) }
+{
+    match infer_statements(alloc, code, hook, given, are_kept) {
+        Ok(found) => try_found(alloc, hook, bytes, code, &found, given, are_kept, unranked),
+        Err(_) => Err(Shortfall::Memory),
+    }
 }
 
 /// Finds statements and ranks for the code at the hook, and has the verifier judge them. The
@@ -142,13 +128,16 @@ fn try_statements(
     bytes: &[u8],
     given: &[Statement],
     are_kept: bool,
-) -> Result<Attempt, Shortfall>
-    ensures attempt { IfOk result (IsAttempt hook bytes.now) }
-    ensures fault { IfErr result IsNoVerdict }
+    unranked: &mut Unranked,
+) -> Result<Annotated, Shortfall>
+    ensures accepted { IfOk result (λ a. IsAnnotated hook bytes.now a.object a.bytes.items
+        a.accepted) }
+    ensures refused { IfErr result (IsShortfall hook bytes.now) }
 {
-    let code = decode(alloc, bytes)?;
-    let found = infer_statements(alloc, &code, hook, given, are_kept)?;
-    try_found(alloc, hook, bytes, &code, &found, given, are_kept)
+    match decode(alloc, bytes) {
+        Ok(code) => try_code(alloc, hook, bytes, &code, given, are_kept, unranked),
+        Err(error) => Err(Shortfall::Code(error)),
+    }
 }
 
 /// The same without the statements that are given, and without the known bits that the verifier
@@ -158,17 +147,15 @@ fn try_anew(
     hook: Hook,
     bytes: &[u8],
     given: &[Statement],
-) -> Result<Attempt, Shortfall>
-    ensures attempt { IfOk result (IsAttempt hook bytes.now) }
-    ensures fault { IfErr result IsNoVerdict }
+    unranked: &mut Unranked,
+) -> Result<Annotated, Shortfall>
+    ensures accepted { IfOk result (λ a. IsAnnotated hook bytes.now a.object a.bytes.items
+        a.accepted) }
+    ensures refused { IfErr result (IsShortfall hook bytes.now) }
 {
-    let attempt = try_statements(alloc, hook, bytes, given, false)?;
-    match attempt {
-        Attempt::Accepted(annotated) => {
-            let trimmed = without_idle_bits(alloc, hook, bytes, annotated)?;
-            Ok(Attempt::Accepted(trimmed))
-        }
-        Attempt::Refused(failure) => Ok(Attempt::Refused(failure)),
+    match try_statements(alloc, hook, bytes, given, false, unranked) {
+        Ok(annotated) => trim(alloc, hook, bytes, annotated),
+        refused => refused,
     }
 }
 
@@ -178,15 +165,17 @@ pub fn try_both(
     hook: Hook,
     bytes: &[u8],
     given: &[Statement],
-) -> Result<Attempt, Shortfall>
-    ensures attempt { IfOk result (IsAttempt hook bytes.now) }
-    ensures fault { IfErr result IsNoVerdict }
+    unranked: &mut Unranked,
+) -> Result<Annotated, Shortfall>
+    ensures accepted { IfOk result (λ a. IsAnnotated hook bytes.now a.object a.bytes.items
+        a.accepted) }
+    ensures refused { IfErr result (IsShortfall hook bytes.now) }
 {
-    if !given.is_empty() {
-        let attempt = try_statements(alloc, hook, bytes, given, true)?;
-        if let Attempt::Accepted(annotated) = attempt {
-            return Ok(Attempt::Accepted(annotated));
-        }
+    if given.is_empty() {
+        return try_anew(alloc, hook, bytes, given, unranked);
     }
-    try_anew(alloc, hook, bytes, given)
+    match try_statements(alloc, hook, bytes, given, true, unranked) {
+        Err(Shortfall::Refused(..)) => try_anew(alloc, hook, bytes, given, unranked),
+        outcome => outcome,
+    }
 }

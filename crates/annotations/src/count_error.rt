@@ -1,7 +1,6 @@
 //! Why turns can't be counted.
 
 use isa::BuildError;
-use std::alloc::{AllocError, AllocFailed};
 
 /// Why turns can't be counted.
 #[derive(Clone, Copy)]
@@ -14,18 +13,6 @@ pub enum CountError {
     TooLong,
     /// Memory ran out.
     Memory,
-}
-
-impl From<AllocError> for CountError {
-    fn from(_: AllocError) -> CountError {
-        CountError::Memory
-    }
-}
-
-impl<T: Drop> From<AllocFailed<T>> for CountError {
-    fn from(_: AllocFailed<T>) -> CountError {
-        CountError::Memory
-    }
 }
 
 impl From<BuildError> for CountError {

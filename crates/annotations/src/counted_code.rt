@@ -9,7 +9,9 @@ ghost use Rattle.annotations.specs.CountedCode.{counted_code, with_distance, wit
 
 use crate::count_error::CountError;
 use crate::registers::unnamed;
-use isa::{Code, CodeBuilder, Instruction, Operation, Register, Slot, Source, Test, Width};
+use isa::{
+    BuildError, Code, CodeBuilder, Instruction, Operation, Register, Slot, Source, Test, Width,
+};
 use segments::places::jump_of;
 use std::alloc::Global;
 
@@ -29,15 +31,12 @@ fn with_number(operation: Operation, target: Register, number: i32) -> Instructi
 }
 
 /// The distance of a jump from one slot to another.
-fn distance_between(from: usize, to: usize) -> Result<i16, CountError>
-    requires from { from < 100000 }
-    requires to { to < 100000 }
-    ensures { IfOk result (λ distance. distance ≡ distance_between from to) }
+fn distance_between(from: usize, to: usize) -> i16
+    requires from { from < 30000 }
+    requires to { to < 30000 }
+    ensures { result ≡ distance_between from to }
 {
-    match i16::try_from(to as i64 - (from as i64 + 1)) {
-        Ok(distance) => Ok(distance),
-        Err(_) => Err(CountError::TooLong),
-    }
+    to as i16 - (from as i16 + 1)
 }
 
 /// The jump, to elsewhere.
@@ -90,28 +89,24 @@ fn place_of(heads: &[usize], slot: usize, target: Option<usize>) -> Option<usize
 fn detour_at(slots: usize, place: usize) -> usize
     requires slots { slots ≤ 4096 }
     requires place { place ≤ 4096 }
-    ensures { result ≡ detour_at slots place }
+    ensures value { result ≡ detour_at slots place }
+    ensures near { result < 30000 }
 {
     slots + 1 + 4 * place
 }
 
 /// How far the jump of an instruction at the slot goes to the detour of its head, if it jumps back
 /// to one.
-fn distance_of(
-    slots: usize,
-    heads: &[usize],
-    slot: usize,
-    instruction: &Instruction,
-) -> Result<Option<i16>, CountError>
+fn distance_of(slots: usize, heads: &[usize], slot: usize, instruction: &Instruction) -> Option<i16>
     requires slots { slots ≤ 4096 }
     requires slot { slot < 4096 }
     requires few { length heads.now ≤ 4096 }
-    ensures { IfOk result (λ d. d ≡ distance_of slots slot (place_of heads.now slot
-        (jump_target slot instruction.now))) }
+    ensures { result ≡ distance_of slots slot (place_of heads.now slot
+        (jump_target slot instruction.now)) }
 {
     match place_of(heads, slot, jump_of(slot, instruction)) {
-        Some(place) => Ok(Some(distance_between(slot + 1, detour_at(slots, place))?)),
-        None => Ok(None),
+        Some(place) => Some(distance_between(slot + 1, detour_at(slots, place))),
+        None => None,
     }
 }
 
@@ -132,16 +127,15 @@ fn push_redirected(
     heads: &[usize],
     slot: usize,
     instruction: &Instruction,
-) -> Result<(), CountError>
+) -> Result<(), BuildError>
     requires slots { slots ≤ 4096 }
     requires slot { slot < 4096 }
     requires few { length heads.now ≤ 4096 }
     ensures { OnOk result (builder.new ≡ builder.old
         ++ slots_at slots heads.now slot (Slot.Start instruction.now)) }
 {
-    let distance = distance_of(slots, heads, slot, instruction)?;
-    builder.push(redirected(instruction, distance))?;
-    Ok(())
+    let distance = distance_of(slots, heads, slot, instruction);
+    builder.push(redirected(instruction, distance))
 }
 
 /// Adds the instruction that begins at the slot, if one does.
@@ -151,7 +145,7 @@ fn push_slot(
     heads: &[usize],
     slot: usize,
     place: &Slot,
-) -> Result<(), CountError>
+) -> Result<(), BuildError>
     requires slots { slots ≤ 4096 }
     requires slot { slot < 4096 }
     requires few { length heads.now ≤ 4096 }
@@ -164,7 +158,7 @@ fn push_slot(
 }
 
 /// Adds the code, in which the jumps back to the heads go to their detours.
-fn push_code(builder: &mut CodeBuilder, code: &Code, heads: &[usize]) -> Result<(), CountError>
+fn push_code(builder: &mut CodeBuilder, code: &Code, heads: &[usize]) -> Result<(), BuildError>
     requires { length heads.now ≤ 4096 }
     ensures { OnOk result (builder.new ≡ builder.old ++ redirected_from (length code.now) heads.now
         0 code.now) }
@@ -183,25 +177,26 @@ fn push_detour(
     counter: Register,
     at: usize,
     head: usize,
-) -> Result<(), CountError>
-    requires at { at < 90000 }
+) -> Result<(), BuildError>
+    requires at { at < 29000 }
     requires head { head < 4096 }
     ensures { OnOk result (builder.new ≡ builder.old ++ detour counter at head) }
 {
     let Some(answer) = Register::new(0) else {
         unreachable!()
     };
-    builder.push(with_number(Operation::Add, counter, -1))?;
-    builder.push(Instruction::Branch {
+    let again = Instruction::Branch {
         width: Width::Bits64,
         test: Test::NotEqual,
         left: counter,
         right: Source::Immediate(0),
-        distance: distance_between(at + 1, head + 1)?,
-    })?;
-    builder.push(with_number(Operation::Move, answer, 0))?;
-    builder.push(Instruction::Exit)?;
-    Ok(())
+        distance: distance_between(at + 1, head + 1),
+    };
+    builder
+        .push(with_number(Operation::Add, counter, -1))
+        .and(builder.push(again))
+        .and(builder.push(with_number(Operation::Move, answer, 0)))
+        .and(builder.push(Instruction::Exit))
 }
 
 /// Adds what counts the turns of each loop.
@@ -210,7 +205,7 @@ fn push_detours(
     counter: Register,
     slots: usize,
     heads: &[usize],
-) -> Result<(), CountError>
+) -> Result<(), BuildError>
     requires slots { slots ≤ 4096 }
     requires few { length heads.now ≤ 4096 }
     ensures { OnOk result (builder.new ≡ builder.old ++ detours counter (slots + 1) heads.now) }
@@ -218,7 +213,7 @@ fn push_detours(
     let mut at = slots + 1;
     for head in heads {
         if *head >= 4096 {
-            return Err(CountError::TooLong);
+            return Err(BuildError::TooLong);
         }
         push_detour(builder, counter, at, *head)?;
         at += 4;
@@ -233,15 +228,35 @@ fn push_counted(
     turns: u32,
     code: &Code,
     heads: &[usize],
-) -> Result<(), CountError>
+) -> Result<(), BuildError>
     requires few { length heads.now ≤ 4096 }
     requires turns { turns < 1000000 }
     ensures { OnOk result (builder.new ≡ builder.old ++ counted_code counter turns heads.now
         code.now) }
 {
-    builder.push(with_number(Operation::Move, counter, turns as i32 + 1))?;
-    push_code(builder, code, heads)?;
-    push_detours(builder, counter, code.len(), heads)
+    builder
+        .push(with_number(Operation::Move, counter, turns as i32 + 1))
+        .and(push_code(builder, code, heads))
+        .and(push_detours(builder, counter, code.len(), heads))
+}
+
+/// The code that counts the turns in this register.
+fn counted_by(
+    alloc: Global,
+    counter: Register,
+    turns: u32,
+    code: &Code,
+    heads: &[usize],
+) -> Result<Code, BuildError>
+    requires few { length heads.now ≤ 4096 }
+    requires turns { turns < 1000000 }
+    ensures { IfOk result (λ counted. counted ≡ counted_code counter turns heads.now code.now) }
+{
+    let mut builder = CodeBuilder::new(alloc);
+    match push_counted(&mut builder, counter, turns, code, heads) {
+        Ok(()) => builder.finish().ok_or(BuildError::TooLong),
+        Err(error) => Err(error),
+    }
 }
 
 /// The code that counts each jump back to one of these heads, and answers 0 instead of going back
@@ -264,10 +279,8 @@ pub fn counted(alloc: Global, code: &Code, heads: &[usize], turns: u32) -> Resul
     if heads.len() > code.len() {
         return Err(CountError::TooLong);
     }
-    let mut builder = CodeBuilder::new(alloc);
-    push_counted(&mut builder, counter, turns, code, heads)?;
-    match builder.finish() {
-        Some(code) => Ok(code),
-        None => Err(CountError::TooLong),
+    match counted_by(alloc, counter, turns, code, heads) {
+        Ok(counted) => Ok(counted),
+        Err(error) => Err(CountError::from(error)),
     }
 }

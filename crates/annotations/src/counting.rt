@@ -1,31 +1,38 @@
 //! The same for code with loops that have no rank: their turns are counted.
 ghost use Rattle.std.specs.Prelude.{IfOk, IfErr, Some};
 ghost use Rattle.isa.specs.Spelling.{Spells};
-ghost use Rattle.annotations.specs.Annotated.{CountsLoops, IsCodeAnnotation};
-ghost use Rattle.annotations.specs.Verdict.{IsCountedAttempt, IsNoVerdict, IsTurnsShortfall};
+ghost use Rattle.annotations.specs.Annotated.{CountsLoops, IsAnnotated, IsCodeAnnotation};
+ghost use Rattle.annotations.specs.Verdict.{IsNoVerdict, IsShortfall, IsTurnsShortfall};
 
-use crate::attempt::{Attempt, Failure, try_both};
+use crate::attempt::{kinds_of, try_both};
 use crate::counted_code::counted;
 use crate::shortfall::Shortfall;
 use crate::verdict::Annotated;
 use isa::{Code, Hook, decode, encode};
-use object::{Kind, Statement};
+use object::Statement;
 use ranking_functions::Unranked;
 use std::alloc::{AllocError, Global};
 
 /// How often more loops are counted at most.
 const MOST_ROUNDS: u32 = 8;
 
+/// The heads of the loops whose turns are counted, in the order in which they were found.
+#[derive(Drop)]
+struct Heads {
+    slots: Vec<usize>,
+    /// Memory was refused for one of them.
+    lacks_memory: bool,
+}
+
 /// The statement one slot later.
 fn moved(statement: &Statement) -> Option<Statement> {
-    let mut kinds = [Kind::Empty; 10];
-    for (register, kind) in statement.kinds().iter().enumerate() {
-        if register < 10 {
-            kinds[register] = *kind;
-        }
-    }
     let slot = statement.slot().checked_add(1)?;
-    Statement::new(slot, statement.rank(), kinds, *statement.stack())
+    Statement::new(
+        slot,
+        statement.rank(),
+        kinds_of(statement),
+        *statement.stack(),
+    )
 }
 
 /// The statements one slot later, as counted code has them.
@@ -33,7 +40,9 @@ fn all_moved(alloc: Global, given: &[Statement]) -> Result<Vec<Statement>, Alloc
     let mut later = Vec::new(alloc);
     for statement in given {
         if let Some(statement) = moved(statement) {
-            later.push(statement)?;
+            if later.push(statement).is_err() {
+                return Err(AllocError);
+            }
         }
     }
     Ok(later)
@@ -48,33 +57,36 @@ fn earlier(slot: usize, is_counted: bool) -> usize {
     }
 }
 
-/// Adds those of these heads that aren't counted yet, or only the first one. Whether there are any.
-fn add_heads(heads: &mut Vec<usize>, slots: &[usize], is_one: bool) -> Result<bool, AllocError> {
-    let before = heads.len();
-    for slot in slots {
-        let head = earlier(*slot, before > 0);
-        let is_more = !heads.contains(&head) && (!is_one || heads.len() == before);
-        if is_more && heads.push(head).is_err() {
-            return Err(AllocError);
-        }
-    }
-    Ok(heads.len() > before)
+/// Adds a head, unless memory is refused.
+fn add_head(heads: &mut Heads, head: usize) {
+    heads.lacks_memory |= heads.slots.push(head).is_err();
 }
 
-/// Adds the loops that lack a rank. Whether there are any more.
-fn add(heads: &mut Vec<usize>, unranked: &Unranked) -> Result<bool, AllocError> {
-    match unranked {
-        Unranked::Alone(slots) => add_heads(heads, slots, false),
-        Unranked::Together(slots) => add_heads(heads, slots, true),
+/// Adds those of these heads that aren't counted yet, or only the first one. Whether there are any.
+fn add_heads(heads: &mut Heads, slots: &[usize], is_one: bool) -> bool {
+    let before = heads.slots.len();
+    for slot in slots {
+        let head = earlier(*slot, before > 0);
+        let is_next = !is_one | (heads.slots.len() == before);
+        if is_next & !heads.slots.contains(&head) {
+            add_head(heads, head);
+        }
     }
+    heads.lacks_memory | (heads.slots.len() > before)
 }
 
 /// Adds the loops that lack a rank, where that is what is wrong. Whether there are any more.
-fn adds_more(heads: &mut Vec<usize>, failure: &Failure) -> Result<bool, AllocError> {
-    if failure.endless.is_none() {
-        return Ok(false);
-    }
-    add(heads, &failure.unranked)
+fn adds_more(
+    heads: &mut Heads,
+    outcome: &Result<Annotated, Shortfall>,
+    unranked: &Unranked,
+) -> bool {
+    let (slots, is_one) = match unranked {
+        Unranked::Alone(slots) => (slots, false),
+        Unranked::Together(slots) => (slots, true),
+    };
+    let lacks_rank = matches!(outcome, Err(Shortfall::Refused(_, Some(_))));
+    lacks_rank && add_heads(heads, slots, is_one)
 }
 
 /// The text of the code that counts the turns of the loops at these heads.
@@ -89,13 +101,36 @@ fn counted_text(
     ensures counts { IfOk result (λ written. CountsLoops turns bytes.now written.items) }
     ensures fault { IfErr result IsNoVerdict }
 {
-    let counted = counted(alloc, code, heads, turns)?;
-    let written = encode(alloc, &counted)?;
-    Ok(written)
+    let counted = match counted(alloc, code, heads, turns) {
+        Ok(counted) => counted,
+        Err(error) => return Err(Shortfall::Uncounted(error)),
+    };
+    match encode(alloc, &counted) {
+        Ok(written) => Ok(written),
+        Err(_) => Err(Shortfall::Memory),
+    }
+}
+
+/// Tries the code that counts turns, with the statements that were given for the code without.
+fn try_text(
+    alloc: Global,
+    hook: Hook,
+    bytes: &[u8],
+    given: &[Statement],
+    unranked: &mut Unranked,
+) -> Result<Annotated, Shortfall>
+    ensures accepted { IfOk result (λ a. IsAnnotated hook bytes.now a.object a.bytes.items
+        a.accepted) }
+    ensures refused { IfErr result (IsShortfall hook bytes.now) }
+{
+    match all_moved(alloc, given) {
+        Ok(given) => try_both(alloc, hook, bytes, &given, unranked),
+        Err(_) => Err(Shortfall::Memory),
+    }
 }
 
 /// Tries the code that counts the turns of the loops at these heads.
-#[tactic(auto, using(crate::proofs::Attempts::for_counted_code))]
+#[tactic(auto, using(crate::proofs::Faults::no_verdict_with_turns))]
 fn try_counted(
     alloc: Global,
     hook: Hook,
@@ -104,50 +139,63 @@ fn try_counted(
     given: &[Statement],
     heads: &[usize],
     turns: u32,
-) -> Result<Attempt, Shortfall>
+    unranked: &mut Unranked,
+) -> Result<Annotated, Shortfall>
     requires { Spells bytes.now code.now }
-    ensures attempt { IfOk result (IsCountedAttempt hook turns bytes.now) }
-    ensures fault { IfErr result IsNoVerdict }
+    ensures accepted { IfOk result (λ a. IsCodeAnnotation hook (Some turns) bytes.now a.object
+        a.bytes.items a.accepted) }
+    ensures refused { IfErr result (IsTurnsShortfall hook (Some turns) bytes.now) }
 {
-    let written = counted_text(alloc, bytes, code, heads, turns)?;
-    let given = all_moved(alloc, given)?;
-    let attempt = try_both(alloc, hook, &written, &given)?;
-    Ok(attempt)
+    match counted_text(alloc, bytes, code, heads, turns) {
+        Ok(written) => try_text(alloc, hook, &written, given, unranked),
+        Err(error) => Err(error),
+    }
 }
 
 /// The same, where there may be no such head.
-#[tactic(auto, using(crate::proofs::Attempts::for_the_code))]
 fn try_heads(
     alloc: Global,
     hook: Hook,
     bytes: &[u8],
     code: &Code,
     given: &[Statement],
-    heads: &[usize],
+    heads: &Heads,
     turns: u32,
-) -> Result<Attempt, Shortfall>
+    unranked: &mut Unranked,
+) -> Result<Annotated, Shortfall>
     requires { Spells bytes.now code.now }
-    ensures attempt { IfOk result (IsCountedAttempt hook turns bytes.now) }
-    ensures fault { IfErr result IsNoVerdict }
+    ensures accepted { IfOk result (λ a. IsCodeAnnotation hook (Some turns) bytes.now a.object
+        a.bytes.items a.accepted) }
+    ensures refused { IfErr result (IsTurnsShortfall hook (Some turns) bytes.now) }
 {
-    if heads.is_empty() {
-        let attempt = try_both(alloc, hook, bytes, given)?;
-        Ok(attempt)
+    if heads.lacks_memory {
+        Err(Shortfall::Memory)
+    } else if heads.slots.is_empty() {
+        try_both(alloc, hook, bytes, given, unranked)
     } else {
-        try_counted(alloc, hook, bytes, code, given, heads, turns)
+        try_counted(
+            alloc,
+            hook,
+            bytes,
+            code,
+            given,
+            &heads.slots,
+            turns,
+            unranked,
+        )
     }
 }
 
 /// Finds statements and ranks for the code, in which the turns of loops without a rank are counted.
-#[tactic(auto, using(crate::proofs::Faults::no_verdict_with_turns))]
 fn annotate_loops(
     alloc: Global,
     hook: Hook,
     bytes: &[u8],
     code: &Code,
     given: &[Statement],
-    heads: &mut Vec<usize>,
+    heads: &mut Heads,
     turns: u32,
+    unranked: &mut Unranked,
 ) -> Result<Annotated, Shortfall>
     requires { Spells bytes.now code.now }
     ensures accepted { IfOk result (λ a. IsCodeAnnotation hook (Some turns) bytes.now a.object
@@ -155,25 +203,17 @@ fn annotate_loops(
     ensures refused { IfErr result (IsTurnsShortfall hook (Some turns) bytes.now) }
 {
     for _ in 0..MOST_ROUNDS {
-        match try_heads(alloc, hook, bytes, code, given, heads, turns)? {
-            Attempt::Accepted(annotated) => return Ok(annotated),
-            Attempt::Refused(failure) => {
-                if !adds_more(heads, &failure)? {
-                    return Err(Shortfall::Refused(failure.rejected, failure.endless));
-                }
-            }
+        let outcome = try_heads(alloc, hook, bytes, code, given, heads, turns, unranked);
+        if !adds_more(heads, &outcome, unranked) {
+            return outcome;
         }
     }
-    match try_heads(alloc, hook, bytes, code, given, heads, turns)? {
-        Attempt::Accepted(annotated) => Ok(annotated),
-        Attempt::Refused(failure) => Err(Shortfall::Refused(failure.rejected, failure.endless)),
-    }
+    try_heads(alloc, hook, bytes, code, given, heads, turns, unranked)
 }
 
 /// Finds statements and ranks as `annotate` does. Where a loop has no rank, its turns are counted:
 /// the object has other code, which answers 0 instead of more than `turns` turns in all. Loops that
 /// have a rank stay as they are.
-#[tactic(auto, using(crate::proofs::Faults::no_verdict_with_turns))]
 pub fn annotate_counted(
     alloc: Global,
     hook: Hook,
@@ -185,7 +225,24 @@ pub fn annotate_counted(
         a.bytes.items a.accepted) }
     ensures refused { IfErr result (IsTurnsShortfall hook (Some turns) bytes.now) }
 {
-    let code = decode(alloc, bytes)?;
-    let mut heads = Vec::new(alloc);
-    annotate_loops(alloc, hook, bytes, &code, given, &mut heads, turns)
+    match decode(alloc, bytes) {
+        Ok(code) => {
+            let mut unranked = Unranked::Alone(Vec::new(alloc));
+            let mut heads = Heads {
+                slots: Vec::new(alloc),
+                lacks_memory: false,
+            };
+            annotate_loops(
+                alloc,
+                hook,
+                bytes,
+                &code,
+                given,
+                &mut heads,
+                turns,
+                &mut unranked,
+            )
+        }
+        Err(error) => Err(Shortfall::Code(error)),
+    }
 }

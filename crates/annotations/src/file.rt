@@ -16,11 +16,11 @@ use std::alloc::Global;
 fn is_object(bytes: &[u8]) -> bool
     ensures { IsTrue result ↔ (take 4 bytes.now ≡ magic) }
 {
-    bytes.len() >= 4 && bytes[0] == 0x42 && bytes[1] == 0x50 && bytes[2] == 0x46 && bytes[3] == 0x48
+    bytes.len() >= 4
+        && (bytes[0] == 0x42) & (bytes[1] == 0x50) & (bytes[2] == 0x46) & (bytes[3] == 0x48)
 }
 
 /// Finds statements and ranks for the code.
-#[tactic(auto, using(crate::proofs::Faults::plain_annotation, crate::proofs::Faults::without_turns))]
 fn annotate_code(
     alloc: Global,
     hook: Hook,
@@ -34,15 +34,11 @@ fn annotate_code(
 {
     match turns {
         Some(turns) => annotate_counted(alloc, hook, code, given, turns),
-        None => {
-            let annotated = annotate(alloc, hook, code, given)?;
-            Ok(annotated)
-        }
+        None => annotate(alloc, hook, code, given),
     }
 }
 
 /// The same for a file that is bare code.
-#[tactic(auto, using(crate::proofs::Faults::file_annotation, crate::proofs::Faults::of_the_file))]
 fn annotate_bare(
     alloc: Global,
     hook: Hook,
@@ -54,12 +50,11 @@ fn annotate_bare(
         a.accepted) }
     ensures refused { IfErr result (IsFileShortfall hook turns file.now) }
 {
-    let annotated = annotate_code(alloc, hook, file, &[], turns)?;
-    Ok(annotated)
+    annotate_code(alloc, hook, file, &[], turns)
 }
 
 /// The same for a file that has to be an object.
-#[tactic(auto, using(crate::proofs::Faults::file_annotation, crate::proofs::Faults::of_the_object))]
+#[tactic(auto, using(crate::proofs::Faults::of_the_object))]
 fn annotate_object(
     alloc: Global,
     hook: Hook,
@@ -70,12 +65,17 @@ fn annotate_object(
         a.accepted) }
     ensures refused { IfErr result (IsFileShortfall hook turns file.now) }
 {
-    let object = read(alloc, file)?;
-    if object.hook() != hook {
-        return Err(Shortfall::OtherHook(object.hook()));
+    match read(alloc, file) {
+        Ok(object) => {
+            let object_hook = object.hook();
+            if object_hook != hook {
+                Err(Shortfall::OtherHook(object_hook))
+            } else {
+                annotate_code(alloc, hook, object.code(), object.statements(), turns)
+            }
+        }
+        Err(error) => Err(Shortfall::Object(error)),
     }
-    let annotated = annotate_code(alloc, hook, object.code(), object.statements(), turns)?;
-    Ok(annotated)
 }
 
 /// Finds statements and ranks for the code in the file: bare code, or an object with statements of

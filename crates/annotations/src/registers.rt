@@ -21,23 +21,23 @@ fn names(instruction: &Instruction, register: Register) -> bool
     let number = register.number();
     match *instruction {
         Instruction::Arithmetic { target, source, .. } => {
-            target.number() == number || is_operand(source, register)
+            (target.number() == number) | is_operand(source, register)
         }
         Instruction::Negate { target, .. }
         | Instruction::Reorder { target, .. }
         | Instruction::LoadNumber { target, .. }
         | Instruction::LoadMap { target, .. } => target.number() == number,
         Instruction::SignExtend { target, source, .. } => {
-            target.number() == number || source.number() == number
+            (target.number() == number) | (source.number() == number)
         }
         Instruction::Branch { left, right, .. } => {
-            left.number() == number || is_operand(right, register)
+            (left.number() == number) | is_operand(right, register)
         }
         Instruction::Load { target, base, .. } => {
-            target.number() == number || base.number() == number
+            (target.number() == number) | (base.number() == number)
         }
         Instruction::Store { base, source, .. } => {
-            base.number() == number || is_operand(source, register)
+            (base.number() == number) | is_operand(source, register)
         }
         Instruction::Jump { .. }
         | Instruction::LongJump { .. }

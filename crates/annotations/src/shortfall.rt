@@ -5,7 +5,6 @@ use crate::verdict::Rejected;
 use isa::{DecodeError, Hook};
 use object::ReadError;
 use ranking_functions::Endless;
-use std::alloc::{AllocError, AllocFailed};
 
 /// Why there is no object that the verifier accepts.
 #[derive(Drop)]
@@ -25,59 +24,4 @@ pub enum Shortfall {
     Statements,
     /// Memory ran out.
     Memory,
-}
-
-impl From<AllocError> for Shortfall {
-    ghost use Rattle.std.specs.Prelude.{◌≡◌};
-    ghost use Rattle.annotations.specs.declared.shortfall.Shortfall.TheVariants.{Memory};
-
-    ghost from_gives = { λ _ shortfall. shortfall ≡ Memory };
-
-    fn from(_: AllocError) -> Shortfall {
-        Shortfall::Memory
-    }
-}
-
-impl<T: Drop> From<AllocFailed<T>> for Shortfall {
-    ghost use Rattle.std.specs.Prelude.{◌≡◌};
-    ghost use Rattle.annotations.specs.declared.shortfall.Shortfall.TheVariants.{Memory};
-
-    ghost from_gives = { λ _ shortfall. shortfall ≡ Memory };
-
-    fn from(_: AllocFailed<T>) -> Shortfall {
-        Shortfall::Memory
-    }
-}
-
-impl From<DecodeError> for Shortfall {
-    ghost use Rattle.std.specs.Prelude.{◌≡◌};
-    ghost use Rattle.annotations.specs.declared.shortfall.Shortfall.TheVariants.{Code};
-
-    ghost from_gives = { λ error shortfall. shortfall ≡ Code error };
-
-    fn from(error: DecodeError) -> Shortfall {
-        Shortfall::Code(error)
-    }
-}
-
-impl From<ReadError> for Shortfall {
-    ghost use Rattle.std.specs.Prelude.{◌≡◌};
-    ghost use Rattle.annotations.specs.declared.shortfall.Shortfall.TheVariants.{Object};
-
-    ghost from_gives = { λ error shortfall. shortfall ≡ Object error };
-
-    fn from(error: ReadError) -> Shortfall {
-        Shortfall::Object(error)
-    }
-}
-
-impl From<CountError> for Shortfall {
-    ghost use Rattle.std.specs.Prelude.{◌≡◌};
-    ghost use Rattle.annotations.specs.declared.shortfall.Shortfall.TheVariants.{Uncounted};
-
-    ghost from_gives = { λ error shortfall. shortfall ≡ Uncounted error };
-
-    fn from(error: CountError) -> Shortfall {
-        Shortfall::Uncounted(error)
-    }
 }

@@ -1,12 +1,13 @@
 //! Statements without the known bits that the verifier does without.
-ghost use Rattle.std.specs.Prelude.{◌≤◌, IfOk, IfErr, IfSome};
+ghost use Rattle.std.specs.Prelude.{◌≡◌, ◌≤◌, IfOk, IfErr};
 ghost use Rattle.annotations.specs.Annotated.{IsAnnotated};
-ghost use Rattle.annotations.specs.Verdict.{IsNoVerdict};
+ghost use Rattle.annotations.specs.Verdict.{IsShortfall};
 
+use crate::attempt::kinds_of;
 use crate::shortfall::Shortfall;
-use crate::verdict::{Annotated, Verdict, judged};
+use crate::verdict::{Annotated, judged};
 use isa::Hook;
-use object::{Kind, Object, StatedNumber, Statement};
+use object::{Kind, StatedNumber, Statement};
 use std::alloc::{AllocError, Global};
 
 /// So many statements are trimmed one by one at most.
@@ -31,21 +32,12 @@ fn without_bits(kind: Kind) -> Kind {
 
 /// The statement without known bits.
 fn trimmed(statement: &Statement) -> Statement {
-    let mut kinds = [Kind::Empty; 10];
-    for (register, kind) in statement.kinds().iter().enumerate() {
-        if register < 10 {
-            kinds[register] = without_bits(*kind);
-        }
+    let mut kinds = kinds_of(statement);
+    for kind in &mut kinds {
+        *kind = without_bits(*kind);
     }
-    match Statement::new(
-        statement.slot(),
-        statement.rank(),
-        kinds,
-        *statement.stack(),
-    ) {
-        Some(trimmed) => trimmed,
-        None => *statement,
-    }
+    let (slot, rank) = (statement.slot(), statement.rank());
+    Statement::new(slot, rank, kinds, *statement.stack()).unwrap_or(*statement)
 }
 
 /// The statements, those from one on up to another without known bits.
@@ -55,106 +47,134 @@ fn trimmed_within(
     from: usize,
     to: usize,
 ) -> Result<Vec<Statement>, AllocError> {
-    let mut all = Vec::new(alloc);
-    for (place, statement) in statements.iter().enumerate() {
-        all.push(if from <= place && place < to {
-            trimmed(statement)
-        } else {
-            *statement
-        })?;
+    let mut all = Vec::from_slice(alloc, statements)?;
+    for place in from..to.min(all.len()) {
+        all[place] = trimmed(&all[place]);
     }
     Ok(all)
 }
 
-/// The object without the known bits of these statements. None where they have none, or the
-/// verifier doesn't accept it so.
-fn retry(
-    alloc: Global,
-    hook: Hook,
-    bytes: &[u8],
-    object: &Object,
-    from: usize,
-    to: usize,
-) -> Result<Option<Annotated>, Shortfall>
-    ensures accepted { IfOk result (λ found. IfSome found (λ a. IsAnnotated hook bytes.now a.object
-        a.bytes.items a.accepted)) }
-    ensures fault { IfErr result IsNoVerdict }
+/// The shortfall, unless it's that the verifier refuses the object.
+fn unless_refused(shortfall: Shortfall) -> Result<(), Shortfall>
+    ensures { IfErr result (λ fault. fault ≡ shortfall) }
 {
-    let statements = trimmed_within(alloc, object.statements(), from, to)?;
-    if statements.as_slice() == object.statements() {
-        return Ok(None);
-    }
-    match judged(alloc, hook, object.entry_rank(), bytes, statements) {
-        Ok(Verdict::Accepted(trimmed)) => Ok(Some(trimmed)),
-        Ok(Verdict::Refused(_)) => Ok(None),
-        Err(error) => Err(error),
+    match shortfall {
+        Shortfall::Refused(..) => Ok(()),
+        fault => Err(fault),
     }
 }
 
-/// The object without the known bits of these statements, if the verifier accepts it so; else as it
-/// is.
-fn retried(
+/// Gives the object these statements, if the verifier accepts it so.
+fn try_with(
     alloc: Global,
     hook: Hook,
     bytes: &[u8],
-    annotated: Annotated,
-    from: usize,
-    to: usize,
-) -> Result<Annotated, Shortfall>
-    requires { IsAnnotated hook bytes.now annotated.object annotated.bytes.items
-        annotated.accepted }
-    ensures accepted { IfOk result (λ a. IsAnnotated hook bytes.now a.object a.bytes.items
-        a.accepted) }
-    ensures fault { IfErr result IsNoVerdict }
+    annotated: &mut Annotated,
+    statements: Vec<Statement>,
+) -> Result<(), Shortfall>
+    requires { IsAnnotated hook bytes.now annotated.old.object annotated.old.bytes.items
+        annotated.old.accepted }
+    ensures annotated { IsAnnotated hook bytes.now annotated.new.object annotated.new.bytes.items
+        annotated.new.accepted }
+    ensures fault { IfErr result (IsShortfall hook bytes.now) }
 {
-    match retry(alloc, hook, bytes, &annotated.object, from, to) {
-        Ok(Some(trimmed)) => Ok(trimmed),
-        Ok(None) => Ok(annotated),
-        Err(error) => Err(error),
+    let entry_rank = annotated.object.entry_rank();
+    match judged(alloc, hook, entry_rank, bytes, statements, None) {
+        Ok(trimmed) => {
+            *annotated = trimmed;
+            Ok(())
+        }
+        Err(shortfall) => unless_refused(shortfall),
     }
 }
 
-/// The object without the known bits that the verifier does without, of one statement after the
-/// other.
-fn one_by_one(
+/// Leaves out the known bits of these statements, if they have some and the verifier accepts the
+/// object so.
+fn trim_within(
     alloc: Global,
     hook: Hook,
     bytes: &[u8],
-    annotated: Annotated,
+    annotated: &mut Annotated,
+    from: usize,
+    to: usize,
+) -> Result<(), Shortfall>
+    requires { IsAnnotated hook bytes.now annotated.old.object annotated.old.bytes.items
+        annotated.old.accepted }
+    ensures annotated { IsAnnotated hook bytes.now annotated.new.object annotated.new.bytes.items
+        annotated.new.accepted }
+    ensures fault { IfErr result (IsShortfall hook bytes.now) }
+{
+    match trimmed_within(alloc, annotated.object.statements(), from, to) {
+        Ok(statements) => {
+            if statements.as_slice() == annotated.object.statements() {
+                Ok(())
+            } else {
+                try_with(alloc, hook, bytes, annotated, statements)
+            }
+        }
+        Err(_) => Err(Shortfall::Memory),
+    }
+}
+
+/// Leaves out the known bits of one statement after the other.
+fn trim_each(
+    alloc: Global,
+    hook: Hook,
+    bytes: &[u8],
+    annotated: &mut Annotated,
     count: usize,
-) -> Result<Annotated, Shortfall>
+) -> Result<(), Shortfall>
     requires few { count ≤ 4096 }
-    requires annotated { IsAnnotated hook bytes.now annotated.object annotated.bytes.items
-        annotated.accepted }
-    ensures accepted { IfOk result (λ a. IsAnnotated hook bytes.now a.object a.bytes.items
-        a.accepted) }
-    ensures fault { IfErr result IsNoVerdict }
+    requires annotated { IsAnnotated hook bytes.now annotated.old.object annotated.old.bytes.items
+        annotated.old.accepted }
+    ensures annotated { IsAnnotated hook bytes.now annotated.new.object annotated.new.bytes.items
+        annotated.new.accepted }
+    ensures fault { IfErr result (IsShortfall hook bytes.now) }
 {
-    let mut annotated = annotated;
     for place in 0..count {
-        annotated = retried(alloc, hook, bytes, annotated, place, place + 1)?;
+        if let Err(error) = trim_within(alloc, hook, bytes, annotated, place, place + 1) {
+            return Err(error);
+        }
     }
-    Ok(annotated)
+    Ok(())
 }
 
-/// The object without the known bits that the verifier does without: of all statements, or of one
-/// after the other where there are few.
-pub fn without_idle_bits(
+/// Leaves out the known bits of all statements, or of one after the other where there are few.
+fn trim_all(
     alloc: Global,
     hook: Hook,
     bytes: &[u8],
-    annotated: Annotated,
-) -> Result<Annotated, Shortfall>
-    requires { IsAnnotated hook bytes.now annotated.object annotated.bytes.items
-        annotated.accepted }
-    ensures accepted { IfOk result (λ a. IsAnnotated hook bytes.now a.object a.bytes.items
-        a.accepted) }
-    ensures fault { IfErr result IsNoVerdict }
+    annotated: &mut Annotated,
+) -> Result<(), Shortfall>
+    requires { IsAnnotated hook bytes.now annotated.old.object annotated.old.bytes.items
+        annotated.old.accepted }
+    ensures annotated { IsAnnotated hook bytes.now annotated.new.object annotated.new.bytes.items
+        annotated.new.accepted }
+    ensures fault { IfErr result (IsShortfall hook bytes.now) }
 {
     let count = annotated.object.statements().len();
-    let annotated = retried(alloc, hook, bytes, annotated, 0, count)?;
-    if count > MOST_TRIES {
-        return Ok(annotated);
+    match trim_within(alloc, hook, bytes, annotated, 0, count) {
+        Ok(()) if count <= MOST_TRIES => trim_each(alloc, hook, bytes, annotated, count),
+        outcome => outcome,
     }
-    one_by_one(alloc, hook, bytes, annotated, count)
+}
+
+/// The object without the known bits that the verifier does without.
+pub fn trim(
+    alloc: Global,
+    hook: Hook,
+    bytes: &[u8],
+    annotated: Annotated,
+) -> Result<Annotated, Shortfall>
+    requires { IsAnnotated hook bytes.now annotated.object annotated.bytes.items
+        annotated.accepted }
+    ensures accepted { IfOk result (λ a. IsAnnotated hook bytes.now a.object a.bytes.items
+        a.accepted) }
+    ensures fault { IfErr result (IsShortfall hook bytes.now) }
+{
+    let mut trimmed = annotated;
+    match trim_all(alloc, hook, bytes, &mut trimmed) {
+        Ok(()) => Ok(trimmed),
+        Err(error) => Err(error),
+    }
 }
