@@ -4,7 +4,7 @@ ghost use Rattle.simulation.specs.Statuses.{fault_of_network, fault_of_words, st
 ghost use Rattle.simulation.specs.declared.fault.Fault.TheVariants.{Memory, Output};
 
 use clap::error::ErrorKind;
-use std::alloc::{AllocError, AllocFailed};
+use std::alloc::AllocError;
 use std::io;
 use thiserror::Error;
 
@@ -40,14 +40,6 @@ impl From<AllocError> for Fault {
     ghost from_gives = { λ _ fault. fault ≡ Memory };
 
     fn from(_error: AllocError) -> Fault {
-        Fault::Memory
-    }
-}
-
-impl<T: Drop> From<AllocFailed<T>> for Fault {
-    ghost from_gives = { λ _ fault. fault ≡ Memory };
-
-    fn from(_error: AllocFailed<T>) -> Fault {
         Fault::Memory
     }
 }

@@ -4,40 +4,37 @@ ghost use Rattle.simulation.specs.Endings.{IsVerdict};
 
 use crate::fault::{DONE, FOUND, Fault};
 use crate::json::write_run;
+use crate::page::line;
 use crate::requests::{Asked, Request, parse};
 use crate::telling::{tell_history, tell_run};
 use flood::Event;
 use simulated_histories::{Act, Outcome, Plan, Search, Stage, play_scenario};
-use simulated_networks::{Kind, Random, Topology, announcements};
-use std::alloc::Global;
-use std::io::Write;
+use simulated_networks::{Random, Topology, announcements};
+use std::alloc::{AllocError, Global};
+use std::io::{self, Write};
 use std::sync::Wait;
 
-// Tells what came of the plan, and whether all is at rest at the end.
-fn tells<O: Write>(
-    output: &mut O,
-    plan: &Plan,
-    outcome: &Outcome,
-    json: bool,
-) -> Result<bool, Fault> {
-    if json {
-        write_run(output, plan, outcome)?;
+// Tells what came of the plan, and answers whether all is at rest at the end.
+fn tells<O: Write>(output: &mut O, plan: &Plan, outcome: &Outcome, json: bool) -> io::Result<bool> {
+    let written = if json {
+        write_run(output, plan, outcome)
     } else {
-        tell_run(output, plan, outcome)?;
-    }
+        tell_run(output, plan, outcome)
+    };
+    written?;
     Ok(outcome.is_at_rest())
 }
 
-// Plays the plan once, and tells whether all is at rest at the end.
+// Plays the plan once, and tells of it. Answers whether all is at rest at the end.
 fn play_one<O: Write>(
     alloc: Global,
     plan: &Plan,
     events: &[Event],
     json: bool,
     output: &mut O,
-) -> Result<bool, Fault> {
+) -> Result<io::Result<bool>, simulated_networks::Fault> {
     let outcome = play_scenario(alloc, plan, events)?;
-    tells(output, plan, &outcome, json)
+    Ok(tells(output, plan, &outcome, json))
 }
 
 // Plays the plan for so many seeds from its own on.
@@ -55,12 +52,12 @@ fn play_all<O: Write>(
     let mut well = 0_u64;
     for turn in 0..seeds {
         plan.seed = first.seed.saturating_add(turn);
-        if play_one(alloc, &plan, events, json, output)? {
+        if play_one(alloc, &plan, events, json, output)?? {
             well = well.saturating_add(1);
         }
     }
     if !json {
-        writeln!(output, "{well} of {seeds} at rest")?;
+        line(output, "{} of {} at rest\n", &[well, seeds])?;
     }
     Ok(if well == seeds { DONE } else { FOUND })
 }
@@ -71,14 +68,14 @@ fn search_one<O: Write>(
     stage: Stage<'_>,
     seed: u64,
     output: &mut O,
-) -> Result<bool, Fault> {
+) -> Result<io::Result<bool>, simulated_networks::Fault> {
     match search.found(stage, seed)? {
-        Some(acts) => tells_of(output, seed, &acts),
-        None => Ok(false),
+        Some(acts) => Ok(tells_of(output, seed, &acts)),
+        None => Ok(Ok(false)),
     }
 }
 
-fn tells_of<O: Write>(output: &mut O, seed: u64, acts: &[Act]) -> Result<bool, Fault> {
+fn tells_of<O: Write>(output: &mut O, seed: u64, acts: &[Act]) -> io::Result<bool> {
     tell_history(output, seed, acts)?;
     Ok(true)
 }
@@ -95,18 +92,17 @@ fn search_all<O: Write>(
     let (first, count) = seeds;
     let mut found = 0_u64;
     for turn in 0..count {
-        if search_one(search, stage, first.saturating_add(turn), output)? {
+        if search_one(search, stage, first.saturating_add(turn), output)?? {
             found = found.saturating_add(1);
         }
     }
-    writeln!(output, "{found} of {count} found")?;
+    line(output, "{} of {} found\n", &[found, count])?;
     Ok(if found == 0 { DONE } else { FOUND })
 }
 
-fn topology_of(alloc: Global, kind: Kind, routers: u32, spread: u32) -> Result<Topology, Fault> {
-    let mut random = Random::new(1);
-    let topology = Topology::new(alloc, &mut random, kind, routers as usize, spread)?;
-    Ok(topology)
+fn topology_of(alloc: Global, asked: &Asked) -> Result<Topology, AllocError> {
+    let (mut random, routers) = (Random::new(1), asked.search.routers as usize);
+    Topology::new(alloc, &mut random, asked.topology, routers, asked.spread)
 }
 
 // Searches in a network of this shape, where these destinations may be announced.
@@ -118,14 +114,30 @@ fn search_in<O: Write>(
 ) -> Result<u8, Fault>
     ensures { IfOk result IsVerdict }
 {
-    let search = asked.search;
-    let made = topology_of(alloc, asked.topology, search.routers, asked.spread)?;
+    let made = topology_of(alloc, asked)?;
     let stage = Stage {
         alloc,
         topology: &made,
         events,
     };
-    search_all(&search, stage, (asked.seed, asked.seeds), output)
+    search_all(&asked.search, stage, (asked.seed, asked.seeds), output)
+}
+
+// Carries out a request, with the events that announce its destinations.
+fn play<O: Write>(
+    alloc: Global,
+    request: &Request,
+    events: &[Event],
+    output: &mut O,
+) -> Result<u8, Fault>
+    ensures { IfOk result IsVerdict }
+{
+    match request {
+        Request::Run { plan, seeds, json } => {
+            play_all(alloc, *plan, *seeds, *json, events, output)
+        }
+        Request::Search(asked) => search_in(alloc, asked, events, output),
+    }
 }
 
 /// Carries out what the words ask for (the first is the program's name), and answers the status.
@@ -135,17 +147,12 @@ fn search_in<O: Write>(
 pub fn carry_out<R: Wait + Drop + Copy, O: Write>(
     alloc: Global,
     rt: R,
-    words: &[&str],
+    words: &[String],
     output: &mut O,
 ) -> Result<u8, Fault>
     ensures { IfOk result IsVerdict }
 {
     let request = parse(alloc, words)?;
     let events = announcements(alloc, rt, request.externals())?;
-    match request {
-        Request::Run { plan, seeds, json } => {
-            play_all(alloc, plan, seeds, json, &events, output)
-        }
-        Request::Search(asked) => search_in(alloc, &asked, &events, output),
-    }
+    play(alloc, &request, &events, output)
 }
