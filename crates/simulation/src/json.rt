@@ -3,18 +3,19 @@ use crate::names::{scenario_word, topology_word};
 use crate::page::Page;
 use simulated_histories::{Look, Outcome, Phase, Plan};
 use simulated_networks::{Counts, Seen};
-use std::io::{self, Write};
+use std::io::Write;
 
-const PLAN: &str = "\
-,\"spread\":{},\"externals\":{},\"announcers\":{}\
-,\"hello\":{},\"dead\":{},\"retransmit\":{},\"loss\":{},\"late\":{},\"twice\":{}";
+const PLAN: &str = concat!(
+    r#","spread":{},"externals":{},"announcers":{},"hello":{},"dead":{},"retransmit":{}"#,
+    r#","loss":{},"late":{},"twice":{}"#
+);
 
-const COUNTS: &str = "\
-,\"events\":{},\"refused\":{},\"walks\":{},\"packets\":{},\"bytes\":{},\"lost\":{}\
-,\"copies\":{},\"most_under_way\":{}";
+const COUNTS: &str = concat!(
+    r#","events":{},"refused":{},"walks":{},"packets":{},"bytes":{},"lost":{}"#,
+    r#","copies":{},"most_under_way":{}"#
+);
 
-const SEEN: &str = "\
-,\"looping\":{},\"nowhere\":{},\"missing\":{},\"other_cost\":{},\"stray\":{}";
+const SEEN: &str = r#","looping":{},"nowhere":{},"missing":{},"other_cost":{},"stray":{}"#;
 
 fn write_seen<O: Write>(page: &mut Page<O>, seen: &Seen) {
     let numbers = [
@@ -29,9 +30,9 @@ fn write_seen<O: Write>(page: &mut Page<O>, seen: &Seen) {
 
 fn write_look<O: Write>(page: &mut Page<O>, look: &Look) {
     let numbers = [look.second, look.not_full as u64];
-    page.fill("{\"second\":{},\"not_full\":{}", &numbers);
+    page.fill(r#"{"second":{},"not_full":{}"#, &numbers);
     if let Some(differ) = look.differ {
-        page.fill(",\"differ\":{}", &[differ as u64]);
+        page.fill(r#","differ":{}"#, &[differ as u64]);
     }
     if let Some(seen) = look.seen {
         write_seen(page, &seen);
@@ -50,8 +51,8 @@ fn write_looks<O: Write>(page: &mut Page<O>, looks: &[Look]) {
 
 fn write_phase<O: Write>(page: &mut Page<O>, name: &str, phase: &Phase) {
     let numbers = [phase.full, phase.settled, phase.seconds];
-    page.fill(",\"{}\":{\"full\":", &[name]);
-    page.fill("{},\"settled\":{},\"seconds\":{},\"looks\":[", &numbers);
+    page.fill(r#","{}":{"full":"#, &[name]);
+    page.fill(r#"{},"settled":{},"seconds":{},"looks":["#, &numbers);
     write_looks(page, &phase.looks);
     page.text("]}");
 }
@@ -84,29 +85,24 @@ fn write_plan<O: Write>(page: &mut Page<O>, plan: &Plan) {
         plan.faults.late,
         plan.faults.twice,
     ];
-    page.fill("{\"seed\":{}", &[plan.seed]);
-    page.fill(",\"scenario\":\"{}\",\"topology\":\"{}\"", &words);
+    page.fill(r#"{"seed":{}"#, &[plan.seed]);
+    page.fill(r#","scenario":"{}","topology":"{}""#, &words);
     page.fill(PLAN, &numbers);
 }
 
 fn write_outcome<O: Write>(page: &mut Page<O>, outcome: &Outcome) {
     let numbers = [outcome.routers, outcome.links, outcome.lsas];
-    page.fill(",\"routers\":{},\"links\":{},\"lsas\":{}", &numbers);
-    page.fill(",\"at_rest\":{}", &[outcome.is_at_rest()]);
+    page.fill(r#","routers":{},"links":{},"lsas":{}"#, &numbers);
+    page.fill(r#","at_rest":{}"#, &[outcome.is_at_rest()]);
     write_counts(page, &outcome.counts, outcome.walks);
 }
 
 /// Writes what came of a plan for one seed.
-///
-/// # Errors
-/// Where it can't be written.
-pub fn write_run<O: Write>(output: &mut O, plan: &Plan, outcome: &Outcome) -> io::Result<()> {
-    let mut page = Page::new(output);
-    write_plan(&mut page, plan);
-    write_outcome(&mut page, outcome);
-    write_phase(&mut page, "start", &outcome.start);
-    write_phase(&mut page, "change", &outcome.change);
-    write_phase(&mut page, "rest", &outcome.rest);
+pub fn write_run<O: Write>(page: &mut Page<O>, plan: &Plan, outcome: &Outcome) {
+    write_plan(page, plan);
+    write_outcome(page, outcome);
+    write_phase(page, "start", &outcome.start);
+    write_phase(page, "change", &outcome.change);
+    write_phase(page, "rest", &outcome.rest);
     page.text("}\n");
-    page.written()
 }

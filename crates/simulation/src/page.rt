@@ -18,7 +18,10 @@ impl<O: Write> Page<O> {
         }
     }
 
-    /// Whether all could be written.
+    /// Nothing, where all could be written.
+    ///
+    /// # Errors
+    /// Where it couldn't.
     pub fn written(&self) -> io::Result<()> {
         self.written
     }
@@ -48,14 +51,4 @@ impl<O: Write> Page<O> {
         }
         self.text(rest);
     }
-}
-
-/// Writes a text with numbers in the places of its `{}`.
-///
-/// # Errors
-/// Where it can't be written.
-pub fn line<O: Write>(output: &mut O, text: &str, numbers: &[u64]) -> io::Result<()> {
-    let mut page = Page::new(output);
-    page.fill(text, numbers);
-    page.written()
 }

@@ -3,7 +3,7 @@ use crate::names::scenario_word;
 use crate::page::Page;
 use simulated_histories::{Act, Look, Outcome, Phase, Plan, Scenario};
 use simulated_networks::{Counts, Seen};
-use std::io::{self, Write};
+use std::io::Write;
 
 const PHASE: &str = "\
 : full after {} s, settled after {} s of {}
@@ -84,27 +84,20 @@ fn tell_rest<O: Write>(page: &mut Page<O>, outcome: &Outcome) {
 }
 
 /// Tells what came of a plan for one seed.
-///
-/// # Errors
-/// Where it can't be written.
-pub fn tell_run<O: Write>(output: &mut O, plan: &Plan, outcome: &Outcome) -> io::Result<()> {
-    let mut page = Page::new(output);
-    let (routers, links, lsas) = (
+pub fn tell_run<O: Write>(page: &mut Page<O>, plan: &Plan, outcome: &Outcome) {
+    let numbers = [
+        plan.seed,
         outcome.routers as u64,
         outcome.links as u64,
         outcome.lsas as u64,
-    );
-    page.fill(
-        "seed {}: {} routers, {} links, {} LSAs\n",
-        &[plan.seed, routers, links, lsas],
-    );
-    tell_phase(&mut page, "start", &outcome.start);
+    ];
+    page.fill("seed {}: {} routers, {} links, {} LSAs\n", &numbers);
+    tell_phase(page, "start", &outcome.start);
     if plan.scenario != Scenario::Start {
-        tell_phase(&mut page, scenario_word(plan.scenario), &outcome.change);
+        tell_phase(page, scenario_word(plan.scenario), &outcome.change);
     }
-    tell_counts(&mut page, &outcome.counts, outcome.walks);
-    tell_rest(&mut page, outcome);
-    page.written()
+    tell_counts(page, &outcome.counts, outcome.walks);
+    tell_rest(page, outcome);
 }
 
 // The line of an act, and the router, destination, interface or count that it names.
@@ -131,14 +124,9 @@ fn tell_act<O: Write>(page: &mut Page<O>, act: Act) {
 }
 
 /// Tells of a history that was found.
-///
-/// # Errors
-/// Where it can't be written.
-pub fn tell_history<O: Write>(output: &mut O, seed: u64, acts: &[Act]) -> io::Result<()> {
-    let mut page = Page::new(output);
+pub fn tell_history<O: Write>(page: &mut Page<O>, seed: u64, acts: &[Act]) {
     page.fill("seed {}: {} acts\n", &[seed, acts.len() as u64]);
     for act in acts {
-        tell_act(&mut page, *act);
+        tell_act(page, *act);
     }
-    page.written()
 }

@@ -4,25 +4,23 @@ ghost use Rattle.simulation.specs.Endings.{IsVerdict};
 
 use crate::fault::{DONE, FOUND, Fault};
 use crate::json::write_run;
-use crate::page::line;
+use crate::page::Page;
 use crate::requests::{Asked, Request, parse};
 use crate::telling::{tell_history, tell_run};
 use flood::Event;
 use simulated_histories::{Act, Outcome, Plan, Search, Stage, play_scenario};
 use simulated_networks::{Random, Topology, announcements};
 use std::alloc::{AllocError, Global};
-use std::io::{self, Write};
+use std::io::Write;
 use std::sync::Wait;
 
-// Tells what came of the plan, and answers whether all is at rest at the end.
-fn tells<O: Write>(output: &mut O, plan: &Plan, outcome: &Outcome, json: bool) -> io::Result<bool> {
-    let written = if json {
-        write_run(output, plan, outcome)
+// Tells what came of the plan.
+fn tell<O: Write>(page: &mut Page<O>, plan: &Plan, outcome: &Outcome, json: bool) {
+    if json {
+        write_run(page, plan, outcome);
     } else {
-        tell_run(output, plan, outcome)
-    };
-    written?;
-    Ok(outcome.is_at_rest())
+        tell_run(page, plan, outcome);
+    }
 }
 
 // Plays the plan once, and tells of it. Answers whether all is at rest at the end.
@@ -31,10 +29,11 @@ fn play_one<O: Write>(
     plan: &Plan,
     events: &[Event],
     json: bool,
-    output: &mut O,
-) -> Result<io::Result<bool>, simulated_networks::Fault> {
+    page: &mut Page<O>,
+) -> Result<bool, simulated_networks::Fault> {
     let outcome = play_scenario(alloc, plan, events)?;
-    Ok(tells(output, plan, &outcome, json))
+    tell(page, plan, &outcome, json);
+    Ok(outcome.is_at_rest())
 }
 
 // Plays the plan for so many seeds from its own on.
@@ -44,7 +43,7 @@ fn play_all<O: Write>(
     seeds: u64,
     json: bool,
     events: &[Event],
-    output: &mut O,
+    page: &mut Page<O>,
 ) -> Result<u8, Fault>
     ensures { IfOk result IsVerdict }
 {
@@ -52,13 +51,15 @@ fn play_all<O: Write>(
     let mut well = 0_u64;
     for turn in 0..seeds {
         plan.seed = first.seed.saturating_add(turn);
-        if play_one(alloc, &plan, events, json, output)?? {
+        if play_one(alloc, &plan, events, json, page)? {
             well = well.saturating_add(1);
         }
+        page.written()?;
     }
     if !json {
-        line(output, "{} of {} at rest\n", &[well, seeds])?;
+        page.fill("{} of {} at rest\n", &[well, seeds]);
     }
+    page.written()?;
     Ok(if well == seeds { DONE } else { FOUND })
 }
 
@@ -67,16 +68,12 @@ fn search_one<O: Write>(
     search: &Search,
     stage: Stage<'_>,
     seed: u64,
-    output: &mut O,
-) -> Result<io::Result<bool>, simulated_networks::Fault> {
-    match search.found(stage, seed)? {
-        Some(acts) => Ok(tells_of(output, seed, &acts)),
-        None => Ok(Ok(false)),
-    }
-}
-
-fn tells_of<O: Write>(output: &mut O, seed: u64, acts: &[Act]) -> io::Result<bool> {
-    tell_history(output, seed, acts)?;
+    page: &mut Page<O>,
+) -> Result<bool, simulated_networks::Fault> {
+    let Some(acts) = search.found(stage, seed)? else {
+        return Ok(false);
+    };
+    tell_history(page, seed, &acts);
     Ok(true)
 }
 
@@ -85,18 +82,20 @@ fn search_all<O: Write>(
     search: &Search,
     stage: Stage<'_>,
     seeds: (u64, u64),
-    output: &mut O,
+    page: &mut Page<O>,
 ) -> Result<u8, Fault>
     ensures { IfOk result IsVerdict }
 {
     let (first, count) = seeds;
     let mut found = 0_u64;
     for turn in 0..count {
-        if search_one(search, stage, first.saturating_add(turn), output)?? {
+        if search_one(search, stage, first.saturating_add(turn), page)? {
             found = found.saturating_add(1);
         }
+        page.written()?;
     }
-    line(output, "{} of {} found\n", &[found, count])?;
+    page.fill("{} of {} found\n", &[found, count]);
+    page.written()?;
     Ok(if found == 0 { DONE } else { FOUND })
 }
 
@@ -110,7 +109,7 @@ fn search_in<O: Write>(
     alloc: Global,
     asked: &Asked,
     events: &[Event],
-    output: &mut O,
+    page: &mut Page<O>,
 ) -> Result<u8, Fault>
     ensures { IfOk result IsVerdict }
 {
@@ -120,7 +119,7 @@ fn search_in<O: Write>(
         topology: &made,
         events,
     };
-    search_all(&asked.search, stage, (asked.seed, asked.seeds), output)
+    search_all(&asked.search, stage, (asked.seed, asked.seeds), page)
 }
 
 // Carries out a request, with the events that announce its destinations.
@@ -132,11 +131,12 @@ fn play<O: Write>(
 ) -> Result<u8, Fault>
     ensures { IfOk result IsVerdict }
 {
+    let mut page = Page::new(output);
     match request {
         Request::Run { plan, seeds, json } => {
-            play_all(alloc, *plan, *seeds, *json, events, output)
+            play_all(alloc, *plan, *seeds, *json, events, &mut page)
         }
-        Request::Search(asked) => search_in(alloc, asked, events, output),
+        Request::Search(asked) => search_in(alloc, asked, events, &mut page),
     }
 }
 
