@@ -1,5 +1,5 @@
 //! The commands, the words that each may have, and their help.
-ghost use Rattle.std.specs.Prelude.{◌≡◌, ◌⊎◌};
+ghost use Rattle.std.specs.Prelude.{◌≡◌, ◌⊎◌, IfOk};
 ghost use Rattle.std.specs.IoError.{error_kind};
 ghost use Rattle.clap.specs.Values.{kind_of};
 
@@ -124,7 +124,7 @@ struct Form {
     words: &'static [Word],
 }
 
-const RUN: Form = Form {
+static RUN: Form = Form {
     name: "run",
     about: RUN_ABOUT,
     more: RUN_MORE,
@@ -163,7 +163,7 @@ const RUN: Form = Form {
     ],
 };
 
-const SEARCH: Form = Form {
+static SEARCH: Form = Form {
     name: "search",
     about: SEARCH_ABOUT,
     more: SEARCH_MORE,
@@ -191,8 +191,6 @@ const SEARCH: Form = Form {
     ],
 };
 
-static COMMANDS: [Form; 2] = [RUN, SEARCH];
-
 fn argument<'a>(alloc: Global, word: &Word) -> Arg<'a> {
     let (name, value, help) = *word;
     let argument = Arg::new(alloc, name).long(name).help(help);
@@ -213,6 +211,15 @@ fn command<'a>(alloc: Global, form: &Form) -> Result<Command<'a>, AllocError> {
     Ok(command)
 }
 
+fn with_command<'a>(
+    alloc: Global,
+    whole: Command<'a>,
+    form: &Form,
+) -> Result<Command<'a>, AllocError> {
+    let command = command(alloc, form)?;
+    whole.subcommand(command)
+}
+
 fn without_commands<'a>(alloc: Global) -> Command<'a> {
     Command::new(alloc, "simulation")
         .about(ABOUT)
@@ -226,30 +233,22 @@ fn without_commands<'a>(alloc: Global) -> Command<'a> {
 /// # Errors
 /// Where memory is refused.
 pub fn whole<'a>(alloc: Global) -> Result<Command<'a>, AllocError> {
-    let mut whole = without_commands(alloc);
-    for form in &COMMANDS {
-        let command = command(alloc, form)?;
-        whole = whole.subcommand(command)?;
-    }
-    Ok(whole)
+    let with_run = with_command(alloc, without_commands(alloc), &RUN)?;
+    with_command(alloc, with_run, &SEARCH)
 }
 
-// An error of this command, or want of memory.
-fn error_in(command: &mut Command<'_>, kind: ErrorKind, text: &str) -> Error
-    ensures { (kind_of result ≡ ErrorKind.OutOfMemory) ⊎ (kind_of result ≡ kind) }
+fn error(alloc: Global, kind: ErrorKind, text: &str) -> Result<Error, AllocError>
+    ensures { IfOk result (λ error. kind_of error ≡ kind) }
 {
-    match command.error(kind, text) {
-        Ok(error) => error,
-        Err(error) => Error::from(error),
-    }
+    whole(alloc)?.error(kind, text)
 }
 
 // An error about the words, or want of memory.
 fn error_of(alloc: Global, kind: ErrorKind, text: &str) -> Error
     ensures { (kind_of result ≡ ErrorKind.OutOfMemory) ⊎ (kind_of result ≡ kind) }
 {
-    match whole(alloc) {
-        Ok(mut command) => error_in(&mut command, kind, text),
+    match error(alloc, kind, text) {
+        Ok(error) => error,
         Err(error) => Error::from(error),
     }
 }

@@ -136,16 +136,12 @@ fn request_of(alloc: Global, matches: &ArgMatches<'_>) -> Result<Request, Error>
     }
 }
 
-fn matches_of<'a>(alloc: Global, words: &'a [String]) -> Result<ArgMatches<'a>, Error> {
-    whole(alloc)?.try_get_matches_from(words)
-}
-
 /// Reads the words of a command line, of which the first is the program's name.
 ///
 /// # Errors
 /// Where the words are wrong or ask for help, with the text for the user; and where memory is
 /// refused.
 pub fn parse(alloc: Global, words: &[String]) -> Result<Request, Error> {
-    let matches = matches_of(alloc, words)?;
+    let matches = whole(alloc)?.try_get_matches_from(words)?;
     request_of(alloc, &matches)
 }

@@ -8,8 +8,8 @@ use crate::page::Page;
 use crate::requests::{Asked, Request, parse};
 use crate::telling::{tell_history, tell_run};
 use flood::Event;
-use simulated_histories::{Act, Outcome, Plan, Search, Stage, play_scenario};
-use simulated_networks::{Random, Topology, announcements};
+use simulated_histories::{Outcome, Plan, Search, Stage, play_scenario};
+use simulated_networks::{Fault as NetworkFault, Random, Topology, announcements};
 use std::alloc::{AllocError, Global};
 use std::io::Write;
 use std::sync::Wait;
@@ -30,13 +30,13 @@ fn play_one<O: Write>(
     events: &[Event],
     json: bool,
     page: &mut Page<O>,
-) -> Result<bool, simulated_networks::Fault> {
+) -> Result<bool, NetworkFault> {
     let outcome = play_scenario(alloc, plan, events)?;
     tell(page, plan, &outcome, json);
     Ok(outcome.is_at_rest())
 }
 
-// Plays the plan for so many seeds from its own on.
+// Plays the plan for so many seeds from its own on, as long as that can be told.
 fn play_all<O: Write>(
     alloc: Global,
     first: Plan,
@@ -44,7 +44,7 @@ fn play_all<O: Write>(
     json: bool,
     events: &[Event],
     page: &mut Page<O>,
-) -> Result<u8, Fault>
+) -> Result<u8, NetworkFault>
     ensures { IfOk result IsVerdict }
 {
     let mut plan = first;
@@ -54,12 +54,13 @@ fn play_all<O: Write>(
         if play_one(alloc, &plan, events, json, page)? {
             well = well.saturating_add(1);
         }
-        page.written()?;
+        if page.written().is_err() {
+            break;
+        }
     }
     if !json {
         page.fill("{} of {} at rest\n", &[well, seeds]);
     }
-    page.written()?;
     Ok(if well == seeds { DONE } else { FOUND })
 }
 
@@ -69,7 +70,7 @@ fn search_one<O: Write>(
     stage: Stage<'_>,
     seed: u64,
     page: &mut Page<O>,
-) -> Result<bool, simulated_networks::Fault> {
+) -> Result<bool, NetworkFault> {
     let Some(acts) = search.found(stage, seed)? else {
         return Ok(false);
     };
@@ -77,13 +78,13 @@ fn search_one<O: Write>(
     Ok(true)
 }
 
-// Searches among so many seeds from the first one on.
+// Searches among so many seeds from the first one on, as long as that can be told.
 fn search_all<O: Write>(
     search: &Search,
     stage: Stage<'_>,
     seeds: (u64, u64),
     page: &mut Page<O>,
-) -> Result<u8, Fault>
+) -> Result<u8, NetworkFault>
     ensures { IfOk result IsVerdict }
 {
     let (first, count) = seeds;
@@ -92,10 +93,11 @@ fn search_all<O: Write>(
         if search_one(search, stage, first.saturating_add(turn), page)? {
             found = found.saturating_add(1);
         }
-        page.written()?;
+        if page.written().is_err() {
+            break;
+        }
     }
     page.fill("{} of {} found\n", &[found, count]);
-    page.written()?;
     Ok(if found == 0 { DONE } else { FOUND })
 }
 
@@ -110,7 +112,7 @@ fn search_in<O: Write>(
     asked: &Asked,
     events: &[Event],
     page: &mut Page<O>,
-) -> Result<u8, Fault>
+) -> Result<u8, NetworkFault>
     ensures { IfOk result IsVerdict }
 {
     let made = topology_of(alloc, asked)?;
@@ -122,8 +124,24 @@ fn search_in<O: Write>(
     search_all(&asked.search, stage, (asked.seed, asked.seeds), page)
 }
 
-// Carries out a request, with the events that announce its destinations.
 fn play<O: Write>(
+    alloc: Global,
+    request: &Request,
+    events: &[Event],
+    page: &mut Page<O>,
+) -> Result<u8, NetworkFault>
+    ensures { IfOk result IsVerdict }
+{
+    match request {
+        Request::Run { plan, seeds, json } => {
+            play_all(alloc, *plan, *seeds, *json, events, page)
+        }
+        Request::Search(asked) => search_in(alloc, asked, events, page),
+    }
+}
+
+// Carries out a request, with the events that announce its destinations.
+fn play_and_tell<O: Write>(
     alloc: Global,
     request: &Request,
     events: &[Event],
@@ -132,12 +150,9 @@ fn play<O: Write>(
     ensures { IfOk result IsVerdict }
 {
     let mut page = Page::new(output);
-    match request {
-        Request::Run { plan, seeds, json } => {
-            play_all(alloc, *plan, *seeds, *json, events, &mut page)
-        }
-        Request::Search(asked) => search_in(alloc, asked, events, &mut page),
-    }
+    let verdict = play(alloc, request, events, &mut page)?;
+    page.written()?;
+    Ok(verdict)
 }
 
 /// Carries out what the words ask for (the first is the program's name), and answers the status.
@@ -154,5 +169,5 @@ pub fn carry_out<R: Wait + Drop + Copy, O: Write>(
 {
     let request = parse(alloc, words)?;
     let events = announcements(alloc, rt, request.externals())?;
-    play(alloc, &request, &events, output)
+    play_and_tell(alloc, &request, &events, output)
 }
