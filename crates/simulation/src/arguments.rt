@@ -201,19 +201,14 @@ fn argument<'a>(alloc: Global, word: &Word) -> Arg<'a> {
     }
 }
 
-fn arguments<'a>(alloc: Global, words: &[Word]) -> Result<Vec<Arg<'a>>, AllocError> {
-    words
-        .iter()
-        .map(|word| argument(alloc, word))
-        .collect(alloc)
-}
-
 fn command<'a>(alloc: Global, form: &Form) -> Result<Command<'a>, AllocError> {
-    let arguments = arguments(alloc, form.words)?;
-    Command::new(alloc, form.name)
+    let mut command = Command::new(alloc, form.name)
         .about(form.about)
-        .after_help(form.more)
-        .args(arguments)
+        .after_help(form.more);
+    for word in form.words {
+        command = command.arg(argument(alloc, word))?;
+    }
+    Ok(command)
 }
 
 fn with_command<'a>(

@@ -1,10 +1,9 @@
 //! Why the program didn't do what it was asked, and the statuses.
 ghost use Rattle.std.specs.Prelude.{◌≡◌, ◌≤◌};
 ghost use Rattle.simulation.specs.Statuses.{fault_of_network, fault_of_words, status_of};
-ghost use Rattle.simulation.specs.declared.fault.Fault.TheVariants.{Memory, Output};
+ghost use Rattle.simulation.specs.declared.fault.Fault.TheVariants.{Output};
 
 use clap::error::ErrorKind;
-use std::alloc::{AllocError, AllocFailed};
 use std::io;
 use thiserror::Error;
 
@@ -34,22 +33,6 @@ pub enum Fault {
     /// An allocation was refused.
     #[error("out of memory")]
     Memory,
-}
-
-impl From<AllocError> for Fault {
-    ghost from_gives = { λ _ fault. fault ≡ Memory };
-
-    fn from(_error: AllocError) -> Fault {
-        Fault::Memory
-    }
-}
-
-impl<T: Drop> From<AllocFailed<T>> for Fault {
-    ghost from_gives = { λ _ fault. fault ≡ Memory };
-
-    fn from(_error: AllocFailed<T>) -> Fault {
-        Fault::Memory
-    }
 }
 
 impl From<io::Error> for Fault {

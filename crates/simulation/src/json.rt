@@ -1,122 +1,108 @@
 //! What is printed for programs: an object of JSON on one line.
 use crate::names::{scenario_word, topology_word};
+use crate::page::Page;
 use simulated_histories::{Look, Outcome, Phase, Plan};
 use simulated_networks::{Counts, Seen};
-use std::io::{self, Write};
+use std::io::Write;
 
-// Members behind others, each a number.
-fn write_numbers<O: Write>(output: &mut O, members: &[(&str, u64)]) -> io::Result<()> {
-    for member in members {
-        let (name, number) = *member;
-        write!(output, ",\"{name}\":{number}")?;
-    }
-    Ok(())
-}
+const PLAN: &str = concat!(
+    r#","spread":{},"externals":{},"announcers":{},"hello":{},"dead":{},"retransmit":{}"#,
+    r#","loss":{},"late":{},"twice":{}"#
+);
 
-fn write_seen<O: Write>(output: &mut O, seen: &Seen) -> io::Result<()> {
-    let members = [
-        ("looping", seen.looping),
-        ("nowhere", seen.nowhere),
-        ("missing", seen.missing),
-        ("other_cost", seen.other_cost),
-        ("stray", seen.stray),
+const COUNTS: &str = concat!(
+    r#","events":{},"refused":{},"walks":{},"packets":{},"bytes":{},"lost":{}"#,
+    r#","copies":{},"most_under_way":{}"#
+);
+
+const SEEN: &str = r#","looping":{},"nowhere":{},"missing":{},"other_cost":{},"stray":{}"#;
+
+fn write_seen<O: Write>(page: &mut Page<O>, seen: &Seen) {
+    let numbers = [
+        seen.looping,
+        seen.nowhere,
+        seen.missing,
+        seen.other_cost,
+        seen.stray,
     ];
-    write_numbers(output, &members)
+    page.fill(SEEN, &numbers);
 }
 
-fn write_look<O: Write>(output: &mut O, look: &Look) -> io::Result<()> {
-    let (second, not_full) = (look.second, look.not_full);
-    write!(output, "{{\"second\":{second},\"not_full\":{not_full}")?;
+fn write_look<O: Write>(page: &mut Page<O>, look: &Look) {
+    let numbers = [look.second, look.not_full as u64];
+    page.fill(r#"{"second":{},"not_full":{}"#, &numbers);
     if let Some(differ) = look.differ {
-        write_numbers(output, &[("differ", differ as u64)])?;
+        page.fill(r#","differ":{}"#, &[differ as u64]);
     }
     if let Some(seen) = look.seen {
-        write_seen(output, &seen)?;
+        write_seen(page, &seen);
     }
-    write!(output, "}}")
+    page.text("}");
 }
 
-fn write_looks<O: Write>(output: &mut O, looks: &[Look]) -> io::Result<()> {
-    for (place, look) in looks.iter().enumerate() {
-        if place > 0 {
-            write!(output, ",")?;
-        }
-        write_look(output, look)?;
+fn write_looks<O: Write>(page: &mut Page<O>, looks: &[Look]) {
+    let mut before = "";
+    for look in looks {
+        page.text(before);
+        write_look(page, look);
+        before = ",";
     }
-    Ok(())
 }
 
-fn write_phase<O: Write>(output: &mut O, name: &str, phase: &Phase) -> io::Result<()> {
-    let numbers = [("settled", phase.settled), ("seconds", phase.seconds)];
-    let full = phase.full;
-    write!(output, ",\"{name}\":{{\"full\":{full}")?;
-    write_numbers(output, &numbers)?;
-    write!(output, ",\"looks\":[")?;
-    write_looks(output, &phase.looks)?;
-    write!(output, "]}}")
+fn write_phase<O: Write>(page: &mut Page<O>, name: &str, phase: &Phase) {
+    let numbers = [phase.full, phase.settled, phase.seconds];
+    page.fill(r#","{}":{"full":"#, &[name]);
+    page.fill(r#"{},"settled":{},"seconds":{},"looks":["#, &numbers);
+    write_looks(page, &phase.looks);
+    page.text("]}");
 }
 
-fn write_counts<O: Write>(output: &mut O, counts: &Counts, walks: u64) -> io::Result<()> {
-    let members = [
-        ("events", counts.events),
-        ("refused", counts.refused),
-        ("walks", walks),
-        ("packets", counts.packets),
-        ("bytes", counts.bytes),
-        ("lost", counts.lost),
-        ("copies", counts.copies),
-        ("most_under_way", counts.most_under_way),
+fn write_counts<O: Write>(page: &mut Page<O>, counts: &Counts, walks: u64) {
+    let numbers = [
+        counts.events,
+        counts.refused,
+        walks,
+        counts.packets,
+        counts.bytes,
+        counts.lost,
+        counts.copies,
+        counts.most_under_way,
     ];
-    write_numbers(output, &members)
+    page.fill(COUNTS, &numbers);
 }
 
 // The network that is played, and what may become of packets.
-fn write_plan<O: Write>(output: &mut O, plan: &Plan) -> io::Result<()> {
-    let (seed, scenario) = (plan.seed, scenario_word(plan.scenario));
-    let topology = topology_word(plan.topology);
-    let members = [
-        ("spread", u64::from(plan.spread)),
-        ("externals", u64::from(plan.externals)),
-        ("announcers", u64::from(plan.announcers)),
-        ("hello", u64::from(plan.times.hello)),
-        ("dead", u64::from(plan.times.dead)),
-        ("retransmit", u64::from(plan.times.retransmit)),
-        ("loss", u64::from(plan.faults.loss)),
-        ("late", u64::from(plan.faults.late)),
-        ("twice", u64::from(plan.faults.twice)),
+fn write_plan<O: Write>(page: &mut Page<O>, plan: &Plan) {
+    let words = [scenario_word(plan.scenario), topology_word(plan.topology)];
+    let numbers = [
+        plan.spread,
+        plan.externals,
+        plan.announcers,
+        u32::from(plan.times.hello),
+        plan.times.dead,
+        u32::from(plan.times.retransmit),
+        plan.faults.loss,
+        plan.faults.late,
+        plan.faults.twice,
     ];
-    write!(
-        output,
-        "{{\"seed\":{seed},\"scenario\":\"{scenario}\",\"topology\":\"{topology}\""
-    )?;
-    write_numbers(output, &members)
+    page.fill(r#"{"seed":{}"#, &[plan.seed]);
+    page.fill(r#","scenario":"{}","topology":"{}""#, &words);
+    page.fill(PLAN, &numbers);
 }
 
-fn write_outcome<O: Write>(output: &mut O, outcome: &Outcome) -> io::Result<()> {
-    let members = [
-        ("routers", outcome.routers as u64),
-        ("links", outcome.links as u64),
-        ("lsas", outcome.lsas as u64),
-    ];
-    let at_rest = outcome.is_at_rest();
-    write_numbers(output, &members)?;
-    write!(output, ",\"at_rest\":{at_rest}")?;
-    write_counts(output, &outcome.counts, outcome.walks)
-}
-
-fn write_phases<O: Write>(output: &mut O, outcome: &Outcome) -> io::Result<()> {
-    write_phase(output, "start", &outcome.start)?;
-    write_phase(output, "change", &outcome.change)?;
-    write_phase(output, "rest", &outcome.rest)
+fn write_outcome<O: Write>(page: &mut Page<O>, outcome: &Outcome) {
+    let numbers = [outcome.routers, outcome.links, outcome.lsas];
+    page.fill(r#","routers":{},"links":{},"lsas":{}"#, &numbers);
+    page.fill(r#","at_rest":{}"#, &[outcome.is_at_rest()]);
+    write_counts(page, &outcome.counts, outcome.walks);
 }
 
 /// Writes what came of a plan for one seed.
-///
-/// # Errors
-/// Where it can't be written.
-pub fn write_run<O: Write>(output: &mut O, plan: &Plan, outcome: &Outcome) -> io::Result<()> {
-    write_plan(output, plan)?;
-    write_outcome(output, outcome)?;
-    write_phases(output, outcome)?;
-    writeln!(output, "}}")
+pub fn write_run<O: Write>(page: &mut Page<O>, plan: &Plan, outcome: &Outcome) {
+    write_plan(page, plan);
+    write_outcome(page, outcome);
+    write_phase(page, "start", &outcome.start);
+    write_phase(page, "change", &outcome.change);
+    write_phase(page, "rest", &outcome.rest);
+    page.text("}\n");
 }

@@ -62,7 +62,7 @@ pub fn end_without_words<O: Write, E: Write>(
 pub fn program<R: Wait + Drop + Copy, O: Write, E: Write>(
     alloc: Global,
     rt: R,
-    words: &[&str],
+    words: &[String],
     output: &mut O,
     errors: &mut E,
 ) -> u8

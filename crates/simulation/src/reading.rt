@@ -109,29 +109,91 @@ pub fn scenario_in(matches: &ArgMatches<'_>) -> Result<Scenario, Wrong>
     }
 }
 
-/// The times of the interfaces.
-///
-/// # Errors
-/// Where a word is outside of its range.
-pub fn times_in(matches: &ArgMatches<'_>) -> Result<Times, Wrong> {
-    let hello = small_of(matches, "hello", 10, 1, 65_535)?;
-    let dead = small_of(matches, "dead", 40, 1, 1_000_000)?;
-    let retransmit = small_of(matches, "retransmit", 5, 1, 65_535)?;
-    Ok(Times {
-        hello: u16::try_from(hello).unwrap_or(10),
-        dead,
-        retransmit: u16::try_from(retransmit).unwrap_or(5),
-    })
+/// Reads the words of a command, and keeps what is wrong with the first wrong one.
+#[derive(Drop)]
+pub struct Reader<'m, 'a> {
+    matches: &'m ArgMatches<'a>,
+    wrong: Option<Wrong>,
 }
 
-/// What becomes of packets.
-///
-/// # Errors
-/// Where a word is outside of its range.
-pub fn faults_in(matches: &ArgMatches<'_>) -> Result<Faults, Wrong> {
-    Ok(Faults {
-        loss: small_of(matches, "loss", 0, 0, 10_000)?,
-        late: small_of(matches, "late", 0, 0, 10_000)?,
-        twice: small_of(matches, "twice", 0, 0, 10_000)?,
-    })
+impl<'m, 'a> Reader<'m, 'a> {
+    /// Nothing is read yet.
+    pub fn new(matches: &'m ArgMatches<'a>) -> Reader<'m, 'a> {
+        Reader {
+            matches,
+            wrong: None,
+        }
+    }
+
+    // The value that was read, or this one where the word is wrong.
+    fn kept<T: Copy>(&mut self, read: Result<T, Wrong>, other: T) -> T {
+        match read {
+            Ok(value) => value,
+            Err(wrong) => {
+                self.wrong = self.wrong.or(Some(wrong));
+                other
+            }
+        }
+    }
+
+    /// As `number_of`; the usual number where the word is wrong.
+    pub fn number(&mut self, name: &'static str, usual: u64, least: u64, most: u64) -> u64 {
+        let read = number_of(self.matches, name, usual, least, most);
+        self.kept(read, usual)
+    }
+
+    /// As `small_of`; the usual number where the word is wrong.
+    pub fn small(&mut self, name: &'static str, usual: u32, least: u32, most: u32) -> u32 {
+        let read = small_of(self.matches, name, usual, least, most);
+        self.kept(read, usual)
+    }
+
+    /// The shape under `topology`.
+    pub fn topology(&mut self) -> Kind {
+        let read = topology_in(self.matches);
+        self.kept(read, Kind::Grid)
+    }
+
+    /// The scenario under `scenario`.
+    pub fn scenario(&mut self) -> Scenario {
+        let read = scenario_in(self.matches);
+        self.kept(read, Scenario::Start)
+    }
+
+    /// Whether the flag of this name is there.
+    pub fn flag(&self, name: &str) -> bool {
+        self.matches.get_flag(name)
+    }
+
+    /// The times of the interfaces.
+    pub fn times(&mut self) -> Times {
+        let hello = self.small("hello", 10, 1, 65_535);
+        let dead = self.small("dead", 40, 1, 1_000_000);
+        let retransmit = self.small("retransmit", 5, 1, 65_535);
+        Times {
+            hello: u16::try_from(hello).unwrap_or(10),
+            dead,
+            retransmit: u16::try_from(retransmit).unwrap_or(5),
+        }
+    }
+
+    /// What becomes of packets.
+    pub fn faults(&mut self) -> Faults {
+        Faults {
+            loss: self.small("loss", 0, 0, 10_000),
+            late: self.small("late", 0, 0, 10_000),
+            twice: self.small("twice", 0, 0, 10_000),
+        }
+    }
+
+    /// What was made of the words.
+    ///
+    /// # Errors
+    /// Where a word is wrong: what is wrong with the first one.
+    pub fn ends_with<T: Copy>(&self, made: T) -> Result<T, Wrong> {
+        match self.wrong {
+            None => Ok(made),
+            Some(wrong) => Err(wrong),
+        }
+    }
 }

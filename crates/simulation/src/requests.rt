@@ -1,6 +1,6 @@
 //! What the words of a command line ask for.
 use crate::arguments::{told, whole};
-use crate::reading::{Wrong, faults_in, number_of, scenario_in, small_of, times_in, topology_in};
+use crate::reading::{Reader, Wrong};
 use clap::{ArgMatches, Error};
 use simulated_histories::{Plan, Search, Sought};
 use simulated_networks::Kind;
@@ -46,93 +46,86 @@ struct Shape {
     spread: u32,
 }
 
-fn shape_in(matches: &ArgMatches<'_>) -> Result<Shape, Wrong> {
-    Ok(Shape {
-        topology: topology_in(matches)?,
-        routers: small_of(matches, "routers", 9, 1, 10_000)?,
-        externals: small_of(matches, "externals", 0, 0, 100_000)?,
-        spread: small_of(matches, "spread", 1, 1, 10_000)?,
-    })
+fn shape_in(words: &mut Reader<'_, '_>) -> Shape {
+    Shape {
+        topology: words.topology(),
+        routers: words.small("routers", 9, 1, 10_000),
+        externals: words.small("externals", 0, 0, 100_000),
+        spread: words.small("spread", 1, 1, 10_000),
+    }
 }
 
 // The first seed, and how many there are.
-fn seeds_in(matches: &ArgMatches<'_>) -> Result<(u64, u64), Wrong> {
-    let first = number_of(matches, "seed", 1, 0, MOST)?;
-    let count = number_of(matches, "seeds", 1, 1, MOST)?;
-    Ok((first, count))
+fn seeds_in(words: &mut Reader<'_, '_>) -> (u64, u64) {
+    let first = words.number("seed", 1, 0, MOST);
+    let count = words.number("seeds", 1, 1, MOST);
+    (first, count)
 }
 
-// How many seconds a part may take, how many have to stay calm, and how many are calm at the end.
-fn seconds_in(matches: &ArgMatches<'_>) -> Result<(u64, u64, u64), Wrong> {
-    let seconds = number_of(matches, "seconds", 300, 1, MOST)?;
-    let stay = number_of(matches, "stay", 12, 0, MOST)?;
-    let calm = number_of(matches, "calm", 60, 0, MOST)?;
-    Ok((seconds, stay, calm))
-}
-
-fn run(matches: &ArgMatches<'_>) -> Result<Request, Wrong> {
-    let shape = shape_in(matches)?;
+fn run(words: &mut Reader<'_, '_>) -> Request {
+    let shape = shape_in(words);
     let usual = shape.externals.saturating_add(999) / 1_000;
-    let (seed, seeds) = seeds_in(matches)?;
-    let (seconds, stay, calm) = seconds_in(matches)?;
+    let (seed, seeds) = seeds_in(words);
     let plan = Plan {
         topology: shape.topology,
         routers: shape.routers,
         externals: shape.externals,
-        announcers: small_of(matches, "announcers", usual, 0, 10_000)?,
         spread: shape.spread,
-        times: times_in(matches)?,
-        faults: faults_in(matches)?,
-        scenario: scenario_in(matches)?,
         seed,
-        seconds,
-        stay,
-        calm,
-        watches: matches.get_flag("watch"),
+        seconds: words.number("seconds", 300, 1, MOST),
+        stay: words.number("stay", 12, 0, MOST),
+        calm: words.number("calm", 60, 0, MOST),
+        announcers: words.small("announcers", usual, 0, 10_000),
+        times: words.times(),
+        faults: words.faults(),
+        scenario: words.scenario(),
+        watches: words.flag("watch"),
     };
-    Ok(Request::Run {
-        plan,
-        seeds,
-        json: matches.get_flag("json"),
-    })
+    let json = words.flag("json");
+    Request::Run { plan, seeds, json }
 }
 
-fn sought_in(matches: &ArgMatches<'_>) -> Sought {
-    if matches.get_flag("loops") {
-        Sought::Loops
-    } else {
-        Sought::Databases
-    }
-}
-
-fn search(matches: &ArgMatches<'_>) -> Result<Request, Wrong> {
-    let shape = shape_in(matches)?;
-    let (seed, seeds) = seeds_in(matches)?;
+fn search(words: &mut Reader<'_, '_>) -> Request {
+    let shape = shape_in(words);
+    let (seed, seeds) = seeds_in(words);
+    let sought = match words.flag("loops") {
+        true => Sought::Loops,
+        false => Sought::Databases,
+    };
     let search = Search {
-        sought: sought_in(matches),
+        sought,
         routers: shape.routers,
         externals: shape.externals,
-        times: times_in(matches)?,
-        faults: faults_in(matches)?,
-        restarts: matches.get_flag("restarts"),
-        steps: small_of(matches, "steps", 500, 0, 1_000_000)?,
-        calm: small_of(matches, "calm", 60, 0, 1_000_000)?,
+        times: words.times(),
+        faults: words.faults(),
+        restarts: words.flag("restarts"),
+        steps: words.small("steps", 500, 0, 1_000_000),
+        calm: words.small("calm", 60, 0, 1_000_000),
     };
-    Ok(Request::Search(Asked {
+    Request::Search(Asked {
         search,
         topology: shape.topology,
         spread: shape.spread,
         seed,
         seeds,
-    }))
+    })
 }
 
-// What the command that the words name makes of its words.
+// What the command of this name makes of its words.
+fn requested(name: &str, matches: &ArgMatches<'_>) -> Result<Request, Wrong> {
+    let mut words = Reader::new(matches);
+    let request = match name {
+        "run" => run(&mut words),
+        "search" => search(&mut words),
+        _ => return Err(Wrong::Command),
+    };
+    words.ends_with(request)
+}
+
 fn asked_for(matches: &ArgMatches<'_>) -> Result<Request, Wrong> {
     match matches.subcommand() {
-        Some(("run", words)) => run(words),
-        Some(("search", words)) => search(words),
-        _ => Err(Wrong::Command),
+        Some((name, words)) => requested(name, words),
+        None => Err(Wrong::Command),
     }
 }
 
@@ -148,7 +141,7 @@ fn request_of(alloc: Global, matches: &ArgMatches<'_>) -> Result<Request, Error>
 /// # Errors
 /// Where the words are wrong or ask for help, with the text for the user; and where memory is
 /// refused.
-pub fn parse(alloc: Global, words: &[&str]) -> Result<Request, Error> {
+pub fn parse(alloc: Global, words: &[String]) -> Result<Request, Error> {
     let matches = whole(alloc)?.try_get_matches_from(words)?;
     request_of(alloc, &matches)
 }

@@ -1,153 +1,132 @@
 //! What is printed for people.
 use crate::names::scenario_word;
-use simulated_histories::{Act, Look, Outcome, Phase, Plan, Scenario, Sum};
+use crate::page::Page;
+use simulated_histories::{Act, Look, Outcome, Phase, Plan, Scenario};
 use simulated_networks::{Counts, Seen};
-use std::io::{self, Write};
+use std::io::Write;
 
-// Numbers with their names before them, behind this beginning.
-fn tell_numbers<O: Write>(
-    output: &mut O,
-    beginning: &str,
-    numbers: &[(&str, u64)],
-) -> io::Result<()> {
-    let mut before = beginning;
-    for named in numbers {
-        let (name, number) = *named;
-        write!(output, "{before}{name} {number}")?;
-        before = ", ";
-    }
-    Ok(())
-}
+const PHASE: &str = "\
+: full after {} s, settled after {} s of {}
+  loops in {} s, {} pair-seconds, at most {} pairs
+  into nothing in {} s, {} pair-seconds, at most {} pairs
+";
 
-fn tell_sum<O: Write>(output: &mut O, what: &str, sum: &Sum) -> io::Result<()> {
-    let (seconds, pairs, most) = (sum.seconds, sum.pairs, sum.most);
-    writeln!(
-        output,
-        "  {what} in {seconds} s, {pairs} pair-seconds, at most {most} pairs"
-    )
-}
+const COUNTS: &str = "\
+events {}, refused {}, walks {}
+packets {}, bytes {}, lost {}
+LSAs in Updates {}, packets under way at most {}
+";
 
-fn tell_phase<O: Write>(output: &mut O, name: &str, phase: &Phase) -> io::Result<()> {
-    let (full, settled, seconds) = (phase.full, phase.settled, phase.seconds);
-    writeln!(
-        output,
-        "{name}: full after {full} s, settled after {settled} s of {seconds}"
-    )?;
-    tell_sum(output, "loops", &phase.looping)?;
-    tell_sum(output, "into nothing", &phase.nowhere)
-}
+const SEEN: &str = ", loops {}, into nothing {}, missing {}, of another cost {}, of nobody {}";
 
-fn tell_counts<O: Write>(output: &mut O, counts: &Counts, walks: u64) -> io::Result<()> {
-    let events = [
-        ("events", counts.events),
-        ("refused", counts.refused),
-        ("walks", walks),
-    ];
-    let packets = [
-        ("packets", counts.packets),
-        ("bytes", counts.bytes),
-        ("lost", counts.lost),
-    ];
-    let most = [
-        ("LSAs in Updates", counts.copies),
-        ("packets under way at most", counts.most_under_way),
-    ];
-    tell_numbers(output, "", &events)?;
-    tell_numbers(output, "\n", &packets)?;
-    tell_numbers(output, "\n", &most)?;
-    writeln!(output, "")
-}
-
-fn tell_seen<O: Write>(output: &mut O, seen: &Seen) -> io::Result<()> {
+fn tell_phase<O: Write>(page: &mut Page<O>, name: &str, phase: &Phase) {
+    let (looping, nowhere) = (phase.looping, phase.nowhere);
     let numbers = [
-        ("loops", seen.looping),
-        ("into nothing", seen.nowhere),
-        ("missing", seen.missing),
-        ("of another cost", seen.other_cost),
-        ("of nobody", seen.stray),
+        phase.full,
+        phase.settled,
+        phase.seconds,
+        looping.seconds,
+        looping.pairs,
+        looping.most,
+        nowhere.seconds,
+        nowhere.pairs,
+        nowhere.most,
     ];
-    tell_numbers(output, ", ", &numbers)
+    page.text(name);
+    page.fill(PHASE, &numbers);
+}
+
+fn tell_counts<O: Write>(page: &mut Page<O>, counts: &Counts, walks: u64) {
+    let numbers = [
+        counts.events,
+        counts.refused,
+        walks,
+        counts.packets,
+        counts.bytes,
+        counts.lost,
+        counts.copies,
+        counts.most_under_way,
+    ];
+    page.fill(COUNTS, &numbers);
+}
+
+fn tell_seen<O: Write>(page: &mut Page<O>, seen: &Seen) {
+    let numbers = [
+        seen.looping,
+        seen.nowhere,
+        seen.missing,
+        seen.other_cost,
+        seen.stray,
+    ];
+    page.fill(SEEN, &numbers);
 }
 
 // What was seen last, where that isn't rest.
-fn tell_unrest<O: Write>(output: &mut O, look: &Look) -> io::Result<()> {
-    tell_numbers(
-        output,
-        "not at rest: ",
-        &[("not full", look.not_full as u64)],
-    )?;
+fn tell_unrest<O: Write>(page: &mut Page<O>, look: &Look) {
+    page.fill("not at rest: not full {}", &[look.not_full as u64]);
     if let Some(differ) = look.differ {
-        tell_numbers(output, ", ", &[("databases differ", differ as u64)])?;
+        page.fill(", databases differ {}", &[differ as u64]);
     }
     if let Some(seen) = look.seen {
-        tell_seen(output, &seen)?;
+        tell_seen(page, &seen);
     }
-    writeln!(output, "")
+    page.text("\n");
 }
 
-fn tell_rest<O: Write>(output: &mut O, outcome: &Outcome) -> io::Result<()> {
+fn tell_rest<O: Write>(page: &mut Page<O>, outcome: &Outcome) {
     if outcome.is_at_rest() {
-        return writeln!(output, "at rest");
+        return page.text("at rest\n");
     }
     match outcome.rest.last() {
-        Some(look) => tell_unrest(output, &look),
-        None => writeln!(output, "not at rest"),
+        Some(look) => tell_unrest(page, &look),
+        None => page.text("not at rest\n"),
     }
 }
 
 /// Tells what came of a plan for one seed.
-///
-/// # Errors
-/// Where it can't be written.
-pub fn tell_run<O: Write>(output: &mut O, plan: &Plan, outcome: &Outcome) -> io::Result<()> {
-    let (seed, routers, links, lsas) = (plan.seed, outcome.routers, outcome.links, outcome.lsas);
-    writeln!(
-        output,
-        "seed {seed}: {routers} routers, {links} links, {lsas} LSAs"
-    )?;
-    tell_phase(output, "start", &outcome.start)?;
+pub fn tell_run<O: Write>(page: &mut Page<O>, plan: &Plan, outcome: &Outcome) {
+    let numbers = [
+        plan.seed,
+        outcome.routers as u64,
+        outcome.links as u64,
+        outcome.lsas as u64,
+    ];
+    page.fill("seed {}: {} routers, {} links, {} LSAs\n", &numbers);
+    tell_phase(page, "start", &outcome.start);
     if plan.scenario != Scenario::Start {
-        tell_phase(output, scenario_word(plan.scenario), &outcome.change)?;
+        tell_phase(page, scenario_word(plan.scenario), &outcome.change);
     }
-    tell_counts(output, &outcome.counts, outcome.walks)?;
-    tell_rest(output, outcome)
+    tell_counts(page, &outcome.counts, outcome.walks);
+    tell_rest(page, outcome);
 }
 
-// The act's name, and the router, destination, interface or count that it names.
-fn parts_of(act: Act) -> (&'static str, Option<u32>, Option<u32>) {
+// The line of an act, and the router, destination, interface or count that it names.
+fn line_of(act: Act) -> (&'static str, [u32; 2]) {
     match act {
-        Act::Comes => ("Comes", None, None),
-        Act::Lost => ("Lost", None, None),
-        Act::Twice => ("Twice", None, None),
-        Act::Exchanged => ("Exchanged", None, None),
-        Act::Again(back) => ("Again", Some(back), None),
-        Act::Tick(place) => ("Tick", Some(place), None),
-        Act::Passes => ("Passes", None, None),
-        Act::Announce(place, number) => ("Announce", Some(place), Some(number)),
-        Act::Withdraw(place, number) => ("Withdraw", Some(place), Some(number)),
-        Act::LinkDown(place, interface) => ("LinkDown", Some(place), Some(interface)),
-        Act::Restart(place) => ("Restart", Some(place), None),
-        Act::Calm(seconds) => ("Calm", Some(seconds), None),
+        Act::Comes => ("  Comes\n", [0, 0]),
+        Act::Lost => ("  Lost\n", [0, 0]),
+        Act::Twice => ("  Twice\n", [0, 0]),
+        Act::Exchanged => ("  Exchanged\n", [0, 0]),
+        Act::Again(back) => ("  Again({})\n", [back, 0]),
+        Act::Tick(place) => ("  Tick({})\n", [place, 0]),
+        Act::Passes => ("  Passes\n", [0, 0]),
+        Act::Announce(place, number) => ("  Announce({}, {})\n", [place, number]),
+        Act::Withdraw(place, number) => ("  Withdraw({}, {})\n", [place, number]),
+        Act::LinkDown(place, interface) => ("  LinkDown({}, {})\n", [place, interface]),
+        Act::Restart(place) => ("  Restart({})\n", [place, 0]),
+        Act::Calm(seconds) => ("  Calm({})\n", [seconds, 0]),
     }
 }
 
-fn tell_act<O: Write>(output: &mut O, act: Act) -> io::Result<()> {
-    match parts_of(act) {
-        (name, Some(one), Some(other)) => writeln!(output, "  {name}({one}, {other})"),
-        (name, Some(one), None) => writeln!(output, "  {name}({one})"),
-        (name, _, _) => writeln!(output, "  {name}"),
-    }
+fn tell_act<O: Write>(page: &mut Page<O>, act: Act) {
+    let (line, numbers) = line_of(act);
+    page.fill(line, &numbers);
 }
 
 /// Tells of a history that was found.
-///
-/// # Errors
-/// Where it can't be written.
-pub fn tell_history<O: Write>(output: &mut O, seed: u64, acts: &[Act]) -> io::Result<()> {
-    let length = acts.len();
-    writeln!(output, "seed {seed}: {length} acts")?;
+pub fn tell_history<O: Write>(page: &mut Page<O>, seed: u64, acts: &[Act]) {
+    page.fill("seed {}: {} acts\n", &[seed, acts.len() as u64]);
     for act in acts {
-        tell_act(output, *act)?;
+        tell_act(page, *act);
     }
-    Ok(())
 }

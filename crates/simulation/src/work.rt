@@ -4,63 +4,62 @@ ghost use Rattle.simulation.specs.Endings.{IsVerdict};
 
 use crate::fault::{DONE, FOUND, Fault};
 use crate::json::write_run;
+use crate::page::Page;
 use crate::requests::{Asked, Request, parse};
 use crate::telling::{tell_history, tell_run};
 use flood::Event;
-use simulated_histories::{Act, Outcome, Plan, Search, Stage, play_scenario};
-use simulated_networks::{Kind, Random, Topology, announcements};
-use std::alloc::Global;
+use simulated_histories::{Outcome, Plan, Search, Stage, play_scenario};
+use simulated_networks::{Fault as NetworkFault, Random, Topology, announcements};
+use std::alloc::{AllocError, Global};
 use std::io::Write;
 use std::sync::Wait;
 
-// Tells what came of the plan, and whether all is at rest at the end.
-fn tells<O: Write>(
-    output: &mut O,
-    plan: &Plan,
-    outcome: &Outcome,
-    json: bool,
-) -> Result<bool, Fault> {
+// Tells what came of the plan.
+fn tell<O: Write>(page: &mut Page<O>, plan: &Plan, outcome: &Outcome, json: bool) {
     if json {
-        write_run(output, plan, outcome)?;
+        write_run(page, plan, outcome);
     } else {
-        tell_run(output, plan, outcome)?;
+        tell_run(page, plan, outcome);
     }
-    Ok(outcome.is_at_rest())
 }
 
-// Plays the plan once, and tells whether all is at rest at the end.
+// Plays the plan once, and tells of it. Answers whether all is at rest at the end.
 fn play_one<O: Write>(
     alloc: Global,
     plan: &Plan,
     events: &[Event],
     json: bool,
-    output: &mut O,
-) -> Result<bool, Fault> {
+    page: &mut Page<O>,
+) -> Result<bool, NetworkFault> {
     let outcome = play_scenario(alloc, plan, events)?;
-    tells(output, plan, &outcome, json)
+    tell(page, plan, &outcome, json);
+    Ok(outcome.is_at_rest())
 }
 
-// Plays the plan for so many seeds from its own on.
+// Plays the plan for so many seeds from its own on, as long as that can be told.
 fn play_all<O: Write>(
     alloc: Global,
     first: Plan,
     seeds: u64,
     json: bool,
     events: &[Event],
-    output: &mut O,
-) -> Result<u8, Fault>
+    page: &mut Page<O>,
+) -> Result<u8, NetworkFault>
     ensures { IfOk result IsVerdict }
 {
     let mut plan = first;
     let mut well = 0_u64;
     for turn in 0..seeds {
         plan.seed = first.seed.saturating_add(turn);
-        if play_one(alloc, &plan, events, json, output)? {
+        if play_one(alloc, &plan, events, json, page)? {
             well = well.saturating_add(1);
+        }
+        if page.written().is_err() {
+            break;
         }
     }
     if !json {
-        writeln!(output, "{well} of {seeds} at rest")?;
+        page.fill("{} of {} at rest\n", &[well, seeds]);
     }
     Ok(if well == seeds { DONE } else { FOUND })
 }
@@ -70,43 +69,41 @@ fn search_one<O: Write>(
     search: &Search,
     stage: Stage<'_>,
     seed: u64,
-    output: &mut O,
-) -> Result<bool, Fault> {
-    match search.found(stage, seed)? {
-        Some(acts) => tells_of(output, seed, &acts),
-        None => Ok(false),
-    }
-}
-
-fn tells_of<O: Write>(output: &mut O, seed: u64, acts: &[Act]) -> Result<bool, Fault> {
-    tell_history(output, seed, acts)?;
+    page: &mut Page<O>,
+) -> Result<bool, NetworkFault> {
+    let Some(acts) = search.found(stage, seed)? else {
+        return Ok(false);
+    };
+    tell_history(page, seed, &acts);
     Ok(true)
 }
 
-// Searches among so many seeds from the first one on.
+// Searches among so many seeds from the first one on, as long as that can be told.
 fn search_all<O: Write>(
     search: &Search,
     stage: Stage<'_>,
     seeds: (u64, u64),
-    output: &mut O,
-) -> Result<u8, Fault>
+    page: &mut Page<O>,
+) -> Result<u8, NetworkFault>
     ensures { IfOk result IsVerdict }
 {
     let (first, count) = seeds;
     let mut found = 0_u64;
     for turn in 0..count {
-        if search_one(search, stage, first.saturating_add(turn), output)? {
+        if search_one(search, stage, first.saturating_add(turn), page)? {
             found = found.saturating_add(1);
         }
+        if page.written().is_err() {
+            break;
+        }
     }
-    writeln!(output, "{found} of {count} found")?;
+    page.fill("{} of {} found\n", &[found, count]);
     Ok(if found == 0 { DONE } else { FOUND })
 }
 
-fn topology_of(alloc: Global, kind: Kind, routers: u32, spread: u32) -> Result<Topology, Fault> {
-    let mut random = Random::new(1);
-    let topology = Topology::new(alloc, &mut random, kind, routers as usize, spread)?;
-    Ok(topology)
+fn topology_of(alloc: Global, asked: &Asked) -> Result<Topology, AllocError> {
+    let (mut random, routers) = (Random::new(1), asked.search.routers as usize);
+    Topology::new(alloc, &mut random, asked.topology, routers, asked.spread)
 }
 
 // Searches in a network of this shape, where these destinations may be announced.
@@ -114,18 +111,48 @@ fn search_in<O: Write>(
     alloc: Global,
     asked: &Asked,
     events: &[Event],
-    output: &mut O,
-) -> Result<u8, Fault>
+    page: &mut Page<O>,
+) -> Result<u8, NetworkFault>
     ensures { IfOk result IsVerdict }
 {
-    let search = asked.search;
-    let made = topology_of(alloc, asked.topology, search.routers, asked.spread)?;
+    let made = topology_of(alloc, asked)?;
     let stage = Stage {
         alloc,
         topology: &made,
         events,
     };
-    search_all(&search, stage, (asked.seed, asked.seeds), output)
+    search_all(&asked.search, stage, (asked.seed, asked.seeds), page)
+}
+
+fn play<O: Write>(
+    alloc: Global,
+    request: &Request,
+    events: &[Event],
+    page: &mut Page<O>,
+) -> Result<u8, NetworkFault>
+    ensures { IfOk result IsVerdict }
+{
+    match request {
+        Request::Run { plan, seeds, json } => {
+            play_all(alloc, *plan, *seeds, *json, events, page)
+        }
+        Request::Search(asked) => search_in(alloc, asked, events, page),
+    }
+}
+
+// Carries out a request, with the events that announce its destinations.
+fn play_and_tell<O: Write>(
+    alloc: Global,
+    request: &Request,
+    events: &[Event],
+    output: &mut O,
+) -> Result<u8, Fault>
+    ensures { IfOk result IsVerdict }
+{
+    let mut page = Page::new(output);
+    let verdict = play(alloc, request, events, &mut page)?;
+    page.written()?;
+    Ok(verdict)
 }
 
 /// Carries out what the words ask for (the first is the program's name), and answers the status.
@@ -135,17 +162,12 @@ fn search_in<O: Write>(
 pub fn carry_out<R: Wait + Drop + Copy, O: Write>(
     alloc: Global,
     rt: R,
-    words: &[&str],
+    words: &[String],
     output: &mut O,
 ) -> Result<u8, Fault>
     ensures { IfOk result IsVerdict }
 {
     let request = parse(alloc, words)?;
     let events = announcements(alloc, rt, request.externals())?;
-    match request {
-        Request::Run { plan, seeds, json } => {
-            play_all(alloc, plan, seeds, json, &events, output)
-        }
-        Request::Search(asked) => search_in(alloc, &asked, &events, output),
-    }
+    play_and_tell(alloc, &request, &events, output)
 }
