@@ -1,7 +1,7 @@
 //! What a worker does on its thread.
 use crate::load::Load;
 use crate::routers::MADE;
-use anyhow::{Result, anyhow};
+use crate::trouble::Trouble;
 use std::alloc::Global;
 use std::sync::Wait;
 use words::Second;
@@ -41,32 +41,20 @@ pub fn labor<L: Site, R: Wait>(rt: &R, hub: &Hub<L, Book<L>>, job: Job<L>) -> u6
     take_all(rt, hub, &mut port, &works)
 }
 
-fn job_of<L: Site>(alloc: Global, port: Port<L>, load: Load, worker: u32) -> Result<Job<L>> {
-    let works = load.works(alloc, (worker % 4) as u16 + 1)?;
-    Ok(Job { port, works })
-}
-
-fn put_jobs<L: Site>(
+/// A job for each worker, from interface 1 on, at the last of the ports, which it takes away.
+pub fn jobs<L: Site>(
     alloc: Global,
     ports: &mut Vec<Port<L>>,
     load: Load,
-    jobs: &mut Vec<Job<L>>,
-) -> Result<()> {
-    for worker in 0..load.workers {
-        let Some(port) = ports.pop() else {
-            return Err(anyhow!("no port"));
-        };
-        jobs.push(job_of(alloc, port, load, worker)?)?;
-    }
-    Ok(())
-}
-
-/// A job for each worker, from interface 1 on, at the last of the ports, which it takes away.
-///
-/// # Errors
-/// Memory ran out, or there are fewer ports.
-pub fn jobs<L: Site>(alloc: Global, ports: &mut Vec<Port<L>>, load: Load) -> Result<Vec<Job<L>>> {
+    trouble: &mut Trouble,
+) -> Vec<Job<L>> {
     let mut jobs = Vec::new(alloc);
-    put_jobs(alloc, ports, load, &mut jobs)?;
-    Ok(jobs)
+    for worker in 0..load.workers {
+        if let Some(port) = ports.pop() {
+            let works = load.works(alloc, (worker % 4) as u16 + 1, trouble);
+            let is_put = jobs.push(Job { port, works }).is_ok();
+            trouble.need_memory(is_put);
+        }
+    }
+    jobs
 }

@@ -11,11 +11,12 @@ mod lsas;
 mod measuring;
 mod packets;
 mod pair;
+mod router;
 mod routers;
 mod single;
-mod steps;
 mod telling;
 mod timing;
+mod trouble;
 mod turn_speed;
 
 use std::env;
@@ -27,7 +28,7 @@ use std::thread::Threads;
 const USAGE: &str = "usage: bench run | decode | encode | asm | objects | maps | texts | core \
     | database | hooks | turn | walk | verify";
 
-/// Prints the figures of this name. False where no figures have it.
+/// Prints the figures of this name, or how the program is used. False where no figures have it.
 fn measure<R: Clock + Print + AllocGlobal + Threads + Wait + Copy + Send + Sync + 'static>(
     rt: &R,
     name: &str,
@@ -46,10 +47,21 @@ fn measure<R: Clock + Print + AllocGlobal + Threads + Wait + Copy + Send + Sync 
         "turn" => turn_speed::print(rt),
         "walk" => bench_lsas::print_walk(rt),
         "verify" => bench_code::print_verify(rt),
+        "--help" => print_usage(rt),
         _ => return Ok(false),
     };
     printed?;
     Ok(true)
+}
+
+fn print_usage(rt: &impl Print) -> anyhow::Result<()> {
+    println!(rt; "{USAGE}")?;
+    Ok(())
+}
+
+fn refuse(rt: &HostRuntime) -> anyhow::Result<ExitCode> {
+    eprintln!(rt; "{USAGE}")?;
+    Ok(ExitCode::from(2))
 }
 
 fn main(rt: HostRuntime) -> anyhow::Result<ExitCode> {
@@ -57,13 +69,8 @@ fn main(rt: HostRuntime) -> anyhow::Result<ExitCode> {
     let Some(name) = words.get(1) else {
         return Ok(ExitCode::SUCCESS);
     };
-    if name.as_str() == "--help" {
-        println!(rt; "{USAGE}")?;
-        return Ok(ExitCode::SUCCESS);
-    }
     if measure(&rt, name.as_str())? {
         return Ok(ExitCode::SUCCESS);
     }
-    eprintln!(rt; "{USAGE}")?;
-    Ok(ExitCode::from(2))
+    refuse(&rt)
 }

@@ -3,10 +3,11 @@ ghost use Rattle.worker.specs.Opening.{IsSetUpFor};
 
 use crate::jobs::{Job, jobs, labor};
 use crate::load::Load;
-use anyhow::{Result, anyhow, ensure};
+use crate::trouble::Trouble;
+use anyhow::Result;
 use bench_figures::nanoseconds_since;
 use hooks::Loader;
-use std::alloc::Global;
+use std::alloc::{AllocError, Global};
 use std::marker::Brand;
 use std::rt::Clock;
 use std::sync::Wait;
@@ -15,39 +16,51 @@ use std::thread::Threads;
 use std::time::Instant;
 use worker::{Book, Core, Hub, Port, Setup, Site, open_hub};
 
-// That each worker took all its turns.
-fn check_turns(taken: &[u64], load: Load) -> Result<()> {
-    for turns in taken {
-        ensure!(
-            *turns == u64::from(load.each()),
-            "{turns} turns of a worker"
-        );
+fn total(numbers: &[u64]) -> u64 {
+    let mut all = 0u64;
+    for number in numbers {
+        all = all.wrapping_add(*number);
     }
-    Ok(())
+    all
 }
 
-// That the program counted each datagram.
-fn check_count<L: Site>(hub: &Hub<L, Book<L>>, port: &mut Port<L>, load: Load) -> Result<()> {
-    let counted = hub.counter(port, 5);
-    ensure!(
-        counted == load.counted(),
-        "{counted} datagrams were counted"
-    );
-    Ok(())
+// All jobs, each on a thread of its own: how many turns weren't refused.
+fn work<L: Site + Send + Sync, R: Threads + Wait + Sync>(
+    rt: &R,
+    hub: &Hub<L, Book<L>>,
+    jobs: Vec<Job<L>>,
+) -> Result<u64, AllocError> {
+    let taken = thread::map_vec(rt, jobs, &|job: Job<L>| -> u64 { labor(rt, hub, job) })?;
+    Ok(total(&taken))
 }
 
-// All jobs, each on a thread of its own: how long they take together, in nanoseconds.
+// How long they take together, in nanoseconds.
 fn time<L: Site + Send + Sync, R: Threads + Wait + Clock + Sync>(
     rt: &R,
     hub: &Hub<L, Book<L>>,
     jobs: Vec<Job<L>>,
     load: Load,
+    trouble: &mut Trouble,
 ) -> Result<u64> {
     let start = Instant::now(rt)?;
-    let taken = thread::map_vec(rt, jobs, &|job: Job<L>| -> u64 { labor(rt, hub, job) })?;
+    let taken = work(rt, hub, jobs)?;
     let nanoseconds = nanoseconds_since(rt, start)?;
-    check_turns(&taken, load)?;
+    trouble.expect(taken, u64::from(load.kind.turns), "turns");
     Ok(nanoseconds)
+}
+
+// Notes where the program counted other than each datagram.
+fn expect_count<L: Site>(
+    hub: &Hub<L, Book<L>>,
+    ports: &mut Vec<Port<L>>,
+    load: Load,
+    trouble: &mut Trouble,
+) {
+    let counted = match ports.first_mut() {
+        Some(port) => hub.counter(port, 5),
+        None => 0,
+    };
+    trouble.expect(counted, load.counted(), "datagrams counted");
 }
 
 // The turns of the workers at the last of these ports.
@@ -57,14 +70,12 @@ fn measure<L: Site + Send + Sync, R: Threads + Wait + Clock + Sync>(
     hub: &Hub<L, Book<L>>,
     ports: &mut Vec<Port<L>>,
     load: Load,
-) -> Result<u64> {
-    let jobs = jobs(alloc, ports, load)?;
-    let nanoseconds = time(rt, hub, jobs, load)?;
-    let Some(port) = ports.first_mut() else {
-        return Err(anyhow!("no port is left"));
-    };
-    check_count(hub, port, load)?;
-    Ok(nanoseconds)
+    trouble: &mut Trouble,
+) -> u64 {
+    let jobs = jobs(alloc, ports, load, trouble);
+    let measured = time(rt, hub, jobs, load, trouble);
+    expect_count(hub, ports, load, trouble);
+    trouble.or_zero(measured)
 }
 
 // At a hub that begins with this router.
@@ -74,14 +85,15 @@ fn measure_at<L: Site + Send + Sync, R: Threads + Wait + Clock + Sync>(
     setup: Setup,
     core: Core,
     load: Load,
+    trouble: &mut Trouble,
 ) -> Result<u64>
     requires setup { IsSetUpFor L.name L.parts L.words L.history setup }
 {
     let (hub, mut ports, _rest) = open_hub::<L>(alloc, setup, core)?;
-    let nanoseconds = measure(rt, alloc, &hub, &mut ports, load);
+    let nanoseconds = measure(rt, alloc, &hub, &mut ports, load, trouble);
     let (book, _shared) = hub.into_parts();
     let _taken = book.close();
-    nanoseconds
+    Ok(nanoseconds)
 }
 
 // At a copy of the router, beside the program if there is to be one.
@@ -92,24 +104,27 @@ fn measure_beside<L: Site + Send + Sync, R: Threads + Wait + Clock + Sync, Q: Wa
     loader: &mut Loader<Q>,
     core: &Core,
     load: Load,
+    trouble: &mut Trouble,
 ) -> Result<u64>
     requires setup { IsSetUpFor L.name L.parts L.words L.history setup }
 {
     load.publish(alloc, loader)?;
-    measure_at::<L, R>(rt, alloc, setup, core.copy()?, load)
+    measure_at::<L, R>(rt, alloc, setup, core.copy()?, load, trouble)
 }
 
-/// How long the turns of all workers take together, at a copy of the router, in nanoseconds.
+/// How long the turns of all workers take together, at a copy of the router, in nanoseconds. It's
+/// noted if a turn was refused, or if other than all datagrams were counted.
 ///
 /// # Errors
-/// The clock failed, memory ran out, a turn was refused, or other than all datagrams were counted.
+/// The clock failed, memory ran out, or the program was refused.
 #[tactic(auto, using(crate::proofs::Fresh::all_ask))]
 pub fn measure_once<R: Threads + Wait + Clock + Sync>(
     rt: &R,
     alloc: Global,
     core: &Core,
     load: Load,
+    trouble: &mut Trouble,
 ) -> Result<u64> {
     let (mut loader, setup) = Setup::new(alloc, rt, 5)?;
-    measure_beside::<Brand, R, &R>(rt, alloc, setup, &mut loader, core, load)
+    measure_beside::<Brand, R, &R>(rt, alloc, setup, &mut loader, core, load, trouble)
 }
