@@ -45,9 +45,9 @@ fn flush_all(router: &mut Router, count: u32) {
     router.expect_lsas(4);
 }
 
-// What events take where one LSA more makes so many: the first five of NAMES. The LSA that comes is
-// the last that the database has room for.
-fn time_events<R: Clock>(rt: &R, router: &mut Router, size: u32) -> [u64; 5] {
+// What events take where one LSA more makes so many: all but the last of NAMES. The LSA that comes
+// is the last that the database has room for.
+fn time_events<R: Clock>(rt: &R, router: &mut Router, size: u32) -> [u64; 6] {
     let count = externals_of(3, size);
     let number = count.wrapping_sub(1);
     let flooding = time_flooding(rt, router, number);
@@ -57,13 +57,20 @@ fn time_events<R: Clock>(rt: &R, router: &mut Router, size: u32) -> [u64; 5] {
     let hello = time_hello(rt, router, 400);
     flush_all(router, count);
     let flushed = time_hello(rt, router, 510);
-    [flooding.arrival, flooding.answer, tick, hello, flushed]
+    [flooding.arrival, flooding.answer, tick, hello, flushed, 0]
 }
 
-fn time_all<R: Clock>(rt: &R, alloc: Global, size: u32) -> Result<[u64; 5]> {
+fn time_hub<R: Clock>(rt: &R, alloc: Global, size: u32) -> Result<[u64; 6]> {
     let mut router = hub(alloc, 3, size.saturating_sub(1))?;
     let times = time_events(rt, &mut router, size);
     router.close()?;
+    Ok(times)
+}
+
+// The times of all NAMES.
+fn time_all<R: Clock>(rt: &R, alloc: Global, size: u32) -> Result<[u64; 6]> {
+    let mut times = time_hub(rt, alloc, size)?;
+    times[5] = time_again(rt, alloc, size)?;
     Ok(times)
 }
 
@@ -85,11 +92,13 @@ fn print_meeting<R: Print>(rt: &R, meeting: Meeting) -> Result<()> {
     Ok(())
 }
 
-fn print_size<R: Clock + Print + AllocGlobal>(rt: &R, size: u32) -> Result<()> {
+fn print_events<R: Clock + Print + AllocGlobal>(rt: &R, size: u32) -> Result<()> {
     println!(rt; "{size} LSAs")?;
-    let [arrival, answer, tick, hello, flushed] = time_all(rt, rt.alloc(), size)?;
-    let again = time_again(rt, rt.alloc(), size)?;
-    print_times(rt, [arrival, answer, tick, hello, flushed, again])?;
+    print_times(rt, time_all(rt, rt.alloc(), size)?)
+}
+
+fn print_size<R: Clock + Print + AllocGlobal>(rt: &R, size: u32) -> Result<()> {
+    print_events(rt, size)?;
     print_meeting(rt, time_exchange(rt, rt.alloc(), size)?)
 }
 
@@ -105,8 +114,8 @@ fn print_size<R: Clock + Print + AllocGlobal>(rt: &R, size: u32) -> Result<()> {
 /// be measured.
 pub fn print<R: Clock + Print + AllocGlobal>(rt: &R) -> Result<()> {
     println!(rt; "the least of {MEASUREMENTS}")?;
-    for size in SIZES {
-        print_size(rt, size)?;
+    for size in &SIZES {
+        print_size(rt, *size)?;
     }
     Ok(())
 }

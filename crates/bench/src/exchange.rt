@@ -1,10 +1,8 @@
 //! What it takes until a new neighbor is Full, for both routers together (RFC 2328, section 10).
 use crate::pair::{Pair, pair_of};
 use anyhow::Result;
-use bench_figures::nanoseconds_since;
 use std::alloc::Global;
 use std::rt::Clock;
-use std::time::Instant;
 
 // How many measurements the figure is the least of.
 const MEASUREMENTS: u32 = 5;
@@ -16,19 +14,14 @@ pub struct Meeting {
     pub packets: u64,
 }
 
-// In nanoseconds.
-fn time<R: Clock>(rt: &R, pair: &mut Pair) -> Result<u64> {
-    let start = Instant::now(rt)?;
-    pair.meet();
-    nanoseconds_since(rt, start)
-}
-
 fn measure<R: Clock>(rt: &R, pair: &mut Pair, size: u32) -> Meeting {
-    let measured = time(rt, pair);
+    let start = pair.one.trouble.start(rt);
+    pair.meet();
+    let nanoseconds = pair.one.trouble.since(rt, start);
     pair.one.expect_lsas(size);
     pair.other.expect_lsas(size);
     Meeting {
-        microseconds: pair.one.trouble.or_zero(measured) / 1_000,
+        microseconds: nanoseconds / 1_000,
         packets: pair.packets,
     }
 }

@@ -14,11 +14,6 @@ pub struct Job<L: Site> {
     works: Vec<Work>,
 }
 
-// A turn: whether it wasn't refused.
-fn takes<L: Site, R: Wait>(rt: &R, hub: &Hub<L, Book<L>>, port: &mut Port<L>, work: &Work) -> bool {
-    turn(rt, hub, port, &Open {}, Second::new(MADE), work).is_ok()
-}
-
 // Takes the turns of the works at the port: how many weren't refused.
 fn take_all<L: Site, R: Wait>(
     rt: &R,
@@ -28,7 +23,7 @@ fn take_all<L: Site, R: Wait>(
 ) -> u64 {
     let mut taken = 0u64;
     for work in works {
-        if takes(rt, hub, port, work) {
+        if turn(rt, hub, port, &Open {}, Second::new(MADE), work).is_ok() {
             taken = taken.wrapping_add(1);
         }
     }
@@ -37,8 +32,15 @@ fn take_all<L: Site, R: Wait>(
 
 /// Takes the job's turns: how many weren't refused.
 pub fn labor<L: Site, R: Wait>(rt: &R, hub: &Hub<L, Book<L>>, job: Job<L>) -> u64 {
-    let Job { mut port, works } = job;
-    take_all(rt, hub, &mut port, &works)
+    let mut job = job;
+    take_all(rt, hub, &mut job.port, &job.works)
+}
+
+fn put_job<L: Site>(jobs: &mut Vec<Job<L>>, port: Option<Port<L>>, works: Vec<Work>) -> bool {
+    match port {
+        Some(port) => jobs.push(Job { port, works }).is_ok(),
+        None => false,
+    }
 }
 
 /// A job for each worker, from interface 1 on, at the last of the ports, which it takes away.
@@ -50,11 +52,8 @@ pub fn jobs<L: Site>(
 ) -> Vec<Job<L>> {
     let mut jobs = Vec::new(alloc);
     for worker in 0..load.workers {
-        if let Some(port) = ports.pop() {
-            let works = load.works(alloc, (worker % 4) as u16 + 1, trouble);
-            let is_put = jobs.push(Job { port, works }).is_ok();
-            trouble.need_memory(is_put);
-        }
+        let works = load.works(alloc, (worker % 4) as u16 + 1, trouble);
+        trouble.need_memory(put_job(&mut jobs, ports.pop(), works));
     }
     jobs
 }

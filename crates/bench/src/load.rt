@@ -113,7 +113,7 @@ impl Load {
     /// Memory ran out, or the program was refused.
     pub fn publish<Q: Wait + Drop>(self, alloc: Global, loader: &mut Loader<Q>) -> Result<()> {
         if self.counts {
-            attach(alloc, loader)
+            attach(alloc, loader, &object_bytes(alloc)?)
         } else {
             Ok(())
         }
@@ -138,9 +138,8 @@ fn object_bytes(alloc: Global) -> Result<Vec<u8>> {
     Ok(object::write(alloc, &object)?)
 }
 
-fn attach<Q: Wait + Drop>(alloc: Global, loader: &mut Loader<Q>) -> Result<()> {
-    let bytes = object_bytes(alloc)?;
-    match verify_object(alloc, &bytes) {
+fn attach<Q: Wait + Drop>(alloc: Global, loader: &mut Loader<Q>, bytes: &[u8]) -> Result<()> {
+    match verify_object(alloc, bytes) {
         Ok(program) => Ok(loader.attach(program)?),
         Err(_) => Err(anyhow!("the program is refused")),
     }

@@ -5,7 +5,6 @@ use crate::jobs::{Job, jobs, labor};
 use crate::load::Load;
 use crate::trouble::Trouble;
 use anyhow::Result;
-use bench_figures::nanoseconds_since;
 use hooks::Loader;
 use std::alloc::{AllocError, Global};
 use std::marker::Brand;
@@ -13,7 +12,6 @@ use std::rt::Clock;
 use std::sync::Wait;
 use std::thread;
 use std::thread::Threads;
-use std::time::Instant;
 use worker::{Book, Core, Hub, Port, Setup, Site, open_hub};
 
 fn total(numbers: &[u64]) -> u64 {
@@ -34,21 +32,6 @@ fn work<L: Site + Send + Sync, R: Threads + Wait + Sync>(
     Ok(total(&taken))
 }
 
-// How long they take together, in nanoseconds.
-fn time<L: Site + Send + Sync, R: Threads + Wait + Clock + Sync>(
-    rt: &R,
-    hub: &Hub<L, Book<L>>,
-    jobs: Vec<Job<L>>,
-    load: Load,
-    trouble: &mut Trouble,
-) -> Result<u64> {
-    let start = Instant::now(rt)?;
-    let taken = work(rt, hub, jobs)?;
-    let nanoseconds = nanoseconds_since(rt, start)?;
-    trouble.expect(taken, u64::from(load.kind.turns), "turns");
-    Ok(nanoseconds)
-}
-
 // Notes where the program counted other than each datagram.
 fn expect_count<L: Site>(
     hub: &Hub<L, Book<L>>,
@@ -63,7 +46,7 @@ fn expect_count<L: Site>(
     trouble.expect(counted, load.counted(), "datagrams counted");
 }
 
-// The turns of the workers at the last of these ports.
+// The turns of the workers at the last of these ports: how long they take together, in nanoseconds.
 fn measure<L: Site + Send + Sync, R: Threads + Wait + Clock + Sync>(
     rt: &R,
     alloc: Global,
@@ -73,9 +56,13 @@ fn measure<L: Site + Send + Sync, R: Threads + Wait + Clock + Sync>(
     trouble: &mut Trouble,
 ) -> u64 {
     let jobs = jobs(alloc, ports, load, trouble);
-    let measured = time(rt, hub, jobs, load, trouble);
+    let start = trouble.start(rt);
+    let taken = work(rt, hub, jobs);
+    let nanoseconds = trouble.since(rt, start);
+    trouble.need_memory(taken.is_ok());
+    trouble.expect(taken.unwrap_or(0), u64::from(load.kind.turns), "turns");
     expect_count(hub, ports, load, trouble);
-    trouble.or_zero(measured)
+    nanoseconds
 }
 
 // At a hub that begins with this router.
@@ -97,26 +84,28 @@ fn measure_at<L: Site + Send + Sync, R: Threads + Wait + Clock + Sync>(
 }
 
 // At a copy of the router, beside the program if there is to be one.
-fn measure_beside<L: Site + Send + Sync, R: Threads + Wait + Clock + Sync, Q: Wait + Drop>(
+fn measure_beside<L: Site + Send + Sync, R: Threads + Wait + Clock + Sync>(
     rt: &R,
     alloc: Global,
     setup: Setup,
-    loader: &mut Loader<Q>,
+    loader: &mut Loader<&R>,
     core: &Core,
     load: Load,
     trouble: &mut Trouble,
 ) -> Result<u64>
     requires setup { IsSetUpFor L.name L.parts L.words L.history setup }
 {
-    load.publish(alloc, loader)?;
+    let published = load.publish(alloc, loader);
+    trouble.heed(published);
     measure_at::<L, R>(rt, alloc, setup, core.copy()?, load, trouble)
 }
 
 /// How long the turns of all workers take together, at a copy of the router, in nanoseconds. It's
-/// noted if a turn was refused, or if other than all datagrams were counted.
+/// noted if the clock failed, the program or a turn was refused, or other than all datagrams were
+/// counted.
 ///
 /// # Errors
-/// The clock failed, memory ran out, or the program was refused.
+/// Memory ran out.
 #[tactic(auto, using(crate::proofs::Fresh::all_ask))]
 pub fn measure_once<R: Threads + Wait + Clock + Sync>(
     rt: &R,
@@ -126,5 +115,5 @@ pub fn measure_once<R: Threads + Wait + Clock + Sync>(
     trouble: &mut Trouble,
 ) -> Result<u64> {
     let (mut loader, setup) = Setup::new(alloc, rt, 5)?;
-    measure_beside::<Brand, R, &R>(rt, alloc, setup, &mut loader, core, load, trouble)
+    measure_beside::<Brand, R>(rt, alloc, setup, &mut loader, core, load, trouble)
 }

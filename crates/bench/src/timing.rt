@@ -1,35 +1,22 @@
 //! How a figure of an event is taken.
 use crate::router::Router;
 use anyhow::Result;
-use bench_figures::nanoseconds_since;
 use flood::Event;
 use std::alloc::AllocError;
 use std::rt::Clock;
-use std::time::Instant;
 use words::Sequence;
 
 /// How many measurements each figure is the least of.
 pub const MEASUREMENTS: u64 = 101;
 
-// Until what is sent is let go. That other than so many packets are sent is noted.
-fn elapsed<R: Clock>(
-    rt: &R,
-    router: &mut Router,
-    moment: u64,
-    event: &Event,
-    sends: u64,
-) -> Result<u64> {
-    let start = Instant::now(rt)?;
-    let sent = router.count(moment, event);
-    let nanoseconds = nanoseconds_since(rt, start)?;
-    router.trouble.expect(sent, sends, "packets");
-    Ok(nanoseconds)
-}
-
-/// What the event takes, in nanoseconds, which sends so many packets.
+/// What the event takes, in nanoseconds, until what is sent is let go. That other than so many
+/// packets are sent is noted.
 pub fn time<R: Clock>(rt: &R, router: &mut Router, moment: u64, event: &Event, sends: u64) -> u64 {
-    let measured = elapsed(rt, router, moment, event, sends);
-    router.trouble.or_zero(measured)
+    let start = router.trouble.start(rt);
+    let sent = router.count(moment, event);
+    let nanoseconds = router.trouble.since(rt, start);
+    router.trouble.expect(sent, sends, "packets");
+    nanoseconds
 }
 
 /// What the packet takes that comes in at the interface, in nanoseconds.

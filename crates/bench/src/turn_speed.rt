@@ -4,6 +4,7 @@ use crate::measuring::measure_once;
 use crate::routers::hub;
 use crate::trouble::Trouble;
 use anyhow::Result;
+use std::alloc::Global;
 use std::rt::Clock;
 use std::sync::Wait;
 use std::thread;
@@ -80,14 +81,24 @@ fn print_each<R: Threads + Wait + Clock + Print + AllocGlobal + Sync>(
     print_workers(rt, core, kind, 4)
 }
 
+fn core_of(alloc: Global, kind: Kind) -> Result<Core> {
+    hub(alloc, 4, kind.size)?.into_core()
+}
+
 fn print_kind<R: Threads + Wait + Clock + Print + AllocGlobal + Sync>(
     rt: &R,
     kind: Kind,
 ) -> Result<()> {
-    let core = hub(rt.alloc(), 4, kind.size)?.into_core()?;
+    let core = core_of(rt.alloc(), kind)?;
     let printed = print_each(rt, &core, kind);
     core.close();
     printed
+}
+
+fn print_heading<R: Threads + Print>(rt: &R) -> Result<()> {
+    let cores = thread::available_parallelism(rt)?;
+    println!(rt; "turns at {SIZE} LSAs, {cores} cores, the most of {MEASUREMENTS}")?;
+    Ok(())
 }
 
 /// Prints how many turns one worker and four workers take a second at a router with four Full
@@ -99,10 +110,9 @@ fn print_kind<R: Threads + Wait + Clock + Print + AllocGlobal + Sync>(
 /// The clock or the output failed, memory ran out, a turn was refused, or other than all datagrams
 /// were counted.
 pub fn print<R: Threads + Wait + Clock + Print + AllocGlobal + Sync>(rt: &R) -> Result<()> {
-    let cores = thread::available_parallelism(rt)?;
-    println!(rt; "turns at {SIZE} LSAs, {cores} cores, the most of {MEASUREMENTS}")?;
-    for kind in KINDS {
-        print_kind(rt, kind)?;
+    print_heading(rt)?;
+    for kind in &KINDS {
+        print_kind(rt, *kind)?;
     }
     Ok(())
 }
