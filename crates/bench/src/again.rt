@@ -11,14 +11,7 @@ use std::rt::Clock;
 // How many LSAs neighbor 2 doesn't acknowledge.
 const LISTED: u32 = 100;
 
-// These come in, and neighbor 3 acknowledges them.
-fn take(router: &mut Router, lsas: &[u8]) {
-    router.tell(MADE, LISTED, lsas);
-    let headers = headers(router, lsas, 36);
-    router.acknowledge(MADE, 3, &headers);
-}
-
-// 100 more LSAs come in, which neighbor 2 doesn't acknowledge.
+// 100 more LSAs come in, which neighbor 3 acknowledges, and neighbor 2 doesn't.
 fn list(router: &mut Router, others: u32) {
     let batch = Batch {
         first: externals_of(3, others),
@@ -26,7 +19,9 @@ fn list(router: &mut Router, others: u32) {
         age: 1,
     };
     let lsas = externals(router, batch);
-    take(router, &lsas);
+    router.tell(MADE, LISTED, &lsas);
+    let headers = headers(router, &lsas, 36);
+    router.acknowledge(MADE, 3, &headers);
     router.tick(MADE);
     router.tick(MADE.saturating_add(5));
 }

@@ -47,29 +47,24 @@ fn flush_all(router: &mut Router, count: u32) {
 
 // What events take where one LSA more makes so many: all but the last of NAMES. The LSA that comes
 // is the last that the database has room for.
-fn time_events<R: Clock>(rt: &R, router: &mut Router, size: u32) -> [u64; 6] {
+fn time_events<R: Clock>(rt: &R, alloc: Global, size: u32) -> Result<[u64; 6]> {
+    let mut router = hub(alloc, 3, size.saturating_sub(1))?;
     let count = externals_of(3, size);
     let number = count.wrapping_sub(1);
-    let flooding = time_flooding(rt, router, number);
-    settle(router, 190, number, 1);
+    let flooding = time_flooding(rt, &mut router, number);
+    settle(&mut router, 190, number, 1);
     router.expect_lsas(size);
-    let tick = time_often(rt, router, 200, 1, &Event::Tick, 0);
-    let hello = time_hello(rt, router, 400);
-    flush_all(router, count);
-    let flushed = time_hello(rt, router, 510);
-    [flooding.arrival, flooding.answer, tick, hello, flushed, 0]
-}
-
-fn time_hub<R: Clock>(rt: &R, alloc: Global, size: u32) -> Result<[u64; 6]> {
-    let mut router = hub(alloc, 3, size.saturating_sub(1))?;
-    let times = time_events(rt, &mut router, size);
+    let tick = time_often(rt, &mut router, 200, 1, &Event::Tick, 0);
+    let hello = time_hello(rt, &mut router, 400);
+    flush_all(&mut router, count);
+    let flushed = time_hello(rt, &mut router, 510);
     router.close()?;
-    Ok(times)
+    Ok([flooding.arrival, flooding.answer, tick, hello, flushed, 0])
 }
 
 // The times of all NAMES.
 fn time_all<R: Clock>(rt: &R, alloc: Global, size: u32) -> Result<[u64; 6]> {
-    let mut times = time_hub(rt, alloc, size)?;
+    let mut times = time_events(rt, alloc, size)?;
     times[5] = time_again(rt, alloc, size)?;
     Ok(times)
 }

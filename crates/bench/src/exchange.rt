@@ -1,5 +1,5 @@
 //! What it takes until a new neighbor is Full, for both routers together (RFC 2328, section 10).
-use crate::pair::{Pair, pair_of};
+use crate::pair::pair_of;
 use anyhow::Result;
 use std::alloc::Global;
 use std::rt::Clock;
@@ -14,24 +14,20 @@ pub struct Meeting {
     pub packets: u64,
 }
 
-fn measure<R: Clock>(rt: &R, pair: &mut Pair, size: u32) -> Meeting {
+// At two routers of its own, of which the one has all LSAs but one before.
+fn measure<R: Clock>(rt: &R, alloc: Global, size: u32) -> Result<Meeting> {
+    let mut pair = pair_of(alloc, size.saturating_sub(1))?;
     let start = pair.one.trouble.start(rt);
     pair.meet();
-    let nanoseconds = pair.one.trouble.since(rt, start);
+    let microseconds = pair.one.trouble.since(rt, start) / 1_000;
     pair.one.expect_lsas(size);
     pair.other.expect_lsas(size);
-    Meeting {
-        microseconds: nanoseconds / 1_000,
-        packets: pair.packets,
-    }
-}
-
-// At two routers of its own, of which the one has all LSAs but one before.
-fn measure_once<R: Clock>(rt: &R, alloc: Global, size: u32) -> Result<Meeting> {
-    let mut pair = pair_of(alloc, size.saturating_sub(1))?;
-    let meeting = measure(rt, &mut pair, size);
+    let packets = pair.packets;
     pair.close()?;
-    Ok(meeting)
+    Ok(Meeting {
+        microseconds,
+        packets,
+    })
 }
 
 /// The least that the events of both routers take from the Hellos until each sees the other one
@@ -45,7 +41,7 @@ pub fn time_exchange<R: Clock>(rt: &R, alloc: Global, size: u32) -> Result<Meeti
         packets: 0,
     };
     for _measurement in 0..MEASUREMENTS {
-        let meeting = measure_once(rt, alloc, size)?;
+        let meeting = measure(rt, alloc, size)?;
         all.microseconds = all.microseconds.min(meeting.microseconds);
         all.packets = meeting.packets;
     }

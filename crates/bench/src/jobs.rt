@@ -14,26 +14,16 @@ pub struct Job<L: Site> {
     works: Vec<Work>,
 }
 
-// Takes the turns of the works at the port: how many weren't refused.
-fn take_all<L: Site, R: Wait>(
-    rt: &R,
-    hub: &Hub<L, Book<L>>,
-    port: &mut Port<L>,
-    works: &[Work],
-) -> u64 {
+/// Takes the job's turns: how many weren't refused.
+pub fn labor<L: Site, R: Wait>(rt: &R, hub: &Hub<L, Book<L>>, job: Job<L>) -> u64 {
+    let mut job = job;
     let mut taken = 0u64;
-    for work in works {
-        if turn(rt, hub, port, &Open {}, Second::new(MADE), work).is_ok() {
+    for work in job.works.as_slice() {
+        if turn(rt, hub, &mut job.port, &Open {}, Second::new(MADE), work).is_ok() {
             taken = taken.wrapping_add(1);
         }
     }
     taken
-}
-
-/// Takes the job's turns: how many weren't refused.
-pub fn labor<L: Site, R: Wait>(rt: &R, hub: &Hub<L, Book<L>>, job: Job<L>) -> u64 {
-    let mut job = job;
-    take_all(rt, hub, &mut job.port, &job.works)
 }
 
 fn put_job<L: Site>(jobs: &mut Vec<Job<L>>, port: Option<Port<L>>, works: Vec<Work>) -> bool {

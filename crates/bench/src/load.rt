@@ -29,8 +29,9 @@ pub struct Kind {
     lsas: Option<(u32, u32)>,
 }
 
-/// Hellos; the next instances of LSAs; and LSAs that the router doesn't have, four of whose own and
-/// its neighbors' are no externals. It is stale then, and a refresh follows.
+/// Hellos; the next instances of externals; and externals that the router doesn't have: those that
+/// it has are all its LSAs but five, its own one and its neighbors'. It is stale then, and a refresh
+/// follows.
 pub const KINDS: [Kind; 3] = [
     Kind {
         name: "Hellos",

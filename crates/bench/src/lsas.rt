@@ -10,8 +10,8 @@ pub const MAX_AGE: u16 = 3600;
 // numbers below 2^24 have different ones.
 const SPREAD: u32 = 0x9e37_79b1;
 
-/// The AS-external-LSA of 2.2.2.1 of this number, of this age, with mask 255.255.255.0 and metric 20
-/// of type 2: its instance of the sequence number 0x80000001 and so many more.
+/// The AS-external-LSA of 2.2.2.1 of this number, of this age, with mask 255.255.255.0 and metric
+/// 20 of type 2: its instance of the sequence number 0x80000001 and so many more.
 pub fn external(number: u32, age: u16, instance: u32) -> [u8; 36] {
     let [high, low] = age.to_be_bytes();
     let [_, first, second, third] = number.wrapping_mul(SPREAD).to_be_bytes();

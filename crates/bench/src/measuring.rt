@@ -65,25 +65,25 @@ fn measure<L: Site + Send + Sync, R: Threads + Wait + Clock + Sync>(
     nanoseconds
 }
 
-// At a hub that begins with this router.
+// At a hub that begins with a copy of this router.
 fn measure_at<L: Site + Send + Sync, R: Threads + Wait + Clock + Sync>(
     rt: &R,
     alloc: Global,
     setup: Setup,
-    core: Core,
+    core: &Core,
     load: Load,
     trouble: &mut Trouble,
 ) -> Result<u64>
     requires setup { IsSetUpFor L.name L.parts L.words L.history setup }
 {
-    let (hub, mut ports, _rest) = open_hub::<L>(alloc, setup, core)?;
+    let (hub, mut ports, _rest) = open_hub::<L>(alloc, setup, core.copy()?)?;
     let nanoseconds = measure(rt, alloc, &hub, &mut ports, load, trouble);
     let (book, _shared) = hub.into_parts();
     let _taken = book.close();
     Ok(nanoseconds)
 }
 
-// At a copy of the router, beside the program if there is to be one.
+// Beside the program, if there is to be one.
 fn measure_beside<L: Site + Send + Sync, R: Threads + Wait + Clock + Sync>(
     rt: &R,
     alloc: Global,
@@ -97,7 +97,7 @@ fn measure_beside<L: Site + Send + Sync, R: Threads + Wait + Clock + Sync>(
 {
     let published = load.publish(alloc, loader);
     trouble.heed(published);
-    measure_at::<L, R>(rt, alloc, setup, core.copy()?, load, trouble)
+    measure_at::<L, R>(rt, alloc, setup, core, load, trouble)
 }
 
 /// How long the turns of all workers take together, at a copy of the router, in nanoseconds. It's

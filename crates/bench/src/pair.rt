@@ -47,15 +47,6 @@ fn hear_all(
 }
 
 impl Pair {
-    // The one hears what the other sent: what it answers.
-    fn to_one(&mut self, moment: u64, outs: Vec<Out>) -> Vec<Out> {
-        hear_all(&mut self.one, moment, outs, (1, 4), &mut self.packets)
-    }
-
-    fn to_other(&mut self, moment: u64, outs: Vec<Out>) -> Vec<Out> {
-        hear_all(&mut self.other, moment, outs, (4, 1), &mut self.packets)
-    }
-
     // The other hears what the one sent, and so on, until the one answers nothing.
     fn talk(&mut self, moment: u64, outs: Vec<Out>) {
         let mut outs = outs;
@@ -63,8 +54,8 @@ impl Pair {
             if outs.is_empty() {
                 return;
             }
-            let answers = self.to_other(moment, outs);
-            outs = self.to_one(moment, answers);
+            let answers = hear_all(&mut self.other, moment, outs, (4, 1), &mut self.packets);
+            outs = hear_all(&mut self.one, moment, answers, (1, 4), &mut self.packets);
         }
         self.one.trouble.note(anyhow!("they go on and on"));
     }
@@ -74,7 +65,7 @@ impl Pair {
         let outs = self.one.step(moment, &Event::Tick);
         self.talk(moment, outs);
         let outs = self.other.step(moment, &Event::Tick);
-        let answers = self.to_one(moment, outs);
+        let answers = hear_all(&mut self.one, moment, outs, (1, 4), &mut self.packets);
         self.talk(moment, answers);
     }
 

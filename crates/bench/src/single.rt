@@ -14,14 +14,6 @@ pub struct Flooding {
     pub answer: u64,
 }
 
-// It comes from 1 and is sent on to 2 and 3, and 2 acknowledges it.
-fn time_coming<R: Clock>(rt: &R, router: &mut Router, moment: u64, lsa: &[u8; 36]) -> Flooding {
-    let (alloc, header) = (router.alloc, &lsa[..20]);
-    let arrival = time_packet(rt, router, moment, 1, update(alloc, 1, 1, lsa), 2);
-    let answer = time_packet(rt, router, moment, 2, acknowledgment(alloc, 2, header), 0);
-    Flooding { arrival, answer }
-}
-
 /// The LSA of this number and age comes from 1, and 2 and 3 acknowledge it.
 pub fn settle(router: &mut Router, moment: u64, number: u32, age: u16) {
     let lsa = external(number, age, 0);
@@ -31,13 +23,16 @@ pub fn settle(router: &mut Router, moment: u64, number: u32, age: u16) {
     router.tick(moment);
 }
 
-// It comes and is acknowledged, and a second later it comes with MaxAge and leaves the database.
+// It comes from 1 and is sent on to 2 and 3, and 2 acknowledges it; then 3 does too, and a second
+// later it comes with MaxAge and leaves the database.
 fn measure<R: Clock>(rt: &R, router: &mut Router, moment: u64, number: u32) -> Flooding {
     let lsa = external(number, 1, 0);
-    let taken = time_coming(rt, router, moment, &lsa);
-    router.acknowledge(moment, 3, &lsa[..20]);
+    let (alloc, header) = (router.alloc, &lsa[..20]);
+    let arrival = time_packet(rt, router, moment, 1, update(alloc, 1, 1, &lsa), 2);
+    let answer = time_packet(rt, router, moment, 2, acknowledgment(alloc, 2, header), 0);
+    router.acknowledge(moment, 3, header);
     settle(router, moment.saturating_add(1), number, MAX_AGE);
-    taken
+    Flooding { arrival, answer }
 }
 
 /// The least that the new LSA of this number takes, a second for each measurement.

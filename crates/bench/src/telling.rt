@@ -5,20 +5,15 @@ use crate::router::Router;
 // How many LSAs come in one Update: each takes 36 of its 8,192 bytes.
 const IN_ONE_UPDATE: u32 = 200;
 
-// The neighbors from 2 on that are Full acknowledge the LSAs of these headers.
-fn acknowledge_all(router: &mut Router, full: u16, moment: u64, headers: &[u8]) {
-    for interface in 2..full.wrapping_add(1) {
-        router.acknowledge(moment, interface, headers);
-    }
-}
-
 /// So many LSAs of the same length come in from neighbor 1, and the other neighbors that are Full
 /// acknowledge them.
 pub fn tell_all(router: &mut Router, full: u16, moment: u64, count: u32, lsas: &[u8]) {
     router.tell(moment, count, lsas);
     let size = lsas.len() / (count as usize).max(1);
     let headers = headers(router, lsas, size);
-    acknowledge_all(router, full, moment, &headers);
+    for interface in 2..full.wrapping_add(1) {
+        router.acknowledge(moment, interface, &headers);
+    }
 }
 
 fn tell_batch(router: &mut Router, full: u16, moment: u64, batch: Batch) {
