@@ -1,90 +1,100 @@
 //! How long events of a whole router take at four sizes of the database.
-use crate::again::print_again;
-use crate::exchange::print_exchange;
+use crate::again::time_again;
+use crate::exchange::{Meeting, time_exchange};
 use crate::lsas::{Batch, MAX_AGE};
 use crate::packets::hello;
+use crate::router::Router;
 use crate::routers::{externals_of, hub};
-use crate::single::{settle, time_flooding, time_same, time_ticks};
-use crate::steps::tick;
+use crate::single::{settle, time_flooding};
 use crate::telling::tell_externals;
-use crate::timing::{MEASUREMENTS, print_figure};
-use anyhow::{Result, ensure};
-use flood::{Core, Event};
+use crate::timing::{MEASUREMENTS, time_often};
+use anyhow::Result;
+use flood::Event;
 use std::alloc::Global;
 use std::rt::Clock;
 
 /// How many LSAs there are.
 const SIZES: [u32; 4] = [10, 100, 1_000, 16_384];
 
-// The LSA that comes is the last that the database has room for.
-fn print_flooding<R: Clock + Print>(
-    rt: &R,
-    alloc: Global,
-    core: &mut Core,
-    number: u32,
-) -> Result<()> {
-    let times = time_flooding(rt, alloc, core, number)?;
-    print_figure(rt, "a new external, flooded to two", times.arrival)?;
-    print_figure(rt, "its acknowledgment", times.answer)
-}
-
-fn print_ticks<R: Clock + Print>(rt: &R, core: &mut Core) -> Result<()> {
-    let nanoseconds = time_ticks(rt, core, 200)?;
-    print_figure(rt, "a Tick at which nothing is due", nanoseconds)
-}
+// What is measured at each size, in nanoseconds.
+const NAMES: [&str; 6] = [
+    "a new external, flooded to two",
+    "its acknowledgment",
+    "a Tick at which nothing is due",
+    "a Hello",
+    "a Hello after all externals were flushed",
+    "a Tick that sends 100 LSAs again",
+];
 
 // A Hello of neighbor 1.
-fn print_hellos<R: Clock + Print>(
-    rt: &R,
-    alloc: Global,
-    core: &mut Core,
-    moment: u64,
-    name: &str,
-) -> Result<()> {
-    let event = Event::Packet(1, hello(alloc, 1)?);
-    let nanoseconds = time_same(rt, core, moment, &event)?;
-    print_figure(rt, name, nanoseconds)
+fn time_hello<R: Clock>(rt: &R, router: &mut Router, moment: u64) -> u64 {
+    let packet = hello(router.alloc, 1);
+    let event = router.packet(1, packet);
+    time_often(rt, router, moment, 0, &event, 0)
 }
 
 // All externals come with MaxAge, are acknowledged, and leave.
-fn flush_all(alloc: Global, core: &mut Core, count: u32) -> Result<()> {
+fn flush_all(router: &mut Router, count: u32) {
     let batch = Batch {
         first: 0,
         count,
         age: MAX_AGE,
     };
-    tell_externals(alloc, core, 3, 500, batch)?;
-    tick(core, 500)?;
-    let left = core.database().len();
-    ensure!(left == 4, "{left} LSAs are left");
+    tell_externals(router, 3, 500, batch);
+    router.tick(500);
+    router.expect_lsas(4);
+}
+
+// What events take where one LSA more makes so many: all but the last of NAMES. The LSA that comes
+// is the last that the database has room for.
+fn time_events<R: Clock>(rt: &R, alloc: Global, size: u32) -> Result<[u64; 6]> {
+    let mut router = hub(alloc, 3, size.saturating_sub(1))?;
+    let count = externals_of(3, size);
+    let number = count.wrapping_sub(1);
+    let flooding = time_flooding(rt, &mut router, number);
+    settle(&mut router, 190, number, 1);
+    router.expect_lsas(size);
+    let tick = time_often(rt, &mut router, 200, 1, &Event::Tick, 0);
+    let hello = time_hello(rt, &mut router, 400);
+    flush_all(&mut router, count);
+    let flushed = time_hello(rt, &mut router, 510);
+    router.close()?;
+    Ok([flooding.arrival, flooding.answer, tick, hello, flushed, 0])
+}
+
+// The times of all NAMES.
+fn time_all<R: Clock>(rt: &R, alloc: Global, size: u32) -> Result<[u64; 6]> {
+    let mut times = time_events(rt, alloc, size)?;
+    times[5] = time_again(rt, alloc, size)?;
+    Ok(times)
+}
+
+fn print_times<R: Print>(rt: &R, times: [u64; 6]) -> Result<()> {
+    for place in 0..6 {
+        println!(rt; "  {}: {} ns", NAMES[place], times[place])?;
+    }
     Ok(())
 }
 
-// What events take where one LSA more makes so many.
-fn print_events<R: Clock + Print>(rt: &R, alloc: Global, core: &mut Core, size: u32) -> Result<()> {
-    let count = externals_of(3, size);
-    let number = count.wrapping_sub(1);
-    print_flooding(rt, alloc, core, number)?;
-    settle(alloc, core, 190, number, 1)?;
-    ensure!(core.database().len() == size as usize, "not {size} LSAs");
-    print_ticks(rt, core)?;
-    print_hellos(rt, alloc, core, 400, "a Hello")?;
-    flush_all(alloc, core, count)?;
-    print_hellos(
-        rt,
-        alloc,
-        core,
-        510,
-        "a Hello after all externals were flushed",
-    )
+fn print_meeting<R: Print>(rt: &R, meeting: Meeting) -> Result<()> {
+    let Meeting {
+        microseconds,
+        packets,
+    } = meeting;
+    println!(rt;
+        "  until a new neighbor is Full, both sides: {microseconds} us, {packets} packets"
+    )?;
+    Ok(())
+}
+
+fn print_events<R: Clock + Print + AllocGlobal>(rt: &R, size: u32) -> Result<()> {
+    println!(rt; "{size} LSAs")?;
+    print_times(rt, time_all(rt, rt.alloc(), size)?)
 }
 
 fn print_size<R: Clock + Print + AllocGlobal>(rt: &R, size: u32) -> Result<()> {
-    println!(rt; "{size} LSAs")?;
-    let mut core = hub(rt.alloc(), 3, size.saturating_sub(1))?;
-    let printed = print_events(rt, rt.alloc(), &mut core, size);
-    core.close();
-    printed
+    print_events(rt, size)?;
+    print_meeting(rt, time_exchange(rt, rt.alloc(), size)?)
 }
 
 /// Prints what events of a router take whose neighbors 1 to 3 are Full and whose fourth is in Init,
@@ -99,10 +109,8 @@ fn print_size<R: Clock + Print + AllocGlobal>(rt: &R, size: u32) -> Result<()> {
 /// be measured.
 pub fn print<R: Clock + Print + AllocGlobal>(rt: &R) -> Result<()> {
     println!(rt; "the least of {MEASUREMENTS}")?;
-    for size in SIZES {
-        print_size(rt, size)?;
-        print_again(rt, size)?;
-        print_exchange(rt, size)?;
+    for size in &SIZES {
+        print_size(rt, *size)?;
     }
     Ok(())
 }

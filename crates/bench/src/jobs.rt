@@ -1,7 +1,7 @@
 //! What a worker does on its thread.
 use crate::load::Load;
 use crate::routers::MADE;
-use anyhow::{Result, anyhow};
+use crate::trouble::Trouble;
 use std::alloc::Global;
 use std::sync::Wait;
 use words::Second;
@@ -14,59 +14,36 @@ pub struct Job<L: Site> {
     works: Vec<Work>,
 }
 
-// A turn: whether it wasn't refused.
-fn takes<L: Site, R: Wait>(rt: &R, hub: &Hub<L, Book<L>>, port: &mut Port<L>, work: &Work) -> bool {
-    turn(rt, hub, port, &Open {}, Second::new(MADE), work).is_ok()
-}
-
-// Takes the turns of the works at the port: how many weren't refused.
-fn take_all<L: Site, R: Wait>(
-    rt: &R,
-    hub: &Hub<L, Book<L>>,
-    port: &mut Port<L>,
-    works: &[Work],
-) -> u64 {
+/// Takes the job's turns: how many weren't refused.
+pub fn labor<L: Site, R: Wait>(rt: &R, hub: &Hub<L, Book<L>>, job: Job<L>) -> u64 {
+    let mut job = job;
     let mut taken = 0u64;
-    for work in works {
-        if takes(rt, hub, port, work) {
+    for work in job.works.as_slice() {
+        if turn(rt, hub, &mut job.port, &Open {}, Second::new(MADE), work).is_ok() {
             taken = taken.wrapping_add(1);
         }
     }
     taken
 }
 
-/// Takes the job's turns: how many weren't refused.
-pub fn labor<L: Site, R: Wait>(rt: &R, hub: &Hub<L, Book<L>>, job: Job<L>) -> u64 {
-    let Job { mut port, works } = job;
-    take_all(rt, hub, &mut port, &works)
-}
-
-fn job_of<L: Site>(alloc: Global, port: Port<L>, load: Load, worker: u32) -> Result<Job<L>> {
-    let works = load.works(alloc, (worker % 4) as u16 + 1)?;
-    Ok(Job { port, works })
-}
-
-fn put_jobs<L: Site>(
-    alloc: Global,
-    ports: &mut Vec<Port<L>>,
-    load: Load,
-    jobs: &mut Vec<Job<L>>,
-) -> Result<()> {
-    for worker in 0..load.workers {
-        let Some(port) = ports.pop() else {
-            return Err(anyhow!("no port"));
-        };
-        jobs.push(job_of(alloc, port, load, worker)?)?;
+fn put_job<L: Site>(jobs: &mut Vec<Job<L>>, port: Option<Port<L>>, works: Vec<Work>) -> bool {
+    match port {
+        Some(port) => jobs.push(Job { port, works }).is_ok(),
+        None => false,
     }
-    Ok(())
 }
 
 /// A job for each worker, from interface 1 on, at the last of the ports, which it takes away.
-///
-/// # Errors
-/// Memory ran out, or there are fewer ports.
-pub fn jobs<L: Site>(alloc: Global, ports: &mut Vec<Port<L>>, load: Load) -> Result<Vec<Job<L>>> {
+pub fn jobs<L: Site>(
+    alloc: Global,
+    ports: &mut Vec<Port<L>>,
+    load: Load,
+    trouble: &mut Trouble,
+) -> Vec<Job<L>> {
     let mut jobs = Vec::new(alloc);
-    put_jobs(alloc, ports, load, &mut jobs)?;
-    Ok(jobs)
+    for worker in 0..load.workers {
+        let works = load.works(alloc, (worker % 4) as u16 + 1, trouble);
+        trouble.need_memory(put_job(&mut jobs, ports.pop(), works));
+    }
+    jobs
 }

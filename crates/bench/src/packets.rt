@@ -45,49 +45,45 @@ fn sum(bytes: &[u8]) -> u64 {
     total
 }
 
-// The header of the packet with this body: the checksum is the complement of the one's complement
-// sum, which is no zero.
-fn header(kind: u8, router: u32, body: &[u8]) -> [u8; 24] {
-    let mut bytes = [0; 24];
-    bytes[0] = 2;
-    bytes[1] = kind;
-    let length = u16::try_from(body.len().saturating_add(24)).unwrap_or(0);
-    let [high, low] = length.to_be_bytes();
-    bytes[2] = high;
-    bytes[3] = low;
+// The header of the packet with this body, in two parts: the checksum is the complement of the
+// one's complement sum, which is no zero.
+fn header(kind: u8, router: u32, front: &[u8], body: &[u8]) -> [u8; 24] {
+    let size = front.len().saturating_add(body.len()).saturating_add(24);
+    let [high, low] = u16::try_from(size).unwrap_or(0).to_be_bytes();
     let [first, second, third, fourth] = router.to_be_bytes();
-    bytes[4] = first;
-    bytes[5] = second;
-    bytes[6] = third;
-    bytes[7] = fourth;
-    let both = sum(&bytes).wrapping_add(sum(body));
-    let folded = (both.wrapping_sub(1) % 65535).wrapping_add(1);
+    let mut bytes = [
+        2, kind, high, low, first, second, third, fourth, 0, 0, 0, 0, 0, 0, 0, 0, 0, 0, 0, 0, 0, 0,
+        0, 0,
+    ];
+    let all = sum(&bytes).wrapping_add(sum(front)).wrapping_add(sum(body));
+    let folded = (all.wrapping_sub(1) % 65535).wrapping_add(1);
     let [high, low] = u16::try_from(folded).unwrap_or(0).to_be_bytes();
     bytes[12] = 255 ^ high;
     bytes[13] = 255 ^ low;
     bytes
 }
 
-/// A packet of this type and router.
+/// A packet of this type and router, with this body in two parts, the first of an even length.
 pub fn packet(
     alloc: Global,
     kind: u8,
     router: u32,
+    front: &[u8],
     body: &[u8],
 ) -> Result<Sequence<u8>, AllocError> {
-    let mut bytes = Vec::from_slice(alloc, &header(kind, router, body))?;
-    bytes.extend_from_slice(body)?;
+    let header = header(kind, router, front, body);
+    let bytes = [header.as_slice(), front, body].concat(alloc)?;
     Ok(Sequence::from_vec(bytes))
 }
 
 /// A Hello of the router that has heard of nobody.
 pub fn greeting(alloc: Global, router: u32) -> Result<Sequence<u8>, AllocError> {
-    packet(alloc, 1, router, &GREETING)
+    packet(alloc, 1, router, &[], &GREETING)
 }
 
 /// A Hello of the neighbor at the interface, which names 1.1.1.1.
 pub fn hello(alloc: Global, interface: u16) -> Result<Sequence<u8>, AllocError> {
-    packet(alloc, 1, neighbor(interface), &HELLO)
+    packet(alloc, 1, neighbor(interface), &[], &HELLO)
 }
 
 /// An Update of the neighbor at the interface with so many LSAs, whose texts these are.
@@ -97,9 +93,7 @@ pub fn update(
     count: u32,
     lsas: &[u8],
 ) -> Result<Sequence<u8>, AllocError> {
-    let mut body = Vec::from_slice(alloc, &count.to_be_bytes())?;
-    body.extend_from_slice(lsas)?;
-    packet(alloc, 4, neighbor(interface), &body)
+    packet(alloc, 4, neighbor(interface), &count.to_be_bytes(), lsas)
 }
 
 /// An Acknowledgment of the neighbor at the interface.
@@ -108,5 +102,5 @@ pub fn acknowledgment(
     interface: u16,
     headers: &[u8],
 ) -> Result<Sequence<u8>, AllocError> {
-    packet(alloc, 5, neighbor(interface), headers)
+    packet(alloc, 5, neighbor(interface), &[], headers)
 }

@@ -1,131 +1,113 @@
 //! Two routers that hear one another.
-use crate::routers::{fourth, hub};
-use crate::steps::step;
+use crate::packets::neighbor;
+use crate::router::Router;
+use crate::routers::{HUB, fourth, hub};
 use anyhow::{Result, anyhow};
-use flood::{Core, Event, Out, State};
+use flood::{Event, Out};
 use std::alloc::Global;
 
 // When the next Hellos are due on both sides.
 const BEGINS: u64 = 901;
 
 // More often than they answer one another within a second.
-const MOST_ROUNDS: u32 = 100_000;
+const MOST_ROUNDS: u32 = 50_000;
 
 /// Interface 4 of the one router leads to interface 1 of the other.
 pub struct Pair {
-    alloc: Global,
-    pub one: Core,
-    pub other: Core,
+    pub one: Router,
+    pub other: Router,
     /// How many packets were heard.
     pub packets: u64,
 }
 
 // The packet comes in: what is answered is put behind the other answers.
-fn hear(core: &mut Core, moment: u64, event: &Event, answers: &mut Vec<Out>) -> Result<()> {
-    let mut outs = step(core, moment, event)?;
-    answers.append(&mut outs)?;
-    Ok(())
+fn hear(router: &mut Router, moment: u64, event: &Event, answers: &mut Vec<Out>) {
+    let mut outs = router.step(moment, event);
+    let is_put = answers.append(&mut outs).is_ok();
+    router.trouble.need_memory(is_put);
 }
 
-// What was sent at the interface `from` comes in at the other end.
+// What was sent at the one end comes in at the other: what is answered. The packets are counted.
 fn hear_all(
-    core: &mut Core,
+    router: &mut Router,
     moment: u64,
     outs: Vec<Out>,
     ends: (u16, u16),
-    answers: &mut Vec<Out>,
-) -> Result<u64> {
-    let mut packets = 0_u64;
+    packets: &mut u64,
+) -> Vec<Out> {
+    let mut answers = Vec::new(router.alloc);
     for out in outs {
         if out.interface == ends.0 {
             let event = Event::Packet(ends.1, out.bytes);
-            hear(core, moment, &event, answers)?;
-            packets = packets.wrapping_add(1);
+            hear(router, moment, &event, &mut answers);
+            *packets = packets.wrapping_add(1);
         }
     }
-    Ok(packets)
+    answers
 }
 
 impl Pair {
-    // The one hears what the other sent, or the other way round: what it answers.
-    fn pass(&mut self, moment: u64, outs: Vec<Out>, to_one: bool) -> Result<Vec<Out>> {
-        let mut answers = Vec::new(self.alloc);
-        let packets = if to_one {
-            hear_all(&mut self.one, moment, outs, (1, 4), &mut answers)?
-        } else {
-            hear_all(&mut self.other, moment, outs, (4, 1), &mut answers)?
-        };
-        self.packets = self.packets.wrapping_add(packets);
-        Ok(answers)
-    }
-
-    // They hear one another until one of them answers nothing.
-    fn talk(&mut self, moment: u64, outs: Vec<Out>, to_one: bool) -> Result<()> {
+    // The other hears what the one sent, and so on, until the one answers nothing.
+    fn talk(&mut self, moment: u64, outs: Vec<Out>) {
         let mut outs = outs;
-        let mut to_one = to_one;
         for _round in 0..MOST_ROUNDS {
             if outs.is_empty() {
-                return Ok(());
+                return;
             }
-            outs = self.pass(moment, outs, to_one)?;
-            to_one = !to_one;
+            let answers = hear_all(&mut self.other, moment, outs, (4, 1), &mut self.packets);
+            outs = hear_all(&mut self.one, moment, answers, (1, 4), &mut self.packets);
         }
-        Err(anyhow!("they go on and on"))
+        self.one.trouble.note(anyhow!("they go on and on"));
     }
 
     // Both tick, one after the other, and hear one another.
-    fn second(&mut self, moment: u64) -> Result<()> {
-        let outs = step(&mut self.one, moment, &Event::Tick)?;
-        self.talk(moment, outs, false)?;
-        let outs = step(&mut self.other, moment, &Event::Tick)?;
-        self.talk(moment, outs, true)
+    fn second(&mut self, moment: u64) {
+        let outs = self.one.step(moment, &Event::Tick);
+        self.talk(moment, outs);
+        let outs = self.other.step(moment, &Event::Tick);
+        let answers = hear_all(&mut self.one, moment, outs, (1, 4), &mut self.packets);
+        self.talk(moment, answers);
     }
 
     fn is_full(&self) -> bool {
-        let (one, other) = (self.one.neighbor(4), self.other.neighbor(1));
-        matches!(
-            (one, other),
-            (Some((_, State::Full)), Some((_, State::Full)))
-        )
+        self.one.is_full(4, neighbor(4)) && self.other.is_full(1, HUB)
     }
 
-    /// From the Hellos on, until each sees the other one Full.
-    ///
-    /// # Errors
-    /// Memory ran out, or they don't come to Full within half a minute.
-    pub fn meet(&mut self) -> Result<()> {
+    /// From the Hellos on, until each sees the other one Full. It's noted if they don't come to
+    /// Full within half a minute.
+    pub fn meet(&mut self) {
         for second in 0..30u64 {
-            self.second(BEGINS.saturating_add(second))?;
+            self.second(BEGINS.saturating_add(second));
             if self.is_full() {
-                return Ok(());
+                return;
             }
         }
-        Err(anyhow!("they aren't Full"))
+        self.one.trouble.note(anyhow!("they aren't Full"));
     }
 
     /// Lets both go.
-    pub fn close(self) {
+    ///
+    /// # Errors
+    /// Something went wrong with one of them.
+    pub fn close(self) -> Result<()> {
         let Pair {
-            alloc: _,
             one,
             other,
             packets: _,
         } = self;
-        one.close();
-        other.close();
+        one.close().and(other.close())
     }
 }
 
-fn pair_with(alloc: Global, one: Core) -> Result<Pair> {
+fn pair_with(alloc: Global, one: Router) -> Result<Pair> {
     match fourth(alloc) {
         Ok(other) => Ok(Pair {
-            alloc,
             one,
             other,
             packets: 0,
         }),
         Err(error) => {
-            one.close();
+            let _outcome = one.close();
             Err(error)
         }
     }
@@ -137,6 +119,5 @@ fn pair_with(alloc: Global, one: Core) -> Result<Pair> {
 /// # Errors
 /// Memory ran out.
 pub fn pair_of(alloc: Global, size: u32) -> Result<Pair> {
-    let one = hub(alloc, 3, size)?;
-    pair_with(alloc, one)
+    pair_with(alloc, hub(alloc, 3, size)?)
 }

@@ -1,8 +1,10 @@
 //! How many turns one worker and four workers take a second at one router.
-use crate::load::{Kind, Load, SIZE};
+use crate::load::{KINDS, Kind, Load, SIZE};
 use crate::measuring::measure_once;
 use crate::routers::hub;
+use crate::trouble::Trouble;
 use anyhow::Result;
+use std::alloc::Global;
 use std::rt::Clock;
 use std::sync::Wait;
 use std::thread;
@@ -17,12 +19,42 @@ fn least<R: Threads + Wait + Clock + AllocGlobal + Sync>(
     rt: &R,
     core: &Core,
     load: Load,
-) -> Result<u64> {
+    trouble: &mut Trouble,
+) -> u64 {
     let mut least = u64::MAX;
     for _measurement in 0..MEASUREMENTS {
-        least = least.min(measure_once(rt, rt.alloc(), core, load)?);
+        let measured = measure_once(rt, rt.alloc(), core, load, trouble);
+        least = least.min(trouble.or_zero(measured));
     }
-    Ok(least / u64::from(load.kind.turns()).max(1))
+    least / u64::from(load.kind.turns).max(1)
+}
+
+// Without a program, and with one at `count`.
+fn measure<R: Threads + Wait + Clock + AllocGlobal + Sync>(
+    rt: &R,
+    core: &Core,
+    load: Load,
+) -> Result<[u64; 2]> {
+    let mut trouble = Trouble::none();
+    let without = least(rt, core, load, &mut trouble);
+    let counting = Load {
+        counts: true,
+        ..load
+    };
+    let with = least(rt, core, counting, &mut trouble);
+    trouble.outcome()?;
+    Ok([without, with])
+}
+
+fn print_turns<R: Print>(rt: &R, load: Load, taken: [u64; 2]) -> Result<()> {
+    let ([without, with], name, workers) = (taken, load.kind.name, load.workers);
+    let each = 1_000_000_000 / without.max(1);
+    let counted = 1_000_000_000 / with.max(1);
+    println!(rt;
+        "{name}, {workers} at once: {each} turns a second, {without} ns each; at count {counted}, \
+            {with} ns"
+    )?;
+    Ok(())
 }
 
 fn print_workers<R: Threads + Wait + Clock + Print + AllocGlobal + Sync>(
@@ -31,21 +63,12 @@ fn print_workers<R: Threads + Wait + Clock + Print + AllocGlobal + Sync>(
     kind: Kind,
     workers: u32,
 ) -> Result<()> {
-    let mut load = Load {
+    let load = Load {
         kind,
         workers,
         counts: false,
     };
-    let without = least(rt, core, load)?;
-    load.counts = true;
-    let with = least(rt, core, load)?;
-    let each = 1_000_000_000 / without.max(1);
-    let counted = 1_000_000_000 / with.max(1);
-    println!(rt;
-        "{kind}, {workers} at once: {each} turns a second, {without} ns each; at count {counted}, \
-            {with} ns"
-    )?;
-    Ok(())
+    print_turns(rt, load, measure(rt, core, load)?)
 }
 
 // One worker, and four at once.
@@ -58,14 +81,24 @@ fn print_each<R: Threads + Wait + Clock + Print + AllocGlobal + Sync>(
     print_workers(rt, core, kind, 4)
 }
 
+fn core_of(alloc: Global, kind: Kind) -> Result<Core> {
+    hub(alloc, 4, kind.size)?.into_core()
+}
+
 fn print_kind<R: Threads + Wait + Clock + Print + AllocGlobal + Sync>(
     rt: &R,
     kind: Kind,
 ) -> Result<()> {
-    let core = hub(rt.alloc(), 4, kind.size())?;
+    let core = core_of(rt.alloc(), kind)?;
     let printed = print_each(rt, &core, kind);
     core.close();
     printed
+}
+
+fn print_heading<R: Threads + Print>(rt: &R) -> Result<()> {
+    let cores = thread::available_parallelism(rt)?;
+    println!(rt; "turns at {SIZE} LSAs, {cores} cores, the most of {MEASUREMENTS}")?;
+    Ok(())
 }
 
 /// Prints how many turns one worker and four workers take a second at a router with four Full
@@ -77,9 +110,9 @@ fn print_kind<R: Threads + Wait + Clock + Print + AllocGlobal + Sync>(
 /// The clock or the output failed, memory ran out, a turn was refused, or other than all datagrams
 /// were counted.
 pub fn print<R: Threads + Wait + Clock + Print + AllocGlobal + Sync>(rt: &R) -> Result<()> {
-    let cores = thread::available_parallelism(rt)?;
-    println!(rt; "turns at {SIZE} LSAs, {cores} cores, the most of {MEASUREMENTS}")?;
-    print_kind(rt, Kind::Hello)?;
-    print_kind(rt, Kind::Refreshed)?;
-    print_kind(rt, Kind::New)
+    print_heading(rt)?;
+    for kind in &KINDS {
+        print_kind(rt, *kind)?;
+    }
+    Ok(())
 }
