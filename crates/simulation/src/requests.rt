@@ -49,7 +49,7 @@ struct Shape {
 fn shape_in(words: &mut Reader<'_, '_>) -> Shape {
     Shape {
         topology: words.topology(),
-        routers: words.small("routers", 9, 1, 10_000),
+        routers: words.small("routers", 9, 2, 10_000),
         externals: words.small("externals", 0, 0, 100_000),
         spread: words.small("spread", 1, 1, 10_000),
     }
