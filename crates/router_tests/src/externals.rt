@@ -22,7 +22,7 @@ struct Case {
     told: &'static [Told],
 }
 
-const CASES: [Case; 5] = [
+const CASES: &[Case] = &[
     Case {
         name: "other LSAs tell nothing",
         others: &[Line::Network, Line::Summary(4, 0x0909_0909, 0, 7)],
@@ -111,5 +111,5 @@ fn first_wrong(alloc: Global, cases: &[Case]) -> Result<Option<&'static str>, Fa
 
 #[test]
 fn what_external_lsas_tell(rt: HostRuntime) -> Result<(), Fail> {
-    no_case_is_wrong(first_wrong(rt.alloc(), &CASES))
+    no_case_is_wrong(first_wrong(rt.alloc(), CASES))
 }

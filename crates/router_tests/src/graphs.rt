@@ -107,7 +107,7 @@ struct Change {
     followed: Option<bool>,
 }
 
-const CHANGES: [Change; 5] = [
+const CHANGES: &[Change] = &[
     // the other router's link costs something else, or doesn't count
     Change {
         id: 0x0202_0202,
@@ -171,5 +171,5 @@ fn first_wrong(alloc: Global, changes: &[Change]) -> Result<Option<usize>, Fail>
 
 #[test]
 fn a_graph_follows_router_lsas(rt: HostRuntime) -> Result<(), Fail> {
-    none_is_wrong(first_wrong(rt.alloc(), &CHANGES))
+    none_is_wrong(first_wrong(rt.alloc(), CHANGES))
 }

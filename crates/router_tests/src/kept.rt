@@ -165,7 +165,7 @@ fn first_wrong(alloc: Global, db: &mut Lsdb, steps: &[Step]) -> Result<Option<us
     Ok(None)
 }
 
-const STEPS: [Step; 24] = [
+const STEPS: &[Step] = &[
     // nothing is new; the LSAs were of age 1 when they came in, and are of MaxAge 3599 seconds
     // later
     Step::Same(0, true, true),
@@ -198,7 +198,7 @@ const STEPS: [Step; 24] = [
     Step::Same(1, false, false),
 ];
 
-const CHANGES: [Step; 26] = [
+const CHANGES: &[Step] = &[
     // nothing is new; the LSAs were of age 1 when they came in, and are of MaxAge 3599 seconds
     // later
     Step::Changed(3599, &[]),
@@ -246,12 +246,12 @@ fn first_wrong_of_two(alloc: Global, steps: &[Step]) -> Result<Option<usize>, Fa
 
 #[test]
 fn what_makes_lsas_say_something_else(rt: HostRuntime) -> Result<(), Fail> {
-    none_is_wrong(first_wrong_of_two(rt.alloc(), &STEPS))
+    none_is_wrong(first_wrong_of_two(rt.alloc(), STEPS))
 }
 
 #[test]
 fn what_lsas_said_when_the_database_was_settled(rt: HostRuntime) -> Result<(), Fail> {
-    none_is_wrong(first_wrong_of_two(rt.alloc(), &CHANGES))
+    none_is_wrong(first_wrong_of_two(rt.alloc(), CHANGES))
 }
 
 // Whether the walk that is made at the moment, and once more, gives these candidates, and counts.

@@ -17,7 +17,7 @@ struct Case {
     count: usize,
 }
 
-const CASES: [Case; 7] = [
+const CASES: &[Case] = &[
     Case {
         name: "a row to the first router",
         costs: &[0, 10, 20],
@@ -107,5 +107,5 @@ fn first_wrong(alloc: Global, cases: &[Case]) -> Result<Option<&'static str>, Fa
 
 #[test]
 fn loops_are_found_and_counted(rt: HostRuntime) -> Result<(), Fail> {
-    no_case_is_wrong(first_wrong(rt.alloc(), &CASES))
+    no_case_is_wrong(first_wrong(rt.alloc(), CASES))
 }

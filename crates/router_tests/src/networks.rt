@@ -40,7 +40,7 @@ fn area(back: u16) -> [Line; 11] {
     ]
 }
 
-const CASES: [Case; 4] = [
+const CASES: &[Case] = &[
     Case {
         name: "each network-LSA leads to those that it lists itself",
         listed: &[0x0202_0202, 0x0404_0404],
@@ -121,5 +121,5 @@ fn first_wrong(alloc: Global, cases: &[Case]) -> Result<Option<&'static str>, Fa
 
 #[test]
 fn networks_of_one_link_state_id_are_told_apart(rt: HostRuntime) -> Result<(), Fail> {
-    no_case_is_wrong(first_wrong(rt.alloc(), &CASES))
+    no_case_is_wrong(first_wrong(rt.alloc(), CASES))
 }

@@ -126,7 +126,7 @@ fn first_wrong(
     Ok(None)
 }
 
-const STEPS: [Step; 25] = [
+const STEPS: &[Step] = &[
     Step::Held(1, None, None),
     Step::Changed(&[]),
     // what came since it was settled wasn't there then
@@ -165,5 +165,5 @@ fn first_wrong_of_new(alloc: Global, steps: &[Step]) -> Result<Option<usize>, Fa
 
 #[test]
 fn what_a_key_held_when_the_map_was_settled(rt: HostRuntime) -> Result<(), Fail> {
-    none_is_wrong(first_wrong_of_new(rt.alloc(), &STEPS))
+    none_is_wrong(first_wrong_of_new(rt.alloc(), STEPS))
 }

@@ -108,7 +108,7 @@ fn first_wrong(alloc: Global, cases: &[Case]) -> Result<Option<&'static str>, Fa
     Ok(None)
 }
 
-const CASES: [Case; 9] = [
+const CASES: &[Case] = &[
     ("an answer of 0", true, &[(0, 0, 0)], &[0], false),
     ("a veto", true, &[(0, 1, 0)], &[], false),
     ("no answer", true, &[], &[], true),
@@ -141,7 +141,7 @@ const CASES: [Case; 9] = [
 #[test]
 fn answers_let_candidates_in(rt: HostRuntime) -> Result<(), Fail> {
     is_so(!is_stale(rt.alloc(), &[], &[])?)?;
-    no_case_is_wrong(first_wrong(rt.alloc(), &CASES))
+    no_case_is_wrong(first_wrong(rt.alloc(), CASES))
 }
 
 fn is_row(row: &TableRow, expected: (u32, u32)) -> bool {

@@ -142,7 +142,7 @@ fn a_router_comes_nearer_while_it_waits(rt: HostRuntime) -> Result<(), Fail> {
 
 // Graphs of one router, and whether they are lawful: a link to a vertex that isn't there, or one of
 // cost 0 between routers, among others.
-const ALONE: [(Row, bool); 4] = [
+const ALONE: &[(Row, bool)] = &[
     ((Kind::Router, &[(0, 1, 63)]), true),
     ((Kind::Router, &[(0, 0, 1)]), false),
     ((Kind::Router, &[(0, 1, 64)]), false),
@@ -166,5 +166,5 @@ fn first_told_otherwise(alloc: Global, rows: &[(Row, bool)]) -> Result<Option<us
 
 #[test]
 fn unlawful_links_are_told(rt: HostRuntime) -> Result<(), Fail> {
-    none_is_wrong(first_told_otherwise(rt.alloc(), &ALONE))
+    none_is_wrong(first_told_otherwise(rt.alloc(), ALONE))
 }

@@ -85,7 +85,7 @@ const SHARED: Expected = (0x0a00_0100, RouteKind::Intra, 10, 0, 1);
 
 const OTHER: Expected = (0x0a00_0200, RouteKind::Intra, 15, 0, 2);
 
-const CASES: [Case; 11] = [
+const CASES: &[Case] = &[
     Case {
         name: "walks of one cost join their next hops",
         area: &SQUARE,
@@ -248,5 +248,5 @@ fn first_wrong(alloc: Global, cases: &[Case]) -> Result<Option<&'static str>, Fa
 
 #[test]
 fn worked_areas_have_their_candidates(rt: HostRuntime) -> Result<(), Fail> {
-    no_case_is_wrong(first_wrong(rt.alloc(), &CASES))
+    no_case_is_wrong(first_wrong(rt.alloc(), CASES))
 }

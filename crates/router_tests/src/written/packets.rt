@@ -551,7 +551,7 @@ fn add_continued(front: &[u8], byte: u8, size: usize, bytes: &mut Gathered<u8>) 
 // A packet's front, the byte with which it goes on, its size, and the number of the refusal, or 0.
 type Long = (&'static [u8], u8, usize, u8);
 
-const LONG: [Long; 4] = [
+const LONG: &[Long] = &[
     (UPDATE_8192, 0, 8192, 0),
     (HELLO_8192, 3, 8192, 0),
     (UPDATE_8193, 0, 8193, 4),
@@ -585,5 +585,5 @@ fn first_wrong(alloc: Global, rows: &[Long]) -> Result<Option<usize>, Fail> {
 
 #[test]
 fn a_packet_has_at_most_8192_bytes(rt: HostRuntime) -> Result<(), Fail> {
-    none_is_wrong(first_wrong(rt.alloc(), &LONG))
+    none_is_wrong(first_wrong(rt.alloc(), LONG))
 }
