@@ -1,4 +1,5 @@
 //! An area to test with: the LSAs that came in, and the router that calculates its routes.
+use crate::gathered::Gathered;
 use candidates::candidates;
 use lsa::Lsa;
 use lsdb::Lsdb;
@@ -12,14 +13,13 @@ pub fn moment() -> Second {
     Second::new(1000)
 }
 
-/// The database of these LSAs.
-pub fn database(alloc: Global, lsas: &[Lsa]) -> Result<Lsdb, AllocError> {
-    let mut db = Lsdb::new(alloc, RouterId::new(0x0101_0101));
-    install_each(&mut db, lsas)?;
-    Ok(db)
+/// A database without LSAs.
+pub fn empty(alloc: Global) -> Lsdb {
+    Lsdb::new(alloc, RouterId::new(0x0101_0101))
 }
 
-fn install_each(db: &mut Lsdb, lsas: &[Lsa]) -> Result<(), AllocError> {
+/// These LSAs come in, each as a settled event.
+pub fn install_each(db: &mut Lsdb, lsas: &[Lsa]) -> Result<(), Fail> {
     for lsa in lsas {
         install(db, lsa)?;
     }
@@ -32,34 +32,43 @@ fn install(db: &mut Lsdb, lsa: &Lsa) -> Result<(), AllocError> {
     Ok(())
 }
 
+fn add_addresses(addresses: &[u32], own: &mut Gathered<Address>) {
+    for address in addresses {
+        own.push(Address::new(*address));
+    }
+}
+
 /// The router of this Router ID, whose interfaces have these addresses.
 pub fn root(alloc: Global, router: u32, addresses: &[u32]) -> Result<Root, AllocError> {
-    let mut own = Vec::new(alloc);
-    for address in addresses {
-        own.push(Address::new(*address))?;
-    }
+    let mut own = Gathered::new(alloc);
+    add_addresses(addresses, &mut own);
     Ok(Root {
         router: RouterId::new(router),
-        addresses: Sequence::from_vec(own),
+        addresses: Sequence::from_vec(own.whole()?),
     })
 }
 
 /// The candidates of a database.
-pub fn routes_of(alloc: Global, db: &Lsdb, root: &Root) -> Result<Vec<Route>, Fail> {
+fn routes_of(alloc: Global, db: &Lsdb, root: &Root) -> Result<Vec<Route>, Fail> {
     if db.len() > 16384 || root.addresses.as_slice().len() > 63 {
         return Err(Fail::from("a database or a router that is too large"));
     }
     Ok(candidates(alloc, db, root, moment())?)
 }
 
+fn routes_in(alloc: Global, db: &mut Lsdb, lsas: &[Lsa], root: &Root) -> Result<Vec<Route>, Fail> {
+    install_each(db, lsas)?;
+    routes_of(alloc, db, root)
+}
+
 /// The candidates of the database of these LSAs.
 pub fn routes(alloc: Global, lsas: &[Lsa], root: &Root) -> Result<Vec<Route>, Fail> {
-    let db = database(alloc, lsas)?;
-    routes_of(alloc, &db, root)
+    let mut db = empty(alloc);
+    routes_in(alloc, &mut db, lsas, root)
 }
 
 /// A route as a row of numbers, to compare with.
-#[derive(Clone, Copy, PartialEq, Eq, PartialOrd, Ord)]
+#[derive(Clone, Copy, PartialEq, Eq)]
 pub struct Row {
     pub address: u32,
     pub length: u8,
@@ -82,17 +91,21 @@ fn row_of(route: &Route) -> Row {
     }
 }
 
-/// The routes as rows.
-pub fn rows(alloc: Global, routes: &[Route]) -> Result<Vec<Row>, AllocError> {
-    let mut rows = Vec::new(alloc);
+fn add_rows(routes: &[Route], rows: &mut Gathered<Row>) {
     for route in routes {
-        rows.push(row_of(route))?;
+        rows.push(row_of(route));
     }
-    Ok(rows)
+}
+
+/// The routes as rows.
+pub fn rows(alloc: Global, routes: &[Route]) -> Result<Vec<Row>, Fail> {
+    let mut rows = Gathered::new(alloc);
+    add_rows(routes, &mut rows);
+    Ok(rows.whole()?)
 }
 
 /// The candidates of the database of these LSAs, as rows.
 pub fn rows_of_lsas(alloc: Global, lsas: &[Lsa], root: &Root) -> Result<Vec<Row>, Fail> {
     let routes = routes(alloc, lsas, root)?;
-    Ok(rows(alloc, &routes)?)
+    rows(alloc, &routes)
 }

@@ -2,10 +2,11 @@
 ghost use Rattle.std.specs.Prelude.{◌≡◌, ◌≢◌};
 ghost use Rattle.lsa.specs.Text.{reserved_sequence};
 
+use crate::outcomes::{holds_in_memory, none_is_wrong};
 use lsa::{Body, ExternalLsa, Header, Lsa};
 use lsdb::Lsdb;
 use std::alloc::{AllocError, Global};
-use std::process::Abort;
+use std::test::Fail;
 use words::{Address, ExternalType, Key, LinkStateId, RouterId, Second, Sequence, SequenceNumber};
 
 const OWN: u32 = 0x0101_0101;
@@ -48,6 +49,40 @@ fn external(alloc: Global, router: u32, number: u32) -> Result<Lsa, AllocError> 
     Lsa::new(alloc, header(router, number), body)
 }
 
+// What is done with a database of 1.1.1.1.
+#[derive(Clone, Copy)]
+enum Deed {
+    // a router's externals from the first number on below the second are installed as originated
+    Originate(u32, u32, u32),
+    // those of 2.2.2.2 come in at a moment
+    Flood(u64, u32, u32),
+    // the external of a router and a number leaves
+    Remove(u32, u32),
+    // this router's of the number 0 is sent at a moment; that of 2.2.2.2 and a number is aged out
+    Send(u64),
+    AgeOut(u64, u32),
+    Settle,
+    SettleAt(u64),
+    RollBack,
+}
+
+// What is seen of it.
+#[derive(Clone, Copy)]
+enum Sight {
+    // how many LSAs and own externals there are, and whether those are too many
+    Counts(usize, usize, bool),
+    // whether there is room for the external of a router and a number
+    Room(u32, u32, bool),
+    // the routers and numbers of all keys, in order
+    Keys(&'static [(u32, u32)]),
+    // when this router's external of the number 0 was sent
+    Sent(u64),
+    // which of the externals of 2.2.2.2 have come of age at a moment
+    Aged(u64, &'static [u32]),
+}
+
+type Row = (&'static [Deed], &'static [Sight]);
+
 fn originate(
     database: &mut Lsdb,
     alloc: Global,
@@ -55,176 +90,70 @@ fn originate(
     number: u32,
 ) -> Result<(), AllocError> {
     let lsa = external(alloc, router, number)?;
-    database.install_originated(Second::new(1), lsa)?;
-    Ok(())
+    database.install_originated(Second::new(1), lsa)
 }
 
 fn flood(database: &mut Lsdb, alloc: Global, moment: u64, number: u32) -> Result<(), AllocError> {
     let lsa = external(alloc, OTHER, number)?;
-    database.install_flooded(Second::new(moment), lsa)?;
-    Ok(())
+    database.install_flooded(Second::new(moment), lsa)
 }
 
-fn fill(database: &mut Lsdb, alloc: Global, router: u32, count: u32) -> Result<(), AllocError> {
-    for number in 0..count {
+fn originate_all(
+    database: &mut Lsdb,
+    alloc: Global,
+    router: u32,
+    first: u32,
+    end: u32,
+) -> Result<(), AllocError> {
+    for number in first..end {
         originate(database, alloc, router, number)?;
     }
-    database.settle();
     Ok(())
 }
 
-// The externals of a router with so many numbers from 0 on, settled.
-fn filled(alloc: Global, router: u32, count: u32) -> Result<Lsdb, AllocError> {
-    let mut database = Lsdb::new(alloc, RouterId::new(OWN));
-    fill(&mut database, alloc, router, count)?;
-    Ok(database)
-}
-
-// Of 4,095 own externals.
-fn is_filled_up(rt: &impl Abort, alloc: Global, database: &mut Lsdb) -> Result<(), AllocError> {
-    assert!(rt; database.has_room(&key(OWN, 4_095)));
-    originate(database, alloc, OWN, 4_095)?;
-    assert!(rt; database.own_externals() == 4_096);
-    assert!(rt; !database.has_room(&key(OWN, 4_096)));
-    assert!(rt; database.has_room(&key(OWN, 7)) && database.has_room(&key(OTHER, 4_096)));
-    Ok(())
-}
-
-#[test]
-fn own_externals_are_limited(rt: HostRuntime) -> Result<(), AllocError> {
-    let mut database = filled(rt.alloc(), OWN, 4_095)?;
-    is_filled_up(&rt, rt.alloc(), &mut database)
-}
-
-// Of 4,096 own externals.
-fn takes_one_back(rt: &impl Abort, alloc: Global, database: &mut Lsdb) -> Result<(), AllocError> {
-    assert!(rt; !database.exceeds());
-    originate(database, alloc, OWN, 4_096)?;
-    assert!(rt; database.exceeds());
-    database.roll_back();
-    assert!(rt; database.own_externals() == 4_096 && !database.exceeds());
-    Ok(())
-}
-
-#[test]
-fn too_many_own_externals_are_taken_back(rt: HostRuntime) -> Result<(), AllocError> {
-    let mut database = filled(rt.alloc(), OWN, 4_096)?;
-    takes_one_back(&rt, rt.alloc(), &mut database)
-}
-
-fn remove(database: &mut Lsdb, keys: &[Key]) -> Result<(), AllocError> {
-    for key in keys {
-        database.remove(key)?;
-    }
-    Ok(())
-}
-
-// Of nine own externals.
-fn loses_one(rt: &impl Abort, database: &mut Lsdb) -> Result<(), AllocError> {
-    remove(database, &[key(OWN, 7), key(OWN, 7), key(OTHER, 7)])?;
-    assert!(rt; database.own_externals() == 8);
-    Ok(())
-}
-
-#[test]
-fn an_own_external_leaves_once(rt: HostRuntime) -> Result<(), AllocError> {
-    let mut database = filled(rt.alloc(), OWN, 9)?;
-    loses_one(&rt, &mut database)
-}
-
-// Of 16,383 of another router.
-fn is_full_of_one_more(
-    rt: &impl Abort,
-    alloc: Global,
+fn flood_all(
     database: &mut Lsdb,
+    alloc: Global,
+    moment: u64,
+    first: u32,
+    end: u32,
 ) -> Result<(), AllocError> {
-    assert!(rt; database.len() == 16_383 && database.own_externals() == 0);
-    assert!(rt; database.has_room(&key(OWN, 1)));
-    originate(database, alloc, OWN, 1)?;
-    assert!(rt; !database.has_room(&key(OWN, 2)) && !database.has_room(&key(OTHER, 16_383)));
-    assert!(rt; database.has_room(&key(OTHER, 16_382)) && !database.exceeds());
-    flood(database, alloc, 1, 16_383)?;
-    assert!(rt; database.exceeds());
-    Ok(())
-}
-
-#[test]
-fn lsas_are_limited(rt: HostRuntime) -> Result<(), AllocError> {
-    let mut database = filled(rt.alloc(), OTHER, 16_383)?;
-    is_full_of_one_more(&rt, rt.alloc(), &mut database)
-}
-
-// Another router's 7, 3 and 9, and this router's 3; then its 7 leaves.
-fn mix(database: &mut Lsdb, alloc: Global) -> Result<(), AllocError> {
-    for number in [7, 3, 9] {
-        flood(database, alloc, 1, number)?;
+    for number in first..end {
+        flood(database, alloc, moment, number)?;
     }
-    originate(database, alloc, OWN, 3)?;
-    database.remove(&key(OTHER, 7))?;
     Ok(())
 }
 
-fn has_keys(database: &Lsdb, alloc: Global, wanted: &[Key]) -> Result<bool, AllocError> {
+// Whether the keys are those of the routers and numbers, in order.
+fn are_keys(keys: &[Key], wanted: &[(u32, u32)]) -> bool {
+    if keys.len() != wanted.len() {
+        return false;
+    }
+    let mut are = true;
+    for at in 0..keys.len() {
+        let (router, number) = wanted[at];
+        are &= keys[at] == key(router, number);
+    }
+    are
+}
+
+fn has_keys(database: &Lsdb, alloc: Global, wanted: &[(u32, u32)]) -> Result<bool, AllocError> {
     let keys: Vec<Key> = database.keys().collect(alloc)?;
-    Ok(keys.as_slice() == wanted)
+    Ok(are_keys(&keys, wanted))
 }
 
-fn is_mixed(rt: &impl Abort, alloc: Global, database: &mut Lsdb) -> Result<(), AllocError> {
-    mix(database, alloc)?;
-    let wanted = [key(OWN, 3), key(OTHER, 3), key(OTHER, 9)];
-    assert!(rt; has_keys(database, alloc, &wanted)?);
-    Ok(())
+// Whether the keys are those of 2.2.2.2 and these numbers, in order.
+fn are_numbers(keys: &[Key], numbers: &[u32]) -> bool {
+    if keys.len() != numbers.len() {
+        return false;
+    }
+    let mut are = true;
+    for at in 0..keys.len() {
+        are &= keys[at] == key(OTHER, numbers[at]);
+    }
+    are
 }
 
-#[test]
-fn keys_come_in_order(rt: HostRuntime) -> Result<(), AllocError> {
-    let mut database = Lsdb::new(rt.alloc(), RouterId::new(OWN));
-    is_mixed(&rt, rt.alloc(), &mut database)
-}
-
-// Two externals, a third and the mark of the first, which can both be taken back.
-fn leave_unsettled(database: &mut Lsdb, alloc: Global) -> Result<(), AllocError> {
-    fill(database, alloc, OWN, 2)?;
-    originate(database, alloc, OWN, 2)?;
-    database.mark_sent(Second::new(4), &key(OWN, 0))?;
-    Ok(())
-}
-
-// The copy of three externals, rolled back.
-fn is_whole(rt: &impl Abort, copy: &mut Lsdb) {
-    copy.roll_back();
-    assert!(rt; copy.len() == 3 && copy.own_externals() == 3);
-    let sent = copy.get(&key(OWN, 0)).map(|found| found.times.sent);
-    assert!(rt; sent == Some(Some(Second::new(4))));
-}
-
-fn are_apart(rt: &impl Abort, database: &mut Lsdb, copy: &mut Lsdb) {
-    is_whole(rt, copy);
-    database.roll_back();
-    assert!(rt; database.len() == 2 && copy.len() == 3);
-}
-
-fn is_copied(rt: &impl Abort, alloc: Global, database: &mut Lsdb) -> Result<(), AllocError> {
-    leave_unsettled(database, alloc)?;
-    let mut copy = database.copy(alloc)?;
-    are_apart(rt, database, &mut copy);
-    Ok(())
-}
-
-#[test]
-fn a_copy_has_nothing_to_take_back(rt: HostRuntime) -> Result<(), AllocError> {
-    let mut database = Lsdb::new(rt.alloc(), RouterId::new(OWN));
-    is_copied(&rt, rt.alloc(), &mut database)
-}
-
-// Three externals of another router, which are 0 seconds old at moment 1.
-fn grow(database: &mut Lsdb, alloc: Global) -> Result<(), AllocError> {
-    fill(database, alloc, OTHER, 3)?;
-    database.settle_at(alloc, Second::new(1));
-    Ok(())
-}
-
-// Whether these numbers of the other router are what has come of age.
 fn are_aged(
     database: &Lsdb,
     alloc: Global,
@@ -232,39 +161,253 @@ fn are_aged(
     numbers: &[u32],
 ) -> Result<bool, AllocError> {
     let aged = database.aged_keys(alloc, Second::new(moment))?;
-    let mut wanted = Vec::new(alloc);
-    for number in numbers.iter().copied() {
-        wanted.push(key(OTHER, number))?;
+    Ok(are_numbers(&aged, numbers))
+}
+
+fn was_sent(database: &Lsdb, moment: u64) -> bool {
+    match database.get(&key(OWN, 0)) {
+        Some(found) => found.times.sent == Some(Second::new(moment)),
+        None => false,
     }
-    Ok(aged.as_slice() == wanted.as_slice())
 }
 
-fn is_aged_out(rt: &impl Abort, alloc: Global, database: &mut Lsdb) -> Result<(), AllocError> {
-    grow(database, alloc)?;
-    database.age_out(Second::new(10), &key(OTHER, 1))?;
-    assert!(rt; are_aged(database, alloc, 10, &[1])?);
-    database.roll_back();
-    assert!(rt; are_aged(database, alloc, 10, &[])?);
+fn does(database: &mut Lsdb, alloc: Global, deed: &Deed) -> Result<(), AllocError> {
+    match *deed {
+        Deed::Originate(router, first, end) => originate_all(database, alloc, router, first, end),
+        Deed::Flood(moment, first, end) => flood_all(database, alloc, moment, first, end),
+        Deed::Remove(router, number) => database.remove(&key(router, number)),
+        Deed::Send(moment) => database.mark_sent(Second::new(moment), &key(OWN, 0)),
+        Deed::AgeOut(moment, number) => database.age_out(Second::new(moment), &key(OTHER, number)),
+        Deed::Settle => {
+            database.settle();
+            Ok(())
+        }
+        Deed::SettleAt(moment) => {
+            database.settle_at(alloc, Second::new(moment));
+            Ok(())
+        }
+        Deed::RollBack => {
+            database.roll_back();
+            Ok(())
+        }
+    }
+}
+
+fn has_counts(database: &Lsdb, len: usize, own_externals: usize, exceeds: bool) -> bool {
+    (database.len() == len)
+        & (database.own_externals() == own_externals)
+        & (database.exceeds() == exceeds)
+}
+
+fn is_seen(database: &Lsdb, alloc: Global, sight: &Sight) -> Result<bool, AllocError> {
+    match *sight {
+        Sight::Counts(len, own, exceeds) => Ok(has_counts(database, len, own, exceeds)),
+        Sight::Room(router, number, has) => Ok(database.has_room(&key(router, number)) == has),
+        Sight::Keys(wanted) => has_keys(database, alloc, wanted),
+        Sight::Sent(moment) => Ok(was_sent(database, moment)),
+        Sight::Aged(moment, numbers) => are_aged(database, alloc, moment, numbers),
+    }
+}
+
+fn does_all(database: &mut Lsdb, alloc: Global, deeds: &[Deed]) -> Result<(), AllocError> {
+    for deed in deeds {
+        does(database, alloc, deed)?;
+    }
     Ok(())
 }
 
-#[test]
-fn what_is_aged_out_is_found(rt: HostRuntime) -> Result<(), AllocError> {
-    let mut database = Lsdb::new(rt.alloc(), RouterId::new(OWN));
-    is_aged_out(&rt, rt.alloc(), &mut database)
+fn are_seen(database: &Lsdb, alloc: Global, sights: &[Sight]) -> Result<bool, AllocError> {
+    let mut are = true;
+    for sight in sights {
+        are &= is_seen(database, alloc, sight)?;
+    }
+    Ok(are)
 }
 
-fn comes_of_age(rt: &impl Abort, alloc: Global, database: &mut Lsdb) -> Result<(), AllocError> {
-    grow(database, alloc)?;
-    assert!(rt; are_aged(database, alloc, 3_600, &[])?);
-    flood(database, alloc, 20, 0)?;
-    database.settle_at(alloc, Second::new(20));
-    assert!(rt; are_aged(database, alloc, 3_601, &[1, 2])?);
-    Ok(())
+// Whether all is seen of the row after what it does.
+fn comes_out(database: &mut Lsdb, alloc: Global, row: &Row) -> Result<bool, AllocError> {
+    does_all(database, alloc, row.0)?;
+    are_seen(database, alloc, row.1)
+}
+
+// The first of the rows that doesn't come out.
+fn first_wrong(database: &mut Lsdb, alloc: Global, rows: &[Row]) -> Result<Option<usize>, Fail> {
+    for at in 0..rows.len() {
+        if !comes_out(database, alloc, &rows[at])? {
+            return Ok(Some(at));
+        }
+    }
+    Ok(None)
+}
+
+// The same of an empty database.
+fn first_wrong_of_new(alloc: Global, rows: &[Row]) -> Result<Option<usize>, Fail> {
+    let mut database = Lsdb::new(alloc, RouterId::new(OWN));
+    first_wrong(&mut database, alloc, rows)
+}
+
+const OWN_EXTERNALS: &[Row] = &[
+    (
+        &[Deed::Originate(OWN, 0, 4_095), Deed::Settle],
+        &[Sight::Room(OWN, 4_095, true)],
+    ),
+    (
+        &[Deed::Originate(OWN, 4_095, 4_096)],
+        &[
+            Sight::Counts(4_096, 4_096, false),
+            Sight::Room(OWN, 4_096, false),
+            Sight::Room(OWN, 7, true),
+            Sight::Room(OTHER, 4_096, true),
+        ],
+    ),
+];
+
+#[test]
+fn own_externals_are_limited(rt: HostRuntime) -> Result<(), Fail> {
+    none_is_wrong(first_wrong_of_new(rt.alloc(), OWN_EXTERNALS))
+}
+
+const ONE_TOO_MANY: &[Row] = &[
+    (
+        &[Deed::Originate(OWN, 0, 4_096), Deed::Settle],
+        &[Sight::Counts(4_096, 4_096, false)],
+    ),
+    (
+        &[Deed::Originate(OWN, 4_096, 4_097)],
+        &[Sight::Counts(4_097, 4_097, true)],
+    ),
+    (&[Deed::RollBack], &[Sight::Counts(4_096, 4_096, false)]),
+];
+
+#[test]
+fn too_many_own_externals_are_taken_back(rt: HostRuntime) -> Result<(), Fail> {
+    none_is_wrong(first_wrong_of_new(rt.alloc(), ONE_TOO_MANY))
+}
+
+const LEAVES_TWICE: &[Row] = &[(
+    &[
+        Deed::Originate(OWN, 0, 9),
+        Deed::Settle,
+        Deed::Remove(OWN, 7),
+        Deed::Remove(OWN, 7),
+        Deed::Remove(OTHER, 7),
+    ],
+    &[Sight::Counts(8, 8, false)],
+)];
+
+#[test]
+fn an_own_external_leaves_once(rt: HostRuntime) -> Result<(), Fail> {
+    none_is_wrong(first_wrong_of_new(rt.alloc(), LEAVES_TWICE))
+}
+
+const UP_TO_THE_LIMIT: &[Row] = &[
+    (
+        &[Deed::Originate(OTHER, 0, 16_383), Deed::Settle],
+        &[Sight::Counts(16_383, 0, false), Sight::Room(OWN, 1, true)],
+    ),
+    (
+        &[Deed::Originate(OWN, 1, 2)],
+        &[
+            Sight::Counts(16_384, 1, false),
+            Sight::Room(OWN, 2, false),
+            Sight::Room(OTHER, 16_383, false),
+            Sight::Room(OTHER, 16_382, true),
+        ],
+    ),
+    (
+        &[Deed::Flood(1, 16_383, 16_384)],
+        &[Sight::Counts(16_385, 1, true)],
+    ),
+];
+
+#[test]
+fn lsas_are_limited(rt: HostRuntime) -> Result<(), Fail> {
+    none_is_wrong(first_wrong_of_new(rt.alloc(), UP_TO_THE_LIMIT))
+}
+
+// Another router's 7, 3 and 9, and this router's 3; then its 7 leaves.
+const MIXED: &[Row] = &[(
+    &[
+        Deed::Flood(1, 7, 8),
+        Deed::Flood(1, 3, 4),
+        Deed::Flood(1, 9, 10),
+        Deed::Originate(OWN, 3, 4),
+        Deed::Remove(OTHER, 7),
+    ],
+    &[Sight::Keys(&[(OWN, 3), (OTHER, 3), (OTHER, 9)])],
+)];
+
+#[test]
+fn keys_come_in_order(rt: HostRuntime) -> Result<(), Fail> {
+    none_is_wrong(first_wrong_of_new(rt.alloc(), MIXED))
+}
+
+// Two externals, a third and the mark of the first, which can both be taken back.
+const UNSETTLED: &[Deed] = &[
+    Deed::Originate(OWN, 0, 2),
+    Deed::Settle,
+    Deed::Originate(OWN, 2, 3),
+    Deed::Send(4),
+];
+
+const TAKEN_BACK: &[Deed] = &[Deed::RollBack];
+
+// All three in the copy, which is rolled back.
+const WHOLE: Row = (TAKEN_BACK, &[Sight::Counts(3, 3, false), Sight::Sent(4)]);
+
+const FIRST_TWO: Row = (TAKEN_BACK, &[Sight::Counts(2, 2, false)]);
+
+const STILL_WHOLE: Row = (&[], &[Sight::Counts(3, 3, false)]);
+
+fn are_apart(database: &mut Lsdb, copy: &mut Lsdb, alloc: Global) -> Result<bool, AllocError> {
+    let is_whole = comes_out(copy, alloc, &WHOLE)?;
+    let has_two = comes_out(database, alloc, &FIRST_TWO)?;
+    Ok(is_whole && has_two && comes_out(copy, alloc, &STILL_WHOLE)?)
+}
+
+fn is_copied(database: &mut Lsdb, alloc: Global) -> Result<bool, AllocError> {
+    does_all(database, alloc, UNSETTLED)?;
+    let mut copy = database.copy(alloc)?;
+    are_apart(database, &mut copy, alloc)
+}
+
+fn is_copied_whole(alloc: Global) -> Result<bool, AllocError> {
+    let mut database = Lsdb::new(alloc, RouterId::new(OWN));
+    is_copied(&mut database, alloc)
 }
 
 #[test]
-fn what_has_come_of_age_is_found(rt: HostRuntime) -> Result<(), AllocError> {
-    let mut database = Lsdb::new(rt.alloc(), RouterId::new(OWN));
-    comes_of_age(&rt, rt.alloc(), &mut database)
+fn a_copy_has_nothing_to_take_back(rt: HostRuntime) -> Result<(), Fail> {
+    holds_in_memory(is_copied_whole(rt.alloc()))
+}
+
+// Three externals of another router, which are 0 seconds old at moment 1.
+const GROWN: &[Deed] = &[
+    Deed::Originate(OTHER, 0, 3),
+    Deed::Settle,
+    Deed::SettleAt(1),
+];
+
+const AGED_OUT: &[Row] = &[
+    (GROWN, &[]),
+    (&[Deed::AgeOut(10, 1)], &[Sight::Aged(10, &[1])]),
+    (&[Deed::RollBack], &[Sight::Aged(10, &[])]),
+];
+
+#[test]
+fn what_is_aged_out_is_found(rt: HostRuntime) -> Result<(), Fail> {
+    none_is_wrong(first_wrong_of_new(rt.alloc(), AGED_OUT))
+}
+
+const OF_AGE: &[Row] = &[
+    (GROWN, &[Sight::Aged(3_600, &[])]),
+    (
+        &[Deed::Flood(20, 0, 1), Deed::SettleAt(20)],
+        &[Sight::Aged(3_601, &[1, 2])],
+    ),
+];
+
+#[test]
+fn what_has_come_of_age_is_found(rt: HostRuntime) -> Result<(), Fail> {
+    none_is_wrong(first_wrong_of_new(rt.alloc(), OF_AGE))
 }

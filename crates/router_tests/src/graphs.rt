@@ -2,9 +2,10 @@
 ghost use Rattle.std.specs.Prelude.{◌≤◌, length};
 ghost use Rattle.std.specs.FinMap as finite;
 
-use crate::area::{database, moment, root};
+use crate::area::{empty, moment, root};
 use crate::kept::later;
-use crate::lines::lsas_of;
+use crate::lines::install_lines;
+use crate::outcomes::none_is_wrong;
 use crate::texts::{LinkText, Name, router};
 use crate::worked::{TWO, TWO_ADDRESSES};
 use graph_updates::follow_graph;
@@ -58,12 +59,11 @@ fn have_same_links(one: &[Vertex], other: &[Vertex]) -> bool {
     if one.len() != other.len() {
         return false;
     }
+    let mut have = true;
     for at in 0..one.len() {
-        if one[at].links.as_slice() != other[at].links.as_slice() {
-            return false;
-        }
+        have &= one[at].links.as_slice() == other[at].links.as_slice();
     }
-    true
+    have
 }
 
 // Whether these are the links of the graph that is made of what the database holds.
@@ -75,16 +75,26 @@ fn are_its_links(alloc: Global, db: &Lsdb, root: &Root, links: &[Vertex]) -> Res
     Ok(have_same_links(&made.vertices, links))
 }
 
+fn has_its_links(
+    alloc: Global,
+    db: &Lsdb,
+    root: &Root,
+    next: &Option<AreaGraph>,
+) -> Result<Option<bool>, Fail> {
+    match next {
+        None => Ok(None),
+        Some(graph) => Ok(Some(are_its_links(alloc, db, root, &graph.vertices)?)),
+    }
+}
+
 // Whether the graph of the database followed this LSA to what it holds then; None where it is to be
 // made anew.
 fn followed(alloc: Global, db: &mut Lsdb, root: &Root, lsa: Lsa) -> Result<Option<bool>, Fail> {
     if db.len() > 16384 || root.addresses.as_slice().len() > 63 {
         return Err(Fail::from("a database or a router that is too large"));
     }
-    match follow_one(alloc, db, root, lsa)? {
-        None => Ok(None),
-        Some(graph) => Ok(Some(are_its_links(alloc, db, root, &graph.vertices)?)),
-    }
+    let next = follow_one(alloc, db, root, lsa)?;
+    has_its_links(alloc, db, root, &next)
 }
 
 // A router's LSA with one link of this kind and metric to the first router, and whether the graph
@@ -97,7 +107,7 @@ struct Change {
     followed: Option<bool>,
 }
 
-const CHANGES: [Change; 5] = [
+const CHANGES: &[Change] = &[
     // the other router's link costs something else, or doesn't count
     Change {
         id: 0x0202_0202,
@@ -134,19 +144,32 @@ const CHANGES: [Change; 5] = [
     },
 ];
 
-fn is_as_expected(alloc: Global, change: &Change) -> Result<bool, Fail> {
-    let lsas = lsas_of(alloc, &TWO, &[])?;
-    let mut db = database(alloc, &lsas)?;
-    let root = root(alloc, 0x0101_0101, &TWO_ADDRESSES)?;
+fn is_followed(alloc: Global, db: &mut Lsdb, root: &Root, change: &Change) -> Result<bool, Fail> {
     let lsa = router_lsa(alloc, change.id, change.kind, change.metric)?;
-    Ok(followed(alloc, &mut db, &root, lsa)? == change.followed)
+    Ok(followed(alloc, db, root, lsa)? == change.followed)
+}
+
+fn is_followed_by_two(alloc: Global, db: &mut Lsdb, change: &Change) -> Result<bool, Fail> {
+    install_lines(alloc, db, &TWO, &[])?;
+    let root = root(alloc, 0x0101_0101, &TWO_ADDRESSES)?;
+    is_followed(alloc, db, &root, change)
+}
+
+fn is_as_expected(alloc: Global, change: &Change) -> Result<bool, Fail> {
+    let mut db = empty(alloc);
+    is_followed_by_two(alloc, &mut db, change)
+}
+
+fn first_wrong(alloc: Global, changes: &[Change]) -> Result<Option<usize>, Fail> {
+    for at in 0..changes.len() {
+        if !is_as_expected(alloc, &changes[at])? {
+            return Ok(Some(at));
+        }
+    }
+    Ok(None)
 }
 
 #[test]
 fn a_graph_follows_router_lsas(rt: HostRuntime) -> Result<(), Fail> {
-    for at in 0..CHANGES.len() {
-        let is = is_as_expected(rt.alloc(), &CHANGES[at])?;
-        assert!(rt; is, "change {at}");
-    }
-    Ok(())
+    none_is_wrong(first_wrong(rt.alloc(), CHANGES))
 }

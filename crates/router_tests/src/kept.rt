@@ -2,8 +2,9 @@
 ghost use Rattle.std.specs.Prelude.{◌≤◌, length};
 ghost use Rattle.std.specs.FinMap as finite;
 
-use crate::area::{Row, database, moment, root, rows, rows_of_lsas};
-use crate::lines::{announced, lsas_of};
+use crate::area::{Row, empty, install_each, moment, root, rows, rows_of_lsas};
+use crate::lines::{announced, install_lines, lsas_of};
+use crate::outcomes::{holds, none_is_wrong};
 use crate::settled::have_ids;
 use crate::texts::{LinkText, Name, router};
 use crate::worked::{TWO, TWO_ADDRESSES};
@@ -12,9 +13,9 @@ use lsa::{Body, Lsa};
 use lsdb::Lsdb;
 use routes::Root;
 use shortest_paths::{copy_of, walk};
-use std::alloc::Global;
+use std::alloc::{AllocError, Global};
 use std::test::Fail;
-use words::{Key, LinkStateId, RouterId, Second};
+use words::{Key, LinkStateId, Route, RouterId, Second};
 
 // What is done with the database of two routers, a second after it was settled.
 #[derive(Clone, Copy)]
@@ -70,19 +71,39 @@ fn other_router(alloc: Global, metric: u16) -> Result<Lsa, Fail> {
     router(alloc, name, 2, &[link])
 }
 
-fn renew(alloc: Global, db: &mut Lsdb) -> Result<(), Fail> {
-    for lsa in lsas_of(alloc, &TWO, &[])? {
-        db.install_flooded(later(1), lsa)?;
-    }
-    Ok(())
+fn done(outcome: Result<(), AllocError>) -> Result<bool, Fail> {
+    outcome?;
+    Ok(true)
 }
 
-fn announce(alloc: Global, db: &mut Lsdb, count: u32) -> Result<(), Fail> {
-    for number in 0..count {
-        let network = 0xcb00_0000_u32.wrapping_add(number.wrapping_mul(256));
-        db.install_flooded(later(1), announced(alloc, network, 0x0202_0202, true)?)?;
+fn install(alloc: Global, db: &mut Lsdb, metric: u16) -> Result<bool, Fail> {
+    let lsa = other_router(alloc, metric)?;
+    done(db.install_flooded(later(1), lsa))
+}
+
+fn renew_each(db: &mut Lsdb, lsas: &[Lsa]) -> Result<bool, Fail> {
+    for lsa in lsas {
+        db.install_flooded(later(1), lsa.copy()?)?;
     }
-    Ok(())
+    Ok(true)
+}
+
+fn renew(alloc: Global, db: &mut Lsdb) -> Result<bool, Fail> {
+    let lsas = lsas_of(alloc, &TWO, &[])?;
+    renew_each(db, &lsas)
+}
+
+fn announce_one(alloc: Global, db: &mut Lsdb, number: u32) -> Result<bool, Fail> {
+    let network = 0xcb00_0000_u32.wrapping_add(number.wrapping_mul(256));
+    let lsa = announced(alloc, network, 0x0202_0202, true)?;
+    done(db.install_flooded(later(1), lsa))
+}
+
+fn announce(alloc: Global, db: &mut Lsdb, count: u32) -> Result<bool, Fail> {
+    for number in 0..count {
+        announce_one(alloc, db, number)?;
+    }
+    Ok(true)
 }
 
 // Whether the LSAs of types 1 and 2, and whether all LSAs, say so many seconds later what those of
@@ -96,6 +117,10 @@ fn same_later(alloc: Global, db: &Lsdb, seconds: u64) -> Result<(bool, bool), Fa
     let links = say_the_same(alloc, db, Some(2), before, now)?;
     let all = say_the_same(alloc, db, None, before, now)?;
     Ok((links, all))
+}
+
+fn are_same(alloc: Global, db: &Lsdb, seconds: u64, expected: (bool, bool)) -> Result<bool, Fail> {
+    Ok(same_later(alloc, db, seconds)? == expected)
 }
 
 fn have_changed(alloc: Global, db: &Lsdb, seconds: u64, ids: &[u32]) -> Result<bool, Fail> {
@@ -114,20 +139,20 @@ fn links_said(db: &Lsdb, seconds: u64) -> Option<usize> {
 // Does the step; false where LSAs say the same and were expected not to, or the other way round.
 fn took(alloc: Global, db: &mut Lsdb, step: Step) -> Result<bool, Fail> {
     match step {
-        Step::Install(metric) => db.install_flooded(later(1), other_router(alloc, metric)?)?,
-        Step::Renew => renew(alloc, db)?,
-        Step::Announce(count) => announce(alloc, db, count)?,
-        Step::Send => db.mark_sent(later(1), &other_key())?,
-        Step::Flush => db.age_out(later(1), &other_key())?,
-        Step::Remove => db.remove(&other_key())?,
-        Step::RollBack => db.roll_back(),
-        Step::Same(seconds, links, all) => {
-            return Ok(same_later(alloc, db, seconds)? == (links, all));
+        Step::Install(metric) => install(alloc, db, metric),
+        Step::Renew => renew(alloc, db),
+        Step::Announce(count) => announce(alloc, db, count),
+        Step::Send => done(db.mark_sent(later(1), &other_key())),
+        Step::Flush => done(db.age_out(later(1), &other_key())),
+        Step::Remove => done(db.remove(&other_key())),
+        Step::RollBack => {
+            db.roll_back();
+            Ok(true)
         }
-        Step::Changed(seconds, ids) => return have_changed(alloc, db, seconds, ids),
-        Step::Said(seconds, links) => return Ok(links_said(db, seconds) == links),
+        Step::Same(seconds, links, all) => are_same(alloc, db, seconds, (links, all)),
+        Step::Changed(seconds, ids) => have_changed(alloc, db, seconds, ids),
+        Step::Said(seconds, links) => Ok(links_said(db, seconds) == links),
     }
-    Ok(true)
 }
 
 // The first step after which something else was expected.
@@ -140,13 +165,7 @@ fn first_wrong(alloc: Global, db: &mut Lsdb, steps: &[Step]) -> Result<Option<us
     Ok(None)
 }
 
-// The settled database of two routers.
-fn two(alloc: Global) -> Result<Lsdb, Fail> {
-    let lsas = lsas_of(alloc, &TWO, &[])?;
-    Ok(database(alloc, &lsas)?)
-}
-
-const STEPS: [Step; 24] = [
+const STEPS: &[Step] = &[
     // nothing is new; the LSAs were of age 1 when they came in, and are of MaxAge 3599 seconds
     // later
     Step::Same(0, true, true),
@@ -179,7 +198,7 @@ const STEPS: [Step; 24] = [
     Step::Same(1, false, false),
 ];
 
-const CHANGES: [Step; 26] = [
+const CHANGES: &[Step] = &[
     // nothing is new; the LSAs were of age 1 when they came in, and are of MaxAge 3599 seconds
     // later
     Step::Changed(3599, &[]),
@@ -214,42 +233,44 @@ const CHANGES: [Step; 26] = [
     Step::Said(1, Some(3)),
 ];
 
-// The first of these steps after which something else was expected of the database of two routers.
+// The same of the settled database of two routers.
+fn first_wrong_after(alloc: Global, db: &mut Lsdb, steps: &[Step]) -> Result<Option<usize>, Fail> {
+    install_lines(alloc, db, &TWO, &[])?;
+    first_wrong(alloc, db, steps)
+}
+
 fn first_wrong_of_two(alloc: Global, steps: &[Step]) -> Result<Option<usize>, Fail> {
-    let mut db = two(alloc)?;
-    first_wrong(alloc, &mut db, steps)
+    let mut db = empty(alloc);
+    first_wrong_after(alloc, &mut db, steps)
 }
 
 #[test]
 fn what_makes_lsas_say_something_else(rt: HostRuntime) -> Result<(), Fail> {
-    let wrong = first_wrong_of_two(rt.alloc(), &STEPS)?;
-    assert!(rt; wrong.is_none(), "{wrong:?}");
-    Ok(())
+    none_is_wrong(first_wrong_of_two(rt.alloc(), STEPS))
 }
 
 #[test]
 fn what_lsas_said_when_the_database_was_settled(rt: HostRuntime) -> Result<(), Fail> {
-    let wrong = first_wrong_of_two(rt.alloc(), &CHANGES)?;
-    assert!(rt; wrong.is_none(), "{wrong:?}");
-    Ok(())
+    none_is_wrong(first_wrong_of_two(rt.alloc(), CHANGES))
 }
 
-// The candidates of a walk that is made at the moment, and once more, and how many walks that were.
-fn walked_twice(alloc: Global, db: &Lsdb, root: &Root) -> Result<(Vec<Row>, u64), Fail> {
+// Whether the walk that is made at the moment, and once more, gives these candidates, and counts.
+fn serves_again(alloc: Global, db: &Lsdb, root: &Root, anew: &[Row]) -> Result<bool, Fail> {
     if db.len() > 16384 || root.addresses.as_slice().len() > 63 {
         return Err(Fail::from("a database or a router that is too large"));
     }
     let mut kept = Routes::new(alloc, db, root, moment())?;
-    walked_again(alloc, db, root, &mut kept)
+    serves(alloc, db, root, &mut kept, anew)
 }
 
 // The same where the first walk has been made.
-fn walked_again(
+fn serves(
     alloc: Global,
     db: &Lsdb,
     root: &Root,
     kept: &mut Routes,
-) -> Result<(Vec<Row>, u64), Fail>
+    anew: &[Row],
+) -> Result<bool, Fail>
     requires interfaces { length root.now.addresses ≤ 63 }
     requires size { finite.len db.now.present ≤ 16384 }
 {
@@ -257,26 +278,34 @@ fn walked_again(
     let reached = walk(alloc, db, root, now)?;
     kept.take_walk(copy_of(root)?, reached);
     let found = kept.candidates(alloc, db, now)?;
-    Ok((rows(alloc, &found)?, kept.walks()))
+    let are_those = are_rows(alloc, &found, anew)?;
+    Ok(are_those && kept.walks() == 2)
 }
 
-// The same of the database of these LSAs.
-fn walked_twice_of(alloc: Global, lsas: &[Lsa], root: &Root) -> Result<(Vec<Row>, u64), Fail> {
-    let db = database(alloc, lsas)?;
-    walked_twice(alloc, &db, root)
+fn are_rows(alloc: Global, found: &[Route], anew: &[Row]) -> Result<bool, Fail> {
+    let found = rows(alloc, found)?;
+    Ok(found.as_slice() == anew)
+}
+
+fn serves_database(alloc: Global, db: &mut Lsdb, lsas: &[Lsa], root: &Root) -> Result<bool, Fail> {
+    install_each(db, lsas)?;
+    let anew = rows_of_lsas(alloc, lsas, root)?;
+    serves_again(alloc, db, root, &anew)
 }
 
 // Whether a second walk gives the candidates of these LSAs, and counts.
 fn second_walk_serves(alloc: Global, lsas: &[Lsa]) -> Result<bool, Fail> {
     let root = root(alloc, 0x0101_0101, &TWO_ADDRESSES)?;
-    let (found, walks) = walked_twice_of(alloc, lsas, &root)?;
-    let anew = rows_of_lsas(alloc, lsas, &root)?;
-    Ok(walks == 2 && found.as_slice() == anew.as_slice())
+    let mut db = empty(alloc);
+    serves_database(alloc, &mut db, lsas, &root)
+}
+
+fn second_walk_serves_two(alloc: Global) -> Result<bool, Fail> {
+    let lsas = lsas_of(alloc, &TWO, &[])?;
+    second_walk_serves(alloc, &lsas)
 }
 
 #[test]
 fn a_kept_walk_gives_the_candidates(rt: HostRuntime) -> Result<(), Fail> {
-    let lsas = lsas_of(rt.alloc(), &TWO, &[])?;
-    assert!(rt; second_walk_serves(rt.alloc(), &lsas)?);
-    Ok(())
+    holds(second_walk_serves_two(rt.alloc()))
 }

@@ -1,7 +1,7 @@
 //! Tests of a router's parts by their public calls: `keyed_map`, `lsdb`, `neighbor_places`,
 //! `routes`, `shortest_paths`, `candidates`, `tables`, `kept_routes`, `graph_updates` and
-//! `forwarding_loops`; and of `words`, `lsa`, `packet` and `console`. They stand above, since a crate is proved once more for
-//! its tests.
+//! `forwarding_loops`; and of `words`, `lsa`, `packet` and `console`. They stand above, since a
+//! crate is proved once more for its tests.
 #![tactic(auto)]
 
 #[cfg(test)]
@@ -10,6 +10,8 @@ mod area;
 mod databases;
 #[cfg(test)]
 mod externals;
+#[cfg(test)]
+mod gathered;
 #[cfg(test)]
 mod graphs;
 #[cfg(test)]
@@ -22,6 +24,8 @@ mod lines;
 mod looping;
 #[cfg(test)]
 mod networks;
+#[cfg(test)]
+mod outcomes;
 #[cfg(test)]
 mod plain;
 #[cfg(test)]

@@ -1,9 +1,12 @@
 //! Areas as lines, one for each LSA and each link.
 ghost use Rattle.std.specs.Prelude.{◌<◌, length};
 
-use crate::texts::{ExternalText, LinkText, Name, external, router, summary};
-use lsa::{Lsa, read};
-use std::alloc::{AllocError, Global};
+use crate::area::install_each;
+use crate::gathered::Gathered;
+use crate::texts::{ExternalText, LinkText, Name, external, loaded, router, summary};
+use lsa::Lsa;
+use lsdb::Lsdb;
+use std::alloc::Global;
 use std::test::Fail;
 
 /// An LSA, or a link of the router above it.
@@ -51,9 +54,8 @@ pub fn announced(alloc: Global, network: u32, by: u32, is_type_2: bool) -> Resul
     external(alloc, name(5, network, by), says)
 }
 
-// The links that stand from this line on, up to the next LSA.
-fn links_from(alloc: Global, lines: &[Line], first: usize) -> Result<Vec<LinkText>, AllocError> {
-    let mut links = Vec::new(alloc);
+// Adds the links that stand from this line on, up to the next LSA.
+fn add_links_from(lines: &[Line], first: usize, links: &mut Gathered<LinkText>) {
     for at in first..lines.len() {
         match lines[at] {
             Line::Link(kind, id, data, metric) => links.push(LinkText {
@@ -61,11 +63,10 @@ fn links_from(alloc: Global, lines: &[Line], first: usize) -> Result<Vec<LinkTex
                 id,
                 data,
                 metric,
-            })?,
-            _ => return Ok(links),
+            }),
+            _ => return,
         }
     }
-    Ok(links)
 }
 
 // The router-LSA whose links stand from this line on.
@@ -76,37 +77,66 @@ fn router_from(
     id: u32,
     flags: u8,
 ) -> Result<Lsa, Fail> {
-    let links = links_from(alloc, lines, first)?;
+    let mut gathered = Gathered::new(alloc);
+    add_links_from(lines, first, &mut gathered);
+    let links = gathered.whole()?;
     router(alloc, name(1, id, id), flags, &links)
 }
 
-fn push_line(alloc: Global, lines: &[Line], at: usize, lsas: &mut Vec<Lsa>) -> Result<(), Fail>
+// The LSA of this line, which is no link.
+fn lsa_at(alloc: Global, lines: &[Line], at: usize) -> Result<Lsa, Fail>
     requires { at < length lines.now }
 {
-    let lsa = match lines[at] {
-        Line::Router(id, flags) => router_from(alloc, lines, at + 1, id, flags)?,
-        Line::Link(..) => return Ok(()),
+    match lines[at] {
+        Line::Router(id, flags) => router_from(alloc, lines, at + 1, id, flags),
         Line::Summary(ls_type, id, mask, metric) => {
-            summary(alloc, name(ls_type, id, 0x0202_0202), mask, metric)?
+            summary(alloc, name(ls_type, id, 0x0202_0202), mask, metric)
         }
-        Line::External(by, is_type_2) => announced(alloc, 0xcb00_7100, by, is_type_2)?,
-        Line::Network => read(alloc, NETWORK)?,
-    };
-    lsas.push(lsa)?;
-    Ok(())
+        Line::External(by, is_type_2) => announced(alloc, 0xcb00_7100, by, is_type_2),
+        Line::Link(..) | Line::Network => loaded(alloc, NETWORK),
+    }
 }
 
-fn push_lines(alloc: Global, lines: &[Line], lsas: &mut Vec<Lsa>) -> Result<(), Fail> {
+fn is_link(line: &Line) -> bool {
+    match line {
+        Line::Link(..) => true,
+        _ => false,
+    }
+}
+
+fn push_lines(alloc: Global, lines: &[Line], lsas: &mut Gathered<Lsa>) -> Result<(), Fail> {
     for at in 0..lines.len() {
-        push_line(alloc, lines, at, lsas)?;
+        if !is_link(&lines[at]) {
+            lsas.push(lsa_at(alloc, lines, at)?);
+        }
     }
     Ok(())
 }
 
+fn push_both(
+    alloc: Global,
+    area: &[Line],
+    others: &[Line],
+    lsas: &mut Gathered<Lsa>,
+) -> Result<(), Fail> {
+    push_lines(alloc, area, lsas)?;
+    push_lines(alloc, others, lsas)
+}
+
 /// The LSAs of an area, and others beside them.
 pub fn lsas_of(alloc: Global, area: &[Line], others: &[Line]) -> Result<Vec<Lsa>, Fail> {
-    let mut lsas = Vec::new(alloc);
-    push_lines(alloc, area, &mut lsas)?;
-    push_lines(alloc, others, &mut lsas)?;
-    Ok(lsas)
+    let mut lsas = Gathered::new(alloc);
+    push_both(alloc, area, others, &mut lsas)?;
+    Ok(lsas.whole()?)
+}
+
+/// These LSAs come in, each as a settled event.
+pub fn install_lines(
+    alloc: Global,
+    db: &mut Lsdb,
+    area: &[Line],
+    others: &[Line],
+) -> Result<(), Fail> {
+    let lsas = lsas_of(alloc, area, others)?;
+    install_each(db, &lsas)
 }

@@ -3,6 +3,7 @@ ghost use Rattle.std.specs.Prelude.{IfOk, length};
 ghost use Rattle.std.specs.List.{All};
 ghost use Rattle.forwarding_loops.specs.Loops.{IsAmong};
 
+use crate::outcomes::no_case_is_wrong;
 use forwarding_loops::{Hop, count_loops, loops};
 use std::alloc::{AllocError, Global};
 use std::test::Fail;
@@ -16,7 +17,7 @@ struct Case {
     count: usize,
 }
 
-const CASES: [Case; 7] = [
+const CASES: &[Case] = &[
     Case {
         name: "a row to the first router",
         costs: &[0, 10, 20],
@@ -95,10 +96,16 @@ fn is_right(alloc: Global, case: &Case) -> Result<bool, AllocError> {
     is_case(alloc, &hops, case)
 }
 
+fn first_wrong(alloc: Global, cases: &[Case]) -> Result<Option<&'static str>, Fail> {
+    for case in cases {
+        if !is_right(alloc, case)? {
+            return Ok(Some(case.name));
+        }
+    }
+    Ok(None)
+}
+
 #[test]
 fn loops_are_found_and_counted(rt: HostRuntime) -> Result<(), Fail> {
-    for case in &CASES {
-        assert!(rt; is_right(rt.alloc(), case)?, "{}", case.name);
-    }
-    Ok(())
+    no_case_is_wrong(first_wrong(rt.alloc(), CASES))
 }

@@ -1,6 +1,7 @@
 //! The candidates of a small area by the definitions themselves (RFC 2328, section 16): all walks,
 //! all offers, and for each prefix the best.
 use crate::area::Row;
+use crate::gathered::Gathered;
 use lsa::{Body, ExternalLsa, Link, LinkKind, Lsa, NetworkLsa, RouterLsa, SummaryLsa};
 use routes::Root;
 use std::alloc::{AllocError, Global};
@@ -83,12 +84,16 @@ struct Offer {
 
 // ---- links
 
+// Whether the LSA counts, and has this Link State ID.
+fn is_of_id(lsa: &Lsa, id: u32) -> bool {
+    let header = lsa.header();
+    (header.age < MAX_AGE) & (header.link_state_id.number() == id)
+}
+
 fn router_lsa(lsas: &[Lsa], router: RouterId) -> Option<&RouterLsa> {
+    let id = router.number();
     for lsa in lsas {
-        let header = lsa.header();
-        let its = header.link_state_id.number() == router.number()
-            && header.advertising_router.number() == router.number();
-        if its && header.age < MAX_AGE {
+        if is_of_id(lsa, id) && lsa.header().advertising_router.number() == id {
             if let Body::Router(says) = lsa.body() {
                 return Some(says);
             }
@@ -105,21 +110,27 @@ fn links_back(lsas: &[Lsa], router: RouterId, kind: LinkKind, id: u32) -> bool {
 }
 
 fn has_link(lsa: &RouterLsa, kind: LinkKind, id: u32) -> bool {
+    let mut found = false;
     for link in lsa.links.as_slice() {
-        if link.kind == kind && link.link_id == id {
-            return true;
-        }
+        found |= (link.kind == kind) & (link.link_id == id);
     }
-    false
+    found
 }
 
 fn lists(lsa: &NetworkLsa, router: RouterId) -> bool {
+    let mut found = false;
     for other in lsa.attached.as_slice() {
-        if other.number() == router.number() {
-            return true;
-        }
+        found |= other.number() == router.number();
     }
-    false
+    found
+}
+
+// Whether it is a network-LSA that lists the router.
+fn is_of_network_with(lsa: &Lsa, router: RouterId) -> bool {
+    match lsa.body() {
+        Body::Network(says) => lists(says, router),
+        _ => false,
+    }
 }
 
 fn step_by(from: Node, to: Node, cost: u16, hops: u64) -> Step {
@@ -132,26 +143,19 @@ fn step_by(from: Node, to: Node, cost: u16, hops: u64) -> Step {
 }
 
 // The link by each interface of the root that has its address; once where it is another router's.
-fn push_exits(
-    root: &Root,
-    router: u32,
-    link: &Link,
-    to: Node,
-    steps: &mut Vec<Step>,
-) -> Result<(), AllocError> {
+fn push_exits(root: &Root, router: u32, link: &Link, to: Node, steps: &mut Gathered<Step>) {
     let from = router_node(router);
     if router != root.router.number() {
-        steps.push(step_by(from, to, link.metric, 1))?;
-        return Ok(());
+        steps.push(step_by(from, to, link.metric, 1));
+        return;
     }
     let mut hops = 1u64;
     for address in root.addresses.as_slice() {
         hops = hops.wrapping_mul(2);
         if address.bits() == link.link_data {
-            steps.push(step_by(from, to, link.metric, hops))?;
+            steps.push(step_by(from, to, link.metric, hops));
         }
     }
-    Ok(())
 }
 
 fn push_transit(
@@ -159,96 +163,75 @@ fn push_transit(
     root: &Root,
     router: RouterId,
     link: &Link,
-    steps: &mut Vec<Step>,
-) -> Result<(), AllocError> {
+    steps: &mut Gathered<Step>,
+) {
     for lsa in lsas {
-        let header = lsa.header();
-        if header.age < MAX_AGE && header.link_state_id.number() == link.link_id {
-            if let Body::Network(says) = lsa.body() {
-                if lists(says, router) {
-                    let to = network_node(header.key());
-                    push_exits(root, router.number(), link, to, steps)?;
-                }
-            }
+        if is_of_id(lsa, link.link_id) && is_of_network_with(lsa, router) {
+            let to = network_node(lsa.header().key());
+            push_exits(root, router.number(), link, to, steps);
         }
     }
-    Ok(())
 }
 
-fn push_link(
+fn push_link(lsas: &[Lsa], root: &Root, router: RouterId, link: &Link, steps: &mut Gathered<Step>) {
+    let to = link.link_id;
+    let is_two_way = link.kind == LinkKind::PointToPoint
+        && links_back(lsas, RouterId::new(to), link.kind, router.number());
+    if is_two_way {
+        push_exits(root, router.number(), link, router_node(to), steps);
+    }
+    if link.kind == LinkKind::Transit {
+        push_transit(lsas, root, router, link, steps);
+    }
+}
+
+fn push_links(
     lsas: &[Lsa],
     root: &Root,
     router: RouterId,
-    link: &Link,
-    steps: &mut Vec<Step>,
-) -> Result<(), AllocError> {
-    if link.metric == 0 {
-        return Ok(());
-    }
-    match link.kind {
-        LinkKind::PointToPoint => {
-            let to = RouterId::new(link.link_id);
-            if links_back(lsas, to, LinkKind::PointToPoint, router.number()) {
-                push_exits(
-                    root,
-                    router.number(),
-                    link,
-                    router_node(link.link_id),
-                    steps,
-                )?;
-            }
-            Ok(())
+    lsa: &RouterLsa,
+    steps: &mut Gathered<Step>,
+) {
+    for link in lsa.links.as_slice() {
+        if link.metric != 0 {
+            push_link(lsas, root, router, link, steps);
         }
-        LinkKind::Transit => push_transit(lsas, root, router, link, steps),
-        _ => Ok(()),
     }
 }
 
-fn push_attached(
-    lsas: &[Lsa],
-    key: Key,
-    lsa: &NetworkLsa,
-    steps: &mut Vec<Step>,
-) -> Result<(), AllocError> {
+fn push_attached(lsas: &[Lsa], key: Key, lsa: &NetworkLsa, steps: &mut Gathered<Step>) {
     let id = key.link_state_id.number();
     let from = network_node(key);
     for router in lsa.attached.as_slice() {
         if links_back(lsas, *router, LinkKind::Transit, id) {
-            steps.push(step_by(from, router_node(router.number()), 0, 1))?;
+            steps.push(step_by(from, router_node(router.number()), 0, 1));
         }
     }
-    Ok(())
 }
 
-fn push_steps(
-    lsas: &[Lsa],
-    root: &Root,
-    lsa: &Lsa,
-    steps: &mut Vec<Step>,
-) -> Result<(), AllocError> {
+fn is_own(key: &Key) -> bool {
+    key.link_state_id.number() == key.advertising_router.number()
+}
+
+fn push_steps(lsas: &[Lsa], root: &Root, lsa: &Lsa, steps: &mut Gathered<Step>) {
     let key = lsa.header().key();
     match lsa.body() {
         Body::Router(says) => {
-            if key.link_state_id.number() == key.advertising_router.number() {
-                for link in says.links.as_slice() {
-                    push_link(lsas, root, key.advertising_router, link, steps)?;
-                }
+            if is_own(&key) {
+                push_links(lsas, root, key.advertising_router, says, steps);
             }
-            Ok(())
         }
         Body::Network(says) => push_attached(lsas, key, says, steps),
-        _ => Ok(()),
+        _ => {}
     }
 }
 
-fn steps_of(alloc: Global, lsas: &[Lsa], root: &Root) -> Result<Vec<Step>, AllocError> {
-    let mut steps = Vec::new(alloc);
+fn push_all_steps(lsas: &[Lsa], root: &Root, steps: &mut Gathered<Step>) {
     for lsa in lsas {
         if lsa.header().age < MAX_AGE {
-            push_steps(lsas, root, lsa, &mut steps)?;
+            push_steps(lsas, root, lsa, steps);
         }
     }
-    Ok(steps)
 }
 
 // ---- walks
@@ -268,26 +251,22 @@ fn longer(walk: Walk, step: Step) -> Walk {
     }
 }
 
-// Adds the walks by one link more than the last ones, which stand from this place on.
-fn push_longer(walks: &mut Vec<Walk>, first: usize, steps: &[Step]) -> Result<(), AllocError> {
-    for at in first..walks.len() {
-        push_next(walks, at, steps)?;
-    }
-    Ok(())
-}
-
-// Adds the walks by one link more than that at a place.
-fn push_next(walks: &mut Vec<Walk>, at: usize, steps: &[Step]) -> Result<(), AllocError> {
-    let Some(walk) = walks.get(at) else {
-        return Ok(());
-    };
-    let walk = *walk;
+// Adds the walks by one link more than this one.
+fn push_next(walks: &mut Gathered<Walk>, walk: Walk, steps: &[Step]) {
     for step in steps {
         if step.from == walk.to {
-            walks.push(longer(walk, *step))?;
+            walks.push(longer(walk, *step));
         }
     }
-    Ok(())
+}
+
+// Adds the walks by one link more than the last ones, which stand from this place on.
+fn push_longer(walks: &mut Gathered<Walk>, first: usize, steps: &[Step]) {
+    for at in first..walks.as_slice().len() {
+        if let Some(walk) = walks.as_slice().get(at).copied() {
+            push_next(walks, walk, steps);
+        }
+    }
 }
 
 fn start(root: &Root) -> Walk {
@@ -298,21 +277,14 @@ fn start(root: &Root) -> Walk {
 }
 
 // All walks from the root, those of the fewest links first. The first has none, and no hops.
-fn walks_by(alloc: Global, root: &Root, steps: &[Step]) -> Result<Vec<Walk>, AllocError> {
-    let mut walks = Vec::new(alloc);
-    walks.push(start(root))?;
+fn push_walks(root: &Root, steps: &[Step], walks: &mut Gathered<Walk>) {
+    walks.push(start(root));
     let mut first = 0;
     for _links in 0..MOST_LINKS {
-        let last = walks.len();
-        push_longer(&mut walks, first, steps)?;
+        let last = walks.as_slice().len();
+        push_longer(walks, first, steps);
         first = last;
     }
-    Ok(walks)
-}
-
-fn walks_of(alloc: Global, lsas: &[Lsa], root: &Root) -> Result<Vec<Walk>, AllocError> {
-    let steps = steps_of(alloc, lsas, root)?;
-    walks_by(alloc, root, &steps)
 }
 
 // The nearer of two ways, or both together.
@@ -367,31 +339,24 @@ fn net_under(address: u32, mask: u32) -> Option<Net> {
     })
 }
 
-fn push_stubs(
-    lsa: &RouterLsa,
-    cost: u64,
-    hops: u64,
-    offers: &mut Vec<Offer>,
-) -> Result<(), AllocError> {
-    for link in lsa.links.as_slice() {
-        if link.kind == LinkKind::Stub {
-            if let Some(net) = net_under(link.link_id, link.link_data) {
-                let whole = cost.saturating_add(u64::from(link.metric));
-                offers.push(inner(net, RouteKind::Intra, whole, hops))?;
-            }
-        }
+// The offer of a stub link of a router to which this way leads.
+fn stub_offer(link: &Link, way: Way) -> Option<Offer> {
+    if link.kind != LinkKind::Stub {
+        return None;
     }
-    Ok(())
+    let net = net_under(link.link_id, link.link_data)?;
+    let cost = way.cost.saturating_add(u64::from(link.metric));
+    Some(inner(net, RouteKind::Intra, cost, way.hops))
+}
+
+fn push_stubs(lsa: &RouterLsa, way: Way, offers: &mut Gathered<Offer>) {
+    for link in lsa.links.as_slice() {
+        push_some(stub_offer(link, way), offers);
+    }
 }
 
 // The way to a router whose router-LSA has the flag.
-fn flagged_way(
-    lsas: &[Lsa],
-    root: &Root,
-    walks: &[Walk],
-    router: RouterId,
-    flag: u8,
-) -> Option<Way> {
+fn flagged_way(lsas: &[Lsa], walks: &[Walk], router: RouterId, flag: u8) -> Option<Way> {
     let lsa = router_lsa(lsas, router)?;
     if lsa.flags & flag == 0 {
         return None;
@@ -411,11 +376,19 @@ fn summary_way(
     if lsa.metric >= LS_INFINITY || by.number() == root.router.number() {
         return None;
     }
-    let border = flagged_way(lsas, root, walks, by, FLAG_B)?;
+    let border = flagged_way(lsas, walks, by, FLAG_B)?;
     Some(Way {
         cost: border.cost.saturating_add(u64::from(lsa.metric)),
         hops: border.hops,
     })
+}
+
+// The way to a router, of which its own networks have the next hop 0.
+fn way_to_router(root: &Root, walks: &[Walk], router: RouterId) -> Option<Way> {
+    let way = way_to(walks, router_node(router.number()))?;
+    let is_root = router.number() == root.router.number();
+    let hops = if is_root { 1 } else { way.hops };
+    Some(Way { hops, ..way })
 }
 
 fn push_router(
@@ -423,14 +396,10 @@ fn push_router(
     walks: &[Walk],
     router: RouterId,
     lsa: &RouterLsa,
-    offers: &mut Vec<Offer>,
-) -> Result<(), AllocError> {
-    match way_to(walks, router_node(router.number())) {
-        None => Ok(()),
-        Some(way) => {
-            let own = router.number() == root.router.number();
-            push_stubs(lsa, way.cost, if own { 1 } else { way.hops }, offers)
-        }
+    offers: &mut Gathered<Offer>,
+) {
+    if let Some(way) = way_to_router(root, walks, router) {
+        push_stubs(lsa, way, offers);
     }
 }
 
@@ -452,55 +421,51 @@ fn summary_offer(
     Some(inner(net, RouteKind::Inter, way.cost, way.hops))
 }
 
-fn push_some(offer: Option<Offer>, offers: &mut Vec<Offer>) -> Result<(), AllocError> {
-    match offer {
-        None => Ok(()),
-        Some(offer) => Ok(offers.push(offer)?),
+fn push_some(offer: Option<Offer>, offers: &mut Gathered<Offer>) {
+    if let Some(offer) = offer {
+        offers.push(offer);
     }
 }
 
-fn push_inner(
-    lsas: &[Lsa],
-    root: &Root,
-    walks: &[Walk],
-    lsa: &Lsa,
-    offers: &mut Vec<Offer>,
-) -> Result<(), AllocError> {
+fn push_inner(lsas: &[Lsa], root: &Root, walks: &[Walk], lsa: &Lsa, offers: &mut Gathered<Offer>) {
     let key = lsa.header().key();
     match lsa.body() {
         Body::Router(says) => {
-            let by = key.advertising_router;
-            if key.link_state_id.number() == by.number() {
-                push_router(root, walks, by, says, offers)
-            } else {
-                Ok(())
+            if is_own(&key) {
+                push_router(root, walks, key.advertising_router, says, offers);
             }
         }
         Body::Network(says) => push_some(network_offer(walks, key, says), offers),
         Body::NetworkSummary(says) => {
-            push_some(summary_offer(lsas, root, walks, key, says), offers)
+            push_some(summary_offer(lsas, root, walks, key, says), offers);
         }
-        _ => Ok(()),
+        _ => {}
+    }
+}
+
+// The way to an AS boundary router that the LSA tells of.
+fn told_way(lsas: &[Lsa], root: &Root, walks: &[Walk], lsa: &Lsa, router: RouterId) -> Option<Way> {
+    if !is_of_id(lsa, router.number()) {
+        return None;
+    }
+    match lsa.body() {
+        Body::RouterSummary(says) => summary_way(lsas, root, walks, lsa.header().key(), says),
+        _ => None,
     }
 }
 
 // The way to an AS boundary router: within the area, else the least that summaries tell of.
 fn boundary_way(lsas: &[Lsa], root: &Root, walks: &[Walk], router: RouterId) -> Option<Way> {
-    if let Some(way) = flagged_way(lsas, root, walks, router, FLAG_E) {
-        return Some(way);
+    let mut way = flagged_way(lsas, walks, router, FLAG_E);
+    if way.is_some() {
+        return way;
     }
-    let mut told = None;
     for lsa in lsas {
-        let header = lsa.header();
-        if header.age < MAX_AGE && header.link_state_id.number() == router.number() {
-            if let Body::RouterSummary(says) = lsa.body() {
-                if let Some(way) = summary_way(lsas, root, walks, header.key(), says) {
-                    told = Some(nearer(told, way));
-                }
-            }
+        if let Some(told) = told_way(lsas, root, walks, lsa, router) {
+            way = Some(nearer(way, told));
         }
     }
-    told
+    way
 }
 
 fn is_under(address: u32, row: &Row) -> bool {
@@ -626,23 +591,27 @@ fn row_of(offers: &[Offer], of: Offer) -> Row {
 }
 
 fn has_row(rows: &[Row], net: Net) -> bool {
+    let mut found = false;
     for row in rows {
-        if row.address == net.address && row.length == net.length {
-            return true;
-        }
+        found |= (row.address == net.address) & (row.length == net.length);
     }
-    false
+    found
 }
 
-fn rows_of(alloc: Global, offers: &[Offer]) -> Result<Vec<Row>, AllocError> {
-    let mut rows = Vec::new(alloc);
+fn push_rows(offers: &[Offer], rows: &mut Gathered<Row>) {
     for offer in offers {
-        if !has_row(&rows, offer.net) {
-            rows.push(row_of(offers, *offer))?;
+        if !has_row(rows.as_slice(), offer.net) {
+            rows.push(row_of(offers, *offer));
         }
     }
-    rows.sort()?;
-    Ok(rows)
+}
+
+fn push_all_inner(lsas: &[Lsa], root: &Root, walks: &[Walk], offers: &mut Gathered<Offer>) {
+    for lsa in lsas {
+        if lsa.header().age < MAX_AGE {
+            push_inner(lsas, root, walks, lsa, offers);
+        }
+    }
 }
 
 fn push_external(
@@ -651,31 +620,12 @@ fn push_external(
     walks: &[Walk],
     rows: &[Row],
     lsa: &Lsa,
-    offers: &mut Vec<Offer>,
-) -> Result<(), AllocError> {
-    let header = lsa.header();
-    match lsa.body() {
-        Body::External(says) => push_some(
-            external(lsas, root, walks, rows, header.key(), says),
-            offers,
-        ),
-        _ => Ok(()),
+    offers: &mut Gathered<Offer>,
+) {
+    if let Body::External(says) = lsa.body() {
+        let key = lsa.header().key();
+        push_some(external(lsas, root, walks, rows, key, says), offers);
     }
-}
-
-fn inner_offers(
-    alloc: Global,
-    lsas: &[Lsa],
-    root: &Root,
-    walks: &[Walk],
-) -> Result<Vec<Offer>, AllocError> {
-    let mut offers = Vec::new(alloc);
-    for lsa in lsas {
-        if lsa.header().age < MAX_AGE {
-            push_inner(lsas, root, walks, lsa, &mut offers)?;
-        }
-    }
-    Ok(offers)
 }
 
 fn push_externals(
@@ -683,31 +633,45 @@ fn push_externals(
     root: &Root,
     walks: &[Walk],
     rows: &[Row],
-    offers: &mut Vec<Offer>,
-) -> Result<(), AllocError> {
+    offers: &mut Gathered<Offer>,
+) {
     for lsa in lsas {
         if lsa.header().age < MAX_AGE {
-            push_external(lsas, root, walks, rows, lsa, offers)?;
+            push_external(lsas, root, walks, rows, lsa, offers);
         }
     }
-    Ok(())
 }
 
-fn rows_by(
-    alloc: Global,
-    lsas: &[Lsa],
-    root: &Root,
-    walks: &[Walk],
-) -> Result<Vec<Row>, AllocError> {
-    let mut offers = inner_offers(alloc, lsas, root, walks)?;
-    let rows = rows_of(alloc, &offers)?;
-    push_externals(lsas, root, walks, &rows, &mut offers)?;
-    rows_of(alloc, &offers)
+fn walks_of(alloc: Global, lsas: &[Lsa], root: &Root) -> Gathered<Walk> {
+    let mut steps = Gathered::new(alloc);
+    push_all_steps(lsas, root, &mut steps);
+    let mut walks = Gathered::new(alloc);
+    push_walks(root, steps.as_slice(), &mut walks);
+    walks.note(steps.is_refused());
+    walks
 }
 
-/// The candidates of the LSAs, each of a key of its own, for the router that calculates, by address
-/// and length.
+fn offers_of(alloc: Global, lsas: &[Lsa], root: &Root, walks: &[Walk]) -> Gathered<Offer> {
+    let mut offers = Gathered::new(alloc);
+    push_all_inner(lsas, root, walks, &mut offers);
+    let mut rows = Gathered::new(alloc);
+    push_rows(offers.as_slice(), &mut rows);
+    push_externals(lsas, root, walks, rows.as_slice(), &mut offers);
+    offers.note(rows.is_refused());
+    offers
+}
+
+fn rows_of(alloc: Global, lsas: &[Lsa], root: &Root) -> Gathered<Row> {
+    let walks = walks_of(alloc, lsas, root);
+    let offers = offers_of(alloc, lsas, root, walks.as_slice());
+    let mut rows = Gathered::new(alloc);
+    push_rows(offers.as_slice(), &mut rows);
+    rows.note(walks.is_refused() || offers.is_refused());
+    rows
+}
+
+/// The candidates of the LSAs, each of a key of its own, for the router that calculates, in no
+/// order.
 pub fn plain_rows(alloc: Global, lsas: &[Lsa], root: &Root) -> Result<Vec<Row>, AllocError> {
-    let walks = walks_of(alloc, lsas, root)?;
-    rows_by(alloc, lsas, root, &walks)
+    rows_of(alloc, lsas, root).whole()
 }

@@ -11,6 +11,8 @@ mod repetitions;
 mod requests;
 mod retransmissions;
 
+use crate::gathered::Gathered;
+use crate::outcomes::none_is_wrong;
 use adjacency::{Draft, State};
 use lsa::{Body, ExternalLsa, Header, Lsa, RouterLsa, SummaryLsa};
 use lsdb::Lsdb;
@@ -99,6 +101,8 @@ enum Seen {
     // One Description is sent, as in `Sent`, or two.
     Answers(State, u32, usize, bool),
     AnswersTwice(State, Sent, Sent),
+    // One of this sequence number begins an attempt.
+    Begins(u32),
     // In Loading, the one Request has so many keys; of 0, none is sent.
     Asks(usize),
     // So many LSAs are sent.
@@ -159,6 +163,11 @@ fn expected(seen: &Seen) -> Observed {
             descriptions: 1,
             first: Some((sequence, count, more)),
             ..rests(state)
+        },
+        Seen::Begins(sequence) => Observed {
+            descriptions: 1,
+            first: Some((sequence, 0, true)),
+            ..rests(State::ExStart)
         },
         Seen::AnswersTwice(state, first, second) => Observed {
             descriptions: 2,
@@ -229,6 +238,25 @@ fn is_alike(seen: &Observed, expected: &Observed) -> bool {
         && seen.lsas == expected.lsas
 }
 
+// Whether the one Description that is sent has all flags (I, M, MS), the interface MTU 8,192 and
+// the Options 2.
+fn has_all_flags(sent: &Draft) -> bool {
+    match sent.descriptions() {
+        [only] => {
+            (only.init & only.more & only.master) & (only.mtu == 8192) & (only.options == 2)
+        }
+        _ => false,
+    }
+}
+
+fn is_seen(place: &Place, sent: &Draft, seen: &Seen) -> bool {
+    let begins = match *seen {
+        Seen::Begins(_) => true,
+        _ => false,
+    };
+    is_alike(&observe(place, sent), &expected(seen)) && (!begins || has_all_flags(sent))
+}
+
 // ---- LSAs and Descriptions
 
 fn header(ls_type: u8, router: RouterId, number: u32) -> Header
@@ -279,38 +307,51 @@ fn summary(alloc: Global, number: u32) -> Result<Lsa, AllocError> {
     Lsa::new(alloc, header(3, peer(), number), body)
 }
 
+// The neighbor's LSA of this type and number.
+fn made(alloc: Global, ls_type: u8, number: u32) -> Result<Lsa, AllocError> {
+    match ls_type {
+        1 => router_lsa(alloc, number),
+        3 => summary(alloc, number),
+        _ => external(alloc, peer(), number),
+    }
+}
+
+// The header of the neighbor's external of this number, with its checksum.
+fn header_made(alloc: Global, number: u32) -> Result<Header, AllocError> {
+    let lsa = external(alloc, peer(), number)?;
+    Ok(lsa.header())
+}
+
 fn originate(database: &mut Lsdb, alloc: Global, number: u32) -> Result<(), AllocError> {
     let lsa = external(alloc, own(), number)?;
-    database.install_originated(Second::new(0), lsa)?;
+    database.install_originated(Second::new(0), lsa)
+}
+
+fn originate_all(database: &mut Lsdb, alloc: Global, count: u32) -> Result<(), AllocError> {
+    for number in 0..count {
+        originate(database, alloc, number)?;
+    }
     Ok(())
 }
 
+// So many externals of this router come into an empty database. What is refused is made again.
 fn fill(database: &mut Lsdb, alloc: Global, count: u32) -> Result<(), AllocError> {
-    for number in 0..count {
-        originate(database, alloc, number)?;
+    if originate_all(database, alloc, count).is_err() {
+        database.roll_back();
+        originate_all(database, alloc, count)?;
     }
     database.settle();
     Ok(())
 }
 
-// So many externals of this router, from 0 on.
-fn filled(alloc: Global, count: u32) -> Result<Lsdb, AllocError> {
-    let mut database = Lsdb::new(alloc, own());
-    fill(&mut database, alloc, count)?;
-    Ok(database)
-}
-
-fn told_headers(alloc: Global, coming: &Coming) -> Result<Vec<Header>, AllocError> {
-    let mut headers = Vec::new(alloc);
+fn add_headers(coming: &Coming, headers: &mut Gathered<Header>) {
     for number in coming.first..coming.end {
-        headers.push(header(coming.ls_type, peer(), number))?;
+        headers.push(header(coming.ls_type, peer(), number));
     }
-    Ok(headers)
 }
 
-fn told(alloc: Global, coming: &Coming) -> Result<Description, AllocError> {
-    let headers = told_headers(alloc, coming)?;
-    Ok(Description {
+fn with_headers(coming: &Coming, headers: Vec<Header>) -> Description {
+    Description {
         mtu: coming.mtu,
         options: coming.options,
         init: coming.init,
@@ -318,267 +359,236 @@ fn told(alloc: Global, coming: &Coming) -> Result<Description, AllocError> {
         master: coming.master,
         sequence: coming.sequence,
         headers: Sequence::from_vec(headers),
-    })
+    }
+}
+
+fn told(alloc: Global, coming: &Coming) -> Result<Description, AllocError> {
+    let mut headers = Gathered::new(alloc);
+    add_headers(coming, &mut headers);
+    Ok(with_headers(coming, headers.whole()?))
 }
 
 // ---- what happens
 
-fn floods(
-    place: &mut Place,
-    database: &mut Lsdb,
+// The neighbor and this router's database.
+#[derive(Drop)]
+struct Scene {
     alloc: Global,
-    moment: Second,
-    from: bool,
-    lsa: Lsa,
-    draft: &mut Draft,
-) -> Result<(), AllocError> {
-    let key = lsa.header().key();
-    database.install_flooded(moment, lsa)?;
-    let Some(copy) = database.get(&key) else {
-        return Ok(());
-    };
-    place.flood(alloc, moment, from, &copy, 1, draft)?;
-    Ok(())
+    place: Place,
+    database: Lsdb,
 }
 
-fn floods_externals(
-    place: &mut Place,
-    database: &mut Lsdb,
-    alloc: Global,
-    moment: Second,
-    from: bool,
-    numbers: (u32, u32),
-    draft: &mut Draft,
-) -> Result<(), AllocError> {
-    let (first, end) = numbers;
-    for number in first..end {
-        let lsa = external(alloc, peer(), number)?;
-        floods(place, database, alloc, moment, from, lsa, draft)?;
-    }
-    Ok(())
-}
-
-fn floods_router_lsa(
-    place: &mut Place,
-    database: &mut Lsdb,
-    alloc: Global,
-    moment: Second,
-    number: u32,
-    draft: &mut Draft,
-) -> Result<(), AllocError> {
-    let lsa = router_lsa(alloc, number)?;
-    floods(place, database, alloc, moment, false, lsa, draft)
-}
-
-fn floods_summary(
-    place: &mut Place,
-    database: &mut Lsdb,
-    alloc: Global,
-    moment: Second,
-    number: u32,
-    draft: &mut Draft,
-) -> Result<(), AllocError> {
-    let lsa = summary(alloc, number)?;
-    floods(place, database, alloc, moment, false, lsa, draft)
-}
-
-fn is_asked(
-    place: &mut Place,
-    database: &Lsdb,
-    alloc: Global,
-    moment: Second,
-    number: u32,
-    draft: &mut Draft,
-) -> Result<(), AllocError> {
-    let keys = [header(5, own(), number).key()];
-    place.answer(alloc, moment, 1, database, &keys, draft)
-}
-
-fn is_described(
-    place: &mut Place,
-    database: &Lsdb,
-    alloc: Global,
-    moment: Second,
-    router: RouterId,
-    coming: &Coming,
-    draft: &mut Draft,
-) -> Result<(), AllocError> {
-    let description = told(alloc, coming)?;
-    place.description(alloc, router, moment, database, &description, draft)
-}
-
-fn is_acknowledged(
-    place: &mut Place,
-    alloc: Global,
-    moment: Second,
-    number: u32,
-) -> Result<(), AllocError> {
-    let lsa = external(alloc, peer(), number)?;
-    let headers = [lsa.header()];
-    place.ack(moment, &headers)
-}
-
-fn is_taken_off(
-    place: &mut Place,
-    alloc: Global,
-    moment: Second,
-    number: u32,
-) -> Result<(), AllocError> {
-    let lsa = external(alloc, peer(), number)?;
-    let header = lsa.header();
-    if place.has_retransmission(&header.key()) && place.has_instance(moment, &header) {
-        return place.take_off(&header);
-    }
-    Ok(())
-}
-
-fn ticks(
-    place: &mut Place,
-    database: &Lsdb,
-    alloc: Global,
-    moment: Second,
-    draft: &mut Draft,
-) -> Result<(), AllocError> {
-    place.run_out(moment, 40);
-    place.send_again(alloc, moment, 5, database, 1, draft)?;
-    place.end_loading();
-    Ok(())
-}
-
-fn happens(
-    place: &mut Place,
-    database: &mut Lsdb,
-    alloc: Global,
-    moment: Second,
-    happening: &Happening,
-    draft: &mut Draft,
-) -> Result<(), AllocError> {
-    match *happening {
-        Happening::Hello(names) => place.hello(alloc, moment, peer(), names, draft),
-        Happening::ToSlave(coming) => {
-            is_described(place, database, alloc, moment, own(), &coming, draft)
-        }
-        Happening::ToMaster(coming) => {
-            is_described(place, database, alloc, moment, larger(), &coming, draft)
-        }
-        Happening::Request(number) => is_asked(place, database, alloc, moment, number, draft),
-        Happening::Externals(from, first, end) => {
-            floods_externals(place, database, alloc, moment, from, (first, end), draft)
-        }
-        Happening::RouterLsa(number) => {
-            floods_router_lsa(place, database, alloc, moment, number, draft)
-        }
-        Happening::Summary(number) => {
-            floods_summary(place, database, alloc, moment, number, draft)
-        }
-        Happening::Acknowledgment(number) => is_acknowledged(place, alloc, moment, number),
-        Happening::ImpliedAcknowledgment(number) => is_taken_off(place, alloc, moment, number),
-        Happening::NextRequest => place.request(alloc, moment, draft),
-        Happening::Tick => ticks(place, database, alloc, moment, draft),
-        Happening::Silence => {
-            place.go_down();
-            Ok(())
+impl Scene {
+    // A neighbor that is Down.
+    fn new(alloc: Global) -> Scene {
+        Scene {
+            alloc,
+            place: Place::down(),
+            database: Lsdb::new(alloc, own()),
         }
     }
-}
 
-fn played_once(
-    place: &mut Place,
-    database: &mut Lsdb,
-    alloc: Global,
-    moment: Second,
-    happening: &Happening,
-) -> Result<Draft, AllocError> {
-    let mut draft = Draft::new(alloc);
-    happens(place, database, alloc, moment, happening, &mut draft)?;
-    Ok(draft)
-}
-
-// The same after a refusal is taken back, which leaves the place and the database as they were.
-fn played_again(
-    place: &mut Place,
-    database: &mut Lsdb,
-    alloc: Global,
-    moment: Second,
-    happening: &Happening,
-    before: (Option<(RouterId, State)>, usize),
-) -> Result<Draft, Fail> {
-    place.roll_back();
-    database.roll_back();
-    if (place.neighbor(), database.len()) != before {
-        return Err(Fail::new("a refusal changed what was there"));
+    fn installs(&mut self, moment: Second, ls_type: u8, number: u32) -> Result<Key, AllocError> {
+        let lsa = made(self.alloc, ls_type, number)?;
+        let key = lsa.header().key();
+        self.database.install_flooded(moment, lsa)?;
+        Ok(key)
     }
-    Ok(played_once(place, database, alloc, moment, happening)?)
-}
 
-// What is sent in an event. An allocation may be refused once, as a run of the tests with a refusal
-// makes it.
-fn played(
-    place: &mut Place,
-    database: &mut Lsdb,
-    alloc: Global,
-    moment: Second,
-    happening: &Happening,
-) -> Result<Draft, Fail> {
-    let before = (place.neighbor(), database.len());
-    let draft = match played_once(place, database, alloc, moment, happening) {
-        Ok(draft) => draft,
-        Err(_) => played_again(place, database, alloc, moment, happening, before)?,
-    };
-    place.settle();
-    database.settle();
-    Ok(draft)
-}
-
-fn comes(place: &mut Place, database: &mut Lsdb, alloc: Global, row: &Row) -> Result<(), Fail> {
-    let (moment, happening, seen) = *row;
-    let sent = played(place, database, alloc, Second::new(moment), &happening)?;
-    if is_alike(&observe(place, &sent), &expected(&seen)) {
-        return Ok(());
+    fn floods_key(
+        &mut self,
+        moment: Second,
+        from: bool,
+        key: &Key,
+        draft: &mut Draft,
+    ) -> Result<bool, AllocError> {
+        match self.database.get(key) {
+            Some(copy) => self.place.flood(self.alloc, moment, from, &copy, 1, draft),
+            None => Ok(false),
+        }
     }
-    Err(Fail::new("another answer"))
+
+    fn floods(
+        &mut self,
+        moment: Second,
+        from: bool,
+        ls_type: u8,
+        numbers: (u32, u32),
+        draft: &mut Draft,
+    ) -> Result<(), AllocError> {
+        let (first, end) = numbers;
+        for number in first..end {
+            let key = self.installs(moment, ls_type, number)?;
+            self.floods_key(moment, from, &key, draft)?;
+        }
+        Ok(())
+    }
+
+    fn is_asked(
+        &mut self,
+        moment: Second,
+        number: u32,
+        draft: &mut Draft,
+    ) -> Result<(), AllocError> {
+        let keys = [header(5, own(), number).key()];
+        self.place
+            .answer(self.alloc, moment, 1, &self.database, &keys, draft)
+    }
+
+    fn is_described(
+        &mut self,
+        moment: Second,
+        router: RouterId,
+        coming: &Coming,
+        draft: &mut Draft,
+    ) -> Result<(), AllocError> {
+        let description = told(self.alloc, coming)?;
+        self.place.description(
+            self.alloc,
+            router,
+            moment,
+            &self.database,
+            &description,
+            draft,
+        )
+    }
+
+    fn is_acknowledged(&mut self, moment: Second, number: u32) -> Result<(), AllocError> {
+        let header = header_made(self.alloc, number)?;
+        self.place.ack(moment, &[header])
+    }
+
+    fn is_taken_off(&mut self, moment: Second, number: u32) -> Result<(), AllocError> {
+        let header = header_made(self.alloc, number)?;
+        let waits = self.place.has_retransmission(&header.key());
+        if waits && self.place.has_instance(moment, &header) {
+            return self.place.take_off(&header);
+        }
+        Ok(())
+    }
+
+    fn ticks(&mut self, moment: Second, draft: &mut Draft) -> Result<(), AllocError> {
+        self.place.run_out(moment, 40);
+        self.place
+            .send_again(self.alloc, moment, 5, &self.database, 1, draft)?;
+        self.place.end_loading();
+        Ok(())
+    }
+
+    fn happens(
+        &mut self,
+        moment: Second,
+        happening: &Happening,
+        draft: &mut Draft,
+    ) -> Result<(), AllocError> {
+        match *happening {
+            Happening::Hello(names) => self.place.hello(self.alloc, moment, peer(), names, draft),
+            Happening::ToSlave(coming) => self.is_described(moment, own(), &coming, draft),
+            Happening::ToMaster(coming) => self.is_described(moment, larger(), &coming, draft),
+            Happening::Request(number) => self.is_asked(moment, number, draft),
+            Happening::Externals(from, first, end) => {
+                self.floods(moment, from, 5, (first, end), draft)
+            }
+            Happening::RouterLsa(number) => self.floods(moment, false, 1, only(number), draft),
+            Happening::Summary(number) => self.floods(moment, false, 3, only(number), draft),
+            Happening::Acknowledgment(number) => self.is_acknowledged(moment, number),
+            Happening::ImpliedAcknowledgment(number) => self.is_taken_off(moment, number),
+            Happening::NextRequest => self.place.request(self.alloc, moment, draft),
+            Happening::Tick => self.ticks(moment, draft),
+            Happening::Silence => {
+                self.place.go_down();
+                Ok(())
+            }
+        }
+    }
+
+    fn played_once(&mut self, moment: Second, happening: &Happening) -> Result<Draft, AllocError> {
+        let mut draft = Draft::new(self.alloc);
+        self.happens(moment, happening, &mut draft)?;
+        Ok(draft)
+    }
+
+    // The same after a refusal is taken back, which leaves the place and the database as they were.
+    fn played_again(
+        &mut self,
+        moment: Second,
+        happening: &Happening,
+        before: (Option<(RouterId, State)>, usize),
+    ) -> Result<Draft, Fail> {
+        self.place.roll_back();
+        self.database.roll_back();
+        if (self.place.neighbor(), self.database.len()) != before {
+            return Err(Fail::new("a refusal changed what was there"));
+        }
+        Ok(self.played_once(moment, happening)?)
+    }
+
+    // What is sent in an event. An allocation may be refused once, as a run of the tests with a
+    // refusal makes it.
+    fn played(&mut self, moment: Second, happening: &Happening) -> Result<Draft, Fail> {
+        let before = (self.place.neighbor(), self.database.len());
+        match self.played_once(moment, happening) {
+            Ok(draft) => Ok(draft),
+            Err(_) => self.played_again(moment, happening, before),
+        }
+    }
+
+    // Whether this is to be seen of the event.
+    fn comes_out(&mut self, row: &Row) -> Result<bool, Fail> {
+        let (moment, happening, seen) = *row;
+        let sent = self.played(Second::new(moment), &happening)?;
+        self.place.settle();
+        self.database.settle();
+        Ok(is_seen(&self.place, &sent, &seen))
+    }
+
+    // The first of the rows of which something else is seen.
+    fn first_wrong(&mut self, rows: &[Row]) -> Result<Option<usize>, Fail> {
+        for at in 0..rows.len() {
+            if !self.comes_out(&rows[at])? {
+                return Ok(Some(at));
+            }
+        }
+        Ok(None)
+    }
+
+    // The same of a conversation in parts: the place in its part.
+    fn first_wrong_of(&mut self, parts: &[&[Row]]) -> Result<Option<usize>, Fail> {
+        for rows in parts {
+            let wrong = self.first_wrong(rows)?;
+            if wrong.is_some() {
+                return Ok(wrong);
+            }
+        }
+        Ok(None)
+    }
+
+    // The same once so many externals of this router, from 0 on, are there.
+    fn first_wrong_after(&mut self, count: u32, parts: &[&[Row]]) -> Result<Option<usize>, Fail> {
+        fill(&mut self.database, self.alloc, count)?;
+        self.first_wrong_of(parts)
+    }
 }
 
-fn all_come(
-    place: &mut Place,
-    database: &mut Lsdb,
-    alloc: Global,
-    rows: &[Row],
-) -> Result<(), Fail> {
-    for row in rows {
-        comes(place, database, alloc, row)?;
-    }
-    Ok(())
+fn only(number: u32) -> (u32, u32) {
+    (number, number.wrapping_add(1))
 }
 
 // ---- conversations
 
-fn parts_come(
-    place: &mut Place,
-    database: &mut Lsdb,
-    alloc: Global,
-    parts: &[&[Row]],
-) -> Result<(), Fail> {
-    for rows in parts {
-        all_come(place, database, alloc, rows)?;
-    }
-    Ok(())
+// The first row of a conversation, from Down on, of which something else is seen.
+fn first_wrong(alloc: Global, count: u32, parts: &[&[Row]]) -> Result<Option<usize>, Fail> {
+    let mut scene = Scene::new(alloc);
+    scene.first_wrong_after(count, parts)
 }
 
-// A conversation in parts, from Down on.
-fn from_down(database: &mut Lsdb, alloc: Global, parts: &[&[Row]]) -> Result<(), Fail> {
-    let mut place = Place::down();
-    parts_come(&mut place, database, alloc, parts)
+// A conversation in parts, from Down on, of a router with so many externals.
+fn in_parts(alloc: Global, count: u32, parts: &[&[Row]]) -> Result<(), Fail> {
+    none_is_wrong(first_wrong(alloc, count, parts))
 }
 
-// A conversation from Down on, of a router with so many externals. What is refused while they are
-// made is made again.
 fn converse(alloc: Global, count: u32, rows: &[Row]) -> Result<(), Fail> {
-    let mut database = match filled(alloc, count) {
-        Ok(database) => database,
-        Err(_) => filled(alloc, count)?,
-    };
-    from_down(&mut database, alloc, &[rows])
+    in_parts(alloc, count, &[rows])
 }
 
 // The attempt of the number 0.
@@ -634,13 +644,7 @@ fn exchange(wanted: u32) -> [Row; 4] {
     ]
 }
 
-// A conversation in parts, from Down on, of a router without LSAs.
-fn converse_in_parts(alloc: Global, parts: &[&[Row]]) -> Result<(), Fail> {
-    let mut database = Lsdb::new(alloc, own());
-    from_down(&mut database, alloc, parts)
-}
-
 // What comes after the exchange, which is done at 2.
 fn goes_on(alloc: Global, wanted: u32, rows: &[Row]) -> Result<(), Fail> {
-    converse_in_parts(alloc, &[&exchange(wanted), rows])
+    in_parts(alloc, 0, &[&exchange(wanted), rows])
 }

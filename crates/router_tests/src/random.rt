@@ -2,16 +2,18 @@
 ghost use Rattle.std.specs.Prelude.{◌<◌};
 
 use crate::area::{Row, root, rows_of_lsas};
+use crate::gathered::Gathered;
+use crate::outcomes::{is_so, none_is_wrong};
 use crate::plain::plain_rows;
 use crate::texts::{ExternalText, LinkText, Name, external, network, router, summary};
 use lsa::Lsa;
 use routes::Root;
-use std::alloc::{AllocError, Global};
+use std::alloc::Global;
 use std::test::Fail;
 use words::{Key, RouteKind};
 
 // How many areas are tried.
-const AREAS: u64 = 200;
+const AREAS: usize = 200;
 
 const ADDRESSES: [u32; 3] = [0x0a00_0001, 0x0a00_0002, 0x0a00_0003];
 
@@ -77,51 +79,59 @@ fn age(random: &mut Random) -> u16 {
     if random.one_in(12) { 3600 } else { 1 }
 }
 
-fn a_link(random: &mut Random) -> LinkText {
-    let metric = if random.one_in(10) {
-        0
-    } else {
-        METRICS[random.below(4) as usize]
-    };
-    let data = random.pick(DATA);
+// Rarely 0.
+fn a_metric(random: &mut Random) -> u16 {
+    if random.one_in(10) {
+        return 0;
+    }
+    METRICS[random.below(4) as usize]
+}
+
+fn a_kind(random: &mut Random) -> u8 {
     match random.below(10) {
-        0 | 1 | 2 | 3 => LinkText {
-            kind: 1,
-            id: random.pick(ROUTERS),
-            data,
-            metric,
-        },
-        4 | 5 | 6 => LinkText {
-            kind: 2,
-            id: random.pick(NETWORKS),
-            data,
-            metric,
-        },
-        7 | 8 => LinkText {
-            kind: 3,
-            id: random.pick(PREFIXES),
-            data: random.pick(MASKS),
-            metric,
-        },
-        _ => LinkText {
-            kind: 4,
-            id: random.pick(ROUTERS),
-            data,
-            metric,
-        },
+        0 | 1 | 2 | 3 => 1,
+        4 | 5 | 6 => 2,
+        7 | 8 => 3,
+        _ => 4,
     }
 }
 
-fn links(alloc: Global, random: &mut Random) -> Result<Vec<LinkText>, AllocError> {
-    let mut links = Vec::new(alloc);
-    for _link in 0..3 + random.below(6) {
-        links.push(a_link(random))?;
+// What links of this type may lead to.
+fn ids_of(kind: u8) -> [u32; 4] {
+    match kind {
+        2 => NETWORKS,
+        3 => PREFIXES,
+        _ => ROUTERS,
     }
-    Ok(links)
+}
+
+fn a_link(random: &mut Random) -> LinkText {
+    let metric = a_metric(random);
+    let address = random.pick(DATA);
+    let kind = a_kind(random);
+    let id = random.pick(ids_of(kind));
+    let data = if kind == 3 {
+        random.pick(MASKS)
+    } else {
+        address
+    };
+    LinkText {
+        kind,
+        id,
+        data,
+        metric,
+    }
+}
+
+fn add_links(random: &mut Random, links: &mut Gathered<LinkText>) {
+    for _link in 0..3 + random.below(6) {
+        links.push(a_link(random));
+    }
 }
 
 fn a_router(alloc: Global, random: &mut Random, by: u32) -> Result<Lsa, Fail> {
-    let links = links(alloc, random)?;
+    let mut gathered = Gathered::new(alloc);
+    add_links(random, &mut gathered);
     let id = if random.one_in(20) {
         random.pick(ROUTERS)
     } else {
@@ -134,28 +144,30 @@ fn a_router(alloc: Global, random: &mut Random, by: u32) -> Result<Lsa, Fail> {
         by,
     };
     let flags = random.below(8) as u8;
+    let links = gathered.whole()?;
     router(alloc, name, flags, &links)
 }
 
-fn attached(alloc: Global, random: &mut Random) -> Result<Vec<u32>, AllocError> {
-    let mut attached = Vec::new(alloc);
+fn add_attached(random: &mut Random, attached: &mut Gathered<u32>) {
     for router in ROUTERS {
         if !random.one_in(4) {
-            attached.push(router)?;
+            attached.push(router);
         }
     }
-    Ok(attached)
 }
 
 fn a_network(alloc: Global, random: &mut Random) -> Result<Lsa, Fail> {
-    let attached = attached(alloc, random)?;
+    let mut gathered = Gathered::new(alloc);
+    add_attached(random, &mut gathered);
     let name = Name {
         age: age(random),
         ls_type: 2,
         id: random.pick(NETWORKS),
         by: random.pick(ROUTERS),
     };
-    network(alloc, name, random.pick(MASKS), &attached)
+    let mask = random.pick(MASKS);
+    let attached = gathered.whole()?;
+    network(alloc, name, mask, &attached)
 }
 
 fn a_summary(alloc: Global, random: &mut Random) -> Result<Lsa, Fail> {
@@ -193,47 +205,59 @@ fn an_external(alloc: Global, random: &mut Random) -> Result<Lsa, Fail> {
 }
 
 fn has_key(lsas: &[Lsa], key: Key) -> bool {
+    let mut has = false;
     for lsa in lsas {
-        if lsa.header().key() == key {
-            return true;
-        }
+        has |= lsa.header().key() == key;
     }
-    false
+    has
 }
 
 // Adds the LSA unless one of its key is there.
-fn add(lsas: &mut Vec<Lsa>, lsa: Lsa) -> Result<(), Fail> {
-    if !has_key(lsas, lsa.header().key()) {
-        lsas.push(lsa)?;
+fn add(lsas: &mut Gathered<Lsa>, lsa: Lsa) {
+    if !has_key(lsas.as_slice(), lsa.header().key()) {
+        lsas.push(lsa);
     }
-    Ok(())
 }
 
-fn add_routers(alloc: Global, random: &mut Random, lsas: &mut Vec<Lsa>) -> Result<(), Fail> {
+fn add_routers(alloc: Global, random: &mut Random, lsas: &mut Gathered<Lsa>) -> Result<(), Fail> {
     for router in ROUTERS {
-        add(lsas, a_router(alloc, random, router)?)?;
-    }
-    for _network in 0..random.below(4) {
-        add(lsas, a_network(alloc, random)?)?;
+        add(lsas, a_router(alloc, random, router)?);
     }
     Ok(())
 }
 
-fn add_others(alloc: Global, random: &mut Random, lsas: &mut Vec<Lsa>) -> Result<(), Fail> {
-    for _summary in 0..2 + random.below(4) {
-        add(lsas, a_summary(alloc, random)?)?;
-    }
-    for _external in 0..2 + random.below(5) {
-        add(lsas, an_external(alloc, random)?)?;
+fn add_networks(alloc: Global, random: &mut Random, lsas: &mut Gathered<Lsa>) -> Result<(), Fail> {
+    for _network in 0..random.below(4) {
+        add(lsas, a_network(alloc, random)?);
     }
     Ok(())
+}
+
+fn add_summaries(alloc: Global, random: &mut Random, lsas: &mut Gathered<Lsa>) -> Result<(), Fail> {
+    for _summary in 0..2 + random.below(4) {
+        add(lsas, a_summary(alloc, random)?);
+    }
+    Ok(())
+}
+
+fn add_externals(alloc: Global, random: &mut Random, lsas: &mut Gathered<Lsa>) -> Result<(), Fail> {
+    for _external in 0..2 + random.below(5) {
+        add(lsas, an_external(alloc, random)?);
+    }
+    Ok(())
+}
+
+fn add_all(alloc: Global, random: &mut Random, lsas: &mut Gathered<Lsa>) -> Result<(), Fail> {
+    add_routers(alloc, random, lsas)?;
+    add_networks(alloc, random, lsas)?;
+    add_summaries(alloc, random, lsas)?;
+    add_externals(alloc, random, lsas)
 }
 
 fn an_area(alloc: Global, random: &mut Random) -> Result<Vec<Lsa>, Fail> {
-    let mut lsas = Vec::new(alloc);
-    add_routers(alloc, random, &mut lsas)?;
-    add_others(alloc, random, &mut lsas)?;
-    Ok(lsas)
+    let mut lsas = Gathered::new(alloc);
+    add_all(alloc, random, &mut lsas)?;
+    Ok(lsas.whole()?)
 }
 
 // Counts the routes of each kind, and behind them those of more than one next hop.
@@ -252,20 +276,62 @@ fn tally(rows: &[Row], counts: &mut [u32; 5]) {
     }
 }
 
+fn is_before(one: &Row, other: &Row) -> bool {
+    one.address < other.address || one.address == other.address && one.length < other.length
+}
+
+fn are_in_order(rows: &[Row]) -> bool {
+    let mut are = true;
+    for at in 1..rows.len() {
+        are &= is_before(&rows[at - 1], &rows[at]);
+    }
+    are
+}
+
+fn is_among(row: &Row, expected: &[Row]) -> bool {
+    let mut is = false;
+    for other in expected {
+        is |= *row == *other;
+    }
+    is
+}
+
+// Whether these are the expected rows, each of a network of its own, by address and length.
+fn are_those(rows: &[Row], expected: &[Row]) -> bool {
+    let mut are = rows.len() == expected.len() && are_in_order(rows);
+    for row in rows {
+        are &= is_among(row, expected);
+    }
+    are
+}
+
+fn are_expected(alloc: Global, root: &Root, lsas: &[Lsa], rows: &[Row]) -> Result<bool, Fail> {
+    let expected = plain_rows(alloc, lsas, root)?;
+    Ok(are_those(rows, &expected))
+}
+
 // Whether the candidates of the LSAs are those of the definitions; counts them.
 fn agree(alloc: Global, root: &Root, lsas: &[Lsa], counts: &mut [u32; 5]) -> Result<bool, Fail> {
     let rows = rows_of_lsas(alloc, lsas, root)?;
-    let expected = plain_rows(alloc, lsas, root)?;
     tally(&rows, counts);
-    Ok(rows.as_slice() == expected.as_slice())
+    are_expected(alloc, root, lsas, &rows)
+}
+
+fn next_agrees(
+    alloc: Global,
+    root: &Root,
+    random: &mut Random,
+    counts: &mut [u32; 5],
+) -> Result<bool, Fail> {
+    let lsas = an_area(alloc, random)?;
+    agree(alloc, root, &lsas, counts)
 }
 
 // The first area whose candidates aren't those of the definitions.
-fn first_wrong(alloc: Global, root: &Root, counts: &mut [u32; 5]) -> Result<Option<u64>, Fail> {
+fn first_wrong(alloc: Global, root: &Root, counts: &mut [u32; 5]) -> Result<Option<usize>, Fail> {
     let mut random = Random { state: 1 };
     for number in 0..AREAS {
-        let lsas = an_area(alloc, &mut random)?;
-        if !agree(alloc, root, &lsas, counts)? {
+        if !next_agrees(alloc, root, &mut random, counts)? {
             return Ok(Some(number));
         }
     }
@@ -273,20 +339,21 @@ fn first_wrong(alloc: Global, root: &Root, counts: &mut [u32; 5]) -> Result<Opti
 }
 
 fn are_above(counts: &[u32], least: u32) -> bool {
+    let mut are = true;
     for count in counts {
-        if *count <= least {
-            return false;
-        }
+        are &= *count > least;
     }
-    true
+    are
+}
+
+fn all_agree(alloc: Global, root: &Root) -> Result<(), Fail> {
+    let mut counts = [0; 5];
+    none_is_wrong(first_wrong(alloc, root, &mut counts))?;
+    is_so(are_above(&counts, 9))
 }
 
 #[test]
 fn candidates_are_those_of_the_definitions(rt: HostRuntime) -> Result<(), Fail> {
     let root = root(rt.alloc(), 1, &ADDRESSES)?;
-    let mut counts = [0; 5];
-    let wrong = first_wrong(rt.alloc(), &root, &mut counts)?;
-    assert!(rt; wrong.is_none(), "{wrong:?}");
-    assert!(rt; are_above(&counts, 9), "{counts:?}");
-    Ok(())
+    all_agree(rt.alloc(), &root)
 }

@@ -1,4 +1,5 @@
 //! Maps whose edits can be taken back: what a key held when the map was last settled.
+use crate::outcomes::none_is_wrong;
 use keyed_map::{ChangeTest, KeyedMap};
 use std::alloc::{AllocError, Global};
 use std::test::Fail;
@@ -50,47 +51,65 @@ fn key(number: u32) -> Key {
 }
 
 fn is_among(keys: &[Key], number: u32) -> bool {
+    let mut is = false;
     for key in keys {
-        if key.link_state_id.number() == number {
-            return true;
-        }
+        is |= key.link_state_id.number() == number;
     }
-    false
+    is
+}
+
+fn are_all_among(keys: &[Key], ids: &[u32]) -> bool {
+    let mut are = true;
+    for id in ids {
+        are &= is_among(keys, *id);
+    }
+    are
+}
+
+fn have_no_others(keys: &[Key], ids: &[u32]) -> bool {
+    let mut are = true;
+    for key in keys {
+        are &= ids.contains(&key.link_state_id.number());
+    }
+    are
 }
 
 /// Whether these keys have these Link State IDs, each at least once, and no others.
 pub fn have_ids(keys: &[Key], ids: &[u32]) -> bool {
-    for key in keys {
-        if !ids.contains(&key.link_state_id.number()) {
-            return false;
-        }
-    }
-    for id in ids {
-        if !is_among(keys, *id) {
-            return false;
-        }
-    }
-    true
+    are_all_among(keys, ids) && have_no_others(keys, ids)
+}
+
+fn done(outcome: Result<(), AllocError>) -> Result<bool, AllocError> {
+    outcome?;
+    Ok(true)
+}
+
+fn holds(map: &KeyedMap<u32>, number: u32, now: Option<u32>, settled: Option<u32>) -> bool {
+    let key = key(number);
+    map.get(&key).copied() == now && map.settled_get(&key).copied() == settled
+}
+
+fn have_changed(alloc: Global, map: &KeyedMap<u32>, numbers: &[u32]) -> Result<bool, AllocError> {
+    let keys = map.changed_keys(alloc, &Equal {})?;
+    Ok(have_ids(&keys, numbers))
 }
 
 // Does the step; false where something else was expected.
 fn took(alloc: Global, map: &mut KeyedMap<u32>, step: Step) -> Result<bool, AllocError> {
     match step {
-        Step::Insert(number, held) => map.insert(key(number), held)?,
-        Step::Remove(number) => map.remove(&key(number))?,
-        Step::Settle => map.settle(),
-        Step::RollBack => map.roll_back(),
-        Step::Held(number, now, settled) => {
-            let key = key(number);
-            let are_so = map.get(&key).copied() == now && map.settled_get(&key).copied() == settled;
-            return Ok(are_so);
+        Step::Insert(number, held) => done(map.insert(key(number), held)),
+        Step::Remove(number) => done(map.remove(&key(number))),
+        Step::Settle => {
+            map.settle();
+            Ok(true)
         }
-        Step::Changed(numbers) => {
-            let keys = map.changed_keys(alloc, &Equal {})?;
-            return Ok(have_ids(&keys, numbers));
+        Step::RollBack => {
+            map.roll_back();
+            Ok(true)
         }
+        Step::Held(number, now, settled) => Ok(holds(map, number, now, settled)),
+        Step::Changed(numbers) => have_changed(alloc, map, numbers),
     }
-    Ok(true)
 }
 
 // The first step after which something else was expected.
@@ -98,7 +117,7 @@ fn first_wrong(
     alloc: Global,
     map: &mut KeyedMap<u32>,
     steps: &[Step],
-) -> Result<Option<usize>, AllocError> {
+) -> Result<Option<usize>, Fail> {
     for at in 0..steps.len() {
         if !took(alloc, map, steps[at])? {
             return Ok(Some(at));
@@ -107,7 +126,7 @@ fn first_wrong(
     Ok(None)
 }
 
-const STEPS: [Step; 25] = [
+const STEPS: &[Step] = &[
     Step::Held(1, None, None),
     Step::Changed(&[]),
     // what came since it was settled wasn't there then
@@ -139,10 +158,12 @@ const STEPS: [Step; 25] = [
     Step::Changed(&[]),
 ];
 
+fn first_wrong_of_new(alloc: Global, steps: &[Step]) -> Result<Option<usize>, Fail> {
+    let mut map = KeyedMap::new(alloc);
+    first_wrong(alloc, &mut map, steps)
+}
+
 #[test]
 fn what_a_key_held_when_the_map_was_settled(rt: HostRuntime) -> Result<(), Fail> {
-    let mut map = KeyedMap::new(rt.alloc());
-    let wrong = first_wrong(rt.alloc(), &mut map, &STEPS)?;
-    assert!(rt; wrong.is_none(), "{wrong:?}");
-    Ok(())
+    none_is_wrong(first_wrong_of_new(rt.alloc(), STEPS))
 }

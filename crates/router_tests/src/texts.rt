@@ -1,6 +1,7 @@
 //! LSAs to test with, each read from its bytes, as received ones are.
+use crate::gathered::Gathered;
 use lsa::{Lsa, read, seal};
-use std::alloc::{AllocError, Global};
+use std::alloc::Global;
 use std::test::Fail;
 
 /// A link of a router-LSA: its type is 1 to another router, 2 to a transit network, 3 to a stub
@@ -52,21 +53,32 @@ fn header(name: Name, length: u16) -> [u8; 20] {
     ]
 }
 
-fn text(alloc: Global, name: Name, body: &[u8]) -> Result<Vec<u8>, AllocError> {
-    let length = u16::try_from(body.len()).unwrap_or(0).wrapping_add(20);
-    let mut bytes = Vec::from_slice(alloc, &header(name, length))?;
-    bytes.extend_from_slice(body)?;
-    Ok(bytes)
+/// The LSA that the bytes are read as.
+pub fn loaded(alloc: Global, bytes: &[u8]) -> Result<Lsa, Fail> {
+    Ok(read(alloc, bytes)?)
 }
 
-// The LSA of this body, with the first sequence number.
-fn with_body(alloc: Global, name: Name, body: &[u8]) -> Result<Lsa, Fail> {
-    let mut bytes = text(alloc, name, body)?;
+// The LSA of these bytes, once they are sealed.
+fn sealed(alloc: Global, mut bytes: Vec<u8>) -> Result<Lsa, Fail> {
     if bytes.len() < 20 || bytes.len() > 65535 {
         return Err(Fail::from("an LSA has 20 to 65,535 bytes"));
     }
     seal(&mut bytes);
-    Ok(read(alloc, &bytes)?)
+    loaded(alloc, &bytes)
+}
+
+// The LSA of this body, with the first sequence number.
+fn with_body(alloc: Global, name: Name, body: &[u8]) -> Result<Lsa, Fail> {
+    let length = u16::try_from(body.len()).unwrap_or(0).wrapping_add(20);
+    let mut text = Gathered::new(alloc);
+    text.extend(&header(name, length));
+    text.extend(body);
+    sealed(alloc, text.whole()?)
+}
+
+fn with_gathered(alloc: Global, name: Name, body: Gathered<u8>) -> Result<Lsa, Fail> {
+    let body = body.whole()?;
+    with_body(alloc, name, &body)
 }
 
 fn link_text(link: LinkText) -> [u8; 12] {
@@ -78,33 +90,33 @@ fn link_text(link: LinkText) -> [u8; 12] {
     ]
 }
 
-fn router_body(alloc: Global, flags: u8, links: &[LinkText]) -> Result<Vec<u8>, AllocError> {
-    let [count0, count1] = u16::try_from(links.len()).unwrap_or(0).to_be_bytes();
-    let mut body = Vec::from_slice(alloc, &[flags, 0, count0, count1])?;
+fn add_links(links: &[LinkText], body: &mut Gathered<u8>) {
     for link in links {
-        body.extend_from_slice(&link_text(*link))?;
+        body.extend(&link_text(*link));
     }
-    Ok(body)
 }
 
 /// A router-LSA (RFC 2328, A.4.2).
 pub fn router(alloc: Global, name: Name, flags: u8, links: &[LinkText]) -> Result<Lsa, Fail> {
-    let body = router_body(alloc, flags, links)?;
-    with_body(alloc, Name { ls_type: 1, ..name }, &body)
+    let [count0, count1] = u16::try_from(links.len()).unwrap_or(0).to_be_bytes();
+    let mut body = Gathered::new(alloc);
+    body.extend(&[flags, 0, count0, count1]);
+    add_links(links, &mut body);
+    with_gathered(alloc, Name { ls_type: 1, ..name }, body)
 }
 
-fn network_body(alloc: Global, mask: u32, attached: &[u32]) -> Result<Vec<u8>, AllocError> {
-    let mut body = Vec::from_slice(alloc, &mask.to_be_bytes())?;
+fn add_attached(attached: &[u32], body: &mut Gathered<u8>) {
     for router in attached {
-        body.extend_from_slice(&router.to_be_bytes())?;
+        body.extend(&router.to_be_bytes());
     }
-    Ok(body)
 }
 
 /// A network-LSA (RFC 2328, A.4.3).
 pub fn network(alloc: Global, name: Name, mask: u32, attached: &[u32]) -> Result<Lsa, Fail> {
-    let body = network_body(alloc, mask, attached)?;
-    with_body(alloc, Name { ls_type: 2, ..name }, &body)
+    let mut body = Gathered::new(alloc);
+    body.extend(&mask.to_be_bytes());
+    add_attached(attached, &mut body);
+    with_gathered(alloc, Name { ls_type: 2, ..name }, body)
 }
 
 /// A summary-LSA of type 3 or 4 (RFC 2328, A.4.4).

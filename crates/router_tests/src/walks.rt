@@ -1,106 +1,95 @@
 //! Examples of the search for least walks, their answers counted by hand.
+use crate::gathered::Gathered;
+use crate::outcomes::{holds_in_memory, none_is_wrong};
 use routes::{Kind, Link, Vertex, Way, is_graph, least_ways};
 use std::alloc::{AllocError, Global};
-use std::process::Abort;
+use std::test::Fail;
 
-fn link(to: usize, cost: u16, interface: u8) -> Link {
-    Link {
-        to,
-        cost,
-        interface,
-    }
-}
+// A link: the vertex that it leads to, its cost and its interface.
+type LinkRow = (usize, u16, u8);
 
 // Vertices from the number 0 on, each with its links.
-type Row<'a> = (Kind, &'a [Link]);
+type Row = (Kind, &'static [LinkRow]);
 
-fn graph_of(alloc: Global, rows: &[Row<'_>]) -> Result<Vec<Vertex>, AllocError> {
-    let mut graph = Vec::new(alloc);
-    for (kind, links) in rows.iter().copied() {
-        let links = Vec::from_slice(alloc, links)?;
-        graph.push(Vertex { kind, links })?;
+fn add_links(rows: &[LinkRow], links: &mut Gathered<Link>) {
+    for row in rows {
+        let (to, cost, interface) = *row;
+        links.push(Link {
+            to,
+            cost,
+            interface,
+        });
     }
-    Ok(graph)
 }
 
-// Two neighbors at the same cost, a router behind both, and one that nothing leads to.
-fn square(alloc: Global) -> Result<Vec<Vertex>, AllocError> {
-    let near = [link(0, 5, 0), link(3, 5, 0)];
-    let rows: [Row<'_>; 5] = [
-        (Kind::Router, &[link(1, 5, 1), link(2, 5, 2)]),
-        (Kind::Router, &near),
-        (Kind::Router, &near),
-        (Kind::Router, &[link(1, 5, 0), link(2, 5, 0)]),
-        (Kind::Router, &[link(0, 1, 0)]),
-    ];
-    graph_of(alloc, &rows)
-}
-
-// A router that is reached at the same cost over a network and by a link of its own, and one behind
-// it.
-fn network(alloc: Global) -> Result<Vec<Vertex>, AllocError> {
-    let rows: [Row<'_>; 4] = [
-        (Kind::Router, &[link(1, 10, 2), link(3, 10, 1)]),
-        (
-            Kind::Router,
-            &[link(0, 10, 0), link(2, 1, 0), link(3, 1, 0)],
-        ),
-        (Kind::Router, &[link(1, 1, 0)]),
-        (Kind::Network, &[link(0, 0, 0), link(1, 0, 0)]),
-    ];
-    graph_of(alloc, &rows)
-}
-
-// A router with a dear link of its own and a cheaper walk over two others, and one behind it.
-fn detour(alloc: Global) -> Result<Vec<Vertex>, AllocError> {
-    let rows: [Row<'_>; 5] = [
-        (Kind::Router, &[link(1, 30, 1), link(2, 10, 2)]),
-        (Kind::Router, &[link(4, 1, 0)]),
-        (Kind::Router, &[link(1, 15, 0), link(3, 5, 0)]),
-        (Kind::Router, &[link(1, 5, 0)]),
-        (Kind::Router, &[]),
-    ];
-    graph_of(alloc, &rows)
-}
-
-fn way_to(alloc: Global, graph: &[Vertex], to: usize) -> Result<Option<Way>, AllocError> {
-    if graph.is_empty() || graph.len() > 16384 || !is_graph(graph) {
-        return Ok(None);
+fn add_vertex(alloc: Global, row: &Row, graph: &mut Gathered<Vertex>) {
+    let (kind, rows) = *row;
+    let mut links = Gathered::new(alloc);
+    add_links(rows, &mut links);
+    match links.whole() {
+        Ok(links) => graph.push(Vertex { kind, links }),
+        Err(_) => graph.note(true),
     }
-    let ways = least_ways(alloc, graph, 0)?;
-    if to < ways.len() {
-        Ok(ways[to])
-    } else {
-        Ok(None)
+}
+
+fn add_vertices(alloc: Global, rows: &[Row], graph: &mut Gathered<Vertex>) {
+    for row in rows {
+        add_vertex(alloc, row, graph);
     }
+}
+
+fn graph_of(alloc: Global, rows: &[Row]) -> Result<Vec<Vertex>, AllocError> {
+    let mut graph = Gathered::new(alloc);
+    add_vertices(alloc, rows, &mut graph);
+    graph.whole()
 }
 
 // The distance and the next hops of a way to a vertex; none where there is no way.
 type Expected = Option<(u32, u64)>;
 
-fn is_its_way(
-    alloc: Global,
-    graph: &[Vertex],
-    to: usize,
-    expected: &Expected,
-) -> Result<bool, AllocError> {
-    let expected = expected.map(|(distance, hops)| Way { distance, hops });
-    Ok(way_to(alloc, graph, to)? == expected)
-}
-
-// The ways to the vertices, from the number 0 on, are these.
-fn has_ways<R: AllocGlobal + Abort>(
-    rt: &R,
-    graph: &[Vertex],
-    ways: &[Expected],
-) -> Result<(), AllocError> {
-    for (to, expected) in ways.iter().enumerate() {
-        assert!(rt; is_its_way(rt.alloc(), graph, to, expected)?, "to {to}");
+fn is_its_way(way: Option<Way>, expected: Expected) -> bool {
+    match (way, expected) {
+        (Some(way), Some((distance, hops))) => (way.distance == distance) & (way.hops == hops),
+        (None, None) => true,
+        _ => false,
     }
-    Ok(())
 }
 
-const SQUARE: &[Expected] = &[
+fn are_their_ways(ways: &[Option<Way>], expected: &[Expected]) -> bool {
+    if ways.len() != expected.len() {
+        return false;
+    }
+    let mut are = true;
+    for to in 0..ways.len() {
+        are &= is_its_way(ways[to], expected[to]);
+    }
+    are
+}
+
+// Whether the ways to the vertices, from the number 0 on, are these.
+fn has_ways(alloc: Global, graph: &[Vertex], expected: &[Expected]) -> Result<bool, AllocError> {
+    if graph.is_empty() || graph.len() > 16384 || !is_graph(graph) {
+        return Ok(false);
+    }
+    let ways = least_ways(alloc, graph, 0)?;
+    Ok(are_their_ways(&ways, expected))
+}
+
+fn have_ways(alloc: Global, rows: &[Row], expected: &[Expected]) -> Result<bool, AllocError> {
+    let graph = graph_of(alloc, rows)?;
+    has_ways(alloc, &graph, expected)
+}
+
+// Two neighbors at the same cost, a router behind both, and one that nothing leads to.
+const SQUARE: &[Row] = &[
+    (Kind::Router, &[(1, 5, 1), (2, 5, 2)]),
+    (Kind::Router, &[(0, 5, 0), (3, 5, 0)]),
+    (Kind::Router, &[(0, 5, 0), (3, 5, 0)]),
+    (Kind::Router, &[(1, 5, 0), (2, 5, 0)]),
+    (Kind::Router, &[(0, 1, 0)]),
+];
+
+const SQUARE_WAYS: &[Expected] = &[
     Some((0, 0)),
     Some((5, 2)),
     Some((5, 4)),
@@ -109,20 +98,36 @@ const SQUARE: &[Expected] = &[
 ];
 
 #[test]
-fn walks_of_one_cost_join_their_next_hops(rt: HostRuntime) -> Result<(), AllocError> {
-    let graph = square(rt.alloc())?;
-    has_ways(&rt, &graph, SQUARE)
+fn walks_of_one_cost_join_their_next_hops(rt: HostRuntime) -> Result<(), Fail> {
+    holds_in_memory(have_ways(rt.alloc(), SQUARE, SQUARE_WAYS))
 }
 
-const NETWORK: &[Expected] = &[Some((0, 0)), Some((10, 6)), Some((11, 6)), Some((10, 2))];
+// A router that is reached at the same cost over a network and by a link of its own, and one behind
+// it.
+const NETWORK: &[Row] = &[
+    (Kind::Router, &[(1, 10, 2), (3, 10, 1)]),
+    (Kind::Router, &[(0, 10, 0), (2, 1, 0), (3, 1, 0)]),
+    (Kind::Router, &[(1, 1, 0)]),
+    (Kind::Network, &[(0, 0, 0), (1, 0, 0)]),
+];
+
+const NETWORK_WAYS: &[Expected] = &[Some((0, 0)), Some((10, 6)), Some((11, 6)), Some((10, 2))];
 
 #[test]
-fn networks_come_before_routers_at_the_same_distance(rt: HostRuntime) -> Result<(), AllocError> {
-    let graph = network(rt.alloc())?;
-    has_ways(&rt, &graph, NETWORK)
+fn networks_come_before_routers_at_the_same_distance(rt: HostRuntime) -> Result<(), Fail> {
+    holds_in_memory(have_ways(rt.alloc(), NETWORK, NETWORK_WAYS))
 }
 
-const DETOUR: &[Expected] = &[
+// A router with a dear link of its own and a cheaper walk over two others, and one behind it.
+const DETOUR: &[Row] = &[
+    (Kind::Router, &[(1, 30, 1), (2, 10, 2)]),
+    (Kind::Router, &[(4, 1, 0)]),
+    (Kind::Router, &[(1, 15, 0), (3, 5, 0)]),
+    (Kind::Router, &[(1, 5, 0)]),
+    (Kind::Router, &[]),
+];
+
+const DETOUR_WAYS: &[Expected] = &[
     Some((0, 0)),
     Some((20, 4)),
     Some((10, 4)),
@@ -131,25 +136,35 @@ const DETOUR: &[Expected] = &[
 ];
 
 #[test]
-fn a_router_comes_nearer_while_it_waits(rt: HostRuntime) -> Result<(), AllocError> {
-    let graph = detour(rt.alloc())?;
-    has_ways(&rt, &graph, DETOUR)
+fn a_router_comes_nearer_while_it_waits(rt: HostRuntime) -> Result<(), Fail> {
+    holds_in_memory(have_ways(rt.alloc(), DETOUR, DETOUR_WAYS))
 }
 
-fn is_lawful(alloc: Global, only: Link) -> Result<bool, AllocError> {
-    let graph = graph_of(alloc, &[(Kind::Router, &[only])])?;
+// Graphs of one router, and whether they are lawful: a link to a vertex that isn't there, or one of
+// cost 0 between routers, among others.
+const ALONE: &[(Row, bool)] = &[
+    ((Kind::Router, &[(0, 1, 63)]), true),
+    ((Kind::Router, &[(0, 0, 1)]), false),
+    ((Kind::Router, &[(0, 1, 64)]), false),
+    ((Kind::Router, &[(1, 1, 1)]), false),
+];
+
+fn is_lawful(alloc: Global, row: Row) -> Result<bool, AllocError> {
+    let graph = graph_of(alloc, &[row])?;
     Ok(is_graph(&graph))
 }
 
-// A link to a vertex that isn't there, or one of cost 0 between routers, among others.
+fn first_told_otherwise(alloc: Global, rows: &[(Row, bool)]) -> Result<Option<usize>, Fail> {
+    for at in 0..rows.len() {
+        let (row, lawful) = rows[at];
+        if is_lawful(alloc, row)? != lawful {
+            return Ok(Some(at));
+        }
+    }
+    Ok(None)
+}
+
 #[test]
-fn unlawful_links_are_told(rt: HostRuntime) -> Result<(), AllocError> {
-    let told = [
-        is_lawful(rt.alloc(), link(0, 1, 63))?,
-        is_lawful(rt.alloc(), link(0, 0, 1))?,
-        is_lawful(rt.alloc(), link(0, 1, 64))?,
-        is_lawful(rt.alloc(), link(1, 1, 1))?,
-    ];
-    assert!(rt; told == [true, false, false, false], "{told:?}");
-    Ok(())
+fn unlawful_links_are_told(rt: HostRuntime) -> Result<(), Fail> {
+    none_is_wrong(first_told_otherwise(rt.alloc(), ALONE))
 }

@@ -301,7 +301,7 @@ fn until(tick: u64) -> [Row; 2] {
 
 // The exchange is done at 2, and after a Tick at this moment the last Description comes again.
 fn repeated(alloc: Global, exchange: &[Row], tick: u64, again: &[Row]) -> Result<(), Fail> {
-    converse_in_parts(alloc, &[exchange, &until(tick), again])
+    in_parts(alloc, 0, &[exchange, &until(tick), again])
 }
 
 const ANSWERED: &[Row] = &[(43, LAST_OF_MASTER, Seen::Answers(State::Full, 8, 0, false))];

@@ -1,34 +1,11 @@
 //! Hellos (RFC 2328, section 10.5).
 use super::*;
 
-// Whether the one Description that is sent has all flags (I, M, MS), the interface MTU 8,192 and
-// the Options 2.
-fn is_first(sent: &Draft) -> bool {
-    match sent.descriptions() {
-        [only] => {
-            (only.init, only.more, only.master) == (true, true, true)
-                && (only.mtu, only.options) == (8192, 2)
-        }
-        _ => false,
-    }
-}
-
-fn attempt(database: &mut Lsdb, alloc: Global) -> Result<Draft, Fail> {
-    let mut place = Place::down();
-    let hello = Happening::Hello(true);
-    played(&mut place, database, alloc, Second::new(7), &hello)
-}
-
-fn first_attempt(alloc: Global) -> Result<Draft, Fail> {
-    let mut database = Lsdb::new(alloc, own());
-    attempt(&mut database, alloc)
-}
+const FIRST_ATTEMPT: &[Row] = &[(7, Happening::Hello(true), Seen::Begins(7))];
 
 #[test]
 fn an_attempt_begins_with_all_flags(rt: HostRuntime) -> Result<(), Fail> {
-    let sent = first_attempt(rt.alloc())?;
-    assert!(rt; is_first(&sent));
-    Ok(())
+    converse(rt.alloc(), 0, FIRST_ATTEMPT)
 }
 
 const BACK_AND_ON: &[Row] = &[

@@ -1,14 +1,9 @@
 //! Lines of the console's answers.
+use crate::outcomes::is_text;
 use adjacency::State;
 use console::{counters_text, neighbors_text, table_text, totals_text};
-use std::process::Abort;
 use std::test::Fail;
 use words::{Address, Hops, Prefix, Route, RouteKind, RouterId};
-
-// The text is the one that is wanted.
-fn is_text(rt: &impl Abort, text: &str, wanted: &str) {
-    assert!(rt; text == wanted, "{text}");
-}
 
 fn route(bits: u32, kind: RouteKind, cost: u32, hops: Hops) -> Option<Route> {
     let prefix = Prefix::new(Address::new(bits), 24)?;
@@ -39,16 +34,12 @@ const TABLE: &str =
 #[test]
 fn a_table_has_a_line_for_each_route(rt: HostRuntime) -> Result<(), Fail> {
     let routes = routes().ok_or("lengths of 24")?;
-    let text = table_text(rt.alloc(), &routes)?;
-    is_text(&rt, text.as_str(), TABLE);
-    Ok(())
+    is_text(table_text(rt.alloc(), &routes), TABLE)
 }
 
 #[test]
 fn a_table_without_routes_has_its_end(rt: HostRuntime) -> Result<(), Fail> {
-    let text = table_text(rt.alloc(), &[])?;
-    is_text(&rt, text.as_str(), "end\n");
-    Ok(())
+    is_text(table_text(rt.alloc(), &[]), "end\n")
 }
 
 fn neighbors() -> [Option<(RouterId, State)>; 6] {
@@ -69,25 +60,21 @@ const NEIGHBORS: &str =
 
 #[test]
 fn a_neighbor_that_is_down_has_no_line(rt: HostRuntime) -> Result<(), Fail> {
-    let text = neighbors_text(rt.alloc(), &neighbors())?;
-    is_text(&rt, text.as_str(), NEIGHBORS);
-    Ok(())
+    is_text(neighbors_text(rt.alloc(), &neighbors()), NEIGHBORS)
 }
 
 const SUMS: &[u64] = &[0, 18_446_744_073_709_551_615, 0, 7];
 
+const COUNTERS: &str = "counter 1 18446744073709551615\ncounter 3 7\nend\n";
+
 #[test]
 fn counters_of_zero_have_no_line(rt: HostRuntime) -> Result<(), Fail> {
-    let text = counters_text(rt.alloc(), SUMS)?;
-    let wanted = "counter 1 18446744073709551615\ncounter 3 7\nend\n";
-    is_text(&rt, text.as_str(), wanted);
-    Ok(())
+    is_text(counters_text(rt.alloc(), SUMS), COUNTERS)
 }
+
+const TOTALS: &str = "counter 1 18446744073709551615\ncounter 3 7\n";
 
 #[test]
 fn totals_have_no_end(rt: HostRuntime) -> Result<(), Fail> {
-    let text = totals_text(rt.alloc(), SUMS)?;
-    let wanted = "counter 1 18446744073709551615\ncounter 3 7\n";
-    is_text(&rt, text.as_str(), wanted);
-    Ok(())
+    is_text(totals_text(rt.alloc(), SUMS), TOTALS)
 }

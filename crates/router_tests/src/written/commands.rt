@@ -1,8 +1,8 @@
 //! Lines of the console.
+use crate::outcomes::{holds_in_memory, none_is_wrong};
 use console::{Command, read_command};
 use isa::Hook;
 use std::alloc::{AllocError, Global};
-use std::process::Abort;
 use std::test::Fail;
 use words::{Address, External, ExternalType, Prefix};
 
@@ -52,33 +52,35 @@ fn attaches(alloc: Global, line: &str, path: &str) -> Result<bool, AllocError> {
     }
 }
 
-fn check<R: Abort>(rt: &R, alloc: Global, rows: &[(&str, Asked)]) -> Result<(), Fail> {
-    for row in rows {
-        let (line, wanted) = *row;
-        let found = read(alloc, line)?;
-        assert!(rt; found == wanted, "{line}");
+// The first line that isn't read so.
+fn first_wrong(alloc: Global, rows: &[(&str, Asked)]) -> Result<Option<usize>, Fail> {
+    for at in 0..rows.len() {
+        let (line, wanted) = rows[at];
+        if read(alloc, line)? != wanted {
+            return Ok(Some(at));
+        }
     }
-    Ok(())
+    Ok(None)
 }
 
-fn documentation() -> Result<Prefix, Fail> {
-    match Prefix::new(Address::new(0xcb00_7100), 24) {
-        Some(prefix) => Ok(prefix),
-        None => Err("203.0.113.0/24".into()),
-    }
+fn is_one_word(alloc: Global) -> Result<bool, AllocError> {
+    let whole = attaches(alloc, "attach programs/veto.bin", "programs/veto.bin")?;
+    let part = attaches(alloc, "attach programs/veto.bin", "programs/veto")?;
+    Ok(whole && !part)
 }
 
 #[test]
 fn the_path_of_an_attach_is_one_word(rt: HostRuntime) -> Result<(), Fail> {
-    let alloc = rt.alloc();
-    assert!(rt; attaches(alloc, "attach programs/veto.bin", "programs/veto.bin")?);
-    assert!(rt; !attaches(alloc, "attach programs/veto.bin", "programs/veto")?);
-    Ok(())
+    holds_in_memory(is_one_word(rt.alloc()))
+}
+
+fn documentation() -> Option<Prefix> {
+    Prefix::new(Address::new(0xcb00_7100), 24)
 }
 
 #[test]
 fn each_command_is_read(rt: HostRuntime) -> Result<(), Fail> {
-    let prefix = documentation()?;
+    let prefix = documentation().ok_or("203.0.113.0/24")?;
     let rows = [
         ("attach a", Asked::Attach),
         ("detach count", Asked::Detach(Hook::Count)),
@@ -91,12 +93,12 @@ fn each_command_is_read(rt: HostRuntime) -> Result<(), Fail> {
         ("counters", Asked::Counters),
         ("quit", Asked::Quit),
     ];
-    check(&rt, rt.alloc(), &rows)
+    none_is_wrong(first_wrong(rt.alloc(), &rows))
 }
 
 #[test]
 fn a_destination_is_read(rt: HostRuntime) -> Result<(), Fail> {
-    let prefix = documentation()?;
+    let prefix = documentation().ok_or("203.0.113.0/24")?;
     let least = External {
         prefix,
         metric: 0,
@@ -113,7 +115,7 @@ fn a_destination_is_read(rt: HostRuntime) -> Result<(), Fail> {
         ("add 203.0.113.0/24 0 1 4294967295", Asked::Add(least)),
         ("add 203.0.113.0/24 16777214 2 0", Asked::Add(greatest)),
     ];
-    check(&rt, rt.alloc(), &rows)
+    none_is_wrong(first_wrong(rt.alloc(), &rows))
 }
 
 // Lines that ask for nothing.
@@ -148,11 +150,17 @@ const UNKNOWN: &[&str] = &[
     "withdraw 203.0.113.0/024",
 ];
 
+// The first line that asks for something.
+fn first_known(alloc: Global, lines: &[&str]) -> Result<Option<usize>, Fail> {
+    for at in 0..lines.len() {
+        if read(alloc, lines[at])? != Asked::Nothing {
+            return Ok(Some(at));
+        }
+    }
+    Ok(None)
+}
+
 #[test]
 fn what_is_no_command_is_unknown(rt: HostRuntime) -> Result<(), Fail> {
-    for line in UNKNOWN {
-        let found = read(rt.alloc(), line)?;
-        assert!(rt; found == Asked::Nothing, "{line}");
-    }
-    Ok(())
+    none_is_wrong(first_known(rt.alloc(), UNKNOWN))
 }

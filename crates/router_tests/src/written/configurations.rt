@@ -1,9 +1,9 @@
 //! Texts of configurations.
+use crate::outcomes::{holds, is_so, is_text, no_row_is_wrong};
 use adjacency::Interface;
 use console::{ConfigurationError, Configured, ConfiguredInterface, read_configuration};
 use std::alloc::{AllocError, Global};
 use std::fmt::Write;
-use std::process::Abort;
 use std::test::Fail;
 use words::{Address, RouterId};
 
@@ -26,33 +26,15 @@ fn refused_at(alloc: Global, text: &str) -> u64 {
     }
 }
 
-/// The text is refused at this line.
-fn is_refused(rt: &impl Abort, alloc: Global, text: &str, line: u64) {
-    let found = refused_at(alloc, text);
-    assert!(rt; found == line, "{text}: {found}");
-}
-
-/// Each text is refused at its line.
-fn are_refused(rt: &impl Abort, alloc: Global, rows: &[(&str, u64)]) {
-    for row in rows {
-        let (text, line) = *row;
-        is_refused(rt, alloc, text, line);
+// The first text that isn't refused at its line.
+fn first_refused_elsewhere(alloc: Global, rows: &[(&str, u64)]) -> Option<usize> {
+    for at in 0..rows.len() {
+        let (text, line) = rows[at];
+        if refused_at(alloc, text) != line {
+            return Some(at);
+        }
     }
-}
-
-/// The configuration of one router with each of these lines for its only interface is refused at
-/// it.
-fn are_interfaces_refused(rt: &impl Abort, alloc: Global, lines: &[&str]) -> Result<(), Fail> {
-    for line in lines {
-        is_interface_refused(rt, alloc, line)?;
-    }
-    Ok(())
-}
-
-fn is_interface_refused(rt: &impl Abort, alloc: Global, line: &str) -> Result<(), Fail> {
-    let text = format!(in alloc; "router 1.1.1.1\n{line}\n")?;
-    is_refused(rt, alloc, text.as_str(), 2);
-    Ok(())
+    None
 }
 
 // The interface of the first text.
@@ -79,11 +61,14 @@ fn is_the_first(configured: &Configured) -> bool {
         && configured.interfaces.as_slice() == [interface].as_slice()
 }
 
+fn first_is_read(alloc: Global) -> Result<bool, Fail> {
+    let configured = read_configuration(alloc, FIRST)?;
+    Ok(is_the_first(&configured))
+}
+
 #[test]
 fn one_interface_is_read(rt: HostRuntime) -> Result<(), Fail> {
-    let configured = read_configuration(rt.alloc(), FIRST)?;
-    assert!(rt; is_the_first(&configured));
-    Ok(())
+    holds(first_is_read(rt.alloc()))
 }
 
 // The greatest numbers, and the least.
@@ -97,11 +82,20 @@ fn is_of(configured: &Configured, router: u32, interfaces: usize) -> bool {
         && configured.interfaces.as_slice().len() == interfaces
 }
 
+// Whether the text is that of this router with so many interfaces.
+fn is_text_of(
+    alloc: Global,
+    text: &str,
+    router: u32,
+    interfaces: usize,
+) -> Result<bool, ConfigurationError> {
+    let configured = read_configuration(alloc, text)?;
+    Ok(is_of(&configured, router, interfaces))
+}
+
 #[test]
 fn the_last_line_feed_may_be_left_out(rt: HostRuntime) -> Result<(), Fail> {
-    let configured = read_configuration(rt.alloc(), ENDS)?;
-    assert!(rt; is_of(&configured, 0xffff_ffff, 2));
-    Ok(())
+    is_so(is_text_of(rt.alloc(), ENDS, 0xffff_ffff, 2)?)
 }
 
 const WITHOUT_A_LINE: &[(&str, u64)] = &[
@@ -112,8 +106,8 @@ const WITHOUT_A_LINE: &[(&str, u64)] = &[
 ];
 
 #[test]
-fn the_line_that_is_missing_is_named(rt: HostRuntime) {
-    are_refused(&rt, rt.alloc(), WITHOUT_A_LINE);
+fn the_line_that_is_missing_is_named(rt: HostRuntime) -> Result<(), Fail> {
+    no_row_is_wrong(first_refused_elsewhere(rt.alloc(), WITHOUT_A_LINE))
 }
 
 const ROUTERS: &[(&str, u64)] = &[
@@ -127,43 +121,117 @@ const ROUTERS: &[(&str, u64)] = &[
 ];
 
 #[test]
-fn the_line_of_the_router_is_refused(rt: HostRuntime) {
-    are_refused(&rt, rt.alloc(), ROUTERS);
+fn the_line_of_the_router_is_refused(rt: HostRuntime) -> Result<(), Fail> {
+    no_row_is_wrong(first_refused_elsewhere(rt.alloc(), ROUTERS))
 }
 
-const INTERFACES: &[&str] = &[
-    "",
-    "interface 2 10.0.1.1/24 cost 10 hello 10 dead 40 rxmt 5 delay 1 port 7001 peer 7002",
-    "interface 01 10.0.1.1/24 cost 10 hello 10 dead 40 rxmt 5 delay 1 port 7001 peer 7002",
-    "interface 1 10.0.1.1/33 cost 10 hello 10 dead 40 rxmt 5 delay 1 port 7001 peer 7002",
-    "interface 1 10.0.1.1 cost 10 hello 10 dead 40 rxmt 5 delay 1 port 7001 peer 7002",
-    "interface 1 10.0.1.1/24 cost 10 hello 10 dead 40 rxmt 5 delay 1 port 7001 peer 7002 ",
+// The line of the only interface is refused.
+const INTERFACES: &[(&str, u64)] = &[
+    ("router 1.1.1.1\n\n", 2),
+    (
+        "router 1.1.1.1\n\
+        interface 2 10.0.1.1/24 cost 10 hello 10 dead 40 rxmt 5 delay 1 port 7001 peer 7002\n",
+        2,
+    ),
+    (
+        "router 1.1.1.1\n\
+        interface 01 10.0.1.1/24 cost 10 hello 10 dead 40 rxmt 5 delay 1 port 7001 peer 7002\n",
+        2,
+    ),
+    (
+        "router 1.1.1.1\n\
+        interface 1 10.0.1.1/33 cost 10 hello 10 dead 40 rxmt 5 delay 1 port 7001 peer 7002\n",
+        2,
+    ),
+    (
+        "router 1.1.1.1\n\
+        interface 1 10.0.1.1 cost 10 hello 10 dead 40 rxmt 5 delay 1 port 7001 peer 7002\n",
+        2,
+    ),
+    (
+        "router 1.1.1.1\n\
+        interface 1 10.0.1.1/24 cost 10 hello 10 dead 40 rxmt 5 delay 1 port 7001 peer 7002 \n",
+        2,
+    ),
 ];
 
 #[test]
 fn the_line_of_an_interface_is_refused(rt: HostRuntime) -> Result<(), Fail> {
-    are_interfaces_refused(&rt, rt.alloc(), INTERFACES)
+    no_row_is_wrong(first_refused_elsewhere(rt.alloc(), INTERFACES))
 }
 
-const PAST_THEIR_RANGES: &[&str] = &[
-    "interface 1 10.0.1.1/24 cost 0 hello 10 dead 40 rxmt 5 delay 1 port 7001 peer 7002",
-    "interface 1 10.0.1.1/24 cost 65536 hello 10 dead 40 rxmt 5 delay 1 port 7001 peer 7002",
-    "interface 1 10.0.1.1/24 cost 10 hello 0 dead 40 rxmt 5 delay 1 port 7001 peer 7002",
-    "interface 1 10.0.1.1/24 cost 10 hello 65536 dead 40 rxmt 5 delay 1 port 7001 peer 7002",
-    "interface 1 10.0.1.1/24 cost 10 hello 10 dead 0 rxmt 5 delay 1 port 7001 peer 7002",
-    "interface 1 10.0.1.1/24 cost 10 hello 10 dead 4294967296 rxmt 5 delay 1 port 7001 peer 7002",
-    "interface 1 10.0.1.1/24 cost 10 hello 10 dead 40 rxmt 0 delay 1 port 7001 peer 7002",
-    "interface 1 10.0.1.1/24 cost 10 hello 10 dead 40 rxmt 5 delay 0 port 7001 peer 7002",
-    "interface 1 10.0.1.1/24 cost 10 hello 10 dead 40 rxmt 5 delay 3601 port 7001 peer 7002",
-    "interface 1 10.0.1.1/24 cost 10 hello 10 dead 40 rxmt 5 delay 1 port 0 peer 7002",
-    "interface 1 10.0.1.1/24 cost 10 hello 10 dead 40 rxmt 5 delay 1 port 7001 peer 65536",
-    "interface 1 10.0.1.1/24 hello 10 cost 10 dead 40 rxmt 5 delay 1 port 7001 peer 7002",
-    "interface 1 10.0.1.1/24 cost 10 hello 10 dead 40 rxmt 5 delay 1 port 7001",
+const PAST_THEIR_RANGES: &[(&str, u64)] = &[
+    (
+        "router 1.1.1.1\n\
+        interface 1 10.0.1.1/24 cost 0 hello 10 dead 40 rxmt 5 delay 1 port 7001 peer 7002\n",
+        2,
+    ),
+    (
+        "router 1.1.1.1\n\
+        interface 1 10.0.1.1/24 cost 65536 hello 10 dead 40 rxmt 5 delay 1 port 7001 peer 7002\n",
+        2,
+    ),
+    (
+        "router 1.1.1.1\n\
+        interface 1 10.0.1.1/24 cost 10 hello 0 dead 40 rxmt 5 delay 1 port 7001 peer 7002\n",
+        2,
+    ),
+    (
+        "router 1.1.1.1\n\
+        interface 1 10.0.1.1/24 cost 10 hello 65536 dead 40 rxmt 5 delay 1 port 7001 peer 7002\n",
+        2,
+    ),
+    (
+        "router 1.1.1.1\n\
+        interface 1 10.0.1.1/24 cost 10 hello 10 dead 0 rxmt 5 delay 1 port 7001 peer 7002\n",
+        2,
+    ),
+    (
+        "router 1.1.1.1\n\
+        interface 1 10.0.1.1/24 cost 10 hello 10 dead 4294967296 rxmt 5 delay 1 port 7001 peer \
+        7002\n",
+        2,
+    ),
+    (
+        "router 1.1.1.1\n\
+        interface 1 10.0.1.1/24 cost 10 hello 10 dead 40 rxmt 0 delay 1 port 7001 peer 7002\n",
+        2,
+    ),
+    (
+        "router 1.1.1.1\n\
+        interface 1 10.0.1.1/24 cost 10 hello 10 dead 40 rxmt 5 delay 0 port 7001 peer 7002\n",
+        2,
+    ),
+    (
+        "router 1.1.1.1\n\
+        interface 1 10.0.1.1/24 cost 10 hello 10 dead 40 rxmt 5 delay 3601 port 7001 peer 7002\n",
+        2,
+    ),
+    (
+        "router 1.1.1.1\n\
+        interface 1 10.0.1.1/24 cost 10 hello 10 dead 40 rxmt 5 delay 1 port 0 peer 7002\n",
+        2,
+    ),
+    (
+        "router 1.1.1.1\n\
+        interface 1 10.0.1.1/24 cost 10 hello 10 dead 40 rxmt 5 delay 1 port 7001 peer 65536\n",
+        2,
+    ),
+    (
+        "router 1.1.1.1\n\
+        interface 1 10.0.1.1/24 hello 10 cost 10 dead 40 rxmt 5 delay 1 port 7001 peer 7002\n",
+        2,
+    ),
+    (
+        "router 1.1.1.1\n\
+        interface 1 10.0.1.1/24 cost 10 hello 10 dead 40 rxmt 5 delay 1 port 7001\n",
+        2,
+    ),
 ];
 
 #[test]
 fn numbers_past_their_ranges_are_refused(rt: HostRuntime) -> Result<(), Fail> {
-    are_interfaces_refused(&rt, rt.alloc(), PAST_THEIR_RANGES)
+    no_row_is_wrong(first_refused_elsewhere(rt.alloc(), PAST_THEIR_RANGES))
 }
 
 const ADDRESS_AGAIN: &[(&str, u64)] = &[(
@@ -174,8 +242,8 @@ const ADDRESS_AGAIN: &[(&str, u64)] = &[(
 )];
 
 #[test]
-fn an_address_given_again_is_refused(rt: HostRuntime) {
-    are_refused(&rt, rt.alloc(), ADDRESS_AGAIN);
+fn an_address_given_again_is_refused(rt: HostRuntime) -> Result<(), Fail> {
+    no_row_is_wrong(first_refused_elsewhere(rt.alloc(), ADDRESS_AGAIN))
 }
 
 fn add_interface(text: &mut String, n: u32) -> Result<(), AllocError> {
@@ -199,40 +267,34 @@ fn of_interfaces(alloc: Global, end: u32) -> Result<String, AllocError> {
     Ok(text)
 }
 
+fn sixty_three_are_read(alloc: Global) -> Result<bool, Fail> {
+    let text = of_interfaces(alloc, 64)?;
+    Ok(is_text_of(alloc, text.as_str(), 0x0101_0101, 63)?)
+}
+
 #[test]
 fn sixty_three_interfaces_are_read(rt: HostRuntime) -> Result<(), Fail> {
-    let text = of_interfaces(rt.alloc(), 64)?;
-    let configured = read_configuration(rt.alloc(), text.as_str())?;
-    assert!(rt; is_of(&configured, 0x0101_0101, 63));
-    Ok(())
+    holds(sixty_three_are_read(rt.alloc()))
+}
+
+fn is_refused_at_the_last(alloc: Global) -> Result<bool, Fail> {
+    let text = of_interfaces(alloc, 65)?;
+    Ok(refused_at(alloc, text.as_str()) == 65)
 }
 
 #[test]
 fn the_sixty_fourth_interface_is_refused(rt: HostRuntime) -> Result<(), Fail> {
-    let text = of_interfaces(rt.alloc(), 65)?;
-    is_refused(&rt, rt.alloc(), text.as_str(), 65);
-    Ok(())
+    holds(is_refused_at_the_last(rt.alloc()))
 }
 
-fn prints(
-    rt: &impl Abort,
-    alloc: Global,
-    error: &ConfigurationError,
-    wanted: &str,
-) -> Result<(), Fail> {
-    let text = format!(in alloc; "{error}")?;
-    assert!(rt; text.as_str() == wanted, "{text}");
-    Ok(())
+// The refusal of line 3, and want of memory.
+fn printed(alloc: Global) -> Result<String, AllocError> {
+    let line = ConfigurationError::Line(3);
+    let memory = ConfigurationError::Memory;
+    format!(in alloc; "{line}, {memory}")
 }
 
 #[test]
 fn a_refusal_prints_its_line(rt: HostRuntime) -> Result<(), Fail> {
-    let line = "config refusal line 3";
-    prints(&rt, rt.alloc(), &ConfigurationError::Line(3), line)?;
-    prints(
-        &rt,
-        rt.alloc(),
-        &ConfigurationError::Memory,
-        "out of memory",
-    )
+    is_text(printed(rt.alloc()), "config refusal line 3, out of memory")
 }

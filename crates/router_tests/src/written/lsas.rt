@@ -1,7 +1,8 @@
 //! LSAs that are read, and written again.
-use lsa::{checksum_holds, read, write};
+use crate::outcomes::are_bytes;
+use crate::texts::loaded;
+use lsa::{Lsa, checksum_holds, read, write};
 use std::alloc::Global;
-use std::process::Abort;
 use std::test::Fail;
 
 // The number of the refusal, or 0.
@@ -12,38 +13,47 @@ fn refusal(alloc: Global, bytes: &[u8]) -> u8 {
     }
 }
 
-// What is written of the LSA that the bytes are read as.
-fn written_again(alloc: Global, bytes: &[u8]) -> Result<Vec<u8>, Fail> {
-    let lsa = read(alloc, bytes)?;
-    Ok(write(alloc, &lsa)?)
+fn written(alloc: Global, lsa: &Lsa) -> Result<Vec<u8>, Fail> {
+    Ok(write(alloc, lsa)?)
 }
 
-fn is_written_again<R: AllocGlobal + Abort>(rt: &R, text: &[u8]) -> Result<(), Fail> {
-    assert!(rt; checksum_holds(text), "{text:?}");
-    let written = written_again(rt.alloc(), text)?;
-    assert!(rt; written.as_slice() == text, "{text:?}: {written:?}");
-    Ok(())
+/// Whether the LSA that was made is written so.
+pub fn is_written_as(alloc: Global, made: Result<Lsa, Fail>, text: &[u8]) -> Result<bool, Fail> {
+    let lsa = made?;
+    are_bytes(written(alloc, &lsa), text)
 }
 
-/// Each text has a checksum that holds, and is written as it was read.
-pub fn are_written_again<R: AllocGlobal + Abort>(rt: &R, texts: &[&[u8]]) -> Result<(), Fail> {
-    for text in texts {
-        is_written_again(rt, text)?;
+/// A copy of the LSA.
+pub fn copied(lsa: &Lsa) -> Result<Lsa, Fail> {
+    Ok(lsa.copy()?)
+}
+
+fn is_written_again(alloc: Global, text: &[u8]) -> Result<bool, Fail> {
+    is_written_as(alloc, loaded(alloc, text), text)
+}
+
+/// The first text that has no checksum that holds, or isn't written as it was read.
+pub fn first_written_otherwise(alloc: Global, texts: &[&[u8]]) -> Result<Option<usize>, Fail> {
+    for at in 0..texts.len() {
+        if !checksum_holds(texts[at]) || !is_written_again(alloc, texts[at])? {
+            return Ok(Some(at));
+        }
     }
-    Ok(())
+    Ok(None)
 }
 
-/// The bytes are refused with this number.
-pub fn is_refused<R: AllocGlobal + Abort>(rt: &R, bytes: &[u8], number: u8) {
-    let found = refusal(rt.alloc(), bytes);
-    assert!(rt; found == number, "{bytes:?}: {found}");
+/// Whether the bytes are refused with this number.
+pub fn is_refused(alloc: Global, bytes: &[u8], number: u8) -> bool {
+    refusal(alloc, bytes) == number
 }
 
-/// Each text has a checksum that holds, and is refused with this number.
-pub fn are_refused<R: AllocGlobal + Abort>(rt: &R, texts: &[(&[u8], u8)]) {
-    for row in texts {
-        let (text, number) = *row;
-        assert!(rt; checksum_holds(text), "{text:?}");
-        is_refused(rt, text, number);
+/// The first text that has no checksum that holds, or isn't refused with its number.
+pub fn first_refused_otherwise(alloc: Global, texts: &[(&[u8], u8)]) -> Option<usize> {
+    for at in 0..texts.len() {
+        let (text, number) = texts[at];
+        if !checksum_holds(text) || !is_refused(alloc, text, number) {
+            return Some(at);
+        }
     }
+    None
 }

@@ -1,7 +1,8 @@
 //! Worked packets, whose bytes and checksums another program computed.
-use packet::{Body, Description, Header, Hello, read, write};
-use std::alloc::{AllocError, Global};
-use std::process::Abort;
+use crate::gathered::Gathered;
+use crate::outcomes::{are_bytes, holds, is_so, no_row_is_wrong, none_is_wrong};
+use packet::{Body, Description, Header, Hello, Packet, read, write};
+use std::alloc::Global;
 use std::test::Fail;
 use words::{Key, RouterId, Sequence};
 
@@ -312,30 +313,23 @@ fn refusal(alloc: Global, bytes: &[u8]) -> u8 {
     }
 }
 
-// So many bytes: these, and then one byte again and again.
-fn continued(alloc: Global, front: &[u8], byte: u8, size: usize) -> Result<Vec<u8>, AllocError> {
-    let mut bytes = Vec::with_capacity(alloc, size)?;
-    bytes.extend_from_slice(front)?;
-    for _ in front.len()..size {
-        bytes.push(byte)?;
-    }
-    Ok(bytes)
-}
-
 // What is written of the packet that the bytes are read as.
 fn written_again(alloc: Global, bytes: &[u8]) -> Result<Vec<u8>, Fail> {
     let packet = read(alloc, bytes)?;
     Ok(write(alloc, &packet)?)
 }
 
-fn are_written_as<R: AllocGlobal + Abort>(
-    rt: &R,
-    bytes: &[u8],
-    canonical: &[u8],
-) -> Result<(), Fail> {
-    let written = written_again(rt.alloc(), bytes)?;
-    assert!(rt; written.as_slice() == canonical, "{bytes:?}: {written:?}");
-    Ok(())
+fn is_written_as(alloc: Global, bytes: &[u8], canonical: &[u8]) -> Result<bool, Fail> {
+    are_bytes(written_again(alloc, bytes), canonical)
+}
+
+fn first_written_otherwise(alloc: Global, packets: &[&[u8]]) -> Result<Option<usize>, Fail> {
+    for at in 0..packets.len() {
+        if !is_written_as(alloc, packets[at], packets[at])? {
+            return Ok(Some(at));
+        }
+    }
+    Ok(None)
 }
 
 const PACKETS: &[&[u8]] = &[
@@ -357,37 +351,47 @@ const PACKETS: &[&[u8]] = &[
 
 #[test]
 fn packets_are_written_as_they_were_read(rt: HostRuntime) -> Result<(), Fail> {
-    for bytes in PACKETS {
-        are_written_as(&rt, bytes, bytes)?;
-    }
-    Ok(())
+    none_is_wrong(first_written_otherwise(rt.alloc(), PACKETS))
+}
+
+fn are_without_open_bytes(alloc: Global) -> Result<bool, Fail> {
+    let is_hello = is_written_as(alloc, HELLO_OPEN, HELLO_NAMING)?;
+    Ok(is_hello && is_written_as(alloc, ACKNOWLEDGMENT_OPEN, ACKNOWLEDGMENT)?)
 }
 
 #[test]
 fn open_bytes_are_not_read(rt: HostRuntime) -> Result<(), Fail> {
-    are_written_as(&rt, HELLO_OPEN, HELLO_NAMING)?;
-    are_written_as(&rt, ACKNOWLEDGMENT_OPEN, ACKNOWLEDGMENT)
+    holds(are_without_open_bytes(rt.alloc()))
 }
 
 fn is_the_hello(hello: &Hello) -> bool {
-    let neighbors = [RouterId::new(0x0202_0202)];
-    hello.mask == 0xffff_ff00
-        && (hello.hello_interval, hello.dead_interval) == (10, 40)
-        && (hello.options, hello.priority) == (2, 1)
-        && hello.neighbors.as_slice() == neighbors.as_slice()
+    let is = (hello.mask == 0xffff_ff00)
+        & (hello.hello_interval == 10)
+        & (hello.dead_interval == 40)
+        & (hello.options == 2)
+        & (hello.priority == 1);
+    is && hello.neighbors.as_slice() == [RouterId::new(0x0202_0202)].as_slice()
+}
+
+fn are_described(headers: &[Header]) -> bool {
+    match headers {
+        [first, second] => { is_header(first, 1, 0x59ae, 48) && is_header(second, 5, 0x5429, 36) }
+        _ => false,
+    }
+}
+
+fn is_header(header: &Header, ls_type: u8, checksum: u16, length: u16) -> bool {
+    (header.ls_type == ls_type) & (header.checksum == checksum) & (header.length == length)
 }
 
 fn is_the_description(description: &Description) -> bool {
-    (description.mtu, description.options) == (1500, 2)
-        && (description.init, description.more, description.master) == (false, true, false)
-        && description.sequence == 0x0102_0304
-        && match description.headers.as_slice() {
-            [first, second] => {
-                (first.ls_type, first.checksum, first.length) == (1, 0x59ae, 48)
-                    && (second.ls_type, second.checksum, second.length) == (5, 0x5429, 36)
-            }
-            _ => false,
-        }
+    let is = (description.mtu == 1500)
+        & (description.options == 2)
+        & !description.init
+        & description.more
+        & !description.master
+        & (description.sequence == 0x0102_0304);
+    is && are_described(description.headers.as_slice())
 }
 
 fn is_the_request(keys: &[Key]) -> bool {
@@ -413,8 +417,10 @@ fn is_the_update(lsas: &[Sequence<u8>]) -> bool {
 fn is_the_acknowledgment(headers: &[Header]) -> bool {
     match headers {
         [_, header] => {
-            (header.age, header.ls_type, header.length) == (65535, 255, 65535)
-                && header.sequence.number() == -1
+            (header.age == 65535)
+                & (header.ls_type == 255)
+                & (header.length == 65535)
+                & (header.sequence.number() == -1)
         }
         _ => false,
     }
@@ -431,14 +437,24 @@ fn is_as_above(body: &Body) -> bool {
     }
 }
 
-// The bytes are read as a packet of this router, with the body of its type above.
-fn are_read<R: AllocGlobal + Abort>(rt: &R, bytes: &[u8], router: u32) -> Result<(), Fail> {
-    let packet = read(rt.alloc(), bytes)?;
-    assert!(rt;
-        packet.router.number() == router && is_as_above(&packet.body),
-        "{bytes:?}"
-    );
-    Ok(())
+// Whether it is a packet of this router, with the body of its type above.
+fn is_packet(packet: &Packet, router: u32) -> bool {
+    packet.router.number() == router && is_as_above(&packet.body)
+}
+
+fn is_read(alloc: Global, bytes: &[u8], router: u32) -> Result<bool, Fail> {
+    let packet = read(alloc, bytes)?;
+    Ok(is_packet(&packet, router))
+}
+
+fn first_read_otherwise(alloc: Global, rows: &[(&[u8], u32)]) -> Result<Option<usize>, Fail> {
+    for at in 0..rows.len() {
+        let (bytes, router) = rows[at];
+        if !is_read(alloc, bytes, router)? {
+            return Ok(Some(at));
+        }
+    }
+    Ok(None)
 }
 
 const BODIES: &[(&[u8], u32)] = &[
@@ -451,24 +467,18 @@ const BODIES: &[(&[u8], u32)] = &[
 
 #[test]
 fn each_body_is_read_by_its_fields(rt: HostRuntime) -> Result<(), Fail> {
-    for row in BODIES {
-        let (bytes, router) = *row;
-        are_read(&rt, bytes, router)?;
-    }
-    Ok(())
+    none_is_wrong(first_read_otherwise(rt.alloc(), BODIES))
 }
 
-fn is_refused<R: AllocGlobal + Abort>(rt: &R, bytes: &[u8], number: u8) {
-    let found = refusal(rt.alloc(), bytes);
-    assert!(rt; found == number, "{bytes:?}: {found}");
-}
-
-// Each packet is refused with this number.
-fn are_refused<R: AllocGlobal + Abort>(rt: &R, faults: &[(&[u8], u8)]) {
-    for row in faults {
-        let (bytes, number) = *row;
-        is_refused(rt, bytes, number);
+// The first packet that isn't refused with its number.
+fn first_refused_otherwise(alloc: Global, faults: &[(&[u8], u8)]) -> Option<usize> {
+    for at in 0..faults.len() {
+        let (bytes, number) = faults[at];
+        if refusal(alloc, bytes) != number {
+            return Some(at);
+        }
     }
+    None
 }
 
 const FAULTS: &[(&[u8], u8)] = &[
@@ -488,8 +498,8 @@ const FAULTS: &[(&[u8], u8)] = &[
 ];
 
 #[test]
-fn each_fault_has_its_number(rt: HostRuntime) {
-    are_refused(&rt, FAULTS);
+fn each_fault_has_its_number(rt: HostRuntime) -> Result<(), Fail> {
+    no_row_is_wrong(first_refused_otherwise(rt.alloc(), FAULTS))
 }
 
 const NOT_FILLED: &[(&[u8], u8)] = &[
@@ -509,8 +519,8 @@ const NOT_FILLED: &[(&[u8], u8)] = &[
 ];
 
 #[test]
-fn bodies_are_filled_exactly(rt: HostRuntime) {
-    are_refused(&rt, NOT_FILLED);
+fn bodies_are_filled_exactly(rt: HostRuntime) -> Result<(), Fail> {
+    no_row_is_wrong(first_refused_otherwise(rt.alloc(), NOT_FILLED))
 }
 
 const TWO_FAULTS: &[(&[u8], u8)] = &[
@@ -524,36 +534,56 @@ const TWO_FAULTS: &[(&[u8], u8)] = &[
 ];
 
 #[test]
-fn the_earlier_of_two_faults_answers(rt: HostRuntime) {
-    are_refused(&rt, TWO_FAULTS);
+fn the_earlier_of_two_faults_answers(rt: HostRuntime) -> Result<(), Fail> {
     // too short for a Hello, and not of the length that it names
-    is_refused(&rt, &HELLO_RECEIVED[..43], 1);
+    is_so(refusal(rt.alloc(), &HELLO_RECEIVED[..43]) == 1)?;
+    no_row_is_wrong(first_refused_otherwise(rt.alloc(), TWO_FAULTS))
 }
 
-fn is_written_with_8192_bytes<R: AllocGlobal + Abort>(
-    rt: &R,
-    front: &[u8],
-    byte: u8,
-) -> Result<(), Fail> {
-    let bytes = continued(rt.alloc(), front, byte, 8192)?;
-    are_written_as(rt, &bytes, &bytes)
+// So many bytes: these, and then one byte again and again.
+fn add_continued(front: &[u8], byte: u8, size: usize, bytes: &mut Gathered<u8>) {
+    bytes.extend(front);
+    for _ in front.len()..size {
+        bytes.push(byte);
+    }
 }
 
-fn is_refused_with_bytes<R: AllocGlobal + Abort>(
-    rt: &R,
-    front: &[u8],
-    byte: u8,
-    size: usize,
-) -> Result<(), Fail> {
-    let bytes = continued(rt.alloc(), front, byte, size)?;
-    is_refused(rt, &bytes, 4);
-    Ok(())
+// A packet's front, the byte with which it goes on, its size, and the number of the refusal, or 0.
+type Long = (&'static [u8], u8, usize, u8);
+
+const LONG: &[Long] = &[
+    (UPDATE_8192, 0, 8192, 0),
+    (HELLO_8192, 3, 8192, 0),
+    (UPDATE_8193, 0, 8193, 4),
+    (HELLO_8196, 3, 8196, 4),
+];
+
+// Whether the packet is refused with this number, or written as it was read where that is 0.
+fn is_answered(alloc: Global, bytes: &[u8], number: u8) -> Result<bool, Fail> {
+    if number == 0 {
+        return is_written_as(alloc, bytes, bytes);
+    }
+    Ok(refusal(alloc, bytes) == number)
+}
+
+fn comes_out(alloc: Global, row: Long) -> Result<bool, Fail> {
+    let (front, byte, size, number) = row;
+    let mut gathered = Gathered::new(alloc);
+    add_continued(front, byte, size, &mut gathered);
+    let bytes = gathered.whole()?;
+    is_answered(alloc, &bytes, number)
+}
+
+fn first_wrong(alloc: Global, rows: &[Long]) -> Result<Option<usize>, Fail> {
+    for at in 0..rows.len() {
+        if !comes_out(alloc, rows[at])? {
+            return Ok(Some(at));
+        }
+    }
+    Ok(None)
 }
 
 #[test]
 fn a_packet_has_at_most_8192_bytes(rt: HostRuntime) -> Result<(), Fail> {
-    is_written_with_8192_bytes(&rt, UPDATE_8192, 0)?;
-    is_written_with_8192_bytes(&rt, HELLO_8192, 3)?;
-    is_refused_with_bytes(&rt, UPDATE_8193, 0, 8193)?;
-    is_refused_with_bytes(&rt, HELLO_8196, 3, 8196)
+    none_is_wrong(first_wrong(rt.alloc(), LONG))
 }

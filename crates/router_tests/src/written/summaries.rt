@@ -2,10 +2,13 @@
 ghost use Rattle.std.specs.Prelude.{◌≡◌, ◌≢◌};
 ghost use Rattle.lsa.specs.Text.{reserved_sequence};
 
-use crate::written::lsas::{are_refused, are_written_again, is_refused};
-use lsa::{Body, Header, Lsa, SummaryLsa, SummaryTos, read, write};
+use crate::outcomes::{holds, no_row_is_wrong, none_is_wrong};
+use crate::texts::loaded;
+use crate::written::lsas::{
+    first_refused_otherwise, first_written_otherwise, is_refused, is_written_as,
+};
+use lsa::{Body, Header, Lsa, SummaryLsa, SummaryTos};
 use std::alloc::{AllocError, Global};
-use std::process::Abort;
 use std::test::Fail;
 use words::{Address, LinkStateId, RouterId, Sequence, SequenceNumber};
 
@@ -52,9 +55,11 @@ const TOS_CUT: &[u8] =
 const HEADER_ALONE: &[u8] =
     b"\x00\x00\x02\x04\x09\x09\x09\x09\x02\x02\x02\x02\x80\x00\x00\x01\x71\xc6\x00\x14";
 
+const TEXTS: &[&[u8]] = &[NETWORK, ROUTER, UNREACHABLE, TOS];
+
 #[test]
 fn summaries_are_written_as_they_were_read(rt: HostRuntime) -> Result<(), Fail> {
-    are_written_again(&rt, &[NETWORK, ROUTER, UNREACHABLE, TOS])
+    none_is_wrong(first_written_otherwise(rt.alloc(), TEXTS))
 }
 
 fn is_to_the_network(summary: &SummaryLsa) -> bool {
@@ -70,32 +75,28 @@ fn is_to_the_network(summary: &SummaryLsa) -> bool {
         && summary.tos.as_slice() == tos.as_slice()
 }
 
-fn is_one_to_the_network(lsa: &Lsa) -> bool {
+// Whether it is one to the network, or one to the router.
+fn is_told(lsa: &Lsa, is_to_network: bool) -> bool {
     match lsa.body() {
-        Body::NetworkSummary(summary) => is_to_the_network(summary),
+        Body::NetworkSummary(summary) => is_to_network && is_to_the_network(summary),
+        Body::RouterSummary(summary) => !is_to_network && summary.metric == 7,
         _ => false,
     }
+}
+
+fn is_read(alloc: Global, text: &[u8], is_to_network: bool) -> Result<bool, Fail> {
+    let lsa = loaded(alloc, text)?;
+    Ok(is_told(&lsa, is_to_network))
 }
 
 #[test]
 fn a_type_3_is_read_as_one_to_a_network(rt: HostRuntime) -> Result<(), Fail> {
-    let lsa = read(rt.alloc(), TOS)?;
-    assert!(rt; is_one_to_the_network(&lsa));
-    Ok(())
-}
-
-fn is_one_to_the_router(lsa: &Lsa) -> bool {
-    match lsa.body() {
-        Body::RouterSummary(summary) => summary.metric == 7,
-        _ => false,
-    }
+    holds(is_read(rt.alloc(), TOS, true))
 }
 
 #[test]
 fn a_type_4_is_read_as_one_to_a_router(rt: HostRuntime) -> Result<(), Fail> {
-    let lsa = read(rt.alloc(), ROUTER)?;
-    assert!(rt; is_one_to_the_router(&lsa));
-    Ok(())
+    holds(is_read(rt.alloc(), ROUTER, false))
 }
 
 const FAULTS: &[(&[u8], u8)] = &[
@@ -107,8 +108,8 @@ const FAULTS: &[(&[u8], u8)] = &[
 ];
 
 #[test]
-fn faults_of_summaries_are_told_by_their_numbers(rt: HostRuntime) {
-    are_refused(&rt, FAULTS);
+fn faults_of_summaries_are_told_by_their_numbers(rt: HostRuntime) -> Result<(), Fail> {
+    no_row_is_wrong(first_refused_otherwise(rt.alloc(), FAULTS))
 }
 
 // The bytes with another second check byte.
@@ -120,11 +121,14 @@ fn with_check_byte(alloc: Global, bytes: &[u8], byte: u8) -> Result<Vec<u8>, All
     Ok(changed)
 }
 
+fn is_refused_with(alloc: Global, byte: u8) -> Result<bool, Fail> {
+    let bytes = with_check_byte(alloc, NETWORK, byte)?;
+    Ok(is_refused(alloc, &bytes, 3))
+}
+
 #[test]
 fn a_wrong_checksum_of_a_summary_is_refused(rt: HostRuntime) -> Result<(), Fail> {
-    let bytes = with_check_byte(rt.alloc(), NETWORK, 0x5e)?;
-    is_refused(&rt, &bytes, 3);
-    Ok(())
+    holds(is_refused_with(rt.alloc(), 0x5e))
 }
 
 // A header whose type, checksum and length aren't those of a body yet.
@@ -145,40 +149,33 @@ fn header(link_state_id: u32) -> Header
 }
 
 // The first, of its fields.
-fn to_the_network(alloc: Global) -> Result<Lsa, AllocError> {
+fn to_the_network(alloc: Global) -> Result<Lsa, Fail> {
     let body = Body::NetworkSummary(SummaryLsa {
         mask: Address::new(0xffff_ff00),
         metric: 5,
         tos: Sequence::from_vec(Vec::new(alloc)),
     });
-    Lsa::new(alloc, header(0xc633_6400), body)
+    Ok(Lsa::new(alloc, header(0xc633_6400), body)?)
 }
 
 // The second, of its fields.
-fn to_the_router(alloc: Global) -> Result<Lsa, AllocError> {
+fn to_the_router(alloc: Global) -> Result<Lsa, Fail> {
     let body = Body::RouterSummary(SummaryLsa {
         mask: Address::UNSPECIFIED,
         metric: 7,
         tos: Sequence::from_vec(Vec::new(alloc)),
     });
-    Lsa::new(alloc, header(0x0909_0909), body)
-}
-
-// The LSA is written so.
-fn is_written(rt: &impl Abort, alloc: Global, lsa: &Lsa, text: &[u8]) -> Result<(), Fail> {
-    let written = write(alloc, lsa)?;
-    assert!(rt; written.as_slice() == text, "{written:?}");
-    Ok(())
+    Ok(Lsa::new(alloc, header(0x0909_0909), body)?)
 }
 
 #[test]
 fn a_summary_to_a_network_is_made_by_its_body(rt: HostRuntime) -> Result<(), Fail> {
-    let lsa = to_the_network(rt.alloc())?;
-    is_written(&rt, rt.alloc(), &lsa, NETWORK)
+    let made = to_the_network(rt.alloc());
+    holds(is_written_as(rt.alloc(), made, NETWORK))
 }
 
 #[test]
 fn a_summary_to_a_router_is_made_by_its_body(rt: HostRuntime) -> Result<(), Fail> {
-    let lsa = to_the_router(rt.alloc())?;
-    is_written(&rt, rt.alloc(), &lsa, ROUTER)
+    let made = to_the_router(rt.alloc());
+    holds(is_written_as(rt.alloc(), made, ROUTER))
 }
