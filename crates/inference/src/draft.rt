@@ -3,10 +3,10 @@
 use crate::edges::{Edge, registers_of};
 use crate::joining::{Growth, Value, first_statement, joined_statement};
 use crate::liveness::Registers;
+use crate::memory::{Memory, element_or};
 use crate::widening::Widening;
 use kinds::{State, put};
 use object::Statement;
-use std::alloc::{AllocError, Global};
 
 /// What a pass over the code does with what it finds at an edge.
 #[derive(Clone, Copy)]
@@ -19,23 +19,6 @@ pub enum Purpose {
     Gather,
 }
 
-/// What is noted of a site.
-#[derive(Clone, Copy)]
-struct Mark {
-    /// Whether its segment is still to be passed over, since its statement has changed.
-    is_waiting: bool,
-    /// How often its statement has changed.
-    changes: u32,
-    /// Whether its statement stays as it is.
-    is_kept: bool,
-}
-
-const UNMARKED: Mark = Mark {
-    is_waiting: false,
-    changes: 0,
-    is_kept: false,
-};
-
 /// The statements so far, a place for each site.
 #[derive(Drop)]
 pub struct Draft {
@@ -45,37 +28,30 @@ pub struct Draft {
     pub has_changed: bool,
     /// Whether the segment that begins at the entry is still to be passed over.
     pub is_new: bool,
-    /// Whether memory was refused for a part of the pass.
-    pub is_short: bool,
-    marks: Vec<Mark>,
+    /// Whose segments are still to be passed over, since their statements have changed.
+    waiting: Vec<bool>,
+    /// How often the statements have changed.
+    changes: Vec<u32>,
+    /// Which statements stay as they are.
+    kept: Vec<bool>,
     pub stated: Vec<Option<Statement>>,
     /// What a falling pass finds.
     found: Vec<Option<Statement>>,
     pub edges: Vec<Edge>,
 }
 
-/// A site that an edge leads to: its slot, whether a jump back goes there, which registers may
-/// still be read there, and where bounds that grow there stop.
+/// An edge to a site: the site's slot, the site that the edge comes from, or the number behind the
+/// last one's for the entry, whether it is a jump back, and whether one goes there, which registers
+/// may still be read there, and where bounds that grow there stop.
 #[derive(Clone, Copy)]
 pub struct Arrival<'a> {
     pub slot: usize,
     pub site: usize,
+    pub from: usize,
+    pub is_back: bool,
     pub is_head: bool,
     pub live: Registers,
     pub limits: &'a [u64],
-}
-
-fn held(places: &[Option<Statement>], site: usize) -> Option<&Statement> {
-    match places.get(site) {
-        Some(Some(statement)) => Some(statement),
-        _ => None,
-    }
-}
-
-fn put_statement(places: &mut Vec<Option<Statement>>, site: usize, statement: Statement) {
-    if site < places.len() {
-        places[site] = Some(statement);
-    }
 }
 
 /// How often a statement grows as it does, and then to limits; after that its bounds are given up.
@@ -93,218 +69,171 @@ fn widening_after(changes: u32) -> Widening {
     }
 }
 
+/// What is stated at the edge's site once it admits what is known at the edge.
+fn grown(
+    widening: Widening,
+    old: Option<Statement>,
+    arrival: &Arrival<'_>,
+    state: &State<Value>,
+) -> Option<Statement> {
+    let growth = Growth {
+        widening,
+        limits: arrival.limits,
+    };
+    match old {
+        Some(old) => joined_statement(growth, &old, arrival.live, state),
+        None => first_statement(arrival.slot, arrival.live, state),
+    }
+}
+
 impl Draft {
-    pub fn new(alloc: Global, size: usize) -> Result<Draft, AllocError> {
-        let marks = vec![in alloc; UNMARKED; size]?;
-        let stated = vec![in alloc; None; size]?;
-        Ok(Draft {
+    /// No statements yet, of so many sites.
+    pub fn new(memory: &Memory, size: usize) -> Draft {
+        Draft {
             purpose: Purpose::Rise,
             is_lenient: false,
             has_changed: false,
             is_new: true,
-            is_short: false,
-            marks,
-            stated,
-            found: Vec::new(alloc),
-            edges: Vec::new(alloc),
-        })
-    }
-
-    /// Whether memory was refused for no part of the pass.
-    pub fn all(&self) -> Result<(), AllocError> {
-        if self.is_short {
-            Err(AllocError)
-        } else {
-            Ok(())
+            waiting: memory.filled(false, size),
+            changes: memory.filled(0, size),
+            kept: memory.filled(false, size),
+            stated: memory.filled(None, size),
+            found: memory.filled(None, size),
+            edges: Vec::new(memory.alloc),
         }
-    }
-
-    /// What is noted of the site.
-    fn mark(&self, site: usize) -> Mark {
-        self.marks.get(site).copied().unwrap_or(UNMARKED)
     }
 
     /// What is stated at the site so far.
-    pub fn statement(&self, site: usize) -> Option<&Statement> {
-        held(&self.stated, site)
+    fn statement(&self, site: usize) -> Option<Statement> {
+        element_or(&self.stated, site, None)
+    }
+
+    /// Whether the site lacks a statement, and edges that no run takes may give it one.
+    pub fn lacks(&self, site: usize) -> bool {
+        self.is_lenient && self.statement(site).is_none()
     }
 
     /// Starts a pass.
-    pub fn begin(&mut self, alloc: Global, purpose: Purpose) {
+    pub fn begin(&mut self, purpose: Purpose) {
         self.purpose = purpose;
         self.has_changed = false;
-        if matches!(purpose, Purpose::Fall) {
-            match vec![in alloc; None; self.stated.len()] {
-                Ok(found) => self.found = found,
-                Err(_) => self.is_short = true,
-            }
+    }
+
+    /// Makes what a falling pass found the site's statement. One that nothing came to keeps its
+    /// own.
+    fn settle_at(&mut self, site: usize) {
+        let next = element_or(&self.found, site, None);
+        if next.is_some() {
+            self.has_changed |= next != self.statement(site);
+            put(&mut self.stated, site, next);
+            put(&mut self.found, site, None);
         }
     }
 
-    /// Whether another pass would find nothing more.
-    pub fn is_done(&self) -> bool {
-        self.is_short || !self.has_changed
-    }
-
-    /// Makes what a falling pass found the statements. A site that nothing came to keeps its own.
+    /// Makes what a falling pass found the statements.
     pub fn settle(&mut self) {
         for site in 0..self.stated.len() {
-            let next = held(&self.found, site).copied();
-            if let Some(next) = next {
-                if self.stated[site] != Some(next) {
-                    self.stated[site] = Some(next);
-                    self.has_changed = true;
-                }
-            }
+            self.settle_at(site)
         }
     }
 
     /// Has all segments passed over again.
     pub fn renew(&mut self) {
         self.is_new = true;
-        for site in 0..self.marks.len() {
-            let mark = self.mark(site);
-            self.marks[site] = Mark {
-                is_waiting: true,
-                ..mark
-            };
+        for site in 0..self.waiting.len() {
+            put(&mut self.waiting, site, true)
         }
+    }
+
+    /// Whether only segments whose statements have changed are passed over.
+    fn is_rising(&self) -> bool {
+        matches!(self.purpose, Purpose::Rise)
+    }
+
+    /// Whether the segment that begins at the entry is to be passed over now.
+    pub fn is_entry_due(&mut self) -> bool {
+        let is_due = self.is_new | !self.is_rising();
+        self.is_new = false;
+        is_due
     }
 
     /// Whether the segment that begins at the site is to be passed over now.
-    pub fn is_due(&mut self, site: usize) -> bool {
-        if !matches!(self.purpose, Purpose::Rise) {
-            return true;
+    fn is_due(&mut self, site: usize) -> bool {
+        let is_due = element_or(&self.waiting, site, false) | !self.is_rising();
+        put(&mut self.waiting, site, false);
+        is_due
+    }
+
+    /// What is stated at the site, if the segment that begins there is to be passed over now.
+    pub fn due(&mut self, site: usize) -> Option<Statement> {
+        if self.is_due(site) {
+            self.statement(site)
+        } else {
+            None
         }
-        let mark = self.mark(site);
-        put(
-            &mut self.marks,
-            site,
-            Mark {
-                is_waiting: false,
-                ..mark
-            },
-        );
-        mark.is_waiting
     }
 
     /// States this at the site.
-    pub fn assume(&mut self, site: usize, statement: Statement) {
-        put_statement(&mut self.stated, site, statement);
-        let mark = self.mark(site);
-        let after = Mark {
-            is_waiting: true,
-            changes: mark.changes.saturating_add(1),
-            is_kept: mark.is_kept,
-        };
-        put(&mut self.marks, site, after);
+    pub fn assume(&mut self, site: usize, statement: Option<Statement>) {
+        let changes = element_or(&self.changes, site, 0);
+        put(&mut self.changes, site, changes.saturating_add(1));
+        put(&mut self.waiting, site, true);
+        put(&mut self.stated, site, statement);
         self.has_changed = true;
     }
 
     /// Keeps this at the site, whatever comes there.
     pub fn keep(&mut self, site: usize, statement: Statement) {
-        self.assume(site, statement);
-        let mark = self.mark(site);
-        put(
-            &mut self.marks,
-            site,
-            Mark {
-                is_kept: true,
-                ..mark
-            },
-        );
+        self.assume(site, Some(statement));
+        put(&mut self.kept, site, true)
     }
 
-    /// Whether what is stated at the site stays as it is.
-    fn is_kept(&self, site: usize) -> bool {
-        self.mark(site).is_kept
-    }
-
-    /// How the bounds at the site grow.
-    fn growth_at<'a>(&self, arrival: &Arrival<'a>) -> Growth<'a> {
-        let widening = if arrival.is_head {
-            widening_after(self.mark(arrival.site).changes)
+    /// How the bounds at the edge's site grow.
+    fn widening_at(&self, arrival: &Arrival<'_>) -> Widening {
+        if arrival.is_head & self.is_rising() {
+            widening_after(element_or(&self.changes, arrival.site, 0))
         } else {
             Widening::None
-        };
-        Growth {
-            widening,
-            limits: arrival.limits,
         }
     }
 
-    fn rise(&mut self, arrival: &Arrival<'_>, state: &State<Value>) {
-        if self.is_kept(arrival.site) {
-            return;
-        }
-        let growth = self.growth_at(arrival);
-        let old = held(&self.stated, arrival.site).copied();
-        let next = match old {
-            Some(old) => joined_statement(growth, &old, arrival.live, state),
-            None => first_statement(arrival.slot, arrival.live, state),
-        };
-        if let Some(next) = next {
-            if old != Some(next) {
-                self.assume(arrival.site, next);
-            }
+    /// What the pass goes on from at the site.
+    fn last(&self, site: usize) -> Option<Statement> {
+        if self.is_rising() {
+            self.statement(site)
+        } else {
+            element_or(&self.found, site, None)
         }
     }
 
-    fn fall(&mut self, arrival: &Arrival<'_>, state: &State<Value>) {
-        if self.is_kept(arrival.site) {
-            return;
-        }
-        let exact = Growth {
-            widening: Widening::None,
-            limits: arrival.limits,
-        };
-        let next = match held(&self.found, arrival.site) {
-            Some(old) => joined_statement(exact, old, arrival.live, state),
-            None => first_statement(arrival.slot, arrival.live, state),
-        };
-        if let Some(next) = next {
-            put_statement(&mut self.found, arrival.site, next);
+    /// Lets the statement at the edge's site, or what a falling pass found, admit what is known at
+    /// the edge.
+    fn grow(&mut self, arrival: &Arrival<'_>, state: &State<Value>) {
+        let old = self.last(arrival.site);
+        let next = grown(self.widening_at(arrival), old, arrival, state);
+        if !self.is_rising() {
+            put(&mut self.found, arrival.site, next)
+        } else if next != old {
+            self.assume(arrival.site, next)
         }
     }
 
-    fn gather(
-        &mut self,
-        alloc: Global,
-        from: Option<usize>,
-        to: usize,
-        is_back: bool,
-        state: &State<Value>,
-    ) -> Result<(), AllocError> {
+    fn gather(&mut self, memory: &Memory, arrival: &Arrival<'_>, state: &State<Value>) {
         let edge = Edge {
-            from: from.unwrap_or(self.stated.len()),
-            to,
-            is_back,
-            state: registers_of(alloc, state)?,
+            from: arrival.from,
+            to: arrival.site,
+            is_back: arrival.is_back,
+            state: registers_of(memory, state),
         };
-        self.edges.push(edge)?;
-        Ok(())
+        memory.push(&mut self.edges, edge)
     }
 
-    /// Takes an edge: from the start of a segment, the entry where that is none.
-    pub fn take(
-        &mut self,
-        alloc: Global,
-        arrival: &Arrival<'_>,
-        from: Option<usize>,
-        is_back: bool,
-        state: &State<Value>,
-    ) {
-        match self.purpose {
-            Purpose::Rise => self.rise(arrival, state),
-            Purpose::Fall => self.fall(arrival, state),
-            Purpose::Gather => {
-                if self
-                    .gather(alloc, from, arrival.site, is_back, state)
-                    .is_err()
-                {
-                    self.is_short = true;
-                }
-            }
+    /// Takes an edge, at which this is known.
+    pub fn take(&mut self, memory: &Memory, arrival: &Arrival<'_>, state: &State<Value>) {
+        if matches!(self.purpose, Purpose::Gather) {
+            self.gather(memory, arrival, state)
+        } else if !element_or(&self.kept, arrival.site, false) {
+            self.grow(arrival, state)
         }
     }
 }

@@ -4,6 +4,7 @@ use crate::draft::{Draft, Purpose};
 use crate::edges::Edge;
 use crate::flow::Program;
 use crate::liveness::live_registers;
+use crate::memory::Memory;
 use crate::sites::{Sites, sites_of};
 use crate::widening::limits_of;
 use isa::{Code, Hook};
@@ -20,50 +21,37 @@ pub struct Inference {
 }
 
 /// How often the statements are narrowed at most.
-const MOST_FALLS: u32 = 12;
+const MOST_FALLS: usize = 12;
 
 /// How often a statement can change, at most, before its bounds are given up, and after.
 const MOST_CHANGES: usize = 64;
 
 /// Passes over the code once.
 fn pass(program: &Program<'_>, draft: &mut Draft, purpose: Purpose) {
-    draft.begin(program.alloc, purpose);
-    program.pass(draft)
+    draft.begin(purpose);
+    program.pass(draft);
+    draft.settle()
 }
 
-/// Widens the statements until no edge leads out of them.
-fn rise(program: &Program<'_>, draft: &mut Draft) {
-    draft.renew();
-    for _ in 0..program
-        .sites
-        .len()
-        .saturating_mul(MOST_CHANGES)
-        .saturating_add(1)
-    {
-        pass(program, draft, Purpose::Rise);
-        if draft.is_done() {
-            return;
+/// Passes over the code until another pass would find nothing more, so often at most.
+fn repeat(program: &Program<'_>, draft: &mut Draft, purpose: Purpose, most: usize) {
+    for _ in 0..most {
+        pass(program, draft, purpose);
+        if program.memory.is_refused() | !draft.has_changed {
+            break;
         }
     }
 }
 
-/// Narrows the statements to what comes along their edges.
-fn fall(program: &Program<'_>, draft: &mut Draft) {
-    for _ in 0..MOST_FALLS {
-        pass(program, draft, Purpose::Fall);
-        draft.settle();
-        if draft.is_done() {
-            return;
-        }
-    }
-}
-
-/// Widens the statements, also for edges that no run takes if that is so, and narrows them.
+/// Widens the statements until no edge leads out of them, also for edges that no run takes if that
+/// is so, and narrows them to what comes along their edges.
 fn widen_and_narrow(program: &Program<'_>, draft: &mut Draft, is_lenient: bool) {
+    let most = program.sites.len().saturating_mul(MOST_CHANGES);
+    draft.renew();
     draft.is_lenient = is_lenient;
-    rise(program, draft);
+    repeat(program, draft, Purpose::Rise, most.saturating_add(1));
     draft.is_lenient = false;
-    fall(program, draft)
+    repeat(program, draft, Purpose::Fall, MOST_FALLS)
 }
 
 /// Keeps these statements as they are.
@@ -75,46 +63,56 @@ fn keep(program: &Program<'_>, draft: &mut Draft, kept: &[Statement]) {
     }
 }
 
-/// Finds the statements of the program without ranks, and the edges between them, as far as memory
-/// goes. Those that are kept stay as they are.
-fn find(program: &Program<'_>, draft: &mut Draft, kept: &[Statement]) {
-    keep(program, draft, kept);
+/// Finds the statements of the program without ranks, and the edges between them.
+fn find(program: &Program<'_>, draft: &mut Draft) {
     widen_and_narrow(program, draft, false);
     widen_and_narrow(program, draft, true);
     pass(program, draft, Purpose::Gather)
 }
 
-/// What is found for the program.
-fn drafted(program: &Program<'_>, kept: &[Statement]) -> Result<Draft, AllocError> {
-    let mut draft = Draft::new(program.alloc, program.sites.len())?;
-    find(program, &mut draft, kept);
-    match draft.all() {
-        Ok(()) => Ok(draft),
-        Err(error) => Err(error),
-    }
-}
-
-/// The same for code with these sites.
-fn draft_of(
-    alloc: Global,
+/// Finds the statements of code with these sites. Those that are kept stay as they are.
+fn find_all(
+    memory: &Memory,
     code: &Code,
     hook: Hook,
     given: &[Statement],
     are_kept: bool,
     sites: &Sites,
-) -> Result<Draft, AllocError> {
-    let live = live_registers(alloc, code, hook)?;
-    let limits = limits_of(alloc, code, given)?;
+    draft: &mut Draft,
+) {
+    let live = memory.list(live_registers(memory.alloc, code, hook));
+    let limits = limits_of(memory, code, given);
     let program = Program {
-        alloc,
+        memory,
         code,
         hook,
         sites,
         live: &live,
         limits: &limits,
     };
-    let kept = if are_kept { given } else { &[] };
-    drafted(&program, kept)
+    if are_kept {
+        keep(&program, draft, given)
+    }
+    find(&program, draft)
+}
+
+/// What is found for the code, as far as memory goes.
+fn inferred(
+    memory: &Memory,
+    code: &Code,
+    hook: Hook,
+    given: &[Statement],
+    are_kept: bool,
+) -> Inference {
+    let sites = sites_of(memory, code, given);
+    let mut draft = Draft::new(memory, sites.len());
+    find_all(memory, code, hook, given, are_kept, &sites, &mut draft);
+    let Draft { stated, edges, .. } = draft;
+    Inference {
+        sites,
+        stated,
+        edges,
+    }
 }
 
 /// Finds statements for the code at the hook: at each slot that a jump goes to, and behind each
@@ -127,11 +125,6 @@ pub fn infer_statements(
     given: &[Statement],
     are_kept: bool,
 ) -> Result<Inference, AllocError> {
-    let sites = sites_of(alloc, code, given)?;
-    let Draft { stated, edges, .. } = draft_of(alloc, code, hook, given, are_kept, &sites)?;
-    Ok(Inference {
-        sites,
-        stated,
-        edges,
-    })
+    let memory = Memory::new(alloc);
+    memory.enough(inferred(&memory, code, hook, given, are_kept))
 }

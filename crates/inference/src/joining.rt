@@ -2,11 +2,12 @@
 ghost use Rattle.std.specs.Prelude.{◌<◌};
 
 use crate::liveness::{Registers, has};
+use crate::memory::element_or;
 use crate::widening::{Widening, above, below};
 use absdom::{Domain, Pair};
 use interval::Interval;
 use isa::Map;
-use kinds::{Entry, Kind as Known, Place, State};
+use kinds::{Kind as Known, Place, State, are_bytes};
 use knownbits::KnownBits;
 use object::{ContextOffset, Kind, Rank, StackBytes, StackOffset, StatedNumber, Statement};
 
@@ -40,9 +41,18 @@ fn stated_of(value: Value) -> Option<StatedNumber> {
     number(low, high, value.second.mask, value.second.value)
 }
 
-fn number_of(value: Value) -> Kind {
-    match stated_of(value) {
+/// One of these numbers, if there are any.
+fn numbered(numbers: Option<StatedNumber>) -> Kind {
+    match numbers {
         Some(numbers) => Kind::Number(numbers),
+        None => Kind::Empty,
+    }
+}
+
+/// A place of the map, if there are any.
+fn placed(map: Map, numbers: Option<StatedNumber>) -> Kind {
+    match numbers {
+        Some(numbers) => Kind::MapValue(map, numbers),
         None => Kind::Empty,
     }
 }
@@ -71,43 +81,58 @@ fn stack_of(at: u64) -> Kind {
 fn told(known: Known<Value>) -> Kind {
     match known {
         Known::Empty => Kind::Empty,
-        Known::Number(value) => number_of(value),
+        Known::Number(value) => numbered(stated_of(value)),
         Known::Pointer(Place::Context(at)) => context_of(at),
         Known::Pointer(Place::Stack(at)) => stack_of(at),
-        Known::Pointer(Place::Map(map, value)) => match stated_of(value) {
-            Some(numbers) => Kind::MapValue(map, numbers),
-            None => Kind::Empty,
-        },
+        Known::Pointer(Place::Map(map, value)) => placed(map, stated_of(value)),
     }
 }
 
-/// The bits that are known of the numbers: of a single number all of them.
-fn bits_of(numbers: StatedNumber) -> (u64, u64) {
-    if numbers.low() == numbers.high() {
-        (u64::MAX, numbers.low())
+fn is_single(numbers: StatedNumber) -> bool {
+    numbers.low() == numbers.high()
+}
+
+/// Which bits are known of the numbers: of a single number all of them.
+fn mask_of(numbers: StatedNumber) -> u64 {
+    if is_single(numbers) {
+        u64::MAX
     } else {
-        (numbers.mask(), numbers.value())
+        numbers.mask()
     }
 }
 
-fn widened_low(growth: Growth<'_>, old: u64, low: u64) -> u64 {
+/// The bits that are known of the numbers.
+fn bits_of(numbers: StatedNumber) -> u64 {
+    if is_single(numbers) {
+        numbers.low()
+    } else {
+        numbers.value()
+    }
+}
+
+fn joined_low(growth: Growth<'_>, old: u64, new: u64) -> u64 {
     match growth.widening {
-        Widening::Limits if low < old => below(growth.limits, low),
-        Widening::Any if low < old => 0,
-        _ => low,
+        _ if old <= new => old,
+        Widening::None => new,
+        Widening::Limits => below(growth.limits, new),
+        Widening::Any => 0,
     }
 }
 
-fn widened_high(growth: Growth<'_>, old: u64, high: u64) -> u64 {
+fn joined_high(growth: Growth<'_>, old: u64, new: u64) -> u64 {
     match growth.widening {
-        Widening::Limits if high > old => above(growth.limits, high),
-        Widening::Any if high > old => u64::MAX,
-        _ => high,
+        _ if new <= old => old,
+        Widening::None => new,
+        Widening::Limits => above(growth.limits, new),
+        Widening::Any => u64::MAX,
     }
 }
 
-/// The lowest of the bits that are all known. Higher ones would give the old bounds back.
-fn widened_mask(growth: Growth<'_>, has_grown: bool, mask: u64) -> u64 {
+/// Which bits are known to be the same in both: of numbers that go on growing the lowest ones.
+/// Higher ones would give the old bounds back.
+fn joined_mask(growth: Growth<'_>, old: StatedNumber, new: StatedNumber) -> u64 {
+    let mask = mask_of(old) & mask_of(new) & !(bits_of(old) ^ bits_of(new));
+    let has_grown = (new.low() < old.low()) | (old.high() < new.high());
     if has_grown && !matches!(growth.widening, Widening::None) {
         mask & !mask.wrapping_add(1)
     } else {
@@ -121,43 +146,12 @@ fn joined_numbers(
     old: StatedNumber,
     new: StatedNumber,
 ) -> Option<StatedNumber> {
-    let (old_mask, old_value) = bits_of(old);
-    let (new_mask, new_value) = bits_of(new);
-    let low = old.low().min(new.low());
-    let high = old.high().max(new.high());
-    let has_grown = low < old.low() || high > old.high();
-    let mask = old_mask & new_mask & !(old_value ^ new_value);
     number(
-        widened_low(growth, old.low(), low),
-        widened_high(growth, old.high(), high),
-        widened_mask(growth, has_grown, mask),
-        old_value,
+        joined_low(growth, old.low(), new.low()),
+        joined_high(growth, old.high(), new.high()),
+        joined_mask(growth, old, new),
+        bits_of(old),
     )
-}
-
-/// The numbers of both.
-fn joined_number(growth: Growth<'_>, old: StatedNumber, new: &Kind) -> Kind {
-    let Kind::Number(new) = new else {
-        return Kind::Empty;
-    };
-    match joined_numbers(growth, old, *new) {
-        Some(numbers) => Kind::Number(numbers),
-        None => Kind::Empty,
-    }
-}
-
-/// The places of both, in one map.
-fn joined_place(growth: Growth<'_>, map: Map, old: StatedNumber, new: &Kind) -> Kind {
-    let Kind::MapValue(other, new) = new else {
-        return Kind::Empty;
-    };
-    if *other != map {
-        return Kind::Empty;
-    }
-    match joined_numbers(growth, old, *new) {
-        Some(numbers) => Kind::MapValue(map, numbers),
-        None => Kind::Empty,
-    }
 }
 
 /// What both say of a register.
@@ -165,56 +159,75 @@ fn joined_kind(growth: Growth<'_>, old: &Kind, new: &Kind) -> Kind {
     if *old == *new {
         return *old;
     }
-    match old {
-        Kind::Number(old) => joined_number(growth, *old, new),
-        Kind::MapValue(map, old) => joined_place(growth, *map, *old, new),
-        Kind::Empty | Kind::Context(_) | Kind::Stack(_) => Kind::Empty,
+    match (old, new) {
+        (Kind::Number(old), Kind::Number(new)) => numbered(joined_numbers(growth, *old, *new)),
+        (Kind::MapValue(map, old), Kind::MapValue(other, new)) => {
+            if *map == *other {
+                placed(*map, joined_numbers(growth, *old, *new))
+            } else {
+                Kind::Empty
+            }
+        }
+        _ => Kind::Empty,
     }
 }
 
-fn known_at(state: &State<Value>, register: usize) -> Known<Value> {
-    state.kinds.get(register).copied().unwrap_or(Known::Empty)
-}
-
-/// What is known of the registers that are live.
-fn kinds_of(live: Registers, state: &State<Value>) -> [Kind; 10] {
+/// What is known of the registers that are live, of all of which this is known.
+fn kinds_of(live: Registers, known: &[Known<Value>]) -> [Kind; 10] {
     let mut kinds = [Kind::Empty; 10];
     for register in 0..10 {
         if has(live, register) {
-            kinds[register] = told(known_at(state, register));
+            kinds[register] = told(element_or(known, register, Known::Empty));
         }
     }
     kinds
 }
 
-/// Whether the byte is among the others, where there are any.
-fn is_among(others: Option<&StackBytes>, place: usize) -> bool
-    requires { place < 512 }
-{
-    match others {
-        Some(others) => others.contains(place),
-        None => true,
-    }
-}
-
-/// The bytes of the stack that are known to be bytes, and are so in the others.
-fn bytes_of(state: &State<Value>, others: Option<&StackBytes>) -> StackBytes {
+/// The bytes among these of the stack that are known to be bytes.
+fn bytes_of(state: &State<Value>, others: &StackBytes) -> StackBytes {
     let mut bytes = StackBytes::new();
-    for (place, entry) in state.entries.iter().enumerate() {
-        if place < 512 && matches!(entry, Entry::Byte) && is_among(others, place) {
+    for place in 0..512 {
+        if others.contains(place) && are_bytes(&state.entries, place, place + 1) {
             bytes.insert_range(place, place + 1);
         }
     }
     bytes
 }
 
+/// All bytes of the stack.
+fn all_bytes() -> StackBytes {
+    let mut bytes = StackBytes::new();
+    bytes.insert_range(0, 512);
+    bytes
+}
+
+fn statement_at(slot: usize, kinds: [Kind; 10], bytes: StackBytes) -> Option<Statement> {
+    match u32::try_from(slot) {
+        Ok(slot) => Statement::new(slot, NO_RANK, kinds, bytes),
+        Err(_) => None,
+    }
+}
+
 /// A statement of what is known.
 pub fn first_statement(slot: usize, live: Registers, state: &State<Value>) -> Option<Statement> {
-    let Ok(slot) = u32::try_from(slot) else {
-        return None;
-    };
-    let kinds = kinds_of(live, state);
-    Statement::new(slot, NO_RANK, kinds, bytes_of(state, None))
+    let bytes = bytes_of(state, &all_bytes());
+    statement_at(slot, kinds_of(live, &state.kinds), bytes)
+}
+
+/// What both say of the registers.
+fn joined_kinds(
+    growth: Growth<'_>,
+    old: &[Kind],
+    live: Registers,
+    state: &State<Value>,
+) -> [Kind; 10] {
+    let mut kinds = kinds_of(live, &state.kinds);
+    for register in 0..10 {
+        let old = element_or(old, register, Kind::Empty);
+        let joined = joined_kind(growth, &old, &kinds[register]);
+        kinds[register] = joined;
+    }
+    kinds
 }
 
 /// A statement that admits what the old one does, and what is known.
@@ -224,27 +237,18 @@ pub fn joined_statement(
     live: Registers,
     state: &State<Value>,
 ) -> Option<Statement> {
-    let mut kinds = kinds_of(live, state);
-    for (register, kind) in old.kinds().iter().enumerate() {
-        if register < 10 {
-            let joined = joined_kind(growth, kind, &kinds[register]);
-            kinds[register] = joined;
-        }
-    }
-    let bytes = bytes_of(state, Some(old.stack()));
+    let kinds = joined_kinds(growth, old.kinds(), live, state);
+    let bytes = bytes_of(state, old.stack());
     Statement::new(old.slot(), NO_RANK, kinds, bytes)
 }
 
 /// A statement for a slot that nothing comes to: what is read is any number.
 pub fn idle_statement(slot: usize, live: Registers) -> Option<Statement> {
-    let Ok(slot) = u32::try_from(slot) else {
-        return None;
-    };
     let mut kinds = [Kind::Empty; 10];
     for register in 0..10 {
         if has(live, register) {
-            kinds[register] = number_of(Value::top());
+            kinds[register] = told(Known::Number(Value::top()));
         }
     }
-    Statement::new(slot, NO_RANK, kinds, StackBytes::new())
+    statement_at(slot, kinds, StackBytes::new())
 }

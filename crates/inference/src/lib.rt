@@ -8,6 +8,7 @@ mod fixpoint;
 mod flow;
 mod joining;
 pub mod liveness;
+pub mod memory;
 mod sites;
 mod widening;
 

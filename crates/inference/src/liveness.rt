@@ -2,6 +2,7 @@
 
 ghost use Rattle.std.specs.Prelude.{◌<◌};
 
+use crate::memory::element_or;
 use isa::{Code, Hook, Instruction, Operation, Register, Slot, Source};
 use kinds::put;
 use machine::Helper;
@@ -39,20 +40,42 @@ pub fn reads(hook: Hook, instruction: &Instruction) -> Registers {
             source,
             ..
         } => bit_of(source),
-        Instruction::Arithmetic { target, source, .. } => bit(target) | bit_of(source),
-        Instruction::Negate { target, .. } | Instruction::Reorder { target, .. } => bit(target),
-        Instruction::SignExtend { source, .. } => bit(source),
-        Instruction::Branch { left, right, .. } => bit(left) | bit_of(right),
+        Instruction::Arithmetic {
+            target: register,
+            source,
+            ..
+        }
+        | Instruction::Branch {
+            left: register,
+            right: source,
+            ..
+        }
+        | Instruction::Store {
+            base: register,
+            source,
+            ..
+        } => bit(register) | bit_of(source),
+        Instruction::Negate {
+            target: register,
+            ..
+        }
+        | Instruction::Reorder {
+            target: register,
+            ..
+        }
+        | Instruction::SignExtend {
+            source: register,
+            ..
+        }
+        | Instruction::Load { base: register, .. } => bit(register),
         Instruction::Call { helper } => arguments(hook, helper),
         Instruction::Exit => 1,
-        Instruction::Load { base, .. } => bit(base),
-        Instruction::Store { base, source, .. } => bit(base) | bit_of(source),
         _ => 0,
     }
 }
 
-/// The registers that the instruction writes.
-pub fn writes(instruction: &Instruction) -> Registers {
+/// The register that the instruction fills, other than a call.
+pub fn target_of(instruction: &Instruction) -> Option<Register> {
     match *instruction {
         Instruction::Arithmetic { target, .. }
         | Instruction::Negate { target, .. }
@@ -60,14 +83,18 @@ pub fn writes(instruction: &Instruction) -> Registers {
         | Instruction::SignExtend { target, .. }
         | Instruction::Load { target, .. }
         | Instruction::LoadNumber { target, .. }
-        | Instruction::LoadMap { target, .. } => bit(target),
-        Instruction::Call { .. } => 0b11_1111,
-        _ => 0,
+        | Instruction::LoadMap { target, .. } => Some(target),
+        _ => None,
     }
 }
 
-fn live_at(live: &[Registers], slot: usize) -> Registers {
-    live.get(slot).copied().unwrap_or(0)
+/// The registers that the instruction writes.
+pub fn writes(instruction: &Instruction) -> Registers {
+    match target_of(instruction) {
+        Some(target) => bit(target),
+        None if matches!(instruction, Instruction::Call { .. }) => 0b11_1111,
+        None => 0,
+    }
 }
 
 /// What may be read from the instruction on.
@@ -76,10 +103,10 @@ fn live_before(live: &[Registers], hook: Hook, slot: usize, instruction: &Instru
 {
     let mut after = 0;
     if falls_through(instruction) {
-        after |= live_at(live, slot + slots_of(instruction));
+        after |= element_or(live, slot + slots_of(instruction), 0);
     }
     if let Some(to) = jump_of(slot, instruction) {
-        after |= live_at(live, to);
+        after |= element_or(live, to, 0);
     }
     after & !writes(instruction) | reads(hook, instruction)
 }
@@ -88,7 +115,7 @@ fn live_before(live: &[Registers], hook: Hook, slot: usize, instruction: &Instru
 fn live_from(code: &Code, hook: Hook, live: &[Registers], slot: usize) -> Registers {
     match code.at(slot as u64) {
         Some(Slot::Start(instruction)) => live_before(live, hook, slot, &instruction),
-        Some(Slot::SecondHalf) | None => live_at(live, slot),
+        Some(Slot::SecondHalf) | None => element_or(live, slot, 0),
     }
 }
 
@@ -98,12 +125,19 @@ fn refine(code: &Code, hook: Hook, live: &mut Vec<Registers>) -> bool {
     for passed in 0..code.len() {
         let slot = code.len() - 1 - passed;
         let before = live_from(code, hook, live, slot);
-        if before != live_at(live, slot) {
-            put(live, slot, before);
-            has_changed = true;
-        }
+        has_changed |= before != element_or(live, slot, 0);
+        put(live, slot, before);
     }
     has_changed
+}
+
+/// Passes over the code until nothing changes.
+fn settle(code: &Code, hook: Hook, live: &mut Vec<Registers>) {
+    for _ in 0..code.len() {
+        if !refine(code, hook, live) {
+            break;
+        }
+    }
 }
 
 /// For each slot the registers that may be read from there on before they are written.
@@ -113,11 +147,7 @@ pub fn live_registers(
     hook: Hook,
 ) -> Result<Vec<Registers>, AllocError> {
     let mut live = vec![in alloc; 0; code.len()]?;
-    for _ in 0..code.len() {
-        if !refine(code, hook, &mut live) {
-            return Ok(live);
-        }
-    }
+    settle(code, hook, &mut live);
     Ok(live)
 }
 

@@ -4,7 +4,6 @@
 
 mod circles;
 mod loops;
-mod memory;
 mod plan;
 mod planning;
 mod ranking;

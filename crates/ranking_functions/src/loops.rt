@@ -1,102 +1,125 @@
 //! Loops among the sites.
 
-use crate::memory::Memory;
 use inference::Edge;
+use inference::memory::{Memory, element_or};
 use kinds::put;
+
+/// Edges that may be taken, and whether they are followed as they lead or back.
+#[derive(Clone, Copy)]
+struct Ways<'a> {
+    edges: &'a [Edge],
+    kept: &'a [bool],
+    is_forward: bool,
+}
 
 /// Whether the place is marked.
 pub fn is_marked(marks: &[bool], place: usize) -> bool {
-    marks.get(place).copied().unwrap_or(false)
+    element_or(marks, place, false)
 }
 
-/// Marks where the edge leads to from what is marked. Whether that is new.
-fn spread_by(edge: &Edge, is_forward: bool, marks: &mut Vec<bool>) -> bool {
-    let (here, there) = if is_forward {
-        (edge.from, edge.to)
-    } else {
-        (edge.to, edge.from)
-    };
-    if !is_marked(marks, here) || is_marked(marks, there) {
-        return false;
-    }
-    put(marks, there, true);
-    true
-}
-
-/// Marks what the kept edges lead to from what is marked, in the order in which most of them lie.
-/// Whether anything was new.
-fn spread(edges: &[Edge], kept: &[bool], is_forward: bool, marks: &mut Vec<bool>) -> bool {
-    let mut has_changed = false;
-    for passed in 0..edges.len() {
-        let index = if is_forward {
-            passed
-        } else {
-            edges.len() - 1 - passed
-        };
-        if is_marked(kept, index) && spread_by(&edges[index], is_forward, marks) {
-            has_changed = true;
-        }
-    }
-    has_changed
-}
-
-/// The sites that are reached from this one, or that reach it, by one kept edge or more.
-fn reached(
-    memory: &Memory,
-    edges: &[Edge],
-    kept: &[bool],
-    is_forward: bool,
-    nodes: usize,
-    head: usize,
-) -> Vec<bool> {
-    let mut marks = memory.marks(false, nodes);
-    for (index, edge) in edges.iter().enumerate() {
-        let (here, there) = if is_forward {
+impl<'a> Ways<'a> {
+    /// Where the edge leads from and to.
+    fn ends(&self, edge: &Edge) -> (usize, usize) {
+        if self.is_forward {
             (edge.from, edge.to)
         } else {
             (edge.to, edge.from)
-        };
-        if is_marked(kept, index) && here == head {
-            put(&mut marks, there, true);
         }
     }
-    for _ in 0..nodes {
-        if !spread(edges, kept, is_forward, &mut marks) {
-            break;
+
+    /// Marks where the edges lead to from the site.
+    fn begin(&self, head: usize, marks: &mut Vec<bool>) {
+        for index in 0..self.edges.len() {
+            let (here, there) = self.ends(&self.edges[index]);
+            if is_marked(self.kept, index) && here == head {
+                put(marks, there, true)
+            }
         }
     }
-    marks
+
+    /// Marks where the edge leads to from what is marked. Whether that is new.
+    fn spread_by(&self, edge: &Edge, marks: &mut Vec<bool>) -> bool {
+        let (here, there) = self.ends(edge);
+        let is_new = is_marked(marks, here) & !is_marked(marks, there);
+        if is_new {
+            put(marks, there, true);
+        }
+        is_new
+    }
+
+    /// Marks what the edges lead to from what is marked, in the order in which most of them lie.
+    /// Whether anything was new.
+    fn spread(&self, marks: &mut Vec<bool>) -> bool {
+        let mut has_changed = false;
+        for passed in 0..self.edges.len() {
+            let behind = self.edges.len() - 1 - passed;
+            let index = if self.is_forward { passed } else { behind };
+            if is_marked(self.kept, index) {
+                has_changed |= self.spread_by(&self.edges[index], marks);
+            }
+        }
+        has_changed
+    }
+
+    /// Marks the sites that one edge or more lead to from the site.
+    fn reach(&self, head: usize, marks: &mut Vec<bool>) {
+        self.begin(head, marks);
+        for _ in 0..marks.len() {
+            if !self.spread(marks) {
+                break;
+            }
+        }
+    }
 }
 
-/// The sites of the loop that goes through this one by kept edges. None where there is no such
-/// loop.
+/// Leaves those marks that the others have too.
+pub fn keep_common(marks: &mut Vec<bool>, others: &[bool]) {
+    for place in 0..marks.len() {
+        if !is_marked(others, place) {
+            put(marks, place, false)
+        }
+    }
+}
+
+/// The sites of the loop that goes through this one by kept edges. None is marked where there is no
+/// such loop.
 pub fn loop_through(
     memory: &Memory,
     edges: &[Edge],
     kept: &[bool],
     nodes: usize,
     head: usize,
-) -> Option<Vec<bool>> {
-    let mut members = reached(memory, edges, kept, true, nodes, head);
-    let behind = reached(memory, edges, kept, false, nodes, head);
-    for node in 0..nodes {
-        if !is_marked(&behind, node) {
-            put(&mut members, node, false);
-        }
-    }
-    if is_marked(&members, head) {
-        Some(members)
-    } else {
-        None
-    }
+) -> Vec<bool> {
+    let forward = Ways {
+        edges,
+        kept,
+        is_forward: true,
+    };
+    let back = Ways {
+        edges,
+        kept,
+        is_forward: false,
+    };
+    let mut members = memory.filled(false, nodes);
+    let mut behind = memory.filled(false, nodes);
+    forward.reach(head, &mut members);
+    back.reach(head, &mut behind);
+    keep_common(&mut members, &behind);
+    members
+}
+
+/// Whether both ends of the edge are marked.
+fn is_inside(edge: &Edge, members: &[bool]) -> bool {
+    is_marked(members, edge.from) && is_marked(members, edge.to)
 }
 
 /// Which of the kept edges lie within the loop.
 pub fn edges_within(memory: &Memory, edges: &[Edge], kept: &[bool], members: &[bool]) -> Vec<bool> {
-    let mut within = memory.marks(false, edges.len());
-    for (index, edge) in edges.iter().enumerate() {
-        let is_inside = is_marked(members, edge.from) && is_marked(members, edge.to);
-        put(&mut within, index, is_marked(kept, index) && is_inside);
+    let mut within = memory.copied(kept);
+    for index in 0..edges.len() {
+        if !is_inside(&edges[index], members) {
+            put(&mut within, index, false)
+        }
     }
     within
 }

@@ -1,7 +1,7 @@
 //! Ranks as they are being made: at each site the terms, and the constant that they need.
 
-use crate::memory::Memory;
 use crate::trouble::Endless;
+use inference::memory::{Memory, element_or};
 use kinds::put;
 use object::{Rank, RankTerm};
 
@@ -54,19 +54,13 @@ pub enum Unranked {
 impl Plan {
     /// Ranks that are 0.
     pub fn new(memory: &Memory, nodes: usize) -> Plan {
-        match vec![in memory.alloc; NO_RANK; nodes] {
-            Ok(places) => Plan { places },
-            Err(_) => {
-                memory.note_refusal();
-                Plan {
-                    places: Vec::new(memory.alloc),
-                }
-            }
+        Plan {
+            places: memory.filled(NO_RANK, nodes),
         }
     }
 
     fn at(&self, node: usize) -> Place {
-        self.places.get(node).copied().unwrap_or(NO_RANK)
+        element_or(&self.places, node, NO_RANK)
     }
 
     /// The first term.

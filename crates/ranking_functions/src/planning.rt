@@ -1,11 +1,11 @@
 //! Ranks for all statements of a program.
 
 use crate::circles::Graph;
-use crate::memory::Memory;
 use crate::plan::{Plan, Ranking, Unranked};
 use crate::trouble::unranked_loop;
 use crate::weights::{Ending, bounds_of, settle};
 use inference::Inference;
+use inference::memory::Memory;
 use object::Statement;
 use std::alloc::{AllocError, Global};
 
@@ -26,62 +26,62 @@ fn is_settled(graph: &Graph<'_>, plan: &mut Plan) -> bool {
     matches!(ending, Ending::Settled)
 }
 
-/// The plan, which does for all of the program.
-fn settled(alloc: Global, plan: Plan) -> Ranking {
-    Ranking {
-        plan,
-        endless: None,
-        unranked: Unranked::Alone(Vec::new(alloc)),
-    }
-}
-
-/// What is wrong where no plan does.
-fn unsettled(graph: &Graph<'_>, plan: Plan, failed: Option<usize>) -> Ranking {
-    let mut plan = plan;
-    plan.flatten();
-    let endless = unranked_loop(graph, failed);
-    let unranked = graph.unranked_loops(&mut plan, failed);
-    Ranking {
-        plan,
-        endless,
-        unranked,
-    }
-}
-
-/// Ranks by the program's loops, or by the hints where those do and may be used, or what is wrong
-/// with those by loops.
-fn by_loops(graph: &Graph<'_>, hints: Option<Plan>) -> Ranking {
-    let mut plan = Plan::new(graph.memory, graph.nodes());
-    let failed = graph.rank_loops(&mut plan);
-    if is_settled(graph, &mut plan) {
-        return settled(graph.memory.alloc, plan);
-    }
-    match by_hints(graph, hints) {
-        Some(ranking) => ranking,
-        None => unsettled(graph, plan, failed),
-    }
-}
-
-/// Ranks by the hints, where there are any and they do.
-fn by_hints(graph: &Graph<'_>, hints: Option<Plan>) -> Option<Ranking> {
-    let mut hints = hints?;
-    if is_settled(graph, &mut hints) {
-        Some(settled(graph.memory.alloc, hints))
+/// Takes the ranks that are given, if they do. Whether they do.
+fn by_given(graph: &Graph<'_>, given: &[Statement], plan: &mut Plan) -> bool {
+    let mut ranks = given_ranks(graph, given);
+    if is_settled(graph, &mut ranks) {
+        *plan = ranks;
+        true
     } else {
-        None
+        false
+    }
+}
+
+/// Ranks the program by its loops, or by the hints where those don't do. Otherwise says what is
+/// wrong with those by loops.
+fn by_loops(graph: &Graph<'_>, hints: &[Statement], are_hints: bool, ranking: &mut Ranking) {
+    let failed = graph.rank_loops(&mut ranking.plan);
+    let is_ranked = is_settled(graph, &mut ranking.plan)
+        || are_hints && by_given(graph, hints, &mut ranking.plan);
+    if !is_ranked {
+        ranking.plan.flatten();
+        ranking.endless = unranked_loop(graph, failed);
+        ranking.unranked = graph.unranked_loops(&mut ranking.plan, failed);
     }
 }
 
 /// Ranks for the program, by the terms that are given or by its loops.
 fn planned(graph: &Graph<'_>, given: &[Statement], are_kept: bool) -> Ranking {
-    let hints = given_ranks(graph, given);
-    if !are_kept {
-        return by_loops(graph, Some(hints));
+    let mut ranking = Ranking {
+        plan: Plan::new(graph.memory, graph.nodes()),
+        endless: None,
+        unranked: Unranked::Alone(Vec::new(graph.memory.alloc)),
+    };
+    if !are_kept || !by_given(graph, given, &mut ranking.plan) {
+        by_loops(graph, given, !are_kept, &mut ranking)
     }
-    match by_hints(graph, Some(hints)) {
-        Some(ranking) => ranking,
-        None => by_loops(graph, None),
-    }
+    ranking
+}
+
+/// Ranks for the statements, as far as memory goes.
+fn ranked(
+    memory: &Memory,
+    found: &Inference,
+    given: &[Statement],
+    are_kept: bool,
+    most: u64,
+) -> Ranking {
+    let bounds = bounds_of(memory, &found.stated);
+    let all = memory.filled(true, found.edges.len());
+    let graph = Graph {
+        memory,
+        sites: &found.sites,
+        edges: &found.edges,
+        all: &all,
+        bounds: &bounds,
+        most,
+    };
+    planned(&graph, given, are_kept)
 }
 
 /// Finds ranks for the statements. The ranks of those that are given come first where they are
@@ -94,20 +94,6 @@ pub fn rank_statements(
     are_kept: bool,
     most: u64,
 ) -> Result<Ranking, AllocError> {
-    let bounds = bounds_of(alloc, &found.stated)?;
     let memory = Memory::new(alloc);
-    let all = memory.marks(true, found.edges.len());
-    let graph = Graph {
-        memory: &memory,
-        sites: &found.sites,
-        edges: &found.edges,
-        all: &all,
-        bounds: &bounds,
-        most,
-    };
-    let ranking = planned(&graph, given, are_kept);
-    match memory.enough() {
-        Ok(()) => Ok(ranking),
-        Err(error) => Err(error),
-    }
+    memory.enough(ranked(&memory, found, given, are_kept, most))
 }

@@ -1,6 +1,6 @@
 //! Why a loop has no rank.
 
-use crate::circles::{Carried, Circle, Graph};
+use crate::circles::{Circle, Graph};
 
 /// Why a loop has no rank.
 #[derive(Clone, Copy)]
@@ -20,34 +20,32 @@ pub struct Endless {
     pub trouble: Trouble,
 }
 
+/// Whether the register rises with a turn of the loop.
+fn rises(graph: &Graph<'_>, circle: &Circle, head: usize, register: u8) -> bool {
+    graph.carried(circle, head, register).has_rise
+}
+
 /// A register that rises with each turn of the loop.
 fn rising(graph: &Graph<'_>, circle: &Circle, head: usize) -> Option<u8> {
     for register in 0..10u8 {
-        if let Some(carried) = graph.carried(circle, head, register) {
-            if carried.has_rise {
-                return Some(register);
-            }
+        if rises(graph, circle, head, register) {
+            return Some(register);
         }
     }
     None
 }
 
-/// Whether the number falls with each turn of the loop.
-fn falls(graph: &Graph<'_>, circle: &Circle, carried: &Carried) -> bool {
-    if carried.has_rise {
-        return false;
-    }
-    let rest = graph.rest(circle, carried);
-    graph.is_straight(circle, &rest)
+/// Whether the register falls with each turn of the loop.
+fn falls(graph: &Graph<'_>, circle: &Circle, head: usize, register: u8) -> bool {
+    let carried = graph.carried(circle, head, register);
+    !carried.has_rise && graph.falls_each_turn(circle, &carried)
 }
 
 /// A register that falls with each turn of the loop, though it doesn't do.
 fn falling(graph: &Graph<'_>, circle: &Circle, head: usize) -> Option<u8> {
     for register in 0..10u8 {
-        if let Some(carried) = graph.carried(circle, head, register) {
-            if falls(graph, circle, &carried) {
-                return Some(register);
-            }
+        if falls(graph, circle, head, register) {
+            return Some(register);
         }
     }
     None
@@ -66,12 +64,14 @@ fn trouble_at(graph: &Graph<'_>, circle: &Circle, head: usize) -> Trouble {
 
 /// What is wrong with the loop through the site, if there is one.
 fn endless_at(graph: &Graph<'_>, head: usize) -> Option<Endless> {
-    match graph.circle(graph.all, head) {
-        Some(circle) => Some(Endless {
+    let circle = graph.circle(graph.all, head);
+    if circle.has(head) {
+        Some(Endless {
             slot: graph.sites.slot(head),
             trouble: trouble_at(graph, &circle, head),
-        }),
-        None => None,
+        })
+    } else {
+        None
     }
 }
 

@@ -8,9 +8,10 @@ use kinds::put;
 impl<'a> Graph<'a> {
     /// The edges between this site and those behind it.
     fn edges_from(&self, head: usize) -> Vec<bool> {
-        let mut kept = self.memory.marks(false, self.edges.len());
-        for (index, edge) in self.edges.iter().enumerate() {
-            put(&mut kept, index, head <= edge.from && head <= edge.to);
+        let mut kept = self.memory.filled(false, self.edges.len());
+        for index in 0..self.edges.len() {
+            let edge = &self.edges[index];
+            put(&mut kept, index, head <= edge.from.min(edge.to))
         }
         kept
     }
@@ -18,7 +19,7 @@ impl<'a> Graph<'a> {
     /// Whether one of the loop's sites is marked.
     fn has_marked(&self, circle: &Circle, marks: &[bool]) -> bool {
         for site in 0..self.nodes() {
-            if is_marked(&circle.members, site) && is_marked(marks, site) {
+            if circle.has(site) && is_marked(marks, site) {
                 return true;
             }
         }
@@ -29,11 +30,20 @@ impl<'a> Graph<'a> {
     /// one.
     fn is_unranked(&self, plan: &mut Plan, unranked: &[bool], head: usize) -> bool {
         let kept = self.edges_from(head);
-        match self.circle(&kept, head) {
-            Some(circle) => {
-                !self.has_marked(&circle, unranked) && !self.rank_circle(plan, &circle, head)
+        let circle = self.circle(&kept, head);
+        circle.has(head)
+            && !self.has_marked(&circle, unranked)
+            && !self.rank_circle(plan, &circle, head)
+    }
+
+    /// Marks the heads of such loops, from the last site on.
+    fn mark_unranked(&self, plan: &mut Plan, unranked: &mut Vec<bool>) {
+        let count = self.sites.len();
+        for passed in 0..count {
+            let head = count - 1 - passed;
+            if self.sites.is_head(head) && self.is_unranked(plan, unranked, head) {
+                put(unranked, head, true)
             }
-            None => false,
         }
     }
 
@@ -48,35 +58,18 @@ impl<'a> Graph<'a> {
         slots
     }
 
-    /// The loop through this site.
-    fn circle_at(&self, failed: Option<usize>) -> Option<Circle> {
+    /// The sites of the loop through this one, all sites where there is none.
+    fn sites_together(&self, failed: Option<usize>) -> Vec<bool> {
         match failed {
-            Some(head) => self.circle(self.all, head),
-            None => None,
-        }
-    }
-
-    /// The slots of the heads of the loop through this site, of all heads where there is none.
-    fn slots_together(&self, failed: Option<usize>) -> Vec<usize> {
-        match self.circle_at(failed) {
-            Some(circle) => self.slots_of(&circle.members),
-            None => {
-                let all = self.memory.marks(true, self.nodes());
-                self.slots_of(&all)
-            }
+            Some(head) => self.members(self.all, head),
+            None => self.memory.filled(true, self.nodes()),
         }
     }
 
     /// The heads of loops that have no rank on their own, though those within them have one.
     fn unranked(&self, plan: &mut Plan) -> Vec<bool> {
-        let mut unranked = self.memory.marks(false, self.nodes());
-        let count = self.sites.len();
-        for passed in 0..count {
-            let head = count - 1 - passed;
-            if self.sites.is_head(head) && self.is_unranked(plan, &unranked, head) {
-                put(&mut unranked, head, true);
-            }
-        }
+        let mut unranked = self.memory.filled(false, self.nodes());
+        self.mark_unranked(plan, &mut unranked);
         unranked
     }
 
@@ -86,7 +79,8 @@ impl<'a> Graph<'a> {
         let unranked = self.unranked(plan);
         let slots = self.slots_of(&unranked);
         if slots.is_empty() {
-            Unranked::Together(self.slots_together(failed))
+            let together = self.sites_together(failed);
+            Unranked::Together(self.slots_of(&together))
         } else {
             Unranked::Alone(slots)
         }

@@ -4,11 +4,11 @@
 use crate::loops::is_marked;
 use crate::plan::Plan;
 use absdom::Domain;
+use inference::memory::{Memory, element_or};
 use inference::{Edge, Value};
-use kinds::{Kind, kind_of};
-use object::{RankTerm, Statement};
+use kinds::{Kind, kind_of, put};
+use object::{Kind as Stated, RankTerm, Statement};
 use ranks::{Line, bound_of};
-use std::alloc::{AllocError, Global};
 
 /// The least and the greatest number of each register where a segment starts.
 #[derive(Clone, Copy)]
@@ -23,48 +23,42 @@ const NO_BOUNDS: Bounds = Bounds {
 };
 
 /// Sums of multiples of numbers that differ: the first plus `saved` is at most the second plus
-/// `needed`.
+/// `needed`, if they don't differ by more of a number without a bound.
 #[derive(Clone, Copy)]
 struct Gap {
     saved: u128,
     needed: u128,
+    is_bounded: bool,
 }
 
 fn bounds_at(statement: &Statement) -> Bounds {
     let mut bounds = NO_BOUNDS;
-    for (register, stated) in statement.kinds().iter().enumerate() {
-        if register < 10 {
-            if let Kind::Number(value) = kind_of::<Value>(*stated) {
-                let (low, high) = value.range();
-                bounds.lows[register] = low;
-                bounds.highs[register] = Some(high);
-            }
+    for register in 0..10usize {
+        let stated = element_or(statement.kinds(), register, Stated::Empty);
+        if let Kind::Number(value) = kind_of::<Value>(stated) {
+            let (low, high) = value.range();
+            bounds.lows[register] = low;
+            bounds.highs[register] = Some(high);
         }
     }
     bounds
 }
 
 /// The bounds at each site, and at the entry, where no register has any.
-pub fn bounds_of(alloc: Global, stated: &[Option<Statement>]) -> Result<Vec<Bounds>, AllocError> {
-    let mut all = Vec::new(alloc);
-    for statement in stated {
-        let bounds = match statement {
-            Some(statement) => bounds_at(statement),
-            None => NO_BOUNDS,
-        };
-        all.push(bounds)?;
+pub fn bounds_of(memory: &Memory, stated: &[Option<Statement>]) -> Vec<Bounds> {
+    let mut all = memory.filled(NO_BOUNDS, stated.len() + 1);
+    for site in 0..stated.len() {
+        if let Some(statement) = &stated[site] {
+            put(&mut all, site, bounds_at(statement))
+        }
     }
-    all.push(NO_BOUNDS)?;
-    Ok(all)
+    all
 }
 
 impl Bounds {
     /// The greatest number of the register.
     pub fn high(&self, register: u8) -> Option<u64> {
-        self.highs
-            .get(usize::from(register))
-            .copied()
-            .unwrap_or(None)
+        element_or(&self.highs, usize::from(register), None)
     }
 }
 
@@ -85,37 +79,63 @@ fn coefficients_at(plan: &Plan, node: usize) -> [u64; 10] {
     coefficients
 }
 
-fn gap_of(lefts: [u64; 10], rights: [u64; 10], bounds: &Bounds) -> Option<Gap> {
-    let mut saved = 0u128;
-    let mut needed = 0u128;
-    for register in 0..10usize {
-        let (left, right) = (lefts[register], rights[register]);
+/// A multiple of the number.
+pub fn multiple(factor: u64, number: u64) -> u128 {
+    u128::from(factor).saturating_mul(u128::from(number))
+}
+
+impl Gap {
+    /// Adds the multiples of a number, whose bounds are these.
+    fn add(&mut self, left: u64, right: u64, low: u64, high: Option<u64>) {
         if left <= right {
-            let less = u128::from(right - left).saturating_mul(u128::from(bounds.lows[register]));
-            saved = saved.saturating_add(less);
+            self.saved = self.saved.saturating_add(multiple(right - left, low));
+        } else if let Some(high) = high {
+            self.needed = self.needed.saturating_add(multiple(left - right, high));
         } else {
-            let high = bounds.highs[register]?;
-            let more = u128::from(left - right).saturating_mul(u128::from(high));
-            needed = needed.saturating_add(more);
+            self.is_bounded = false;
         }
     }
-    Some(Gap { saved, needed })
+}
+
+fn gap_of(lefts: [u64; 10], rights: [u64; 10], bounds: &Bounds) -> Gap {
+    let mut gap = Gap {
+        saved: 0,
+        needed: 0,
+        is_bounded: true,
+    };
+    for register in 0..10usize {
+        gap.add(
+            lefts[register],
+            rights[register],
+            bounds.lows[register],
+            bounds.highs[register],
+        )
+    }
+    gap
+}
+
+/// What the constant at the edge's start has to be at least, where this line bounds the rank at its
+/// end without the constant there.
+fn demand_by(plan: &Plan, bounds: &[Bounds], edge: &Edge, line: &Line) -> Option<u128> {
+    let from = element_or(bounds, edge.from, NO_BOUNDS);
+    let gap = gap_of(line.coefficients, coefficients_at(plan, edge.from), &from);
+    if !gap.is_bounded {
+        return None;
+    }
+    let step = if edge.is_back { 1 } else { 0 };
+    let more = u128::from(plan.constant_at(edge.to))
+        .saturating_add(line.constant)
+        .saturating_add(gap.needed)
+        .saturating_add(step);
+    Some(more.saturating_sub(line.down.saturating_add(gap.saved)))
 }
 
 /// What the constant at the edge's start has to be at least.
 fn demand(plan: &Plan, bounds: &[Bounds], edge: &Edge) -> Option<u128> {
-    let line: Line = bound_of(plan.slope_at(edge.to), &edge.state)?;
-    let own = coefficients_at(plan, edge.from);
-    let from = bounds.get(edge.from).copied().unwrap_or(NO_BOUNDS);
-    let gap = gap_of(line.coefficients, own, &from)?;
-    let constant = u128::from(plan.constant_at(edge.to));
-    let step = if edge.is_back { 1 } else { 0 };
-    let more = constant
-        .saturating_add(line.constant)
-        .saturating_add(gap.needed)
-        .saturating_add(step);
-    let less = line.down.saturating_add(gap.saved);
-    Some(more.saturating_sub(less))
+    match bound_of(plan.slope_at(edge.to), &edge.state) {
+        Some(line) => demand_by(plan, bounds, edge, &line),
+        None => None,
+    }
 }
 
 /// How raising the constants ended.
@@ -137,6 +157,22 @@ enum Round {
     TooHigh,
 }
 
+/// Raises the constant at the edge's start to what the edge needs.
+fn raise_by(plan: &mut Plan, bounds: &[Bounds], edge: &Edge, most: u64) -> Round {
+    match demand(plan, bounds, edge) {
+        Some(needed) if needed <= u128::from(most) => {
+            let is_less = u128::from(plan.constant_at(edge.from)) < needed;
+            if is_less {
+                plan.set_constant(edge.from, needed as u64);
+                Round::Raised
+            } else {
+                Round::Still
+            }
+        }
+        _ => Round::TooHigh,
+    }
+}
+
 fn raise_once(
     plan: &mut Plan,
     bounds: &[Bounds],
@@ -148,17 +184,11 @@ fn raise_once(
     // What an edge raises is its start, so that the last ones come first.
     for passed in 0..edges.len() {
         let index = edges.len() - 1 - passed;
-        let edge = &edges[index];
         if is_marked(kept, index) {
-            let Some(needed) = demand(plan, bounds, edge) else {
-                return Round::TooHigh;
-            };
-            if needed > u128::from(most) {
-                return Round::TooHigh;
-            }
-            if needed > u128::from(plan.constant_at(edge.from)) {
-                plan.set_constant(edge.from, needed as u64);
-                round = Round::Raised;
+            match raise_by(plan, bounds, &edges[index], most) {
+                Round::Still => {}
+                Round::Raised => round = Round::Raised,
+                Round::TooHigh => return Round::TooHigh,
             }
         }
     }
