@@ -35,14 +35,18 @@ impl Text {
         self.push(behind);
     }
 
-    /// Adds the words, with the numbers in the places of their `{}`, as many as there are.
+    /// Adds the words, with the numbers in the places of their `{}`, in their order. Numbers behind
+    /// the last place are left out.
     pub fn fill(&mut self, words: &str, numbers: &[u128]) {
-        let mut parts = words.split("{}");
+        let mut rest = words;
         for number in numbers {
-            self.push(parts.next().unwrap_or(""));
-            self.number(*number);
+            if let Some((before, behind)) = rest.split_once("{}") {
+                self.push(before);
+                self.number(*number);
+                rest = behind;
+            }
         }
-        self.push(parts.next().unwrap_or(""));
+        self.push(rest);
     }
 
     /// Adds these words, with the end of a line.

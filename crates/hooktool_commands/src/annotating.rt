@@ -8,7 +8,6 @@ use crate::explaining::lacks_memory;
 use crate::fault::Fault;
 use crate::files;
 use crate::report::Report;
-use crate::sentences::push_sentence;
 use annotations::{Annotated, CountError, Endless, Rejected, Shortfall, Trouble, annotate_file};
 use explanations::{Explanation, Text, explain};
 use isa::Hook;
@@ -35,10 +34,9 @@ fn push_endless(out: &mut Text, endless: &Endless) {
             0,
         ),
     };
-    push_sentence(
-        out,
+    out.fill(
         sentence,
-        &[endless.slot as u64, u64::from(register), from],
+        &[endless.slot as u128, u128::from(register), u128::from(from)],
     );
     out.push(
         "  either let a register fall with each turn (DOWN and EACH of examples/c/leafrunt.h \

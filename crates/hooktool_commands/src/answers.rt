@@ -1,6 +1,5 @@
 //! Answers in the terms of their hooks.
 
-use crate::sentences::push_sentence;
 use explanations::Text;
 use isa::Hook;
 
@@ -20,5 +19,5 @@ pub(crate) fn push_answer(out: &mut Text, hook: Hook, answer: u64) {
         Hook::Veto if answer == 0 => ("installed", 0),
         Hook::Veto => ("not installed", 0),
     };
-    push_sentence(out, sentence, &[number])
+    out.fill(sentence, &[u128::from(number)])
 }

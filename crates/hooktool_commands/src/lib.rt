@@ -8,7 +8,6 @@ mod fault;
 mod files;
 pub mod program;
 mod report;
-mod sentences;
 mod traps;
 mod trying;
 

@@ -1,6 +1,5 @@
 //! Runs that gave no answer.
 
-use crate::sentences::push_sentence;
 use explanations::{Text, line_at};
 use interp::Trap;
 use isa::Code;
@@ -28,7 +27,7 @@ fn push_name(out: &mut Text, trap: Trap, slot: u64) {
     let number = trap.number();
     let place = usize::from(number).saturating_sub(1);
     let sentence = TRAPS.get(place).copied().unwrap_or("");
-    push_sentence(out, sentence, &[u64::from(number), slot])
+    out.fill(sentence, &[u128::from(number), u128::from(slot)])
 }
 
 /// A line for the register, unless it is empty.
@@ -42,7 +41,10 @@ fn push_register(out: &mut Text, register: u64, content: Content) {
             ("  r{}: map {}, byte {}\n", u64::from(map.number()), at)
         }
     };
-    push_sentence(out, sentence, &[register, first, second])
+    out.fill(
+        sentence,
+        &[u128::from(register), u128::from(first), u128::from(second)],
+    )
 }
 
 /// A line for each register that isn't empty.

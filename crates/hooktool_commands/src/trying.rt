@@ -8,7 +8,6 @@ use crate::answers::push_answer;
 use crate::fault::Fault;
 use crate::files;
 use crate::report::Report;
-use crate::sentences::push_sentence;
 use crate::traps::push_trap;
 use explanations::{Text, instruction_lines};
 use hooktool_line::{Packet, Question};
@@ -77,7 +76,10 @@ fn push_ending(out: &mut Text, program: &Program, ending: &Ending) {
     match ending.outcome {
         Ok(run) => {
             push_answer(out, program.hook, run.answer);
-            push_sentence(out, ", used {} of {}\n", &[run.used, program.bound])
+            out.fill(
+                ", used {} of {}\n",
+                &[u128::from(run.used), u128::from(program.bound)],
+            )
         }
         Err(trap) => push_trap(out, trap, ending, &program.code, program.lines.as_str()),
     }
@@ -97,7 +99,7 @@ fn push_endings(out: &mut Text, program: &Program, endings: &[Ending]) {
 fn push_numbers(out: &mut Text, sentence: &str, numbers: &[u64]) {
     for (index, number) in numbers.iter().enumerate() {
         if *number > 0 {
-            push_sentence(out, sentence, &[index as u64, *number])
+            out.fill(sentence, &[index as u128, u128::from(*number)])
         }
     }
 }
