@@ -3,7 +3,7 @@ use crate::trials::{Safe, accepts_each};
 use std::test::Fail;
 
 /// Loops over the packet by helper 3, which answers 256 behind its end.
-const PACKETS: [Safe; 7] = [
+const PACKETS: &[Safe] = &[
     // the sum of the first eight bytes
     (
         "hook count; rank 8; r6 = 8; r7 = 0; \
@@ -68,7 +68,7 @@ const PACKETS: [Safe; 7] = [
 ];
 
 /// Counts by one register.
-const COUNTS: [Safe; 6] = [
+const COUNTS: &[Safe] = &[
     // the even numbers down from 20, added
     (
         "hook price; rank 20; r6 = 20; r0 = 0; \
@@ -123,7 +123,7 @@ const COUNTS: [Safe; 6] = [
 ];
 
 /// Counts by two registers.
-const NESTED: [Safe; 4] = [
+const NESTED: &[Safe] = &[
     // three rows of four bytes of the packet, added
     (
         "hook count; rank 19; r6 = 3; r8 = 0; \
@@ -176,15 +176,15 @@ const NESTED: [Safe; 4] = [
 
 #[test]
 fn loops_over_a_packet_are_accepted(rt: HostRuntime) -> Result<(), Fail> {
-    accepts_each(&rt, rt.alloc(), &PACKETS)
+    accepts_each(&rt, rt.alloc(), PACKETS)
 }
 
 #[test]
 fn counts_by_a_register_are_accepted(rt: HostRuntime) -> Result<(), Fail> {
-    accepts_each(&rt, rt.alloc(), &COUNTS)
+    accepts_each(&rt, rt.alloc(), COUNTS)
 }
 
 #[test]
 fn counts_by_two_registers_are_accepted(rt: HostRuntime) -> Result<(), Fail> {
-    accepts_each(&rt, rt.alloc(), &NESTED)
+    accepts_each(&rt, rt.alloc(), NESTED)
 }

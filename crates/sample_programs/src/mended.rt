@@ -6,7 +6,7 @@ use std::process::Abort;
 use std::test::Fail;
 
 /// A program, the slot and the rule of its refusal, and the program mended.
-const RULES: [(&str, usize, u8, &str); 17] = [
+const RULES: &[(&str, usize, u8, &str)] = &[
     (
         "hook tag; rank 0; goto +1; r0 = wide 1; exit",
         0,
@@ -125,7 +125,7 @@ fn is_mended(rt: &impl Abort, alloc: Global, text: &str) -> Result<(), Fail> {
 
 #[test]
 fn a_program_that_breaks_a_rule_is_mended(rt: HostRuntime) -> Result<(), Fail> {
-    for row in &RULES {
+    for row in RULES {
         let (broken, slot, rule, mended) = *row;
         refuses_at(&rt, rt.alloc(), broken, slot, rule)?;
         is_mended(&rt, rt.alloc(), mended)?;

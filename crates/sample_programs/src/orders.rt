@@ -5,7 +5,7 @@ use crate::trials::refuses_at;
 use std::test::Fail;
 
 /// A program, and the slot and the rule of its refusal.
-const FIRST: [(&str, usize, u8); 13] = [
+const FIRST: &[(&str, usize, u8)] = &[
     // r1 is a pointer, which no helper takes; but there is no helper 9, and none of number 3 at
     // `veto`
     ("hook veto; rank 0; call 9; exit", 0, 9),
@@ -66,7 +66,7 @@ const FIRST: [(&str, usize, u8); 13] = [
 
 #[test]
 fn the_first_broken_rule_is_told(rt: HostRuntime) -> Result<(), Fail> {
-    for row in &FIRST {
+    for row in FIRST {
         let (text, slot, rule) = *row;
         refuses_at(&rt, rt.alloc(), text, slot, rule)?;
     }

@@ -3,7 +3,7 @@ use crate::trials::{Safe, accepts_each};
 use std::test::Fail;
 
 /// Bytes on the stack.
-const BYTES: [Safe; 4] = [
+const BYTES: &[Safe] = &[
     (
         "hook price; rank 0; *u8 r10 -2 = 1; *u8 r10 -1 = 2; r0 = *u16 r10 -2; exit",
         [513, 513],
@@ -30,7 +30,7 @@ const BYTES: [Safe; 4] = [
 ];
 
 /// Pointers on the stack.
-const STORED: [Safe; 6] = [
+const STORED: &[Safe] = &[
     // the context's pointer, kept through a call, which empties r1
     (
         "hook count; rank 0; *u64 r10 -8 = r1; r1 = 0; call 3; r1 = *u64 r10 -8; r2 = *u32 r1 16; \
@@ -71,10 +71,10 @@ const STORED: [Safe; 6] = [
 
 #[test]
 fn bytes_on_the_stack_are_accepted(rt: HostRuntime) -> Result<(), Fail> {
-    accepts_each(&rt, rt.alloc(), &BYTES)
+    accepts_each(&rt, rt.alloc(), BYTES)
 }
 
 #[test]
 fn pointers_on_the_stack_are_accepted(rt: HostRuntime) -> Result<(), Fail> {
-    accepts_each(&rt, rt.alloc(), &STORED)
+    accepts_each(&rt, rt.alloc(), STORED)
 }

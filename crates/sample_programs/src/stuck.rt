@@ -5,7 +5,7 @@ use std::test::Fail;
 
 /// Targets, and the end of the code: the run leaves the code (trap 1) or comes between the two
 /// halves of an instruction (trap 2).
-const PLACES: [Unsafe; 8] = [
+const PLACES: &[Unsafe] = &[
     ("hook tag; rank 0; r0 = 0; goto +1; exit", 1, 1, 1),
     ("hook tag; rank 0; r0 = 0; goto -3; exit", 1, 1, 1),
     ("hook tag; rank 0; r0 = 0; gotol +100; exit", 1, 1, 1),
@@ -27,7 +27,7 @@ const PLACES: [Unsafe; 8] = [
 ];
 
 /// An empty register or stack byte is read (trap 3).
-const EMPTY: [Unsafe; 11] = [
+const EMPTY: &[Unsafe] = &[
     ("hook tag; rank 0; r0 = r3; exit", 0, 5, 3),
     ("hook tag; rank 0; r0 = *u8 r5 0; exit", 0, 5, 3),
     ("hook tag; rank 0; r0 = *u64 r10 -8; exit", 0, 5, 3),
@@ -70,7 +70,7 @@ const EMPTY: [Unsafe; 11] = [
 ];
 
 /// A pointer is used as a number, or a number as a pointer (trap 4).
-const KINDS: [Unsafe; 18] = [
+const KINDS: &[Unsafe] = &[
     (
         "hook tag; rank 0; r2 = *u64 r1 8; r0 = *u8 r2 0; exit",
         1,
@@ -143,7 +143,7 @@ const KINDS: [Unsafe; 18] = [
 ];
 
 /// An access lies outside of its region (trap 5).
-const BOUNDS: [Unsafe; 8] = [
+const BOUNDS: &[Unsafe] = &[
     ("hook tag; rank 0; r0 = *u64 r1 60; exit", 0, 7, 5),
     ("hook tag; rank 0; r0 = *u8 r1 -1; exit", 0, 7, 5),
     ("hook tag; rank 0; *u8 r10 0 = 1; r0 = 0; exit", 0, 7, 5),
@@ -182,7 +182,7 @@ const BOUNDS: [Unsafe; 8] = [
 
 /// A map is accessed elsewhere than at a multiple of eight, or by another size (trap 6); helpers
 /// are unknown (trap 7) or are handed too much (trap 8).
-const MAPS_AND_HELPERS: [Unsafe; 9] = [
+const MAPS_AND_HELPERS: &[Unsafe] = &[
     (
         "hook tag; rank 0; r6 = map 1 4; r0 = *u64 r6 0; exit",
         2,
@@ -216,7 +216,7 @@ const MAPS_AND_HELPERS: [Unsafe; 9] = [
 ];
 
 /// What comes to a statement isn't within it: the run is stuck behind it, or has no end (trap 11).
-const STATEMENTS: [Unsafe; 4] = [
+const STATEMENTS: &[Unsafe] = &[
     (
         "hook tag; rank 0; r2 = 0; goto L; L: r0 = *u8 r2 0; exit; state L rank 0; with r2 context \
             0",
@@ -249,7 +249,7 @@ const STATEMENTS: [Unsafe; 4] = [
 ];
 
 /// The rank doesn't fall on a jump back, and the run has no end (trap 11).
-const RANKS: [Unsafe; 5] = [
+const RANKS: &[Unsafe] = &[
     (
         "hook tag; rank 0; r0 = 0; L: goto L; state L rank 0",
         1,
@@ -290,7 +290,7 @@ const RANKS: [Unsafe; 5] = [
 ];
 
 /// A pointer is answered (trap 10), or r10 is written (trap 9).
-const ENDS: [Unsafe; 6] = [
+const ENDS: &[Unsafe] = &[
     ("hook tag; rank 0; r0 = r10; exit", 1, 14, 10),
     ("hook tag; rank 0; r0 = map 0 0; exit", 2, 14, 10),
     (
@@ -306,42 +306,42 @@ const ENDS: [Unsafe; 6] = [
 
 #[test]
 fn programs_that_leave_their_code_are_refused(rt: HostRuntime) -> Result<(), Fail> {
-    refuses_each(&rt, rt.alloc(), &PLACES)
+    refuses_each(&rt, rt.alloc(), PLACES)
 }
 
 #[test]
 fn programs_that_read_what_is_empty_are_refused(rt: HostRuntime) -> Result<(), Fail> {
-    refuses_each(&rt, rt.alloc(), &EMPTY)
+    refuses_each(&rt, rt.alloc(), EMPTY)
 }
 
 #[test]
 fn programs_that_mix_pointers_and_numbers_are_refused(rt: HostRuntime) -> Result<(), Fail> {
-    refuses_each(&rt, rt.alloc(), &KINDS)
+    refuses_each(&rt, rt.alloc(), KINDS)
 }
 
 #[test]
 fn programs_that_leave_their_regions_are_refused(rt: HostRuntime) -> Result<(), Fail> {
-    refuses_each(&rt, rt.alloc(), &BOUNDS)
+    refuses_each(&rt, rt.alloc(), BOUNDS)
 }
 
 #[test]
 fn programs_that_misuse_maps_and_helpers_are_refused(rt: HostRuntime) -> Result<(), Fail> {
-    refuses_each(&rt, rt.alloc(), &MAPS_AND_HELPERS)
+    refuses_each(&rt, rt.alloc(), MAPS_AND_HELPERS)
 }
 
 #[test]
 fn programs_whose_statements_are_false_are_refused(rt: HostRuntime) -> Result<(), Fail> {
-    refuses_each(&rt, rt.alloc(), &STATEMENTS)
+    refuses_each(&rt, rt.alloc(), STATEMENTS)
 }
 
 #[test]
 fn programs_without_an_end_are_refused(rt: HostRuntime) -> Result<(), Fail> {
-    refuses_each(&rt, rt.alloc(), &RANKS)
+    refuses_each(&rt, rt.alloc(), RANKS)
 }
 
 #[test]
 fn programs_that_answer_pointers_or_write_the_frame_are_refused(
     rt: HostRuntime,
 ) -> Result<(), Fail> {
-    refuses_each(&rt, rt.alloc(), &ENDS)
+    refuses_each(&rt, rt.alloc(), ENDS)
 }

@@ -3,7 +3,7 @@ use crate::trials::{Safe, accepts_each};
 use std::test::Fail;
 
 /// Indexes that are kept small by a mask, a remainder, a shift, a division or a test.
-const WALKS: [Safe; 11] = [
+const WALKS: &[Safe] = &[
     // a counter, read where it was counted
     (
         "hook price; rank 0; r6 = *u64 r1 8; r6 &= 255; r1 = r6; r2 = 5; call 1; \
@@ -75,7 +75,7 @@ const WALKS: [Safe; 11] = [
 ];
 
 /// Helpers, and what is loaded of the context.
-const CALLS: [Safe; 7] = [
+const CALLS: &[Safe] = &[
     // twice the cost of a route, where there is one
     (
         "hook tag; rank 0; r1 = wide 3221225984; r2 = 24; call 4; r1 = wide 4294967296; \
@@ -123,10 +123,10 @@ const CALLS: [Safe; 7] = [
 
 #[test]
 fn walks_over_the_maps_are_accepted(rt: HostRuntime) -> Result<(), Fail> {
-    accepts_each(&rt, rt.alloc(), &WALKS)
+    accepts_each(&rt, rt.alloc(), WALKS)
 }
 
 #[test]
 fn uses_of_helpers_and_context_are_accepted(rt: HostRuntime) -> Result<(), Fail> {
-    accepts_each(&rt, rt.alloc(), &CALLS)
+    accepts_each(&rt, rt.alloc(), CALLS)
 }

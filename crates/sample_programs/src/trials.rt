@@ -152,7 +152,7 @@ fn varied_context(hook: Hook, number: u8) -> [u8; 64]
 }
 
 /// A packet of 20 bytes.
-const PACKET: [u8; 20] = [
+const PACKET: &[u8] = &[
     2, 1, 0, 44, 1, 1, 1, 1, 0, 0, 0, 0, 0xf8, 0x9a, 0, 0, 0, 0, 0, 0,
 ];
 
@@ -249,7 +249,7 @@ fn rich_answer(alloc: Global, accepted: &Accepted, code: &Code) -> Result<Option
     let rows = rows(alloc)?;
     let input = Input {
         context: rich_context(accepted.hook()),
-        packet: &PACKET,
+        packet: PACKET,
         rows: &rows,
     };
     answer_on(alloc, accepted, code, &input)
@@ -369,7 +369,7 @@ fn rich_runs(alloc: Global, tried: &Trial) -> Result<Option<(Run, Result<Run, Tr
     let rows = rows(alloc)?;
     let input = Input {
         context: rich_context(accepted.hook()),
-        packet: &PACKET,
+        packet: PACKET,
         rows: &rows,
     };
     let runs = both_runs(alloc, accepted, &tried.code, &input)?;
@@ -431,7 +431,7 @@ fn rich_trap(alloc: Global, tried: &Trial, limit: u64) -> Result<Option<Trap>, F
     let rows = rows(alloc)?;
     let input = Input {
         context: rich_context(hook),
-        packet: &PACKET,
+        packet: PACKET,
         rows: &rows,
     };
     Ok(checked_of(alloc, &tried.code, hook, limit, &input)?.err())

@@ -16,7 +16,7 @@ use std::test::Fail;
 use verifier::Accepted;
 
 /// A program, its bound, its answer and how many instructions its run takes.
-const WORKED: [(&str, u64, u64, u64); 9] = [
+const WORKED: &[(&str, u64, u64, u64)] = &[
     ("hook price; rank 0; r0 = 7; exit", 2, 7, 2),
     // the hook's number, by a pointer that was stored
     (
@@ -68,7 +68,7 @@ const WORKED: [(&str, u64, u64, u64); 9] = [
 
 #[test]
 fn worked_programs_end_as_told(rt: HostRuntime) -> Result<(), Fail> {
-    for row in &WORKED {
+    for row in WORKED {
         let (text, bound, answer, used) = *row;
         ends(&rt, rt.alloc(), text, bound, Run { answer, used })?;
     }

@@ -16,7 +16,7 @@ fn begins(rt: &impl Abort, context: &Context, bytes: &[u8]) {
 }
 
 // A Hello of 2.2.2.2 (RFC 2328, A.3.2).
-const HELLO: [u8; 44] = [
+const HELLO: &[u8] = &[
     2, 1, 0, 0x2c, 2, 2, 2, 2, 0, 0, 0, 0, 0xf8, 0x9a, 0, 0, 0, 0, 0, 0, 0, 0, 0, 0, 0xff, 0xff,
     0xff, 0, 0, 10, 2, 1, 0, 0, 0, 40, 0, 0, 0, 0, 0, 0, 0, 0,
 ];
@@ -24,7 +24,7 @@ const HELLO: [u8; 44] = [
 #[test]
 fn count_tells_of_the_packet(rt: HostRuntime) {
     let moment = Second::new(0x0102_0304_0506_0708);
-    let context = count_context(1, moment, &HELLO);
+    let context = count_context(1, moment, HELLO);
     let bytes = [
         1, 0, 0, 0, 1, 0, 0, 0, 8, 7, 6, 5, 4, 3, 2, 1, 44, 0, 0, 0, 1, 0, 0, 0, 2, 2, 2, 2,
     ];
@@ -32,7 +32,7 @@ fn count_tells_of_the_packet(rt: HostRuntime) {
 }
 
 // How many bytes the packet has, and what the context tells of them behind the moment.
-const SHORT: [(usize, [u8; 12]); 5] = [
+const SHORT: &[(usize, [u8; 12])] = &[
     (0, [0, 0, 0, 0, 0, 0, 0, 0, 0, 0, 0, 0]),
     (1, [1, 0, 0, 0, 0, 0, 0, 0, 0, 0, 0, 0]),
     (2, [2, 0, 0, 0, 8, 0, 0, 0, 0, 0, 0, 0]),
@@ -50,7 +50,7 @@ fn with_tail(tail: &[u8; 12]) -> [u8; 28] {
 #[test]
 fn count_tells_0_of_what_a_short_packet_lacks(rt: HostRuntime) {
     let packet = [9, 8, 7, 6, 5, 4, 3, 2];
-    for row in &SHORT {
+    for row in SHORT {
         let (length, tail) = *row;
         let front = packet.get(..length).expect(&rt, "a front");
         let context = count_context(319, Second::new(0), front);
@@ -104,7 +104,7 @@ fn route(kind: RouteKind, hops: Hops) -> Result<Route, Fail> {
 }
 
 // A kind, its number, and the distance that is told: only a type 2 route has one.
-const KINDS: [(RouteKind, u8, u8); 4] = [
+const KINDS: &[(RouteKind, u8, u8)] = &[
     (RouteKind::Intra, 1, 0),
     (RouteKind::Inter, 2, 0),
     (RouteKind::External1, 3, 0),
@@ -121,7 +121,7 @@ fn bytes_of_a_route(number: u8, distance: u8) -> [u8; 44] {
 #[test]
 fn veto_tells_of_the_route(rt: HostRuntime) -> Result<(), Fail> {
     let hops = Hops::only(1).join(Hops::only(2));
-    for row in &KINDS {
+    for row in KINDS {
         let (kind, number, distance) = *row;
         let context = veto_context(route(kind, hops)?, Second::new(5));
         begins(&rt, &context, &bytes_of_a_route(number, distance));
