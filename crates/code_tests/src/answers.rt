@@ -36,7 +36,7 @@ fn input(rows: &[TableRow]) -> Input<'_> {
 }
 
 // An offset, and the byte there or 256.
-const BYTES: [(u64, u64); 6] = [
+const BYTES: &[(u64, u64)] = &[
     (0, 10),
     (1, 20),
     (2, 255),
@@ -49,7 +49,7 @@ const BYTES: [(u64, u64); 6] = [
 fn a_byte_of_the_packet_or_256(rt: HostRuntime) {
     let rows = rows().expect(&rt, "rows");
     let input = input(&rows);
-    for row in &BYTES {
+    for row in BYTES {
         let (offset, want) = *row;
         let found = packet_byte(&input, offset);
         assert!(rt; found == want, "{offset}: {found}");
@@ -57,7 +57,7 @@ fn a_byte_of_the_packet_or_256(rt: HostRuntime) {
 }
 
 // The bits and the length of a prefix, and the cost.
-const COSTS: [(u64, u64, u64); 8] = [
+const COSTS: &[(u64, u64, u64)] = &[
     (0x0a00_0000, 8, 5),
     (0x0a00_0000, 16, 7),
     (0xc000_0200, 24, 4_294_967_295),
@@ -72,7 +72,7 @@ const COSTS: [(u64, u64, u64); 8] = [
 fn the_cost_of_the_first_row_with_exactly_the_prefix(rt: HostRuntime) {
     let rows = rows().expect(&rt, "rows");
     let input = input(&rows);
-    for row in &COSTS {
+    for row in COSTS {
         let (prefix, length, want) = *row;
         let found = table_cost(&input, prefix, length);
         assert!(rt; found == want, "{prefix}/{length}: {found}");

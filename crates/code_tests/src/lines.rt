@@ -323,7 +323,7 @@ fn registers_of_statements(rt: HostRuntime) {
     both_ways(&rt, rt.alloc(), &rows);
 }
 
-const NO_LINES: [&str; 22] = [
+const NO_LINES: &[&str] = &[
     "r11 = 0",
     "r0 = w1",
     "goto 4",
@@ -350,7 +350,7 @@ const NO_LINES: [&str; 22] = [
 
 #[test]
 fn what_is_no_line(rt: HostRuntime) {
-    read_as_nothing(&rt, rt.alloc(), &NO_LINES);
+    read_as_nothing(&rt, rt.alloc(), NO_LINES);
 }
 
 // The least number that a line writes.

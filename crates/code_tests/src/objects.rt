@@ -66,7 +66,7 @@ fn bytes_of(alloc: Global, object: &Object) -> Option<Vec<u8>> {
     }
 }
 
-const WITHOUT_STATEMENTS: [u8; 32] = [
+const WITHOUT_STATEMENTS: &[u8] = &[
     0x42, 0x50, 0x46, 0x48, 1, 3, 0, 0, 0, 0, 0, 0, 2, 0, 0, 0, 0xb7, 0, 0, 0, 7, 0, 0, 0, 0x95, 0,
     0, 0, 0, 0, 0, 0,
 ];
@@ -81,7 +81,7 @@ fn are_written_again(alloc: Global, bytes: &[u8]) -> Option<bool> {
 #[test]
 fn objects_are_written_as_they_were_read(rt: HostRuntime) {
     assert!(rt; are_written_again(rt.alloc(), &counting()) == Some(true));
-    assert!(rt; are_written_again(rt.alloc(), &WITHOUT_STATEMENTS) == Some(true));
+    assert!(rt; are_written_again(rt.alloc(), WITHOUT_STATEMENTS) == Some(true));
 }
 
 fn number(low: u64, high: u64) -> Kind {
@@ -134,7 +134,7 @@ fn is_without_statements(object: &Object) -> bool {
 
 #[test]
 fn reads_an_object_without_statements(rt: HostRuntime) {
-    let object = object_of(rt.alloc(), &WITHOUT_STATEMENTS).expect(&rt, "an object");
+    let object = object_of(rt.alloc(), WITHOUT_STATEMENTS).expect(&rt, "an object");
     assert!(rt; is_without_statements(&object));
 }
 
@@ -176,7 +176,7 @@ fn changes_come_to<R: AllocGlobal + Abort>(rt: &R, changes: &[Change]) {
     }
 }
 
-const ONE_BYTE: [Change; 43] = [
+const ONE_BYTE: &[Change] = &[
     (&[0], &[0x43], 2),
     (&[3], &[0], 2),
     (&[4], &[0], 3),
@@ -224,13 +224,13 @@ const ONE_BYTE: [Change; 43] = [
 
 #[test]
 fn refuses_each_fault_of_one_byte(rt: HostRuntime) {
-    changes_come_to(&rt, &ONE_BYTE);
+    changes_come_to(&rt, ONE_BYTE);
 }
 
 /// The number of slots, and that of statements.
 const TWO_COUNTS: &[usize] = &[12, 13, 14, 15, 6, 7];
 
-const COUNTS: [Change; 6] = [
+const COUNTS: &[Change] = &[
     (TWO_COUNTS, &[6, 0, 0, 0, 1, 0], 0),
     (TWO_COUNTS, &[0, 0, 0, 0, 1, 0], 6),
     // 4,096, 4,097 and 2^32 - 1 slots
@@ -243,13 +243,13 @@ const COUNTS: [Change; 6] = [
 
 #[test]
 fn refuses_counts_that_lie(rt: HostRuntime) {
-    changes_come_to(&rt, &COUNTS);
+    changes_come_to(&rt, COUNTS);
 }
 
 /// The register of the second rank term, and the low byte of its coefficient.
 const SECOND: &[usize] = &[73, 80];
 
-const SECOND_TERMS: [Change; 5] = [
+const SECOND_TERMS: &[Change] = &[
     (SECOND, &[0, 0], 0),
     (SECOND, &[1, 1], 0),
     (SECOND, &[1, 0], 6),
@@ -259,12 +259,12 @@ const SECOND_TERMS: [Change; 5] = [
 
 #[test]
 fn refuses_a_second_term_of_no_number(rt: HostRuntime) {
-    changes_come_to(&rt, &SECOND_TERMS);
+    changes_come_to(&rt, SECOND_TERMS);
 }
 
 /// The low two bytes of the number of slots, how many bytes of code follow, all zero, and the
 /// refusal, or 0. The code itself isn't looked at.
-const SLOTS: [(u8, u8, usize, u8); 6] = [
+const SLOTS: &[(u8, u8, usize, u8)] = &[
     (0, 0, 0, 6),
     (1, 0, 8, 0),
     (0, 0x10, 32_768, 0),
@@ -283,7 +283,7 @@ fn of_zero_code(low: u8, high: u8) -> [u8; 32_792] {
 
 #[test]
 fn looks_at_the_number_of_slots_before_the_length(rt: HostRuntime) {
-    for row in &SLOTS {
+    for row in SLOTS {
         let (low, high, count, want) = *row;
         let bytes = of_zero_code(low, high);
         come_to(
@@ -299,7 +299,7 @@ fn looks_at_the_number_of_slots_before_the_length(rt: HostRuntime) {
 /// mask's and its value's.
 const OF_R2: &[usize] = &[228, 229, 232, 233, 244, 252, 260];
 
-const REGISTERS: [Change; 16] = [
+const REGISTERS: &[Change] = &[
     (OF_R2, &[0, 0, 0, 0, 0, 0, 0], 0),
     (OF_R2, &[0, 0, 0, 0, 1, 0, 0], 6),
     (OF_R2, &[0, 0, 0, 0, 0, 1, 0], 6),
@@ -320,12 +320,12 @@ const REGISTERS: [Change; 16] = [
 
 #[test]
 fn refuses_each_fault_of_a_register(rt: HostRuntime) {
-    changes_come_to(&rt, &REGISTERS);
+    changes_come_to(&rt, REGISTERS);
 }
 
 /// The slots of two statements, a byte at the front of each one's unused ones, and the refusal, or
 /// 0.
-const PAIRS: [(u8, u8, u8, u8, u8); 7] = [
+const PAIRS: &[(u8, u8, u8, u8, u8)] = &[
     (2, 3, 0, 0, 0),
     (2, 2, 0, 0, 5),
     (3, 2, 0, 0, 5),
@@ -352,7 +352,7 @@ fn pair(first: u8, second: u8, first_unused: u8, second_unused: u8) -> [u8; 1032
 
 #[test]
 fn refuses_the_first_fault_of_two_statements(rt: HostRuntime) {
-    for row in &PAIRS {
+    for row in PAIRS {
         let (first, second, first_unused, second_unused, want) = *row;
         let bytes = pair(first, second, first_unused, second_unused);
         come_to(&rt, &bytes, want, row);
@@ -403,7 +403,7 @@ fn packed(alloc: Global) -> Option<Object> {
 }
 
 /// Places of the packed object, and the bytes from there on.
-const PACKED: [(usize, &[u8]); 7] = [
+const PACKED: &[(usize, &[u8])] = &[
     (
         0,
         &[
@@ -424,7 +424,7 @@ fn stand_at(bytes: &[u8], at: usize, part: &[u8]) -> bool {
 }
 
 fn are_packed(rt: &impl Abort, bytes: &[u8]) {
-    for row in &PACKED {
+    for row in PACKED {
         let (at, part) = *row;
         assert!(rt; bytes.len() == 508 && stand_at(bytes, at, part), "at {at}");
     }

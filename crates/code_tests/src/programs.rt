@@ -68,7 +68,7 @@ fn rows() -> Option<[TableRow; 2]> {
 }
 
 // A Hello of 44 bytes.
-static HELLO: [u8; 44] = [
+static HELLO: &[u8] = &[
     2, 1, 0, 0x2c, 2, 2, 2, 2, 0, 0, 0, 0, 0xf8, 0x9a, 0, 0, 0, 0, 0, 0, 0, 0, 0, 0, 0xff, 0xff,
     0xff, 0, 0, 0x0a, 2, 1, 0, 0, 0, 0x28, 0, 0, 0, 0, 0, 0, 0, 0,
 ];
@@ -81,7 +81,7 @@ fn input(rows: &[TableRow]) -> Input<'_> {
     }
     Input {
         context,
-        packet: &HELLO,
+        packet: HELLO,
         rows,
     }
 }

@@ -171,24 +171,24 @@ fn last_of_64(alloc: Global) -> Option<(usize, u64)> {
     Some((count, last_cell(&words, &mut last)))
 }
 
-const NO_COUNTS: [usize; 3] = [0, 65, 1000];
+const NO_COUNTS: &[usize] = &[0, 65, 1000];
 
 #[test]
 fn a_table_has_one_to_sixty_four_seats(rt: HostRuntime) {
-    for count in &NO_COUNTS {
+    for count in NO_COUNTS {
         assert!(rt; is_refused(rt.alloc(), *count), "at {count}");
     }
     assert!(rt; last_of_64(rt.alloc()) == Some((64, 9)));
 }
 
-const REFUSALS: [(MapsError, u8, &str); 2] = [
+const REFUSALS: &[(MapsError, u8, &str)] = &[
     (MapsError::Seats, 1, "a table has 1 to 64 seats"),
     (MapsError::Memory, 2, "out of memory"),
 ];
 
 #[test]
 fn refusals_have_their_numbers_and_texts(rt: HostRuntime) {
-    for row in &REFUSALS {
+    for row in REFUSALS {
         let (refusal, number, text) = *row;
         assert!(rt; refusal.number() == number);
         if let Ok(shown) = format!(in rt.alloc(); "{refusal}") {

@@ -105,7 +105,7 @@ fn spells_each(rt: &impl Abort, alloc: Global, rows: &[(&str, &[u8])]) {
 }
 
 // Texts, and the bytes that their only lines spell behind `hook price` and `rank 0`.
-const SPELLED: [(&str, &[u8]); 7] = [
+const SPELLED: &[(&str, &[u8])] = &[
     (
         "hook price\nrank 0\nw1 s%= w2\n",
         &[0x9c, 0x21, 1, 0, 0, 0, 0, 0],
@@ -138,7 +138,7 @@ const SPELLED: [(&str, &[u8]); 7] = [
 
 #[test]
 fn spells_bytes(rt: HostRuntime) {
-    spells_each(&rt, rt.alloc(), &SPELLED);
+    spells_each(&rt, rt.alloc(), SPELLED);
 }
 
 // The sum of the numbers from 10 down to 1, with a label and without.
@@ -167,7 +167,7 @@ fn sums_a_loop(rt: HostRuntime) {
 }
 
 // Texts that are their own listings.
-const LISTINGS: [&str; 8] = [
+const LISTINGS: &[&str] = &[
     // each instruction
     "hook count\nrank 0\nr0 = r1\nw0 = -5\nr0 += 1\nr0 -= r2\nr0 *= 2\nw0 /= w3\nr0 s/= 4\n\
         r0 |= 1\nr0 &= 255\nr0 <<= 3\nr0 >>= 3\nr0 %= 7\nw0 s%= w1\nr0 ^= r9\nr0 s>>= 1\n",
@@ -197,13 +197,13 @@ const LISTINGS: [&str; 8] = [
 
 #[test]
 fn each_instruction_register_form_and_statement_is_listed(rt: HostRuntime) {
-    for text in &LISTINGS {
+    for text in LISTINGS {
         lists(&rt, rt.alloc(), text, text);
     }
 }
 
 // Texts with labels, spaces and pieces in another order, and their listings.
-const LISTED: [(&str, &str); 4] = [
+const LISTED: &[(&str, &str)] = &[
     (SUM, SUM_LISTED),
     (
         "hook price\nrank 1\ngotol end\nback:\nr0 = wide 0\ngotol back\ngoto back\nend:\nexit\n",
@@ -223,13 +223,13 @@ const LISTED: [(&str, &str); 4] = [
 
 #[test]
 fn a_listing_has_no_labels_and_the_pieces_in_order(rt: HostRuntime) {
-    for row in &LISTED {
+    for row in LISTED {
         let (text, listed) = *row;
         lists(&rt, rt.alloc(), text, listed);
     }
 }
 
-const OPERATIONS: [&str; 14] = [
+const OPERATIONS: &[&str] = &[
     "=", "+=", "-=", "*=", "/=", "s/=", "|=", "&=", "<<=", ">>=", "%=", "s%=", "^=", "s>>=",
 ];
 
@@ -237,10 +237,10 @@ const OPERATED: &str = "hook tag\nrank 0\nr0 @ r10\nr9 @ -5\nw0 @ w1\nw10 @ 2147
 
 #[test]
 fn each_operation_is_listed(rt: HostRuntime) {
-    lists_words(&rt, rt.alloc(), &OPERATIONS, OPERATED, OPERATED);
+    lists_words(&rt, rt.alloc(), OPERATIONS, OPERATED, OPERATED);
 }
 
-const TESTS: [&str; 11] = [
+const TESTS: &[&str] = &[
     "==", ">", ">=", "&", "!=", "s>", "s>=", "<", "<=", "s<", "s<=",
 ];
 
@@ -256,12 +256,12 @@ const LABELLED_LISTED: &str = "hook tag\nrank 0\nif r0 @ r1 goto -1\nif w0 @ 7 g
 
 #[test]
 fn each_test_is_listed(rt: HostRuntime) {
-    lists_words(&rt, rt.alloc(), &TESTS, JUMPS, JUMPS);
+    lists_words(&rt, rt.alloc(), TESTS, JUMPS, JUMPS);
 }
 
 #[test]
 fn each_test_is_listed_by_its_distance(rt: HostRuntime) {
-    lists_words(&rt, rt.alloc(), &TESTS, LABELLED, LABELLED_LISTED);
+    lists_words(&rt, rt.alloc(), TESTS, LABELLED, LABELLED_LISTED);
 }
 
 /// The refusal of an object whose code is no instruction, by its number.
@@ -291,7 +291,7 @@ fn refuses_each(rt: &impl Abort, alloc: Global, rows: &[(&str, usize)], kind: As
     }
 }
 
-const SYNTAX: [(&str, usize); 15] = [
+const SYNTAX: &[(&str, usize)] = &[
     ("", 1),
     ("\n\n", 1),
     ("hook price", 1),
@@ -311,10 +311,10 @@ const SYNTAX: [(&str, usize); 15] = [
 
 #[test]
 fn refuses_syntax(rt: HostRuntime) {
-    refuses_each(&rt, rt.alloc(), &SYNTAX, AsmFault::Syntax);
+    refuses_each(&rt, rt.alloc(), SYNTAX, AsmFault::Syntax);
 }
 
-const LABELS: [(&str, usize); 4] = [
+const LABELS: &[(&str, usize)] = &[
     ("hook price\nrank 0\ngoto L", 3),
     ("hook price\nrank 0\nexit\nif r0 == 99999999999 goto L", 4),
     ("hook price\nrank 0\nl:\ngotol L", 4),
@@ -323,10 +323,10 @@ const LABELS: [(&str, usize); 4] = [
 
 #[test]
 fn refuses_labels(rt: HostRuntime) {
-    refuses_each(&rt, rt.alloc(), &LABELS, AsmFault::Label);
+    refuses_each(&rt, rt.alloc(), LABELS, AsmFault::Label);
 }
 
-const TWICE: [(&str, usize); 5] = [
+const TWICE: &[(&str, usize)] = &[
     ("hook price\nrank 0\nL:\nexit\nL:", 5),
     ("hook price\nrank 0\nL:\nL:\nexit", 4),
     (
@@ -345,7 +345,7 @@ const TWICE: [(&str, usize); 5] = [
 
 #[test]
 fn refuses_what_is_there_twice(rt: HostRuntime) {
-    refuses_each(&rt, rt.alloc(), &TWICE, AsmFault::Twice);
+    refuses_each(&rt, rt.alloc(), TWICE, AsmFault::Twice);
 }
 
 /// This front with this line behind it.
@@ -374,7 +374,7 @@ fn refuses_lines(rt: &impl Abort, alloc: Global, front: &str, line: usize, lines
     }
 }
 
-const HEADS: [(&str, usize); 3] = [
+const HEADS: &[(&str, usize)] = &[
     ("hook price\nrank 4294967296", 2),
     ("hook price\nrank -1", 2),
     (
@@ -385,10 +385,10 @@ const HEADS: [(&str, usize); 3] = [
 
 #[test]
 fn refuses_ranks_and_statements_out_of_order(rt: HostRuntime) {
-    refuses_each(&rt, rt.alloc(), &HEADS, AsmFault::Range);
+    refuses_each(&rt, rt.alloc(), HEADS, AsmFault::Range);
 }
 
-const NUMBERS: [&str; 28] = [
+const NUMBERS: &[&str] = &[
     "r0 = 2147483648",
     "r0 = -2147483649",
     "w0 = 2147483648",
@@ -422,10 +422,10 @@ const NUMBERS: [&str; 28] = [
 #[test]
 fn refuses_numbers(rt: HostRuntime) {
     let front = "hook price\nrank 0\nexit\n";
-    refuses_lines(&rt, rt.alloc(), front, 4, &NUMBERS);
+    refuses_lines(&rt, rt.alloc(), front, 4, NUMBERS);
 }
 
-const STATES: [&str; 21] = [
+const STATES: &[&str] = &[
     "state 2 rank 0",
     "state -1 rank 0",
     "state 4294967296 rank 0",
@@ -452,14 +452,14 @@ const STATES: [&str; 21] = [
 #[test]
 fn refuses_states(rt: HostRuntime) {
     let front = "hook price\nrank 0\nexit\nexit\n";
-    refuses_lines(&rt, rt.alloc(), front, 5, &STATES);
+    refuses_lines(&rt, rt.alloc(), front, 5, STATES);
 }
 
 // A statement with a rank over r2.
 const STATED: &str =
     "hook price\nrank 0\nexit\nexit\nstate 0 rank 0 r2 * 1\nwith r2 number 0 0 0 0\n";
 
-const REGISTERS: [&str; 16] = [
+const REGISTERS: &[&str] = &[
     "with r10 stack 0",
     "with r1 number 5 4 0 0",
     "with r1 number 0 1 1 2",
@@ -480,10 +480,10 @@ const REGISTERS: [&str; 16] = [
 
 #[test]
 fn refuses_registers(rt: HostRuntime) {
-    refuses_lines(&rt, rt.alloc(), STATED, 7, &REGISTERS);
+    refuses_lines(&rt, rt.alloc(), STATED, 7, REGISTERS);
 }
 
-const FIELDS: [&str; 8] = [
+const FIELDS: &[&str] = &[
     "-1 0 0 0",
     "18446744073709551616 18446744073709551615 0 0",
     "0 -1 0 0",
@@ -506,8 +506,8 @@ const MAP_BEGINS: &str =
 
 #[test]
 fn refuses_numbers_of_registers(rt: HostRuntime) {
-    refuses_lines(&rt, rt.alloc(), NUMBER_BEGINS, 7, &FIELDS);
-    refuses_lines(&rt, rt.alloc(), MAP_BEGINS, 7, &FIELDS);
+    refuses_lines(&rt, rt.alloc(), NUMBER_BEGINS, 7, FIELDS);
+    refuses_lines(&rt, rt.alloc(), MAP_BEGINS, 7, FIELDS);
 }
 
 /// A text with so many lines `exit`, and then this.
@@ -612,11 +612,11 @@ fn finds_each_of_many_labels(rt: HostRuntime) -> Result<(), Fail> {
     Ok(())
 }
 
-const AGAIN: [&str; 2] = ["label_5:\n", "label_5:\nlabel_299:\n"];
+const AGAIN: &[&str] = &["label_5:\n", "label_5:\nlabel_299:\n"];
 
 #[test]
 fn refuses_one_of_many_labels_again(rt: HostRuntime) -> Result<(), Fail> {
-    for rest in &AGAIN {
+    for rest in AGAIN {
         let text = many_labels(rt.alloc(), rest)?;
         refuses(&rt, rt.alloc(), &text, 603, AsmFault::Twice);
     }

@@ -107,7 +107,7 @@ fn is_numbered(number: u8) -> bool {
     }
 }
 
-const HOOKS: [(u8, Option<Hook>); 6] = [
+const HOOKS: &[(u8, Option<Hook>)] = &[
     (0, None),
     (1, Some(Hook::Count)),
     (2, Some(Hook::Tag)),
@@ -117,7 +117,7 @@ const HOOKS: [(u8, Option<Hook>); 6] = [
 ];
 
 fn hooks_are_numbered() -> bool {
-    for row in &HOOKS {
+    for row in HOOKS {
         let (number, hook) = *row;
         if Hook::from_number(number) != hook {
             return false;
@@ -126,10 +126,10 @@ fn hooks_are_numbered() -> bool {
     true
 }
 
-const MAPS: [(u8, Option<Map>); 3] = [(0, Some(Map::Counters)), (1, Some(Map::Cells)), (2, None)];
+const MAPS: &[(u8, Option<Map>)] = &[(0, Some(Map::Counters)), (1, Some(Map::Cells)), (2, None)];
 
 fn maps_are_numbered() -> bool {
-    for row in &MAPS {
+    for row in MAPS {
         let (number, map) = *row;
         if Map::from_number(number) != map {
             return false;

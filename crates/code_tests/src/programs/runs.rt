@@ -4,7 +4,7 @@ ghost use Rattle.maps.specs.Words.{IsOf};
 use super::*;
 
 // r1 = 5; r2 = 3; call 1; exit
-const ADDING: [u64; 4] = [
+const ADDING: &[u64] = &[
     0x0000_0005_0000_01b7,
     0x0000_0003_0000_02b7,
     0x0000_0001_0000_0085,
@@ -12,7 +12,7 @@ const ADDING: [u64; 4] = [
 ];
 
 // r6 = map 1 8; r0 = *u64 r6 0; r0 += 1; *u64 r6 0 = r0; exit
-const COUNTING: [u64; 6] = [
+const COUNTING: &[u64] = &[
     0x0000_0001_0000_6618,
     0x0000_0008_0000_0000,
     0x6079,
@@ -32,7 +32,7 @@ fn both_add(alloc: Global, code: &Code, input: &Input) -> Option<[(u64, u64); 3]
 
 #[test]
 fn two_seats_add_to_one_counter(rt: HostRuntime) {
-    let code = code(rt.alloc(), &ADDING).expect(&rt, "code");
+    let code = code(rt.alloc(), ADDING).expect(&rt, "code");
     let found = both_add(rt.alloc(), &code, &input(&[]));
     assert!(rt; found == Some([(0, 4), (0, 4), (6, 0)]), "{found:?}");
 }
@@ -57,7 +57,7 @@ fn both_count(alloc: Global, code: &Code, input: &Input) -> Option<[(u64, u64); 
 
 #[test]
 fn a_cell_is_the_seats_own(rt: HostRuntime) {
-    let code = code(rt.alloc(), &COUNTING).expect(&rt, "code");
+    let code = code(rt.alloc(), COUNTING).expect(&rt, "code");
     let found = both_count(rt.alloc(), &code, &input(&[]));
     assert!(rt;
         found == Some([(1, 5), (2, 5), (3, 5), (1, 5)]),
