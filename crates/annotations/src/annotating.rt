@@ -1,7 +1,5 @@
 //! From code to an object that the verifier accepts.
-ghost use Rattle.std.specs.Prelude.{IfOk, IfErr};
-ghost use Rattle.annotations.specs.Annotated.{IsAnnotated};
-ghost use Rattle.annotations.specs.Verdict.{IsShortfall};
+ghost use Rattle.annotations.specs.Verdict.{IsOutcome};
 
 use crate::attempt::try_both;
 use crate::shortfall::Shortfall;
@@ -20,9 +18,7 @@ pub fn annotate(
     bytes: &[u8],
     given: &[Statement],
 ) -> Result<Annotated, Shortfall>
-    ensures accepted { IfOk result (λ a. IsAnnotated hook bytes.now a.object a.bytes.items
-        a.accepted) }
-    ensures refused { IfErr result (IsShortfall hook bytes.now) }
+    ensures { IsOutcome hook bytes.now result }
 {
     let mut unranked = Unranked::Alone(Vec::new(alloc));
     try_both(alloc, hook, bytes, given, &mut unranked)

@@ -1,7 +1,5 @@
 //! One search for statements and ranks, judged by the verifier.
-ghost use Rattle.std.specs.Prelude.{IfOk, IfErr};
-ghost use Rattle.annotations.specs.Annotated.{IsAnnotated};
-ghost use Rattle.annotations.specs.Verdict.{IsShortfall};
+ghost use Rattle.annotations.specs.Verdict.{IsOutcome};
 
 use crate::shortfall::Shortfall;
 use crate::trimming::trim;
@@ -62,9 +60,7 @@ fn judged_with(
     found: &Inference,
     ranking: &Ranking,
 ) -> Result<Annotated, Shortfall>
-    ensures accepted { IfOk result (λ a. IsAnnotated hook bytes.now a.object a.bytes.items
-        a.accepted) }
-    ensures refused { IfErr result (IsShortfall hook bytes.now) }
+    ensures { IsOutcome hook bytes.now result }
 {
     let entry_rank = ranking.plan.rank_at(found.stated.len()).constant;
     match statements_of(alloc, found, &ranking.plan) {
@@ -85,9 +81,7 @@ fn try_found(
     are_kept: bool,
     unranked: &mut Unranked,
 ) -> Result<Annotated, Shortfall>
-    ensures accepted { IfOk result (λ a. IsAnnotated hook bytes.now a.object a.bytes.items
-        a.accepted) }
-    ensures refused { IfErr result (IsShortfall hook bytes.now) }
+    ensures { IsOutcome hook bytes.now result }
 {
     match rank_statements(alloc, found, given, are_kept, most_for(code)) {
         Ok(ranking) => {
@@ -109,9 +103,7 @@ fn try_code(
     are_kept: bool,
     unranked: &mut Unranked,
 ) -> Result<Annotated, Shortfall>
-    ensures accepted { IfOk result (λ a. IsAnnotated hook bytes.now a.object a.bytes.items
-        a.accepted) }
-    ensures refused { IfErr result (IsShortfall hook bytes.now) }
+    ensures { IsOutcome hook bytes.now result }
 {
     match infer_statements(alloc, code, hook, given, are_kept) {
         Ok(found) => try_found(alloc, hook, bytes, code, &found, given, are_kept, unranked),
@@ -130,9 +122,7 @@ fn try_statements(
     are_kept: bool,
     unranked: &mut Unranked,
 ) -> Result<Annotated, Shortfall>
-    ensures accepted { IfOk result (λ a. IsAnnotated hook bytes.now a.object a.bytes.items
-        a.accepted) }
-    ensures refused { IfErr result (IsShortfall hook bytes.now) }
+    ensures { IsOutcome hook bytes.now result }
 {
     match decode(alloc, bytes) {
         Ok(code) => try_code(alloc, hook, bytes, &code, given, are_kept, unranked),
@@ -149,9 +139,7 @@ fn try_anew(
     given: &[Statement],
     unranked: &mut Unranked,
 ) -> Result<Annotated, Shortfall>
-    ensures accepted { IfOk result (λ a. IsAnnotated hook bytes.now a.object a.bytes.items
-        a.accepted) }
-    ensures refused { IfErr result (IsShortfall hook bytes.now) }
+    ensures { IsOutcome hook bytes.now result }
 {
     match try_statements(alloc, hook, bytes, given, false, unranked) {
         Ok(annotated) => trim(alloc, hook, bytes, annotated),
@@ -167,9 +155,7 @@ pub fn try_both(
     given: &[Statement],
     unranked: &mut Unranked,
 ) -> Result<Annotated, Shortfall>
-    ensures accepted { IfOk result (λ a. IsAnnotated hook bytes.now a.object a.bytes.items
-        a.accepted) }
-    ensures refused { IfErr result (IsShortfall hook bytes.now) }
+    ensures { IsOutcome hook bytes.now result }
 {
     if given.is_empty() {
         return try_anew(alloc, hook, bytes, given, unranked);

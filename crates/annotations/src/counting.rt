@@ -1,8 +1,8 @@
 //! The same for code with loops that have no rank: their turns are counted.
 ghost use Rattle.std.specs.Prelude.{IfOk, IfErr, Some};
 ghost use Rattle.isa.specs.Spelling.{Spells};
-ghost use Rattle.annotations.specs.Annotated.{CountsLoops, IsAnnotated, IsCodeAnnotation};
-ghost use Rattle.annotations.specs.Verdict.{IsNoVerdict, IsShortfall, IsTurnsShortfall};
+ghost use Rattle.annotations.specs.Annotated.{CountsLoops};
+ghost use Rattle.annotations.specs.Verdict.{IsNoVerdict, IsOutcome, IsTurnsOutcome};
 
 use crate::attempt::{kinds_of, try_both};
 use crate::counted_code::counted;
@@ -119,9 +119,7 @@ fn try_text(
     given: &[Statement],
     unranked: &mut Unranked,
 ) -> Result<Annotated, Shortfall>
-    ensures accepted { IfOk result (λ a. IsAnnotated hook bytes.now a.object a.bytes.items
-        a.accepted) }
-    ensures refused { IfErr result (IsShortfall hook bytes.now) }
+    ensures { IsOutcome hook bytes.now result }
 {
     match all_moved(alloc, given) {
         Ok(given) => try_both(alloc, hook, bytes, &given, unranked),
@@ -142,9 +140,7 @@ fn try_counted(
     unranked: &mut Unranked,
 ) -> Result<Annotated, Shortfall>
     requires { Spells bytes.now code.now }
-    ensures accepted { IfOk result (λ a. IsCodeAnnotation hook (Some turns) bytes.now a.object
-        a.bytes.items a.accepted) }
-    ensures refused { IfErr result (IsTurnsShortfall hook (Some turns) bytes.now) }
+    ensures { IsTurnsOutcome hook (Some turns) bytes.now result }
 {
     match counted_text(alloc, bytes, code, heads, turns) {
         Ok(written) => try_text(alloc, hook, &written, given, unranked),
@@ -164,9 +160,7 @@ fn try_heads(
     unranked: &mut Unranked,
 ) -> Result<Annotated, Shortfall>
     requires { Spells bytes.now code.now }
-    ensures accepted { IfOk result (λ a. IsCodeAnnotation hook (Some turns) bytes.now a.object
-        a.bytes.items a.accepted) }
-    ensures refused { IfErr result (IsTurnsShortfall hook (Some turns) bytes.now) }
+    ensures { IsTurnsOutcome hook (Some turns) bytes.now result }
 {
     if heads.lacks_memory {
         Err(Shortfall::Memory)
@@ -198,9 +192,7 @@ fn annotate_loops(
     unranked: &mut Unranked,
 ) -> Result<Annotated, Shortfall>
     requires { Spells bytes.now code.now }
-    ensures accepted { IfOk result (λ a. IsCodeAnnotation hook (Some turns) bytes.now a.object
-        a.bytes.items a.accepted) }
-    ensures refused { IfErr result (IsTurnsShortfall hook (Some turns) bytes.now) }
+    ensures { IsTurnsOutcome hook (Some turns) bytes.now result }
 {
     for _ in 0..MOST_ROUNDS {
         let outcome = try_heads(alloc, hook, bytes, code, given, heads, turns, unranked);
@@ -221,9 +213,7 @@ pub fn annotate_counted(
     given: &[Statement],
     turns: u32,
 ) -> Result<Annotated, Shortfall>
-    ensures accepted { IfOk result (λ a. IsCodeAnnotation hook (Some turns) bytes.now a.object
-        a.bytes.items a.accepted) }
-    ensures refused { IfErr result (IsTurnsShortfall hook (Some turns) bytes.now) }
+    ensures { IsTurnsOutcome hook (Some turns) bytes.now result }
 {
     match decode(alloc, bytes) {
         Ok(code) => {

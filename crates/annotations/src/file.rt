@@ -1,8 +1,8 @@
 //! From a file with code, bare or in an object, to an object that the verifier accepts.
 ghost use Rattle.std.specs.Prelude.{◌≡◌, ◌≢◌, ◌↔◌, IfOk, IfErr, IsTrue, take};
 ghost use Rattle.object.specs.Spelling.{magic};
-ghost use Rattle.annotations.specs.Annotated.{IsAnnotation, IsCodeAnnotation};
-ghost use Rattle.annotations.specs.Verdict.{IsFileShortfall, IsTurnsShortfall};
+ghost use Rattle.annotations.specs.Annotated.{IsAnnotation};
+ghost use Rattle.annotations.specs.Verdict.{IsFileOutcome, IsFileShortfall, IsTurnsOutcome};
 
 use crate::annotating::annotate;
 use crate::counting::annotate_counted;
@@ -28,9 +28,7 @@ fn annotate_code(
     given: &[Statement],
     turns: Option<u32>,
 ) -> Result<Annotated, Shortfall>
-    ensures accepted { IfOk result (λ a. IsCodeAnnotation hook turns code.now a.object a.bytes.items
-        a.accepted) }
-    ensures refused { IfErr result (IsTurnsShortfall hook turns code.now) }
+    ensures { IsTurnsOutcome hook turns code.now result }
 {
     match turns {
         Some(turns) => annotate_counted(alloc, hook, code, given, turns),
@@ -46,9 +44,7 @@ fn annotate_bare(
     turns: Option<u32>,
 ) -> Result<Annotated, Shortfall>
     requires { take 4 file.now ≢ magic }
-    ensures accepted { IfOk result (λ a. IsAnnotation hook turns file.now a.object a.bytes.items
-        a.accepted) }
-    ensures refused { IfErr result (IsFileShortfall hook turns file.now) }
+    ensures { IsFileOutcome hook turns file.now result }
 {
     annotate_code(alloc, hook, file, &[], turns)
 }
@@ -61,9 +57,7 @@ fn annotate_object(
     file: &[u8],
     turns: Option<u32>,
 ) -> Result<Annotated, Shortfall>
-    ensures accepted { IfOk result (λ a. IsAnnotation hook turns file.now a.object a.bytes.items
-        a.accepted) }
-    ensures refused { IfErr result (IsFileShortfall hook turns file.now) }
+    ensures { IsFileOutcome hook turns file.now result }
 {
     match read(alloc, file) {
         Ok(object) => {

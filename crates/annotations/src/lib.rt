@@ -13,10 +13,8 @@ mod shortfall;
 mod trimming;
 mod verdict;
 
-pub use annotating::annotate;
 pub use count_error::CountError;
 pub use counted_code::counted;
-pub use counting::annotate_counted;
 pub use file::annotate_file;
 pub use ranking_functions::{Endless, Trouble};
 pub use shortfall::Shortfall;

@@ -1,7 +1,7 @@
 //! Statements without the known bits that the verifier does without.
-ghost use Rattle.std.specs.Prelude.{◌≡◌, ◌≤◌, IfOk, IfErr};
+ghost use Rattle.std.specs.Prelude.{◌≡◌, ◌≤◌, IfErr};
 ghost use Rattle.annotations.specs.Annotated.{IsAnnotated};
-ghost use Rattle.annotations.specs.Verdict.{IsShortfall};
+ghost use Rattle.annotations.specs.Verdict.{IsOutcome, IsShortfall};
 
 use crate::attempt::kinds_of;
 use crate::shortfall::Shortfall;
@@ -168,9 +168,7 @@ pub fn trim(
 ) -> Result<Annotated, Shortfall>
     requires { IsAnnotated hook bytes.now annotated.object annotated.bytes.items
         annotated.accepted }
-    ensures accepted { IfOk result (λ a. IsAnnotated hook bytes.now a.object a.bytes.items
-        a.accepted) }
-    ensures fault { IfErr result (IsShortfall hook bytes.now) }
+    ensures { IsOutcome hook bytes.now result }
 {
     let mut trimmed = annotated;
     match trim_all(alloc, hook, bytes, &mut trimmed) {
