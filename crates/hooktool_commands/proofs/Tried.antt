@@ -3,8 +3,8 @@ use Rattle.std.proofs.Common.{◌≡◌, ℕ, List, Ok, Err}
 use Rattle.std.specs.List.{list_any}
 use Rattle.std.specs.Prelude.{IfOk, Result, is_err}
 use Rattle.hooktool_line.specs.declared.requests.Question.{Question}
-use Rattle.trial_runs.specs.Trials.{IsTrialOn}
-use Rattle.trial_runs.specs.declared.trial.Trial.{Trial}
+use Rattle.hooktool_commands.specs.Runs.{IsTrialOn}
+use Rattle.hooktool_commands.specs.declared.trials.trial.Trial.{Trial}
 use Rattle.hooktool_commands.specs.Trials.{IsTried, PacketIs}
 use Rattle.hooktool_commands.specs.declared.report.Report.{Report}
 

@@ -5,8 +5,8 @@ use Rattle.hooktool_commands.specs.declared.report.Report.{Report}
 use Rattle.hooktool_line.specs.declared.requests.Packet.{Packet}
 use Rattle.hooktool_line.specs.declared.requests.Packet.TheVariants as packets
 use Rattle.hooktool_line.specs.declared.requests.Question.{Question}
-use Rattle.trial_runs.specs.Trials.{IsTrialOn}
-use Rattle.trial_runs.specs.declared.trial.Trial.{Trial}
+use Rattle.hooktool_commands.specs.Runs.{IsTrialOn}
+use Rattle.hooktool_commands.specs.declared.trials.trial.Trial.{Trial}
 
 -- the packet is the one that was given; of what a file has nothing is known
 abbrev pub PacketIs : Packet → List ℕ → Type 0

@@ -9,13 +9,13 @@ use crate::fault::Fault;
 use crate::files;
 use crate::report::Report;
 use crate::traps::push_trap;
+use crate::trials::{Ending, Trial, TrialError, try_object};
 use explanations::{Text, instruction_lines};
 use hooktool_line::{Packet, Question};
 use isa::{Code, Hook, decode};
 use object::Object;
 use std::alloc::{AllocError, Global};
 use std::rt::Files;
-use trial_runs::{Ending, Trial, TrialError, try_object};
 use verifier::BUDGET;
 
 impl<'a> From<TrialError> for Fault<'a> {

@@ -2,7 +2,7 @@
 use Rattle.std.proofs.Common.{◌≡◌, ℕ, List, Option, Some, None, codes, subst, sym}
 use Rattle.std.specs.Global.{Vec}
 use Rattle.clap.specs.Walk.{Row, Text, all_of, first_of}
-use Rattle.trial_runs.specs.declared.asked.Asked.{Asked}
+use Rattle.hooktool_line.specs.declared.asked.Asked.{Asked}
 use Rattle.words.specs.declared.route.TableRow.{TableRow}
 use Rattle.hooktool_line.specs.Questions.{HasAsked, HasQuestion, HasRows, question_with}
 use Rattle.hooktool_line.specs.Words.{IsNoPacket, IsPacket, OrElse, Reads}

@@ -3,7 +3,7 @@ use Rattle.std.specs.Prelude.{◌≡◌, ◌^◌, ℕ, List, [], Option, Some, N
 use Rattle.std.specs.Global.{Vec}
 use Rattle.clap.specs.Walk.{Row, Text, all_of, first_of}
 use Rattle.words.specs.declared.route.TableRow.{TableRow}
-use Rattle.trial_runs.specs.declared.asked.Asked.{Asked}
+use Rattle.hooktool_line.specs.declared.asked.Asked.{Asked}
 use Rattle.hooktool_line.specs.Words.{AreRows, IsNoPacket, IsNumber, IsPacket, IsPrefix, OrElse}
 use Rattle.hooktool_line.specs.Words.{everything, kind_word, type_word}
 use Rattle.hooktool_line.specs.declared.numbers.Numbers.{Numbers}

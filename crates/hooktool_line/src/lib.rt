@@ -2,6 +2,7 @@
 #![tactic(auto)]
 
 mod arguments;
+mod asked;
 mod numbers;
 mod packets;
 mod places;
@@ -10,5 +11,6 @@ mod requests;
 mod rows;
 mod values;
 
+pub use asked::{Asked, context_of};
 pub use reading::{parse, unread};
 pub use requests::{Packet, Question, Request};

@@ -13,6 +13,7 @@ ghost use Rattle.hooktool_line.specs.Requests.{Makes};
 ghost use Rattle.hooktool_line.specs.Words.{Reads};
 
 use crate::arguments::{no_command, wrong_value};
+use crate::asked::Asked;
 use crate::numbers::{Numbers, numbers_of};
 use crate::packets::packet_in;
 use crate::places::{Places, places_of};
@@ -22,7 +23,6 @@ use address_texts::read_within;
 use clap::{ArgMatches, Error};
 use isa::Hook;
 use std::alloc::{AllocError, Global};
-use trial_runs::Asked;
 use words::{Hops, Second, TableRow};
 
 /// The packet of a question: its bytes, or the path of the file that has them.

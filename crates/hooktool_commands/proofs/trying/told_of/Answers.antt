@@ -1,7 +1,7 @@
 use Rattle.std.proofs.Common.{List, subst}
 use Rattle.hooktool_commands.proofs.Tried.{tried}
 use Rattle.hooktool_commands.proofs.trying.told_of.Goals as goal
-use Rattle.trial_runs.specs.Trials.{IsTrialOn}
+use Rattle.hooktool_commands.specs.Runs.{IsTrialOn}
 use Rattle.words.specs.declared.route.TableRow.{TableRow}
 
 pub returns-in-Ok : goal.returns-in-Ok

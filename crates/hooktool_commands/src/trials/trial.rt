@@ -1,11 +1,11 @@
 //! A trial: a program's runs on one question, and what they left.
 ghost use Rattle.std.specs.Prelude.{IfOk, IfErr};
-ghost use Rattle.trial_runs.specs.Trials.{IsRefusal, IsTrialOn};
+ghost use Rattle.hooktool_commands.specs.Runs.{IsRefusal, IsTrialOn};
 
-use crate::asked::{Asked, context_of};
-use crate::error::TrialError;
-use crate::left::cells_of;
-use crate::runs::{Ending, run_in_a_row};
+use super::error::TrialError;
+use super::left::cells_of;
+use super::runs::{Ending, run_in_a_row};
+use hooktool_line::{Asked, context_of};
 use machine::Input;
 use maps::Shared;
 use std::alloc::Global;

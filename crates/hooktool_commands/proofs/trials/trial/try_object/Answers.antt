@@ -1,11 +1,11 @@
 use Rattle.std.proofs.Common.{◌≡◌, ◌∙◌, ◌++◌, ◌∷◌, [], List, ap, arith, get_or, lit<, refl, sym}
 use Rattle.std.specs.List.{sum_by}
 use Rattle.std.proofs.lemmas.List.FromFn.{get_or-map-range_with_len}
-use Rattle.trial_runs.specs.Questions.{asked_context}
+use Rattle.hooktool_line.specs.Contexts.{asked_context}
 use Rattle.isa.specs.declared.hook.Hook.{Hook}
 use Rattle.maps.specs.Access.{adds_to}
 use Rattle.maps.specs.Words.{SeatView, fresh}
-use Rattle.trial_runs.proofs.trial.try_object.Goals as goal
+use Rattle.hooktool_commands.proofs.trials.trial.try_object.Goals as goal
 
 pub returns-clause-trial : goal.returns-clause-trial
 returns-clause-trial c =

@@ -1,9 +1,9 @@
 use Rattle.std.proofs.Common.{List, [], ◌∷◌, ap, arith, length, length-append, subst, sym}
 use Rattle.machine.specs.Given.{given_by}
-use Rattle.trial_runs.proofs.InARow.{one_more}
-use Rattle.trial_runs.proofs.runs.run_in_a_row.Goals as goal
-use Rattle.trial_runs.specs.Trials.{RunsInARow}
-use Rattle.trial_runs.specs.declared.runs.Ending.{Ending}
+use Rattle.hooktool_commands.proofs.InARow.{one_more}
+use Rattle.hooktool_commands.proofs.trials.runs.run_in_a_row.Goals as goal
+use Rattle.hooktool_commands.specs.Runs.{RunsInARow}
+use Rattle.hooktool_commands.specs.declared.trials.runs.Ending.{Ending}
 
 pub loop-turn-preserved : goal.loop-turn-preserved
 loop-turn-preserved c =

@@ -9,12 +9,12 @@ use Rattle.object.specs.Spelling.{Spells}
 use Rattle.object_runs.specs.ObjectRuns.{HaltsObject, Refuses, RunsObject}
 use Rattle.object_runs.specs.declared.limit.Limit.TheVariants.{Own}
 use Rattle.words.specs.declared.route.TableRow.{TableRow}
-use Rattle.trial_runs.specs.Questions.{asked_context}
-use Rattle.trial_runs.specs.declared.asked.Asked.{Asked}
-use Rattle.trial_runs.specs.declared.error.TrialError.{TrialError}
-use Rattle.trial_runs.specs.declared.error.TrialError.TheVariants as errors
-use Rattle.trial_runs.specs.declared.runs.Ending.{Ending}
-use Rattle.trial_runs.specs.declared.trial.Trial.{Trial}
+use Rattle.hooktool_line.specs.Contexts.{asked_context}
+use Rattle.hooktool_line.specs.declared.asked.Asked.{Asked}
+use Rattle.hooktool_commands.specs.declared.trials.error.TrialError.{TrialError}
+use Rattle.hooktool_commands.specs.declared.trials.error.TrialError.TheVariants as errors
+use Rattle.hooktool_commands.specs.declared.trials.runs.Ending.{Ending}
+use Rattle.hooktool_commands.specs.declared.trials.trial.Trial.{Trial}
 
 -- The seat ran the program of the object file that the bytes are once on the input, with this end,
 -- for as many instructions as its object allows; and the slot and the registers are those where the

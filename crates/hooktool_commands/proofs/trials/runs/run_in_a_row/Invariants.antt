@@ -1,8 +1,8 @@
 use Rattle.std.proofs.Common.{◌≡◌, length}
 use Rattle.machine.specs.Given.{given_by}
 use Rattle.maps.specs.Words.{IsOf}
-use Rattle.trial_runs.proofs.runs.run_in_a_row.Given as goal
-use Rattle.trial_runs.specs.Trials.{RunsInARow}
+use Rattle.hooktool_commands.proofs.trials.runs.run_in_a_row.Given as goal
+use Rattle.hooktool_commands.specs.Runs.{RunsInARow}
 
 -- as many runs as turns led from the first seat to this one
 abbrev pub invariant-loop-turn : goal.invariant-loop-turn

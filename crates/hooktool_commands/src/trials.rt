@@ -1,14 +1,11 @@
 //! Runs of an object's program on a question that is put in named fields, several in a row on the
 //! same counters and cells.
-#![tactic(auto)]
 
-mod asked;
 mod error;
 mod left;
 mod runs;
 mod trial;
 
-pub use asked::{Asked, context_of};
 pub use error::TrialError;
 pub use runs::Ending;
 pub use trial::{Trial, try_object};

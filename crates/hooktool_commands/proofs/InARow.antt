@@ -2,8 +2,8 @@
 use Rattle.std.proofs.Common.{◌≡◌, ℕ, List, [], ◌∷◌, ◌++◌, refl, subst, sym}
 use Rattle.machine.specs.Given.{Given}
 use Rattle.maps.specs.Words.{SeatView}
-use Rattle.trial_runs.specs.Trials.{RunsInARow, RunsOnce}
-use Rattle.trial_runs.specs.declared.runs.Ending.{Ending}
+use Rattle.hooktool_commands.specs.Runs.{RunsInARow, RunsOnce}
+use Rattle.hooktool_commands.specs.declared.trials.runs.Ending.{Ending}
 
 pub one_more : (bytes : List ℕ) (input : Given) (seat next last : SeatView) (endings : List Ending) (ending : Ending)
     → RunsInARow bytes input seat endings next → RunsOnce bytes input next ending last

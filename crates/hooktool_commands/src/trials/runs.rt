@@ -2,9 +2,9 @@
 ghost use Rattle.std.specs.Prelude.{◌≡◌, IfOk, IfErr, length};
 ghost use Rattle.machine.specs.Given.{given_by};
 ghost use Rattle.maps.specs.Words.{IsOf};
-ghost use Rattle.trial_runs.specs.Trials.{IsRefusal, RunsInARow, RunsOnce};
+ghost use Rattle.hooktool_commands.specs.Runs.{IsRefusal, RunsInARow, RunsOnce};
 
-use crate::error::TrialError;
+use super::error::TrialError;
 use interp::{Run, Trap};
 use machine::{Content, Input};
 use maps::{Seat, Shared};

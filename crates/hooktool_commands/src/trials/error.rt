@@ -16,7 +16,7 @@ pub enum TrialError {
 }
 
 impl From<RunError> for TrialError {
-    ghost use Rattle.trial_runs.specs.declared.error.TrialError.TheVariants.{Program};
+    ghost use Rattle.hooktool_commands.specs.declared.trials.error.TrialError.TheVariants.{Program};
 
     ghost from_gives = { λ error trial. trial ≡ Program error };
 
@@ -27,7 +27,7 @@ impl From<RunError> for TrialError {
 
 impl From<ReadError> for TrialError {
     ghost use Rattle.object_runs.specs.declared.error.RunError.TheVariants.{Object};
-    ghost use Rattle.trial_runs.specs.declared.error.TrialError.TheVariants.{Program};
+    ghost use Rattle.hooktool_commands.specs.declared.trials.error.TrialError.TheVariants.{Program};
 
     ghost from_gives = { λ error trial. trial ≡ Program (Object error) };
 
@@ -38,7 +38,7 @@ impl From<ReadError> for TrialError {
 
 // The only other error of a new table is the number of its seats, which is 1.
 impl From<MapsError> for TrialError {
-    ghost use Rattle.trial_runs.specs.declared.error.TrialError.TheVariants.{Memory};
+    ghost use Rattle.hooktool_commands.specs.declared.trials.error.TrialError.TheVariants.{Memory};
 
     ghost from_gives = { λ _ trial. trial ≡ Memory };
 
@@ -48,7 +48,7 @@ impl From<MapsError> for TrialError {
 }
 
 impl From<AllocError> for TrialError {
-    ghost use Rattle.trial_runs.specs.declared.error.TrialError.TheVariants.{Memory};
+    ghost use Rattle.hooktool_commands.specs.declared.trials.error.TrialError.TheVariants.{Memory};
 
     ghost from_gives = { λ _ trial. trial ≡ Memory };
 
@@ -58,7 +58,7 @@ impl From<AllocError> for TrialError {
 }
 
 impl<T: Drop> From<AllocFailed<T>> for TrialError {
-    ghost use Rattle.trial_runs.specs.declared.error.TrialError.TheVariants.{Memory};
+    ghost use Rattle.hooktool_commands.specs.declared.trials.error.TrialError.TheVariants.{Memory};
 
     ghost from_gives = { λ _ trial. trial ≡ Memory };
 

@@ -5,7 +5,7 @@ use Rattle.isa.specs.declared.hook.Hook.TheVariants as hooks
 use Rattle.words.specs.declared.route.External.{External}
 use Rattle.words.specs.declared.route.Route.{Route}
 use Rattle.contexts.specs.Contexts.{count_context, tag_context, price_context, veto_context}
-use Rattle.trial_runs.specs.declared.asked.Asked.{Asked}
+use Rattle.hooktool_line.specs.declared.asked.Asked.{Asked}
 
 -- the external destination that is asked of
 abbrev pub destination_of : Asked → External

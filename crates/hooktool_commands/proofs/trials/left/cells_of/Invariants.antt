@@ -1,8 +1,8 @@
 use Rattle.std.proofs.Common.{◌≡◌, ◌<◌, ℕ, length, slice_index}
 use Rattle.maps.specs.Access.{last_stored}
 use Rattle.maps.specs.Words.{IsOf}
-use Rattle.trial_runs.proofs.left.cells_of.Given as goal
-use Rattle.trial_runs.specs.Trials.{SameNumbers}
+use Rattle.hooktool_commands.proofs.trials.left.cells_of.Given as goal
+use Rattle.hooktool_commands.specs.Runs.{SameNumbers}
 
 -- the seat knows what it knew, and the cells below the index are read
 abbrev pub invariant-loop-index : goal.invariant-loop-index

@@ -2,9 +2,9 @@ use Rattle.std.proofs.Common.{◌∙◌, ap, arith, subst, sym}
 use Rattle.std.proofs.lemmas.List.{length-set}
 use Rattle.maps.specs.Access.{last_stored}
 use Rattle.maps.specs.Words.{SeatView}
-use Rattle.trial_runs.proofs.Same.{loaded, read_more}
-use Rattle.trial_runs.proofs.left.cells_of.Goals as goal
-use Rattle.trial_runs.specs.Trials.{SameNumbers}
+use Rattle.hooktool_commands.proofs.Same.{loaded, read_more}
+use Rattle.hooktool_commands.proofs.trials.left.cells_of.Goals as goal
+use Rattle.hooktool_commands.specs.Runs.{SameNumbers}
 
 pub loop-index-preserved : goal.loop-index-preserved
 loop-index-preserved c =

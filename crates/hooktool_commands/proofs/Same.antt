@@ -8,7 +8,7 @@ use Rattle.std.proofs.lemmas.List.Sums.{fold-append, sum_by_push}
 use Rattle.maps.specs.Access.{amount_added, cell_after}
 use Rattle.maps.specs.Words.{SeatView, seat_after}
 use Rattle.maps.specs.declared.access.Access.TheVariants.{Cell}
-use Rattle.trial_runs.specs.Trials.{SameNumbers}
+use Rattle.hooktool_commands.specs.Runs.{SameNumbers}
 
 pub same_itself : (seat : SeatView) → SameNumbers seat seat
 same_itself seat = record { counters = λ k. refl; cells = λ j. refl }

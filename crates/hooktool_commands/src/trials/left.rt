@@ -2,7 +2,7 @@
 ghost use Rattle.std.specs.Prelude.{◌≡◌, ◌<◌, ℕ, slice_index};
 ghost use Rattle.maps.specs.Access.{adds_to, last_stored};
 ghost use Rattle.maps.specs.Words.{IsOf};
-ghost use Rattle.trial_runs.specs.Trials.{SameNumbers};
+ghost use Rattle.hooktool_commands.specs.Runs.{SameNumbers};
 
 use maps::{Seat, Shared};
 

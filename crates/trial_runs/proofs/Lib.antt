@@ -1,2 +1,0 @@
-pub mod InARow
-pub mod Same
