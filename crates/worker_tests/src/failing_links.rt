@@ -7,7 +7,7 @@ use std::sync::Wait;
 use std::sync::atomic::AtomicBool;
 use std::test::Fail;
 use words::Sequence;
-use worker::{Book, Ended, Hub, Open, Port, Site, run};
+use worker::{Ended, Hub, Open, Port, Site, Taker, run};
 
 // Forty calls of a link, of which one fails: the others send, or receive the Hello.
 fn calls(alloc: Global, fails: usize) -> Result<Vec<Answer>, AllocError> {
@@ -25,10 +25,10 @@ fn calls(alloc: Global, fails: usize) -> Result<Vec<Answer>, AllocError> {
 
 /// A worker runs at this port, whose link fails at the call of this number, counted from 0: its
 /// status, and how many datagrams it sent.
-pub fn serve<L: Site, R: Wait>(
+pub fn serve<L: Site, B: Taker<L>, R: Wait>(
     rt: &R,
     alloc: Global,
-    hub: &Hub<L, Book<L>>,
+    hub: &Hub<L, B>,
     port: &mut Port<L>,
     fails: usize,
 ) -> Result<(u8, usize), AllocError> {

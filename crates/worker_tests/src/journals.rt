@@ -14,7 +14,7 @@ use words::{Address, Hops, Prefix, Route, RouteKind, Second, Sequence};
 use worker::{Book, BookError, Core, Event, Out, Taker};
 
 // What a book is called for.
-#[derive(Clone, Copy, Debug, PartialEq, Eq)]
+#[derive(Clone, Copy, PartialEq, Eq)]
 enum Call {
     Apply,
     ApplyAnew,
@@ -25,7 +25,7 @@ enum Call {
 
 // So many calls, what the last one is answered (0, or the number of the refusal), and what the
 // journal holds and the book has taken after it.
-#[derive(Clone, Copy, Debug)]
+#[derive(Clone, Copy)]
 struct Row {
     times: u32,
     call: Call,
@@ -144,7 +144,7 @@ fn play_rows<L: Ledger, R: Abort>(
             is_late = true;
             break;
         }
-        assert_eq!(rt; after, (row.answer, row.journal, row.taken), "{row:?}");
+        assert_eq!(rt; after, (row.answer, row.journal, row.taken));
     }
     is_late
 }

@@ -7,8 +7,8 @@ use std::alloc::{AllocError, Global};
 use std::sync::Wait;
 use words::Second;
 use worker::{
-    Book, BookError, Core, CoreError, Hub, Open, Out, Port, Setup, Site, TurnError, Work, open_hub,
-    turn,
+    Book, BookError, Core, CoreError, Hub, Open, Out, Port, Setup, Site, Taker, TurnError, Work,
+    open_hub, turn,
 };
 
 /// A worker's port, with what came in at the first interface and how much of it was heard.
@@ -19,9 +19,9 @@ pub struct Member<L: Site> {
     heard: usize,
 }
 
-fn turned_once<L: Site, R: Wait>(
+fn turned_once<L: Site, B: Taker<L>, R: Wait>(
     rt: &R,
-    hub: &Hub<L, Book<L>>,
+    hub: &Hub<L, B>,
     port: &mut Port<L>,
     moment: Second,
     work: &Work,
@@ -34,9 +34,9 @@ fn turned_once<L: Site, R: Wait>(
 
 // What the turn sends; None where it is refused. An allocation may be refused once, as a run of the
 // tests with a refusal makes it.
-fn turned<L: Site, R: Wait>(
+fn turned<L: Site, B: Taker<L>, R: Wait>(
     rt: &R,
-    hub: &Hub<L, Book<L>>,
+    hub: &Hub<L, B>,
     port: &mut Port<L>,
     moment: Second,
     work: &Work,
@@ -106,10 +106,10 @@ impl<L: Site> Member<L> {
     }
 
     /// What the worker's turn sends; None where it is refused.
-    pub fn sends<R: Wait>(
+    pub fn sends<B: Taker<L>, R: Wait>(
         &mut self,
         rt: &R,
-        hub: &Hub<L, Book<L>>,
+        hub: &Hub<L, B>,
         moment: Second,
         work: &Work,
     ) -> Option<Vec<Out>> {
@@ -118,10 +118,10 @@ impl<L: Site> Member<L> {
 
     /// What is sent in reply to the first packet that isn't heard yet; None where there is none, or
     /// its turn is refused.
-    pub fn hears<R: Wait>(
+    pub fn hears<B: Taker<L>, R: Wait>(
         &mut self,
         rt: &R,
-        hub: &Hub<L, Book<L>>,
+        hub: &Hub<L, B>,
         moment: Second,
     ) -> Option<Vec<Out>> {
         let work = self.came.get(self.heard)?;

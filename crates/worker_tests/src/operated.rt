@@ -14,7 +14,7 @@ use std::sync::{Mutex, Wait};
 use std::test::Fail;
 use whole_files::ReadFault;
 use words::Second;
-use worker::{Book, Gate, Hub, Port, Site, Taker, Work, turn};
+use worker::{Gate, Hub, Port, Site, Taker, Work, turn};
 
 // 2^62, the first moment that no router takes.
 const CLOCK_END: u64 = 1 << 62;
@@ -49,10 +49,10 @@ impl<'a, L: Site, B: Taker<L>, R: Wait, Q: Wait + Drop> Gate for Detaching<'a, L
 
 /// Port 1 makes a Tick's turn; as it passes, an operator detaches what stands at `veto`, by a clock
 /// at which no refresh is taken. The number of the Tick's refusal, or 0.
-pub fn operate<L: Site, R: Wait, Q: Wait + Drop>(
+pub fn operate<L: Site, B: Taker<L>, R: Wait, Q: Wait + Drop>(
     rt: &R,
     alloc: Global,
-    hub: &Hub<L, Book<L>>,
+    hub: &Hub<L, B>,
     console: Port<L>,
     ticks: Port<L>,
     loader: Loader<Q>,

@@ -11,12 +11,12 @@ use std::process::Abort;
 use std::sync::Wait;
 use std::test::Fail;
 use words::{ExternalType, Second};
-use worker::{Book, Hub, Setup, Site, Work};
+use worker::{Book, Hub, Setup, Site, Taker, Work};
 
 // The worker of `from` does this work, and what it sends comes in at `to`. Whether all was taken.
-fn works<L: Site, M: Site, R: Wait>(
+fn works<L: Site, M: Site, B: Taker<L>, R: Wait>(
     rt: &R,
-    hub: &Hub<L, Book<L>>,
+    hub: &Hub<L, B>,
     from: &mut Member<L>,
     to: &mut Member<M>,
     moment: Second,
@@ -30,9 +30,9 @@ fn works<L: Site, M: Site, R: Wait>(
 
 // `from` hears the next packet, if one came, and what it sends comes in at `to`. Whether all was
 // taken.
-fn replies<L: Site, M: Site, R: Wait>(
+fn replies<L: Site, M: Site, B: Taker<L>, R: Wait>(
     rt: &R,
-    hub: &Hub<L, Book<L>>,
+    hub: &Hub<L, B>,
     from: &mut Member<L>,
     to: &mut Member<M>,
     moment: Second,
@@ -47,11 +47,11 @@ fn replies<L: Site, M: Site, R: Wait>(
 }
 
 // Packets go to and fro, at most 32 each way. Whether all was taken, and none is left.
-fn converse<L: Site, M: Site, R: Wait>(
+fn converse<L: Site, M: Site, B: Taker<L>, C: Taker<M>, R: Wait>(
     rt: &R,
-    one_hub: &Hub<L, Book<L>>,
+    one_hub: &Hub<L, B>,
     one: &mut Member<L>,
-    other_hub: &Hub<M, Book<M>>,
+    other_hub: &Hub<M, C>,
     other: &mut Member<M>,
     moment: Second,
 ) -> bool {
@@ -64,11 +64,11 @@ fn converse<L: Site, M: Site, R: Wait>(
 }
 
 // A round at each of these moments: both tick, and converse. Whether all was taken.
-fn live<L: Site, M: Site, R: Wait>(
+fn live<L: Site, M: Site, B: Taker<L>, C: Taker<M>, R: Wait>(
     rt: &R,
-    one_hub: &Hub<L, Book<L>>,
+    one_hub: &Hub<L, B>,
     one: &mut Member<L>,
-    other_hub: &Hub<M, Book<M>>,
+    other_hub: &Hub<M, C>,
     other: &mut Member<M>,
     moments: (u64, u64),
 ) -> bool {
@@ -84,11 +84,11 @@ fn live<L: Site, M: Site, R: Wait>(
 
 // Thirty rounds and a refresh. Where the other has some work to do, it does it then, and ten more
 // rounds and a refresh follow. Whether all was taken.
-fn live_on<L: Site, M: Site, R: Wait>(
+fn live_on<L: Site, M: Site, B: Taker<L>, C: Taker<M>, R: Wait>(
     rt: &R,
-    one_hub: &Hub<L, Book<L>>,
+    one_hub: &Hub<L, B>,
     one: &mut Member<L>,
-    other_hub: &Hub<M, Book<M>>,
+    other_hub: &Hub<M, C>,
     other: &mut Member<M>,
     work: Option<&Work>,
 ) -> bool {
@@ -125,11 +125,11 @@ fn other_at<L: Site>(alloc: Global, setup: Setup) -> Result<(Hub<L, Book<L>>, Me
 }
 
 // The table of 1.1.1.1 after its life beside the other, whose work after thirty rounds this is.
-fn table_beside<L: Site, M: Site, R: Wait>(
+fn table_beside<L: Site, M: Site, C: Taker<M>, R: Wait>(
     rt: &R,
     alloc: Global,
     setup: Setup,
-    other_hub: &Hub<M, Book<M>>,
+    other_hub: &Hub<M, C>,
     other: &mut Member<M>,
     work: Option<&Work>,
 ) -> Result<String, Fail>
@@ -155,7 +155,7 @@ fn table<L: Site, M: Site, R: Wait, Q: Wait + Drop>(
     requires other { IsSetUpFor M.name M.parts M.words M.history other }
 {
     let (hub, mut other) = other_at::<M>(alloc, other)?;
-    let table = table_beside::<L, M, R>(rt, alloc, one, &hub, &mut other, work);
+    let table = table_beside::<L, M, Book<M>, R>(rt, alloc, one, &hub, &mut other, work);
     drop(other);
     let_go(hub);
     table

@@ -19,10 +19,10 @@ use std::test::Fail;
 use std::thread::Threads;
 use std::time::Clock;
 use words::{External, ExternalType};
-use worker::{Book, Core, Hub, Port, Setup, Site, open_hub};
+use worker::{Book, Core, Hub, Port, Setup, Site, Taker, open_hub};
 
 /// What is played at a router with the ports 0, 1 and 2.
-#[derive(Clone, Copy, Debug)]
+#[derive(Clone, Copy)]
 pub enum Scene<'a> {
     /// One step after the other.
     Steps(&'a [Step]),
@@ -72,10 +72,15 @@ fn three<L: Site>(ports: Vec<Port<L>>) -> Option<(Port<L>, Port<L>, Port<L>)> {
 }
 
 // Plays it: the status, and how many datagrams were sent.
-fn act<L: Site + Send + Sync, R: Threads + Wait + Clock + Abort + Sync, Q: Wait + Drop>(
+fn act<
+    L: Site + Send + Sync,
+    B: Taker<L> + Send,
+    R: Threads + Wait + Clock + Abort + Sync,
+    Q: Wait + Drop,
+>(
     rt: &R,
     alloc: Global,
-    hub: &Hub<L, Book<L>>,
+    hub: &Hub<L, B>,
     stage: &mut Stage<L, Q>,
     scene: Scene<'_>,
 ) -> Result<(u8, usize), Fail> {
@@ -122,10 +127,15 @@ fn play_at<L: Site + Send + Sync, R: Threads + Wait + Clock + Abort + Sync, Q: W
 }
 
 // Plays the scene at these ports: the status, and how many datagrams were sent.
-fn play_on<L: Site + Send + Sync, R: Threads + Wait + Clock + Abort + Sync, Q: Wait + Drop>(
+fn play_on<
+    L: Site + Send + Sync,
+    B: Taker<L> + Send,
+    R: Threads + Wait + Clock + Abort + Sync,
+    Q: Wait + Drop,
+>(
     rt: &R,
     alloc: Global,
-    hub: &Hub<L, Book<L>>,
+    hub: &Hub<L, B>,
     ports: Vec<Port<L>>,
     loader: Loader<Q>,
     destination: External,
@@ -202,7 +212,7 @@ pub fn ends<R: Threads + Wait + Clock + Abort + Sync>(
         if end != wanted && may_differ && !is_refused {
             is_refused = true;
         } else {
-            assert_eq!(rt; end, wanted, "{scene:?}");
+            assert_eq!(rt; end, wanted);
         }
         if is_long && !is_refused {
             break;

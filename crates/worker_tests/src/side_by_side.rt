@@ -9,10 +9,10 @@ use std::test::Fail;
 use std::thread::{Threads, join, sleep};
 use std::time::{Clock, Duration};
 use words::Second;
-use worker::{Book, Gate, Hub, Open, Port, Site, TurnError, Turned, Work, turn};
+use worker::{Gate, Hub, Open, Port, Site, Taker, TurnError, Turned, Work, turn};
 
 /// What is held at the gate: a Hello, or a refresh.
-#[derive(Clone, Copy, Debug)]
+#[derive(Clone, Copy)]
 pub enum Holds {
     Hello,
     Refresh,
@@ -56,9 +56,9 @@ pub fn number_of(turned: Result<Turned, TurnError>) -> u8 {
 }
 
 /// A Tick's turn at each of these moments: the number of a refusal, 0 where there was none.
-pub fn tick<L: Site, R: Wait>(
+pub fn tick<L: Site, B: Taker<L>, R: Wait>(
     rt: &R,
-    hub: &Hub<L, Book<L>>,
+    hub: &Hub<L, B>,
     port: &mut Port<L>,
     from: u64,
     until: u64,
@@ -84,10 +84,15 @@ fn work_of(alloc: Global, held: Holds) -> Result<Work, AllocError> {
 /// refused; 9 where one of both waited in vain. Where the turn is refused memory before it comes to
 /// its gate, it says that; and where both waited in vain, since no thread was to be had and one ran
 /// after the other, 6 too.
-pub fn hold<L: Site + Send + Sync, R: Threads + Wait + Clock + Sync, Q: Wait + Drop>(
+pub fn hold<
+    L: Site + Send + Sync,
+    B: Taker<L> + Send,
+    R: Threads + Wait + Clock + Sync,
+    Q: Wait + Drop,
+>(
     rt: &R,
     alloc: Global,
-    hub: &Hub<L, Book<L>>,
+    hub: &Hub<L, B>,
     stage: &mut Stage<L, Q>,
     held: Holds,
     until: u64,

@@ -16,7 +16,7 @@ use worker::{
 };
 
 /// What is done: a turn, or a change of the programs, which each port learns then.
-#[derive(Clone, Copy, Debug)]
+#[derive(Clone, Copy)]
 pub enum Deed {
     /// The Hello comes in at the interface of this number, with so many zeros behind it: a turn of
     /// the interface's port. All other turns are of port 0.
@@ -50,7 +50,7 @@ pub struct Seen {
 }
 
 /// What is done at a moment, and what is seen after it.
-#[derive(Clone, Copy, Debug)]
+#[derive(Clone, Copy)]
 pub struct Step {
     pub moment: u64,
     pub deed: Deed,
@@ -92,7 +92,7 @@ struct Shown {
     counted: u64,
 }
 
-fn rows<L: Site, R: Wait>(rt: &R, hub: &Hub<L, Book<L>>) -> Result<usize, AllocError> {
+fn rows<L: Site, B: Taker<L>, R: Wait>(rt: &R, hub: &Hub<L, B>) -> Result<usize, AllocError> {
     let offered = match hub.offered(rt) {
         Err(_) => hub.offered(rt)?,
         Ok(offered) => offered,
@@ -102,10 +102,10 @@ fn rows<L: Site, R: Wait>(rt: &R, hub: &Hub<L, Book<L>>) -> Result<usize, AllocE
 
 impl<L: Site, Q: Wait + Drop> Stage<L, Q> {
     // A turn at this port: whether a refresh followed.
-    fn turned<R: Wait>(
+    fn turned<B: Taker<L>, R: Wait>(
         &mut self,
         rt: &R,
-        hub: &Hub<L, Book<L>>,
+        hub: &Hub<L, B>,
         port: u16,
         now: Second,
         work: &Work,
@@ -121,10 +121,10 @@ impl<L: Site, Q: Wait + Drop> Stage<L, Q> {
         }
     }
 
-    fn changed_once<R: Wait>(
+    fn changed_once<B: Taker<L>, R: Wait>(
         &mut self,
         rt: &R,
-        hub: &Hub<L, Book<L>>,
+        hub: &Hub<L, B>,
         now: Second,
     ) -> Result<bool, TurnError> {
         match turn(
@@ -142,10 +142,10 @@ impl<L: Site, Q: Wait + Drop> Stage<L, Q> {
 
     // A Tick's turn of port 0 during which the programs are changed: whether a refresh followed. An
     // allocation may be refused once.
-    fn changed<R: Wait>(
+    fn changed<B: Taker<L>, R: Wait>(
         &mut self,
         rt: &R,
-        hub: &Hub<L, Book<L>>,
+        hub: &Hub<L, B>,
         now: Second,
     ) -> Result<bool, TurnError> {
         match self.changed_once(rt, hub, now) {
@@ -157,7 +157,7 @@ impl<L: Site, Q: Wait + Drop> Stage<L, Q> {
     }
 
     // The neighbors, whether the destination is announced, and what stands in counter 5.
-    fn shown<R: Wait>(&mut self, rt: &R, hub: &Hub<L, Book<L>>) -> Shown {
+    fn shown<B: Taker<L>, R: Wait>(&mut self, rt: &R, hub: &Hub<L, B>) -> Shown {
         Shown {
             neighbors: (hub.neighbor(rt, 1).is_some(), hub.neighbor(rt, 2).is_some()),
             wanted: hub.wants(rt, self.destination.prefix),
@@ -168,10 +168,10 @@ impl<L: Site, Q: Wait + Drop> Stage<L, Q> {
     // A turn at this port. An allocation may be refused once, as a run of the tests with a refusal
     // makes it: then all is as it was, but for the steps of programs, and the same turn is answered
     // in full.
-    fn take<R: Wait>(
+    fn take<B: Taker<L>, R: Wait>(
         &mut self,
         rt: &R,
-        hub: &Hub<L, Book<L>>,
+        hub: &Hub<L, B>,
         port: u16,
         moment: u64,
         work: &Work,
@@ -190,10 +190,10 @@ impl<L: Site, Q: Wait + Drop> Stage<L, Q> {
     }
 
     // A refresh that was to follow and didn't, which the next turn tries again.
-    fn late<R: Wait>(
+    fn late<B: Taker<L>, R: Wait>(
         &mut self,
         rt: &R,
-        hub: &Hub<L, Book<L>>,
+        hub: &Hub<L, B>,
         step: &Step,
         answer: Result<bool, TurnError>,
     ) -> Result<bool, TurnError> {
@@ -230,11 +230,11 @@ impl<L: Site, Q: Wait + Drop> Stage<L, Q> {
         Ok(())
     }
 
-    fn perform<R: Wait>(
+    fn perform<B: Taker<L>, R: Wait>(
         &mut self,
         rt: &R,
         alloc: Global,
-        hub: &Hub<L, Book<L>>,
+        hub: &Hub<L, B>,
         moment: u64,
         deed: Deed,
     ) -> Result<Result<bool, TurnError>, Fail> {
@@ -258,10 +258,10 @@ impl<L: Site, Q: Wait + Drop> Stage<L, Q> {
         Ok(self.take(rt, hub, port, moment, &work))
     }
 
-    fn look<R: Wait>(
+    fn look<B: Taker<L>, R: Wait>(
         &mut self,
         rt: &R,
-        hub: &Hub<L, Book<L>>,
+        hub: &Hub<L, B>,
         answer: Result<bool, TurnError>,
     ) -> Result<Seen, AllocError> {
         let shown = self.shown(rt, hub);
@@ -275,18 +275,18 @@ impl<L: Site, Q: Wait + Drop> Stage<L, Q> {
     }
 
     /// Does the steps, and looks after each.
-    pub fn play<R: Wait + Abort>(
+    pub fn play<B: Taker<L>, R: Wait + Abort>(
         &mut self,
         rt: &R,
         alloc: Global,
-        hub: &Hub<L, Book<L>>,
+        hub: &Hub<L, B>,
         steps: &[Step],
     ) -> Result<(), Fail> {
         for step in steps {
             let answer = self.perform(rt, alloc, hub, step.moment, step.deed)?;
             let answer = self.late(rt, hub, step, answer);
             let seen = self.look(rt, hub, answer)?;
-            assert_eq!(rt; seen, step.seen, "{step:?}");
+            assert_eq!(rt; seen, step.seen, "moment {}", step.moment);
         }
         Ok(())
     }

@@ -9,10 +9,10 @@ use std::sync::atomic::AtomicBool;
 use std::test::Fail;
 use std::thread::Threads;
 use std::time::Clock;
-use worker::{Book, Hub, Open, Port, Site, Work, run, tried};
+use worker::{Hub, Open, Port, Site, Taker, Work, run, tried};
 
 /// A turn that is tried by a clock that shows these moments, the first time at the first of them.
-#[derive(Clone, Copy, Debug)]
+#[derive(Clone, Copy)]
 pub struct Trial<'a> {
     /// The interface that went down, or none for a Tick.
     pub down: Option<u16>,
@@ -32,10 +32,10 @@ impl<'a> Trial<'a> {
 
 /// After a Tick at moment 6, what the turn is answered; 9 where the clock then shows another moment
 /// than the next.
-pub fn try_again<L: Site, R: Wait>(
+pub fn try_again<L: Site, B: Taker<L>, R: Wait>(
     rt: &R,
     alloc: Global,
-    hub: &Hub<L, Book<L>>,
+    hub: &Hub<L, B>,
     port: &mut Port<L>,
     trial: &Trial<'_>,
 ) -> Result<u8, AllocError> {
@@ -53,10 +53,10 @@ pub fn try_again<L: Site, R: Wait>(
 
 /// A worker runs by a clock that shows these moments, one a round, and hears nothing: its status,
 /// and how many datagrams it sent.
-pub fn follow<L: Site, R: Wait>(
+pub fn follow<L: Site, B: Taker<L>, R: Wait>(
     rt: &R,
     alloc: Global,
-    hub: &Hub<L, Book<L>>,
+    hub: &Hub<L, B>,
     port: &mut Port<L>,
     moments: &[u64],
 ) -> Result<(u8, usize), AllocError> {

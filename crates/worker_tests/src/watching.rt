@@ -12,7 +12,7 @@ use std::sync::atomic::{AtomicU64, Ordering};
 use std::sync::{Mutex, Wait};
 use std::test::Fail;
 use words::Second;
-use worker::{Book, Gate, Hub, Port, Site, Taker, turn};
+use worker::{Gate, Hub, Port, Site, Taker, turn};
 
 // Notes one more than what stands in counter 5 whenever a turn passes: each time it multiplies what
 // it noted before by 10, and adds that.
@@ -39,10 +39,10 @@ impl<'a, L: Site, B: Taker<L>, R: Wait> Gate for Noting<'a, L, B, R> {
 
 /// Port 1 hears a datagram, which a program counts by 3 at counter 5. What the turn is answered: 9
 /// where it didn't pass the gate just once, after the datagram was counted. Port 2 looks.
-pub fn watch<L: Site, R: Wait, Q: Wait + Drop>(
+pub fn watch<L: Site, B: Taker<L>, R: Wait, Q: Wait + Drop>(
     rt: &R,
     alloc: Global,
-    hub: &Hub<L, Book<L>>,
+    hub: &Hub<L, B>,
     hears: Port<L>,
     looks: Port<L>,
     loader: Loader<Q>,
