@@ -6,8 +6,8 @@ use lsa::Header;
 use std::alloc::Global;
 use words::{Address, RouterId, Second, Sequence};
 
-/// A router, and the instances that it has received or originated, before it began anew too.
-#[derive(Drop)]
+/// A router, and the instances that it has received or originated, before it began anew too. Who has
+/// it closes it.
 pub struct Member {
     pub core: Core,
     /// How many instances it has acknowledged.
@@ -108,6 +108,17 @@ impl Member {
             known: Vec::new(alloc),
             flooded: Flooded::new(alloc),
         })
+    }
+
+    /// Lets the router go.
+    pub fn close(self) {
+        let Member {
+            core,
+            acknowledged: _,
+            known: _,
+            flooded: _,
+        } = self;
+        core.close();
     }
 
     fn knows(&self, instance: &Named) -> bool {

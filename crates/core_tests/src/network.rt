@@ -15,7 +15,7 @@
 use crate::member::{Member, begun, router_at};
 use flood::{Core, Event, Out, State};
 use simulated_networks::{holds_the_same, prefix};
-use std::alloc::Global;
+use std::alloc::{AllocFailed, Global};
 use std::mem::replace;
 use words::{Prefix, Route, Second};
 
@@ -77,8 +77,8 @@ struct Coming {
 }
 
 /// The first interface of the router at place 0 leads to that at place 1, whose second one leads
-/// to that at place 2.
-#[derive(Drop)]
+/// to that at place 2. It has no `Drop`: who has it closes it, so that this crate doesn't prove once
+/// more how the parts of a router are let go.
 pub struct Network {
     alloc: Global,
     moment: u64,
@@ -133,7 +133,13 @@ fn taken(members: &mut [Member], place: usize, moment: u64, event: &Event) -> Op
 fn joins(members: &mut Vec<Member>, alloc: Global, place: usize) -> bool {
     match Member::new(alloc, place) {
         None => false,
-        Some(member) => members.push(member).is_ok(),
+        Some(member) => match members.push(member) {
+            Ok(()) => true,
+            Err(AllocFailed { value }) => {
+                value.close();
+                false
+            }
+        },
     }
 }
 
@@ -169,7 +175,19 @@ impl Network {
     }
 
     /// Lets the routers go.
-    pub fn close(self) {}
+    pub fn close(self) {
+        let Network {
+            alloc: _,
+            moment: _,
+            mut members,
+            packets: _,
+            at: _,
+        } = self;
+        while let Some(member) = members.pop() {
+            member.close();
+        }
+        members.destroy_empty();
+    }
 
     // Whether there is room for one more packet. One allocation may be refused.
     fn has_room(&mut self) -> bool {

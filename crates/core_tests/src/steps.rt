@@ -155,7 +155,9 @@ fn candidates_anew(core: &Core) -> Option<Vec<Route>> {
     let Ok(copy) = core.copy() else {
         return None;
     };
-    match copy.candidates() {
+    let routes = copy.candidates();
+    copy.close();
+    match routes {
         Ok(routes) => Some(routes),
         Err(_) => None,
     }
