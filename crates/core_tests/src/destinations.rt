@@ -1,6 +1,6 @@
 //! External destinations, as an operator announces and withdraws them (RFC 2328, section 12.4.4).
 use crate::packets::{DEAR_DESTINATION, DESTINATION, RENEWED_DESTINATION, RENEWED_ROUTER_LSA};
-use crate::steps::{OWN, Step, What, play};
+use crate::steps::{AT_THE_START, OWN, Step, What, play};
 use flood::CoreError;
 use std::test::Fail;
 
@@ -76,30 +76,30 @@ const RENEWED: &[Step] = &[
 
 #[test]
 fn a_destination_has_its_lsa(rt: HostRuntime) -> Result<(), Fail> {
-    play(rt.alloc(), &rt, 1, &[ANNOUNCED])
+    play(rt.alloc(), &rt, 1, AT_THE_START, ANNOUNCED)
 }
 
 #[test]
 fn ls_infinity_withholds_a_destination(rt: HostRuntime) -> Result<(), Fail> {
-    play(rt.alloc(), &rt, 1, &[WITHHELD])
+    play(rt.alloc(), &rt, 1, AT_THE_START, WITHHELD)
 }
 
 #[test]
 fn a_withdrawn_destination_leaves(rt: HostRuntime) -> Result<(), Fail> {
-    play(rt.alloc(), &rt, 1, &[WITHDRAWN])
+    play(rt.alloc(), &rt, 1, AT_THE_START, WITHDRAWN)
 }
 
 #[test]
 fn a_change_waits_for_five_seconds(rt: HostRuntime) -> Result<(), Fail> {
-    play(rt.alloc(), &rt, 1, &[CHANGED])
+    play(rt.alloc(), &rt, 1, AT_THE_START, CHANGED)
 }
 
 #[test]
 fn two_prefixes_of_one_address_clash(rt: HostRuntime) -> Result<(), Fail> {
-    play(rt.alloc(), &rt, 1, &[CLASHING])
+    play(rt.alloc(), &rt, 1, AT_THE_START, CLASHING)
 }
 
 #[test]
 fn own_lsas_are_renewed_after_half_an_hour(rt: HostRuntime) -> Result<(), Fail> {
-    play(rt.alloc(), &rt, 1, &[RENEWED])
+    play(rt.alloc(), &rt, 1, AT_THE_START, RENEWED)
 }

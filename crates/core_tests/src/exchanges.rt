@@ -37,6 +37,12 @@ pub const FULL: &[Step] = &[
 ];
 
 /// The request is answered at 3: the router-LSA waits for the Tick at 5.
+/// The other is Loading.
+pub const WHILE_LOADING: &[&[Step]] = &[LOADING];
+
+/// The other is Full.
+pub const WHEN_FULL: &[&[Step]] = &[LOADING, FULL];
+
 const FULL_EARLY: &[Step] = &[
     Step::Sends(3, What::Packet(1, PEER_LSA), &[]),
     Step::Sees(1, Some((PEER, State::Full))),
@@ -160,60 +166,60 @@ const DOWN: &[Step] = &[
 
 #[test]
 fn a_neighbor_becomes_full(rt: HostRuntime) -> Result<(), Fail> {
-    play(rt.alloc(), &rt, 1, &[LOADING, FULL])
+    play(rt.alloc(), &rt, 1, WHILE_LOADING, FULL)
 }
 
 #[test]
 fn a_router_lsa_waits_for_five_seconds(rt: HostRuntime) -> Result<(), Fail> {
-    play(rt.alloc(), &rt, 1, &[LOADING, FULL_EARLY])
+    play(rt.alloc(), &rt, 1, WHILE_LOADING, FULL_EARLY)
 }
 
 #[test]
 fn descriptions_come_twice_or_not_at_all(rt: HostRuntime) -> Result<(), Fail> {
-    play(rt.alloc(), &rt, 1, &[LOADING, REPEATED])
+    play(rt.alloc(), &rt, 1, WHILE_LOADING, REPEATED)
 }
 
 #[test]
 fn a_request_is_answered_with_what_is_there(rt: HostRuntime) -> Result<(), Fail> {
-    play(rt.alloc(), &rt, 1, &[LOADING, FULL, REQUESTED_IN_VAIN])
+    play(rt.alloc(), &rt, 1, WHEN_FULL, REQUESTED_IN_VAIN)
 }
 
 #[test]
 fn sequence_numbers_begin_again(rt: HostRuntime) -> Result<(), Fail> {
-    play(rt.alloc(), &rt, 1, &[LOADING, FULL, WRAPPED])
+    play(rt.alloc(), &rt, 1, WHEN_FULL, WRAPPED)
 }
 
 #[test]
 fn an_older_instance_of_a_wrapping_lsa_is_not_answered(rt: HostRuntime) -> Result<(), Fail> {
-    play(rt.alloc(), &rt, 1, &[LOADING, FULL, WRAPPING])
+    play(rt.alloc(), &rt, 1, WHEN_FULL, WRAPPING)
 }
 
 #[test]
 fn an_own_lsa_that_is_never_announced_is_flushed(rt: HostRuntime) -> Result<(), Fail> {
-    play(rt.alloc(), &rt, 1, &[LOADING, FULL, NEVER_ANNOUNCED])
+    play(rt.alloc(), &rt, 1, WHEN_FULL, NEVER_ANNOUNCED)
 }
 
 #[test]
 fn an_lsa_that_is_sent_back_is_acknowledged(rt: HostRuntime) -> Result<(), Fail> {
-    play(rt.alloc(), &rt, 1, &[LOADING, SENT_BACK])
+    play(rt.alloc(), &rt, 1, WHILE_LOADING, SENT_BACK)
 }
 
 #[test]
 fn what_is_not_acknowledged_is_sent_again(rt: HostRuntime) -> Result<(), Fail> {
-    play(rt.alloc(), &rt, 1, &[LOADING, UNACKNOWLEDGED])
+    play(rt.alloc(), &rt, 1, WHILE_LOADING, UNACKNOWLEDGED)
 }
 
 #[test]
 fn a_silent_neighbor_is_down(rt: HostRuntime) -> Result<(), Fail> {
-    play(rt.alloc(), &rt, 1, &[LOADING, FULL, SILENT])
+    play(rt.alloc(), &rt, 1, WHEN_FULL, SILENT)
 }
 
 #[test]
 fn a_neighbor_is_down_before_the_links_are_described(rt: HostRuntime) -> Result<(), Fail> {
-    play(rt.alloc(), &rt, 1, &[LOADING, SILENT_WHILE_IT_WAITS])
+    play(rt.alloc(), &rt, 1, WHILE_LOADING, SILENT_WHILE_IT_WAITS)
 }
 
 #[test]
 fn a_link_goes_down(rt: HostRuntime) -> Result<(), Fail> {
-    play(rt.alloc(), &rt, 1, &[LOADING, FULL, DOWN])
+    play(rt.alloc(), &rt, 1, WHEN_FULL, DOWN)
 }

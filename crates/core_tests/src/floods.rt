@@ -1,5 +1,5 @@
 //! Received LSAs: which instance is newer, and what is acknowledged when (RFC 2328, section 13).
-use crate::exchanges::{FULL, LOADING};
+use crate::exchanges::{WHEN_FULL, WHILE_LOADING};
 use crate::hello_packets::{DESCRIPTION, NAMING};
 use crate::packets::{
     AGE_100_ACKNOWLEDGED, ENDLESS_COUNT, EXTERNAL, EXTERNAL_ACKNOWLEDGED, EXTERNAL_LSA,
@@ -139,42 +139,50 @@ const HOSTILE: &[Step] = &[
     Step::Has(5, NETWORK, FAR, Some(EXTERNAL_LSA)),
 ];
 
+const WHILE_A_THIRD_LOADS: &[&[Step]] = &[LOADING_THIRD];
+
 #[test]
 fn a_new_lsa_that_comes_twice_is_acknowledged_twice(rt: HostRuntime) -> Result<(), Fail> {
-    play(rt.alloc(), &rt, 1, &[LOADING, FULL, TWICE])
+    play(rt.alloc(), &rt, 1, WHEN_FULL, TWICE)
 }
 
 #[test]
 fn an_unknown_lsa_at_max_age_is_not_installed(rt: HostRuntime) -> Result<(), Fail> {
-    play(rt.alloc(), &rt, 1, &[LOADING, FULL, UNKNOWN])
+    play(rt.alloc(), &rt, 1, WHEN_FULL, UNKNOWN)
 }
 
 #[test]
 fn an_unknown_lsa_at_max_age_is_installed_for_one_that_loads(rt: HostRuntime) -> Result<(), Fail> {
-    play(rt.alloc(), &rt, 2, &[LOADING_THIRD, INSTALLED_AT_MAX_AGE])
+    play(
+        rt.alloc(),
+        &rt,
+        2,
+        WHILE_A_THIRD_LOADS,
+        INSTALLED_AT_MAX_AGE,
+    )
 }
 
 #[test]
 fn the_newer_instance_is_kept(rt: HostRuntime) -> Result<(), Fail> {
-    play(rt.alloc(), &rt, 1, &[LOADING, FULL, NEWER])
+    play(rt.alloc(), &rt, 1, WHEN_FULL, NEWER)
 }
 
 #[test]
 fn max_age_is_newer(rt: HostRuntime) -> Result<(), Fail> {
-    play(rt.alloc(), &rt, 1, &[LOADING, FULL, OF_AGE])
+    play(rt.alloc(), &rt, 1, WHEN_FULL, OF_AGE)
 }
 
 #[test]
 fn a_copy_that_comes_to_max_age_is_flooded(rt: HostRuntime) -> Result<(), Fail> {
-    play(rt.alloc(), &rt, 1, &[LOADING, FULL, COMES_OF_AGE])
+    play(rt.alloc(), &rt, 1, WHEN_FULL, COMES_OF_AGE)
 }
 
 #[test]
 fn a_copy_at_max_age_stays_while_one_loads(rt: HostRuntime) -> Result<(), Fail> {
-    play(rt.alloc(), &rt, 1, &[LOADING, STAYS_FOR_ONE_THAT_LOADS])
+    play(rt.alloc(), &rt, 1, WHILE_LOADING, STAYS_FOR_ONE_THAT_LOADS)
 }
 
 #[test]
 fn updates_that_lie_install_nothing(rt: HostRuntime) -> Result<(), Fail> {
-    play(rt.alloc(), &rt, 1, &[LOADING, FULL, HOSTILE])
+    play(rt.alloc(), &rt, 1, WHEN_FULL, HOSTILE)
 }

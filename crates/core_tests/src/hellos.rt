@@ -3,7 +3,7 @@ use crate::hello_packets::{
     ACKNOWLEDGMENT, ALL_OPTIONS, ALONE, DESCRIPTION, GREETING, HEARD, NAMING, NOBODY,
     OTHER_DEAD_INTERVAL, OTHER_HELLO_INTERVAL, OTHER_MASK, OWN, REQUEST, SECOND, UPDATE, WITHOUT_E,
 };
-use crate::steps::{PEER, Step, What, play};
+use crate::steps::{AT_THE_START, PEER, Step, What, play};
 use flood::{CoreError, State};
 use std::test::Fail;
 
@@ -86,40 +86,40 @@ const SIXTY_THREE: &[Step] = &[
 
 #[test]
 fn hears_greets_and_forgets(rt: HostRuntime) -> Result<(), Fail> {
-    play(rt.alloc(), &rt, 1, &[HEARS_GREETS_AND_FORGETS])
+    play(rt.alloc(), &rt, 1, AT_THE_START, HEARS_GREETS_AND_FORGETS)
 }
 
 #[test]
 fn each_hello_starts_the_inactivity_timer_again(rt: HostRuntime) -> Result<(), Fail> {
-    play(rt.alloc(), &rt, 1, &[HEARD_AGAIN])
+    play(rt.alloc(), &rt, 1, AT_THE_START, HEARD_AGAIN)
 }
 
 #[test]
 fn some_packets_are_discarded(rt: HostRuntime) -> Result<(), Fail> {
-    play(rt.alloc(), &rt, 1, &[DISCARDED])
+    play(rt.alloc(), &rt, 1, AT_THE_START, DISCARDED)
 }
 
 #[test]
 fn the_mask_is_ignored(rt: HostRuntime) -> Result<(), Fail> {
-    play(rt.alloc(), &rt, 1, &[MASK_IGNORED])
+    play(rt.alloc(), &rt, 1, AT_THE_START, MASK_IGNORED)
 }
 
 #[test]
 fn options_but_e_are_ignored(rt: HostRuntime) -> Result<(), Fail> {
-    play(rt.alloc(), &rt, 1, &[OPTIONS_IGNORED])
+    play(rt.alloc(), &rt, 1, AT_THE_START, OPTIONS_IGNORED)
 }
 
 #[test]
 fn who_names_the_router_is_described_to(rt: HostRuntime) -> Result<(), Fail> {
-    play(rt.alloc(), &rt, 1, &[NAMED])
+    play(rt.alloc(), &rt, 1, AT_THE_START, NAMED)
 }
 
 #[test]
 fn a_second_neighbor_is_not_heard(rt: HostRuntime) -> Result<(), Fail> {
-    play(rt.alloc(), &rt, 1, &[ANOTHER])
+    play(rt.alloc(), &rt, 1, AT_THE_START, ANOTHER)
 }
 
 #[test]
 fn sixty_three_interfaces_greet_in_order(rt: HostRuntime) -> Result<(), Fail> {
-    play(rt.alloc(), &rt, 63, &[SIXTY_THREE])
+    play(rt.alloc(), &rt, 63, AT_THE_START, SIXTY_THREE)
 }

@@ -1,7 +1,7 @@
 //! The limits of the database: 4,096 own external LSAs, and 16,384 LSAs.
 use crate::exchanges::LOADING;
 use crate::packets::PEER_LSA;
-use crate::steps::{OWN, PEER, Step, What, play};
+use crate::steps::{AT_THE_START, OWN, PEER, Step, What, play};
 use flood::{CoreError, State};
 use std::test::Fail;
 
@@ -89,22 +89,28 @@ const BY_TICK: &[Step] = &[
     Step::Holds(16384),
 ];
 
+const WHILE_WAITING: &[&[Step]] = &[WAITING];
+
+const WHEN_FILLED: &[&[Step]] = &[LOADING, FILLED];
+
+const WHEN_FILLED_AND_WAITING: &[&[Step]] = &[WAITING, LOADING, FILLED];
+
 #[test]
 fn the_4097th_own_external_is_refused(rt: HostRuntime) -> Result<(), Fail> {
-    play(rt.alloc(), &rt, 1, &[OWN_BY_REDISTRIBUTE])
+    play(rt.alloc(), &rt, 1, AT_THE_START, OWN_BY_REDISTRIBUTE)
 }
 
 #[test]
 fn the_4097th_own_external_goes_on_waiting(rt: HostRuntime) -> Result<(), Fail> {
-    play(rt.alloc(), &rt, 1, &[WAITING, OWN_BY_TICK])
+    play(rt.alloc(), &rt, 1, WHILE_WAITING, OWN_BY_TICK)
 }
 
 #[test]
 fn the_16385th_lsa_is_refused(rt: HostRuntime) -> Result<(), Fail> {
-    play(rt.alloc(), &rt, 1, &[LOADING, FILLED, BY_REDISTRIBUTE])
+    play(rt.alloc(), &rt, 1, WHEN_FILLED, BY_REDISTRIBUTE)
 }
 
 #[test]
 fn the_16385th_lsa_goes_on_waiting(rt: HostRuntime) -> Result<(), Fail> {
-    play(rt.alloc(), &rt, 1, &[WAITING, LOADING, FILLED, BY_TICK])
+    play(rt.alloc(), &rt, 1, WHEN_FILLED_AND_WAITING, BY_TICK)
 }

@@ -3,7 +3,7 @@ use crate::hello_packets::{
     AREA, AREA_AND_AUTH, AUTH, AUTH_AND_HALF, HALF, HEARD, KIND, KIND_AND_LONGER, LONGER,
     LONGER_AND_SUMMED, SHORT_AND_VERSION, SUMMED, SUMMED_AND_AREA, VERSION, VERSION_AND_KIND,
 };
-use crate::steps::{Step, What, play};
+use crate::steps::{AT_THE_START, Step, What, play};
 use flood::{ConfigError, CoreError};
 use packet::Fault;
 use std::test::Fail;
@@ -93,12 +93,12 @@ const IN_ORDER: &[Step] = &[
 
 #[test]
 fn the_clock_comes_before_the_interface_and_the_packet(rt: HostRuntime) -> Result<(), Fail> {
-    play(rt.alloc(), &rt, 1, &[IN_ORDER])
+    play(rt.alloc(), &rt, 1, AT_THE_START, IN_ORDER)
 }
 
 #[test]
 fn each_fault_is_told(rt: HostRuntime) -> Result<(), Fail> {
-    play(rt.alloc(), &rt, 1, &[FAULTS])
+    play(rt.alloc(), &rt, 1, AT_THE_START, FAULTS)
 }
 
 #[test]

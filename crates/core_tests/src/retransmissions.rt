@@ -1,5 +1,5 @@
 //! When what is not acknowledged is sent again (RFC 2328, section 13.6).
-use crate::exchanges::{FULL, LOADING};
+use crate::exchanges::WHEN_FULL;
 use crate::hello_packets::GREETING;
 use crate::steps::{Step, What, play};
 use std::test::Fail;
@@ -30,10 +30,10 @@ const TWO_INSTANCES: &[Step] = &[
 
 #[test]
 fn a_second_lsa_leaves_the_time_of_the_first(rt: HostRuntime) -> Result<(), Fail> {
-    play(rt.alloc(), &rt, 1, &[LOADING, FULL, TWO_LSAS])
+    play(rt.alloc(), &rt, 1, WHEN_FULL, TWO_LSAS)
 }
 
 #[test]
 fn a_newer_instance_starts_the_time_anew(rt: HostRuntime) -> Result<(), Fail> {
-    play(rt.alloc(), &rt, 1, &[LOADING, FULL, TWO_INSTANCES])
+    play(rt.alloc(), &rt, 1, WHEN_FULL, TWO_INSTANCES)
 }

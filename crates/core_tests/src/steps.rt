@@ -267,26 +267,45 @@ impl<R: Wait + Drop> Trial<R> {
     }
 }
 
-fn play_on<R: Wait + Drop>(trial: &mut Trial<R>, lists: &[&[Step]]) -> Result<(), Fail> {
-    for (list, steps) in lists.iter().enumerate() {
-        for (place, step) in steps.iter().enumerate() {
-            if !trial.meets(*step) {
-                return Err(Fail::new(format_args!("list {list}, step {place}")));
-            }
+// Nothing happened before.
+pub const AT_THE_START: &[&[Step]] = &[];
+
+// Plays the list of this number.
+fn play_list<R: Wait + Drop>(
+    trial: &mut Trial<R>,
+    list: usize,
+    steps: &[Step],
+) -> Result<(), Fail> {
+    for (place, step) in steps.iter().enumerate() {
+        if !trial.meets(*step) {
+            return Err(Fail::new(format_args!("list {list}, step {place}")));
         }
     }
     Ok(())
 }
 
-/// Plays lists of steps one after the other on 1.1.1.1 with so many interfaces, started at 0.
+fn play_on<R: Wait + Drop>(
+    trial: &mut Trial<R>,
+    before: &[&[Step]],
+    steps: &[Step],
+) -> Result<(), Fail> {
+    for (list, steps) in before.iter().enumerate() {
+        play_list(trial, list, steps)?;
+    }
+    play_list(trial, before.len(), steps)
+}
+
+/// Plays the steps on 1.1.1.1 with so many interfaces, started at 0, after the lists that lead up to
+/// them.
 pub fn play<R: Wait + Drop + Copy>(
     alloc: Global,
     rt: R,
     interfaces: u32,
-    lists: &[&[Step]],
+    before: &[&[Step]],
+    steps: &[Step],
 ) -> Result<(), Fail> {
     let mut trial = Trial::new(alloc, rt, interfaces)?;
-    let played = play_on(&mut trial, lists);
+    let played = play_on(&mut trial, before, steps);
     trial.close();
     played
 }

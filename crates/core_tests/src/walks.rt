@@ -1,5 +1,5 @@
 //! What a router keeps for its routes from one event to the next (RFC 2328, section 16).
-use crate::exchanges::{FULL, LOADING};
+use crate::exchanges::{FULL, LOADING, WHEN_FULL};
 use crate::packets::{PEER_LSA_AGAIN, PEER_LSA_WITHOUT_LINKS};
 use crate::steps::{Step, What, play};
 use std::test::Fail;
@@ -93,27 +93,29 @@ const RENEWED: &[Step] = &[
 /// The walks of the exchange don't count.
 const LOOKED: &[Step] = &[Step::CountWalks];
 
+const WHEN_LOOKED_AT: &[&[Step]] = &[LOADING, FULL, LOOKED];
+
 #[test]
 fn external_destinations_leave_the_walk(rt: HostRuntime) -> Result<(), Fail> {
-    play(rt.alloc(), &rt, 1, &[LOADING, FULL, LOOKED, EXTERNALS])
+    play(rt.alloc(), &rt, 1, WHEN_LOOKED_AT, EXTERNALS)
 }
 
 #[test]
 fn candidates_follow_external_destinations(rt: HostRuntime) -> Result<(), Fail> {
-    play(rt.alloc(), &rt, 1, &[LOADING, FULL, FOLLOWED])
+    play(rt.alloc(), &rt, 1, WHEN_FULL, FOLLOWED)
 }
 
 #[test]
 fn links_that_change_are_walked_again(rt: HostRuntime) -> Result<(), Fail> {
-    play(rt.alloc(), &rt, 1, &[LOADING, FULL, LOOKED, LINKS])
+    play(rt.alloc(), &rt, 1, WHEN_LOOKED_AT, LINKS)
 }
 
 #[test]
 fn answers_last_until_an_lsa_changes(rt: HostRuntime) -> Result<(), Fail> {
-    play(rt.alloc(), &rt, 1, &[LOADING, FULL, ANSWERS])
+    play(rt.alloc(), &rt, 1, WHEN_FULL, ANSWERS)
 }
 
 #[test]
 fn instances_that_say_the_same_do_not_count(rt: HostRuntime) -> Result<(), Fail> {
-    play(rt.alloc(), &rt, 1, &[LOADING, FULL, LOOKED, RENEWED])
+    play(rt.alloc(), &rt, 1, WHEN_LOOKED_AT, RENEWED)
 }
