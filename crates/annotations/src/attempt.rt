@@ -11,6 +11,15 @@ use ranking_functions::{Plan, Ranking, Unranked, rank_statements};
 use std::alloc::{AllocError, Global};
 use verifier::BUDGET;
 
+/// Code for a hook, for which statements and ranks are sought, and the statements that it has.
+#[derive(Drop)]
+pub struct Task<'a> {
+    pub alloc: Global,
+    pub hook: Hook,
+    pub bytes: &'a [u8],
+    pub given: &'a [Statement],
+}
+
 /// The greatest entry rank that leaves the code within its budget.
 fn most_for(code: &Code) -> u64 {
     (BUDGET / code.len() as u64).saturating_sub(1)
@@ -54,17 +63,15 @@ fn statements_of(
 
 /// The object with these statements and ranks, if the verifier accepts it.
 fn judged_with(
-    alloc: Global,
-    hook: Hook,
-    bytes: &[u8],
+    task: &Task<'_>,
     found: &Inference,
     ranking: &Ranking,
 ) -> Result<Annotated, Shortfall>
-    ensures { IsOutcome hook bytes.now result }
+    ensures { IsOutcome task.now.hook task.now.bytes.now result }
 {
     let entry_rank = ranking.plan.rank_at(found.stated.len()).constant;
-    match statements_of(alloc, found, &ranking.plan) {
-        Ok(statements) => judged(alloc, hook, entry_rank, bytes, statements, ranking.endless),
+    match statements_of(task.alloc, found, &ranking.plan) {
+        Ok(statements) => judged(task, entry_rank, statements, ranking.endless),
         Err(_) => Err(Shortfall::Memory),
     }
 }
@@ -72,20 +79,17 @@ fn judged_with(
 /// Finds ranks for these statements, and has the verifier judge them. Tells which loops lack a
 /// rank.
 fn try_found(
-    alloc: Global,
-    hook: Hook,
-    bytes: &[u8],
+    task: &Task<'_>,
     code: &Code,
     found: &Inference,
-    given: &[Statement],
     are_kept: bool,
     unranked: &mut Unranked,
 ) -> Result<Annotated, Shortfall>
-    ensures { IsOutcome hook bytes.now result }
+    ensures { IsOutcome task.now.hook task.now.bytes.now result }
 {
-    match rank_statements(alloc, found, given, are_kept, most_for(code)) {
+    match rank_statements(task.alloc, found, task.given, are_kept, most_for(code)) {
         Ok(ranking) => {
-            let outcome = judged_with(alloc, hook, bytes, found, &ranking);
+            let outcome = judged_with(task, found, &ranking);
             *unranked = ranking.unranked;
             outcome
         }
@@ -95,18 +99,15 @@ fn try_found(
 
 /// The same for code whose statements are to be found, too.
 fn try_code(
-    alloc: Global,
-    hook: Hook,
-    bytes: &[u8],
+    task: &Task<'_>,
     code: &Code,
-    given: &[Statement],
     are_kept: bool,
     unranked: &mut Unranked,
 ) -> Result<Annotated, Shortfall>
-    ensures { IsOutcome hook bytes.now result }
+    ensures { IsOutcome task.now.hook task.now.bytes.now result }
 {
-    match infer_statements(alloc, code, hook, given, are_kept) {
-        Ok(found) => try_found(alloc, hook, bytes, code, &found, given, are_kept, unranked),
+    match infer_statements(task.alloc, code, task.hook, task.given, are_kept) {
+        Ok(found) => try_found(task, code, &found, are_kept, unranked),
         Err(_) => Err(Shortfall::Memory),
     }
 }
@@ -115,53 +116,40 @@ fn try_code(
 /// statements that are given stay as they are, or they lend their slots, their numbers and their
 /// ranks' registers.
 fn try_statements(
-    alloc: Global,
-    hook: Hook,
-    bytes: &[u8],
-    given: &[Statement],
+    task: &Task<'_>,
     are_kept: bool,
     unranked: &mut Unranked,
 ) -> Result<Annotated, Shortfall>
-    ensures { IsOutcome hook bytes.now result }
+    ensures { IsOutcome task.now.hook task.now.bytes.now result }
 {
-    match decode(alloc, bytes) {
-        Ok(code) => try_code(alloc, hook, bytes, &code, given, are_kept, unranked),
+    match decode(task.alloc, task.bytes) {
+        Ok(code) => try_code(task, &code, are_kept, unranked),
         Err(error) => Err(Shortfall::Code(error)),
     }
 }
 
 /// The same without the statements that are given, and without the known bits that the verifier
 /// does without.
-fn try_anew(
-    alloc: Global,
-    hook: Hook,
-    bytes: &[u8],
-    given: &[Statement],
-    unranked: &mut Unranked,
-) -> Result<Annotated, Shortfall>
-    ensures { IsOutcome hook bytes.now result }
+fn try_anew(task: &Task<'_>, unranked: &mut Unranked) -> Result<Annotated, Shortfall>
+    ensures { IsOutcome task.now.hook task.now.bytes.now result }
 {
-    match try_statements(alloc, hook, bytes, given, false, unranked) {
-        Ok(annotated) => trim(alloc, hook, bytes, annotated),
+    match try_statements(task, false, unranked) {
+        Ok(annotated) => trim(task, annotated),
         refused => refused,
     }
 }
 
-/// The same, first with the statements that are given as they are, and then without.
-pub fn try_both(
-    alloc: Global,
-    hook: Hook,
-    bytes: &[u8],
-    given: &[Statement],
-    unranked: &mut Unranked,
-) -> Result<Annotated, Shortfall>
-    ensures { IsOutcome hook bytes.now result }
+/// The same, first with the statements that are given as they are, and then without. They stay as
+/// they are where the verifier accepts them so; else they lend their slots, their numbers and their
+/// ranks' registers.
+pub fn annotate(task: &Task<'_>, unranked: &mut Unranked) -> Result<Annotated, Shortfall>
+    ensures { IsOutcome task.now.hook task.now.bytes.now result }
 {
-    if given.is_empty() {
-        return try_anew(alloc, hook, bytes, given, unranked);
+    if task.given.is_empty() {
+        return try_anew(task, unranked);
     }
-    match try_statements(alloc, hook, bytes, given, true, unranked) {
-        Err(Shortfall::Refused(..)) => try_anew(alloc, hook, bytes, given, unranked),
+    match try_statements(task, true, unranked) {
+        Err(Shortfall::Refused(..)) => try_anew(task, unranked),
         outcome => outcome,
     }
 }

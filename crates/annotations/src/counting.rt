@@ -4,11 +4,11 @@ ghost use Rattle.isa.specs.Spelling.{Spells};
 ghost use Rattle.annotations.specs.Annotated.{CountsLoops};
 ghost use Rattle.annotations.specs.Verdict.{IsNoVerdict, IsOutcome, IsTurnsOutcome};
 
-use crate::attempt::{kinds_of, try_both};
+use crate::attempt::{Task, annotate, kinds_of};
 use crate::counted_code::counted;
 use crate::shortfall::Shortfall;
 use crate::verdict::Annotated;
-use isa::{Code, Hook, decode, encode};
+use isa::{Code, decode, encode};
 use object::Statement;
 use ranking_functions::Unranked;
 use std::alloc::{AllocError, Global};
@@ -91,38 +91,39 @@ fn adds_more(
 
 /// The text of the code that counts the turns of the loops at these heads.
 fn counted_text(
-    alloc: Global,
-    bytes: &[u8],
+    task: &Task<'_>,
     code: &Code,
     heads: &[usize],
     turns: u32,
 ) -> Result<Vec<u8>, Shortfall>
-    requires { Spells bytes.now code.now }
-    ensures counts { IfOk result (λ written. CountsLoops turns bytes.now written.items) }
+    requires { Spells task.now.bytes.now code.now }
+    ensures counts { IfOk result (λ written. CountsLoops turns task.now.bytes.now written.items) }
     ensures fault { IfErr result IsNoVerdict }
 {
-    let counted = match counted(alloc, code, heads, turns) {
+    let counted = match counted(task.alloc, code, heads, turns) {
         Ok(counted) => counted,
         Err(error) => return Err(Shortfall::Uncounted(error)),
     };
-    match encode(alloc, &counted) {
+    match encode(task.alloc, &counted) {
         Ok(written) => Ok(written),
         Err(_) => Err(Shortfall::Memory),
     }
 }
 
 /// Tries the code that counts turns, with the statements that were given for the code without.
-fn try_text(
-    alloc: Global,
-    hook: Hook,
-    bytes: &[u8],
-    given: &[Statement],
-    unranked: &mut Unranked,
-) -> Result<Annotated, Shortfall>
-    ensures { IsOutcome hook bytes.now result }
+fn try_text(task: &Task<'_>, bytes: &[u8], unranked: &mut Unranked) -> Result<Annotated, Shortfall>
+    ensures { IsOutcome task.now.hook bytes.now result }
 {
-    match all_moved(alloc, given) {
-        Ok(given) => try_both(alloc, hook, bytes, &given, unranked),
+    match all_moved(task.alloc, task.given) {
+        Ok(given) => {
+            let later = Task {
+                alloc: task.alloc,
+                hook: task.hook,
+                bytes,
+                given: &given,
+            };
+            annotate(&later, unranked)
+        }
         Err(_) => Err(Shortfall::Memory),
     }
 }
@@ -130,108 +131,78 @@ fn try_text(
 /// Tries the code that counts the turns of the loops at these heads.
 #[tactic(auto, using(crate::proofs::Faults::no_verdict_with_turns))]
 fn try_counted(
-    alloc: Global,
-    hook: Hook,
-    bytes: &[u8],
+    task: &Task<'_>,
     code: &Code,
-    given: &[Statement],
     heads: &[usize],
     turns: u32,
     unranked: &mut Unranked,
 ) -> Result<Annotated, Shortfall>
-    requires { Spells bytes.now code.now }
-    ensures { IsTurnsOutcome hook (Some turns) bytes.now result }
+    requires { Spells task.now.bytes.now code.now }
+    ensures { IsTurnsOutcome task.now.hook (Some turns) task.now.bytes.now result }
 {
-    match counted_text(alloc, bytes, code, heads, turns) {
-        Ok(written) => try_text(alloc, hook, &written, given, unranked),
+    match counted_text(task, code, heads, turns) {
+        Ok(written) => try_text(task, &written, unranked),
         Err(error) => Err(error),
     }
 }
 
 /// The same, where there may be no such head.
 fn try_heads(
-    alloc: Global,
-    hook: Hook,
-    bytes: &[u8],
+    task: &Task<'_>,
     code: &Code,
-    given: &[Statement],
     heads: &Heads,
     turns: u32,
     unranked: &mut Unranked,
 ) -> Result<Annotated, Shortfall>
-    requires { Spells bytes.now code.now }
-    ensures { IsTurnsOutcome hook (Some turns) bytes.now result }
+    requires { Spells task.now.bytes.now code.now }
+    ensures { IsTurnsOutcome task.now.hook (Some turns) task.now.bytes.now result }
 {
     if heads.lacks_memory {
         Err(Shortfall::Memory)
     } else if heads.slots.is_empty() {
-        try_both(alloc, hook, bytes, given, unranked)
+        annotate(task, unranked)
     } else {
-        try_counted(
-            alloc,
-            hook,
-            bytes,
-            code,
-            given,
-            &heads.slots,
-            turns,
-            unranked,
-        )
+        try_counted(task, code, &heads.slots, turns, unranked)
     }
 }
 
 /// Finds statements and ranks for the code, in which the turns of loops without a rank are counted.
 fn annotate_loops(
-    alloc: Global,
-    hook: Hook,
-    bytes: &[u8],
+    task: &Task<'_>,
     code: &Code,
-    given: &[Statement],
     heads: &mut Heads,
     turns: u32,
     unranked: &mut Unranked,
 ) -> Result<Annotated, Shortfall>
-    requires { Spells bytes.now code.now }
-    ensures { IsTurnsOutcome hook (Some turns) bytes.now result }
+    requires { Spells task.now.bytes.now code.now }
+    ensures { IsTurnsOutcome task.now.hook (Some turns) task.now.bytes.now result }
 {
     for _ in 0..MOST_ROUNDS {
-        let outcome = try_heads(alloc, hook, bytes, code, given, heads, turns, unranked);
+        let outcome = try_heads(task, code, heads, turns, unranked);
         if !adds_more(heads, &outcome, unranked) {
             return outcome;
         }
     }
-    try_heads(alloc, hook, bytes, code, given, heads, turns, unranked)
+    try_heads(task, code, heads, turns, unranked)
 }
 
 /// Finds statements and ranks as `annotate` does. Where a loop has no rank, its turns are counted:
 /// the object has other code, which answers 0 instead of more than `turns` turns in all. Loops that
 /// have a rank stay as they are.
 pub fn annotate_counted(
-    alloc: Global,
-    hook: Hook,
-    bytes: &[u8],
-    given: &[Statement],
+    task: &Task<'_>,
     turns: u32,
+    unranked: &mut Unranked,
 ) -> Result<Annotated, Shortfall>
-    ensures { IsTurnsOutcome hook (Some turns) bytes.now result }
+    ensures { IsTurnsOutcome task.now.hook (Some turns) task.now.bytes.now result }
 {
-    match decode(alloc, bytes) {
+    match decode(task.alloc, task.bytes) {
         Ok(code) => {
-            let mut unranked = Unranked::Alone(Vec::new(alloc));
             let mut heads = Heads {
-                slots: Vec::new(alloc),
+                slots: Vec::new(task.alloc),
                 lacks_memory: false,
             };
-            annotate_loops(
-                alloc,
-                hook,
-                bytes,
-                &code,
-                given,
-                &mut heads,
-                turns,
-                &mut unranked,
-            )
+            annotate_loops(task, &code, &mut heads, turns, unranked)
         }
         Err(error) => Err(Shortfall::Code(error)),
     }

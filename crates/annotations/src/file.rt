@@ -4,12 +4,13 @@ ghost use Rattle.object.specs.Spelling.{magic};
 ghost use Rattle.annotations.specs.Annotated.{IsAnnotation};
 ghost use Rattle.annotations.specs.Verdict.{IsFileOutcome, IsFileShortfall, IsTurnsOutcome};
 
-use crate::annotating::annotate;
+use crate::attempt::{Task, annotate};
 use crate::counting::annotate_counted;
 use crate::shortfall::Shortfall;
 use crate::verdict::Annotated;
 use isa::Hook;
-use object::{Statement, read};
+use object::read;
+use ranking_functions::Unranked;
 use std::alloc::Global;
 
 /// Whether the bytes begin as an object's file does.
@@ -21,18 +22,13 @@ fn is_object(bytes: &[u8]) -> bool
 }
 
 /// Finds statements and ranks for the code.
-fn annotate_code(
-    alloc: Global,
-    hook: Hook,
-    code: &[u8],
-    given: &[Statement],
-    turns: Option<u32>,
-) -> Result<Annotated, Shortfall>
-    ensures { IsTurnsOutcome hook turns code.now result }
+fn annotate_code(task: &Task<'_>, turns: Option<u32>) -> Result<Annotated, Shortfall>
+    ensures { IsTurnsOutcome task.now.hook turns task.now.bytes.now result }
 {
+    let mut unranked = Unranked::Alone(Vec::new(task.alloc));
     match turns {
-        Some(turns) => annotate_counted(alloc, hook, code, given, turns),
-        None => annotate(alloc, hook, code, given),
+        Some(turns) => annotate_counted(task, turns, &mut unranked),
+        None => annotate(task, &mut unranked),
     }
 }
 
@@ -46,7 +42,13 @@ fn annotate_bare(
     requires { take 4 file.now ≢ magic }
     ensures { IsFileOutcome hook turns file.now result }
 {
-    annotate_code(alloc, hook, file, &[], turns)
+    let task = Task {
+        alloc,
+        hook,
+        bytes: file,
+        given: &[],
+    };
+    annotate_code(&task, turns)
 }
 
 /// The same for a file that has to be an object.
@@ -65,7 +67,13 @@ fn annotate_object(
             if object_hook != hook {
                 Err(Shortfall::OtherHook(object_hook))
             } else {
-                annotate_code(alloc, hook, object.code(), object.statements(), turns)
+                let task = Task {
+                    alloc,
+                    hook,
+                    bytes: object.code(),
+                    given: object.statements(),
+                };
+                annotate_code(&task, turns)
             }
         }
         Err(error) => Err(Shortfall::Object(error)),

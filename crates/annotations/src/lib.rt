@@ -2,7 +2,6 @@
 //! it.
 #![tactic(auto)]
 
-mod annotating;
 mod attempt;
 mod count_error;
 mod counted_code;

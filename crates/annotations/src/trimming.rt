@@ -3,10 +3,9 @@ ghost use Rattle.std.specs.Prelude.{◌≡◌, ◌≤◌, IfErr};
 ghost use Rattle.annotations.specs.Annotated.{IsAnnotated};
 ghost use Rattle.annotations.specs.Verdict.{IsOutcome, IsShortfall};
 
-use crate::attempt::kinds_of;
+use crate::attempt::{Task, kinds_of};
 use crate::shortfall::Shortfall;
 use crate::verdict::{Annotated, judged};
-use isa::Hook;
 use object::{Kind, StatedNumber, Statement};
 use std::alloc::{AllocError, Global};
 
@@ -66,20 +65,18 @@ fn unless_refused(shortfall: Shortfall) -> Result<(), Shortfall>
 
 /// Gives the object these statements, if the verifier accepts it so.
 fn try_with(
-    alloc: Global,
-    hook: Hook,
-    bytes: &[u8],
+    task: &Task<'_>,
     annotated: &mut Annotated,
     statements: Vec<Statement>,
 ) -> Result<(), Shortfall>
-    requires { IsAnnotated hook bytes.now annotated.old.object annotated.old.bytes.items
+    requires { IsAnnotated task.now.hook task.now.bytes.now annotated.old.object annotated.old.bytes.items
         annotated.old.accepted }
-    ensures annotated { IsAnnotated hook bytes.now annotated.new.object annotated.new.bytes.items
+    ensures annotated { IsAnnotated task.now.hook task.now.bytes.now annotated.new.object annotated.new.bytes.items
         annotated.new.accepted }
-    ensures fault { IfErr result (IsShortfall hook bytes.now) }
+    ensures fault { IfErr result (IsShortfall task.now.hook task.now.bytes.now) }
 {
     let entry_rank = annotated.object.entry_rank();
-    match judged(alloc, hook, entry_rank, bytes, statements, None) {
+    match judged(task, entry_rank, statements, None) {
         Ok(trimmed) => {
             *annotated = trimmed;
             Ok(())
@@ -91,25 +88,23 @@ fn try_with(
 /// Leaves out the known bits of these statements, if they have some and the verifier accepts the
 /// object so.
 fn trim_within(
-    alloc: Global,
-    hook: Hook,
-    bytes: &[u8],
+    task: &Task<'_>,
     annotated: &mut Annotated,
     from: usize,
     to: usize,
 ) -> Result<(), Shortfall>
-    requires { IsAnnotated hook bytes.now annotated.old.object annotated.old.bytes.items
+    requires { IsAnnotated task.now.hook task.now.bytes.now annotated.old.object annotated.old.bytes.items
         annotated.old.accepted }
-    ensures annotated { IsAnnotated hook bytes.now annotated.new.object annotated.new.bytes.items
+    ensures annotated { IsAnnotated task.now.hook task.now.bytes.now annotated.new.object annotated.new.bytes.items
         annotated.new.accepted }
-    ensures fault { IfErr result (IsShortfall hook bytes.now) }
+    ensures fault { IfErr result (IsShortfall task.now.hook task.now.bytes.now) }
 {
-    match trimmed_within(alloc, annotated.object.statements(), from, to) {
+    match trimmed_within(task.alloc, annotated.object.statements(), from, to) {
         Ok(statements) => {
             if statements.as_slice() == annotated.object.statements() {
                 Ok(())
             } else {
-                try_with(alloc, hook, bytes, annotated, statements)
+                try_with(task, annotated, statements)
             }
         }
         Err(_) => Err(Shortfall::Memory),
@@ -117,22 +112,16 @@ fn trim_within(
 }
 
 /// Leaves out the known bits of one statement after the other.
-fn trim_each(
-    alloc: Global,
-    hook: Hook,
-    bytes: &[u8],
-    annotated: &mut Annotated,
-    count: usize,
-) -> Result<(), Shortfall>
+fn trim_each(task: &Task<'_>, annotated: &mut Annotated, count: usize) -> Result<(), Shortfall>
     requires few { count ≤ 4096 }
-    requires annotated { IsAnnotated hook bytes.now annotated.old.object annotated.old.bytes.items
+    requires annotated { IsAnnotated task.now.hook task.now.bytes.now annotated.old.object annotated.old.bytes.items
         annotated.old.accepted }
-    ensures annotated { IsAnnotated hook bytes.now annotated.new.object annotated.new.bytes.items
+    ensures annotated { IsAnnotated task.now.hook task.now.bytes.now annotated.new.object annotated.new.bytes.items
         annotated.new.accepted }
-    ensures fault { IfErr result (IsShortfall hook bytes.now) }
+    ensures fault { IfErr result (IsShortfall task.now.hook task.now.bytes.now) }
 {
     for place in 0..count {
-        if let Err(error) = trim_within(alloc, hook, bytes, annotated, place, place + 1) {
+        if let Err(error) = trim_within(task, annotated, place, place + 1) {
             return Err(error);
         }
     }
@@ -140,38 +129,28 @@ fn trim_each(
 }
 
 /// Leaves out the known bits of all statements, or of one after the other where there are few.
-fn trim_all(
-    alloc: Global,
-    hook: Hook,
-    bytes: &[u8],
-    annotated: &mut Annotated,
-) -> Result<(), Shortfall>
-    requires { IsAnnotated hook bytes.now annotated.old.object annotated.old.bytes.items
+fn trim_all(task: &Task<'_>, annotated: &mut Annotated) -> Result<(), Shortfall>
+    requires { IsAnnotated task.now.hook task.now.bytes.now annotated.old.object annotated.old.bytes.items
         annotated.old.accepted }
-    ensures annotated { IsAnnotated hook bytes.now annotated.new.object annotated.new.bytes.items
+    ensures annotated { IsAnnotated task.now.hook task.now.bytes.now annotated.new.object annotated.new.bytes.items
         annotated.new.accepted }
-    ensures fault { IfErr result (IsShortfall hook bytes.now) }
+    ensures fault { IfErr result (IsShortfall task.now.hook task.now.bytes.now) }
 {
     let count = annotated.object.statements().len();
-    match trim_within(alloc, hook, bytes, annotated, 0, count) {
-        Ok(()) if count <= MOST_TRIES => trim_each(alloc, hook, bytes, annotated, count),
+    match trim_within(task, annotated, 0, count) {
+        Ok(()) if count <= MOST_TRIES => trim_each(task, annotated, count),
         outcome => outcome,
     }
 }
 
 /// The object without the known bits that the verifier does without.
-pub fn trim(
-    alloc: Global,
-    hook: Hook,
-    bytes: &[u8],
-    annotated: Annotated,
-) -> Result<Annotated, Shortfall>
-    requires { IsAnnotated hook bytes.now annotated.object annotated.bytes.items
+pub fn trim(task: &Task<'_>, annotated: Annotated) -> Result<Annotated, Shortfall>
+    requires { IsAnnotated task.now.hook task.now.bytes.now annotated.object annotated.bytes.items
         annotated.accepted }
-    ensures { IsOutcome hook bytes.now result }
+    ensures { IsOutcome task.now.hook task.now.bytes.now result }
 {
     let mut trimmed = annotated;
-    match trim_all(alloc, hook, bytes, &mut trimmed) {
+    match trim_all(task, &mut trimmed) {
         Ok(()) => Ok(trimmed),
         Err(error) => Err(error),
     }

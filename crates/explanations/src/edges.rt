@@ -3,6 +3,8 @@ ghost use Rattle.std.specs.Prelude.{◌<◌};
 
 use crate::phrases::{Value, followed_at, is_byte, known_at, push_kind, push_rank};
 use crate::text::Text;
+use inference::copy_of;
+use inference::memory::Memory;
 use isa::{Hook, Instruction};
 use kinds::{Fact, State, Target, kind_within};
 use object::RankTerm;
@@ -103,6 +105,7 @@ fn push_ranks(
 /// The ways from a slot.
 #[derive(Clone, Copy)]
 pub(crate) struct Ways<'a> {
+    pub memory: &'a Memory,
     pub targets: &'a [Option<Target<'a, Value>>],
     /// The statement of the slot's segment.
     pub segment: &'a Target<'a, Value>,
@@ -146,114 +149,114 @@ impl Ways<'_> {
             push_ranks(out, target, self.leads_back(to), self.segment, state)
         }
     }
-}
 
-/// What is wrong on the way to the slot. Whether that is stated and anything is.
-pub(crate) fn push_to(out: &mut Text, ways: &Ways<'_>, to: usize, state: &State<Value>) -> bool {
-    let Some(target) = stated_at(ways.targets, to) else {
-        return false;
-    };
-    match enter(target, ways.leads_back(to), ways.segment, state) {
-        Ok(()) => false,
-        Err(rule) => {
-            ways.push_wrong(out, target, to, state, rule);
-            true
-        }
-    }
-}
-
-/// What is wrong on a way from a conditional jump, where its operands have these values. The state
-/// serves the other way afterwards. None where anything is wrong.
-fn push_narrowed(
-    out: &mut Text,
-    ways: &Ways<'_>,
-    operands: &Operands,
-    values: Option<(Value, Value)>,
-    to: usize,
-    state: State<Value>,
-) -> Option<State<Value>> {
-    let Some(values) = values else {
-        return Some(state);
-    };
-    let there = refined(state, operands.left, operands.right, values);
-    if push_to(out, ways, to, &there) {
-        None
-    } else {
-        Some(there)
-    }
-}
-
-/// What is wrong on the way of a conditional jump, and else on the other one.
-fn push_both(
-    out: &mut Text,
-    ways: &Ways<'_>,
-    operands: &Operands,
-    edges: Edges<Value>,
-    to: usize,
-    next: usize,
-    state: State<Value>,
-) {
-    if let Some(state) = push_narrowed(out, ways, operands, edges.taken, to, state) {
-        let _left = push_narrowed(out, ways, operands, edges.passed, next, state);
-    }
-}
-
-/// What is wrong on the ways from a jump.
-fn push_jump(
-    out: &mut Text,
-    ways: &Ways<'_>,
-    instruction: &Instruction,
-    to: usize,
-    next: usize,
-    state: State<Value>,
-) {
-    match *instruction {
-        Instruction::Branch {
-            width,
-            test,
-            left,
-            right,
-            ..
-        } => {
-            let operands = Operands { left, right };
-            if let Ok(edges) = tested(&state, width, test, operands.left, operands.right) {
-                push_both(out, ways, &operands, edges, to, next, state)
+    /// What is wrong on the way to the slot. Whether that is stated and anything is.
+    pub fn push_to(&self, out: &mut Text, to: usize, state: &State<Value>) -> bool {
+        let Some(target) = stated_at(self.targets, to) else {
+            return false;
+        };
+        match enter(target, self.leads_back(to), self.segment, state) {
+            Ok(()) => false,
+            Err(rule) => {
+                self.push_wrong(out, target, to, state, rule);
+                true
             }
         }
-        _ => {
-            let _is_wrong = push_to(out, ways, to, &state);
+    }
+
+    /// What is wrong on a way from a conditional jump, where its operands have these values. Whether
+    /// anything is.
+    fn push_narrowed(
+        &self,
+        out: &mut Text,
+        operands: &Operands,
+        values: Option<(Value, Value)>,
+        to: usize,
+        state: &State<Value>,
+    ) -> bool {
+        match values {
+            Some(values) => {
+                let before = copy_of(self.memory, state);
+                let there = refined(before, operands.left, operands.right, values);
+                self.push_to(out, to, &there)
+            }
+            None => false,
         }
     }
-}
 
-/// What is wrong on the way to the next slot, from an instruction that is no jump.
-fn push_straight(
-    out: &mut Text,
-    ways: &Ways<'_>,
-    hook: Hook,
-    instruction: &Instruction,
-    next: usize,
-    state: State<Value>,
-) {
-    if let Ok(after) = straight(state, hook, *instruction) {
-        let _is_wrong = push_to(out, ways, next, &after);
+    /// What is wrong on the way of a conditional jump, and else on the other one.
+    fn push_both(
+        &self,
+        out: &mut Text,
+        operands: &Operands,
+        edges: Edges<Value>,
+        to: usize,
+        next: usize,
+        state: &State<Value>,
+    ) {
+        if !self.push_narrowed(out, operands, edges.taken, to, state) {
+            let _is_wrong = self.push_narrowed(out, operands, edges.passed, next, state);
+        }
     }
-}
 
-/// What is wrong on the ways from an instruction, where this is known at it.
-pub(crate) fn push_ways(
-    out: &mut Text,
-    ways: &Ways<'_>,
-    hook: Hook,
-    slot: usize,
-    instruction: &Instruction,
-    state: State<Value>,
-)
-    requires { slot < 4096 }
-{
-    let next = slot + slots_of(instruction);
-    match jump_of(slot, instruction) {
-        Some(to) => push_jump(out, ways, instruction, to, next, state),
-        None => push_straight(out, ways, hook, instruction, next, state),
+    /// What is wrong on the ways from a jump.
+    fn push_jump(
+        &self,
+        out: &mut Text,
+        instruction: &Instruction,
+        to: usize,
+        next: usize,
+        state: &State<Value>,
+    ) {
+        match *instruction {
+            Instruction::Branch {
+                width,
+                test,
+                left,
+                right,
+                ..
+            } => {
+                let operands = Operands { left, right };
+                if let Ok(edges) = tested(state, width, test, operands.left, operands.right) {
+                    self.push_both(out, &operands, edges, to, next, state)
+                }
+            }
+            _ => {
+                let _is_wrong = self.push_to(out, to, state);
+            }
+        }
+    }
+
+    /// What is wrong on the way to the next slot, from an instruction that is no jump.
+    fn push_straight(
+        &self,
+        out: &mut Text,
+        hook: Hook,
+        instruction: &Instruction,
+        next: usize,
+        state: &State<Value>,
+    ) {
+        let before = copy_of(self.memory, state);
+        if let Ok(after) = straight(before, hook, *instruction) {
+            let _is_wrong = self.push_to(out, next, &after);
+        }
+    }
+
+    /// What is wrong on the ways from an instruction at the slot, where this is known at it.
+    pub fn push(
+        &self,
+        out: &mut Text,
+        hook: Hook,
+        slot: usize,
+        instruction: &Instruction,
+        state: &State<Value>,
+    )
+        requires { slot < 4096 }
+    {
+        let next = slot + slots_of(instruction);
+        match jump_of(slot, instruction) {
+            Some(to) => self.push_jump(out, instruction, to, next, state),
+            None => self.push_straight(out, hook, instruction, next, state),
+        }
     }
 }

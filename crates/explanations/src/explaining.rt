@@ -3,18 +3,20 @@ ghost use Rattle.std.specs.Prelude.{◌≡◌, ◌++◌, IfErr, IfOk, string_byt
 ghost use Rattle.explanations.specs.Told.{TellsVerdict, accepted_line, refused_words};
 ghost use Rattle.object_verdicts.specs.Verdicts.{Accepts, Refuses};
 
-use crate::edges::{Ways, push_to};
+use crate::edges::Ways;
 use crate::lines::instruction_lines;
 use crate::page::Page;
 use crate::phrases::Value;
-use crate::replay::{entry_statement, start};
+use crate::replay::entry_statement;
 use crate::rules::{rule_hint, rule_name};
 use crate::text::Text;
-use crate::walk::{Program, push_pass};
-use inference::liveness::{Registers, live_registers};
+use crate::walk::{Here, Program, push_pass};
+use inference::entry_state;
+use inference::liveness::live_registers;
+use inference::memory::Memory;
 use isa::{Code, DecodeError, decode};
 use kinds::{State, Target};
-use object::{Object, ReadError, Statement};
+use object::{Object, ReadError};
 use object_verdicts::{VerifyError, verify_object};
 use segments::target::targets_of;
 use std::alloc::{AllocError, Global};
@@ -132,92 +134,62 @@ fn refusal_in(verdict: &Result<Accepted, VerifyError>) -> Option<Refusal> {
     }
 }
 
-/// What the verifier knows at each slot, up to the one that it refuses, where this is known as a
-/// run begins.
-fn push_from(
-    page: &mut Page<'_>,
-    program: &Program<'_>,
-    entry: &Target<'_, Value>,
-    first: State<Value>,
-) {
+/// What the verifier knows at each slot, up to the one that it refuses.
+fn push_program(page: &mut Page<'_>, program: &Program<'_>) {
+    let first = entry_state(program.memory);
     let ways = Ways {
-        targets: program.targets,
-        segment: entry,
+        memory: program.memory,
+        targets: &program.targets,
+        segment: &program.entry,
         slot: None,
     };
-    if push_to(&mut page.reasons, &ways, 0, &first) {
+    if ways.push_to(&mut page.reasons, 0, &first) {
         page.turn(0)
     } else {
-        push_pass(page, program, entry, first)
+        push_pass(page, program, &mut Here::new(first))
     }
 }
 
-/// The same, with this statement at the entry.
-fn push_entered(
-    alloc: Global,
+/// The same of an object's program, of which this is stated at the entry.
+fn push_entered<'a>(
     page: &mut Page<'_>,
-    program: &Program<'_>,
-    statement: &Statement,
-    first: State<Value>,
-) {
-    match Vec::from_slice(alloc, &first.kinds) {
-        Ok(kinds) => {
-            let entry = Target { statement, kinds };
-            push_from(page, program, &entry, first)
-        }
-        Err(_) => page.reasons.is_cut = true,
-    }
-}
-
-/// The same of a program with this rank at the entry.
-fn push_ranked(alloc: Global, page: &mut Page<'_>, program: &Program<'_>, rank: u32) {
-    let Some(statement) = entry_statement(rank) else {
-        return;
-    };
-    match start(alloc) {
-        Ok(first) => push_entered(alloc, page, program, &statement, first),
-        Err(_) => page.reasons.is_cut = true,
-    }
-}
-
-/// The same of an object's program, with the registers that may be read from each slot on.
-fn push_live(
-    alloc: Global,
-    page: &mut Page<'_>,
-    object: &Object,
-    code: &Code,
+    memory: &'a Memory,
+    object: &'a Object,
+    code: &'a Code,
+    entry: Target<'a, Value>,
     refusal: Option<Refusal>,
-    live: &[Registers],
 ) {
-    if object.slots() != code.len() {
-        return;
-    }
-    match targets_of::<Value>(alloc, code.len(), object.statements()) {
-        Ok(targets) => {
-            let program = Program {
-                code,
-                hook: object.hook(),
-                live,
-                targets: &targets,
-                refusal,
-            };
-            push_ranked(alloc, page, &program, object.entry_rank())
-        }
-        Err(_) => page.reasons.is_cut = true,
+    if object.slots() == code.len() {
+        let hook = object.hook();
+        let targets = targets_of::<Value>(memory.alloc, code.len(), object.statements());
+        let program = Program {
+            memory,
+            code,
+            hook,
+            live: memory.list(live_registers(memory.alloc, code, hook)),
+            targets: memory.list(targets),
+            entry,
+            refusal,
+        };
+        push_program(page, &program)
     }
 }
 
 /// The same of an object's program.
 fn push_object(
-    alloc: Global,
     page: &mut Page<'_>,
+    memory: &Memory,
     object: &Object,
     code: &Code,
     refusal: Option<Refusal>,
 ) {
-    match live_registers(alloc, code, object.hook()) {
-        Ok(live) => push_live(alloc, page, object, code, refusal, &live),
-        Err(_) => page.reasons.is_cut = true,
+    if let Some(statement) = entry_statement(object.entry_rank()) {
+        let State { kinds, .. } = entry_state(memory);
+        let entry = Target {
+            statement: &statement,
+            kinds,
+        };
+        push_entered(page, memory, object, code, entry, refusal)
     }
 }
 
@@ -236,8 +208,10 @@ fn push_all(
     code: &Code,
     verdict: &Result<Accepted, VerifyError>,
 ) {
+    let memory = Memory::new(alloc);
     push_head(&mut page.here, object);
-    push_object(alloc, page, object, code, refusal_in(verdict));
+    push_object(page, &memory, object, code, refusal_in(verdict));
+    page.reasons.is_cut |= memory.is_refused();
     if let Err(VerifyError::Refused(refusal)) = verdict {
         let reasons = page.reasons.words.as_str();
         push_refusal(&mut page.told, object, refusal.rule, reasons)

@@ -1,14 +1,11 @@
 //! What is known of a register, in words.
 
 use crate::text::Text;
-use absdom::{Domain, Pair};
-use interval::Interval;
+use absdom::Domain;
+pub(crate) use inference::Value;
+use inference::memory::element_or;
 use kinds::{Entry, Fact, Kind, Place};
-use knownbits::KnownBits;
 use object::{Rank, RankTerm};
-
-/// The values that the verifier of object files works with.
-pub(crate) type Value = Pair<Interval, KnownBits>;
 
 /// The bits of the numbers from 0 to this one: its highest bit that is set, and all below it.
 fn span(high: u64) -> u64 {
@@ -69,12 +66,12 @@ pub(crate) fn push_place(out: &mut Text, place: Place<Value>) {
 
 /// What is known of the register, of these.
 pub(crate) fn known_at(kinds: &[Kind<Value>], register: usize) -> Kind<Value> {
-    kinds.get(register).copied().unwrap_or(Kind::Empty)
+    element_or(kinds, register, Kind::Empty)
 }
 
 /// How the register follows from the last statement, where that is known.
 pub(crate) fn followed_at(facts: &[Option<Fact>], register: usize) -> Option<Fact> {
-    facts.get(register).copied().unwrap_or(None)
+    element_or(facts, register, None)
 }
 
 /// What is known of a register.

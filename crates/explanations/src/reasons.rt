@@ -143,14 +143,10 @@ fn length_of(place: Place<Value>) -> u64 {
 /// that is allowed there, if the place is known.
 fn push_access(out: &mut Text, state: &State<Value>, instruction: &Instruction) -> Option<u64> {
     let access = access_of(instruction)?;
-    let words = if access.offset < 0 {
-        "  {} bytes at r{} + -{}: "
-    } else {
-        "  {} bytes at r{} + {}: "
-    };
-    let base = access.base.index() as u128;
-    let distance = u128::from(access.offset.unsigned_abs());
-    out.fill(words, &[u128::from(access.length), base, distance]);
+    let (length, base) = (u128::from(access.length), access.base.index() as u128);
+    out.fill("  {} bytes at r{} + ", &[length, base]);
+    out.signed(i64::from(access.offset));
+    out.push(": ");
     let Some(place) = place_of(state, &access) else {
         out.push("\n");
         return None;
@@ -203,18 +199,14 @@ fn push_argument(out: &mut Text, hook: Hook, state: &State<Value>, instruction: 
 
 fn push_helper(out: &mut Text, hook: Hook, instruction: &Instruction) {
     if let Instruction::Call { helper } = *instruction {
-        let words = if helper < 0 {
-            " has no helper -{}\n"
-        } else {
-            " has no helper {}\n"
-        };
         out.push("  the hook ");
         out.push(hook.name());
-        out.fill(words, &[u128::from(helper.unsigned_abs())]);
+        out.push(" has no helper ");
+        out.signed(i64::from(helper));
     }
     out.push(match hook {
-        Hook::Count => "  allowed: 1 add, 2 read, 3 packet byte\n",
-        Hook::Tag | Hook::Price | Hook::Veto => "  allowed: 1 add, 2 read, 4 table cost\n",
+        Hook::Count => "\n  allowed: 1 add, 2 read, 3 packet byte\n",
+        Hook::Tag | Hook::Price | Hook::Veto => "\n  allowed: 1 add, 2 read, 4 table cost\n",
     })
 }
 
@@ -249,27 +241,27 @@ pub(crate) fn push_misplaced(out: &mut Text, slot: usize, instruction: &Instruct
     requires { slot < 4096 }
 {
     let to = jump_of(slot, instruction).unwrap_or(slot);
-    match rule {
-        Rule::Target => out.numbered(
-            "  it jumps to slot ",
-            to as u64,
-            ", where no instruction begins\n  allowed: a slot of the code where one begins\n",
+    let (words, place) = match rule {
+        Rule::Target => (
+            "  it jumps to slot {}, where no instruction begins\n  allowed: a slot of the code where \
+                one begins\n",
+            to,
         ),
-        Rule::Unstated => out.numbered(
-            "  it jumps to slot ",
-            to as u64,
-            ", which has no statement\n  allowed: a slot that is stated\n",
+        Rule::Unstated => (
+            "  it jumps to slot {}, which has no statement\n  allowed: a slot that is stated\n",
+            to,
         ),
-        Rule::FallsOff => out.push(
+        Rule::FallsOff => (
             "  behind it the code ends\n  allowed: an exit or a goto as the last instruction\n",
+            slot,
         ),
-        _ => out.numbered(
-            "  slot ",
-            slot as u64,
-            " has no statement, and nothing comes from the slot before\n  allowed: a slot that is \
-                stated\n",
+        _ => (
+            "  slot {} has no statement, and nothing comes from the slot before\n  allowed: a slot \
+                that is stated\n",
+            slot,
         ),
-    }
+    };
+    out.fill(words, &[place as u128])
 }
 
 /// What is wrong with a statement where no instruction begins.

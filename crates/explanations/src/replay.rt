@@ -3,9 +3,8 @@
 use crate::phrases::{Value, push_fact, push_kind, push_rank, push_stack};
 use crate::text::Text;
 use inference::liveness::{Registers, has};
-use kinds::{Entry, Fact, Kind, Place, State, Target};
+use kinds::{Fact, State, Target};
 use object::{Kind as Stated, Rank, StackBytes, Statement};
-use std::alloc::{AllocError, Global};
 
 pub(crate) fn entry_statement(rank: u32) -> Option<Statement> {
     let constant = Rank {
@@ -14,19 +13,6 @@ pub(crate) fn entry_statement(rank: u32) -> Option<Statement> {
         second: None,
     };
     Statement::new(0, constant, [Stated::Empty; 10], StackBytes::new())
-}
-
-/// What is known where a run begins: r1 points to the context.
-pub(crate) fn start(alloc: Global) -> Result<State<Value>, AllocError> {
-    let mut kinds = vec![in alloc; Kind::Empty; 10]?;
-    let facts = vec![in alloc; None; 10]?;
-    let entries = vec![in alloc; Entry::Unknown; 512]?;
-    kinds::put(&mut kinds, 1, Kind::Pointer(Place::Context(0)));
-    Ok(State {
-        kinds,
-        facts,
-        entries,
-    })
 }
 
 /// Whether the register isn't as it was at the last statement.

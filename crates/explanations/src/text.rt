@@ -28,6 +28,11 @@ impl Text {
         self.is_cut |= write!(self.words, "{number}").is_err();
     }
 
+    /// Adds the number, with a minus where it is below 0.
+    pub fn signed(&mut self, number: i64) {
+        self.is_cut |= write!(self.words, "{number}").is_err();
+    }
+
     /// Adds the number between these words.
     pub fn numbered(&mut self, before: &str, number: u64, behind: &str) {
         self.push(before);

@@ -2,13 +2,15 @@
 ghost use Rattle.std.specs.Prelude.{◌≡◌, ◌<◌, slice_get, Some};
 ghost use Rattle.isa.specs.declared.code.Slot.TheVariants.{Start};
 
-use crate::edges::{Ways, push_ways};
+use crate::edges::Ways;
 use crate::page::Page;
 use crate::phrases::Value;
 use crate::reasons::{push_misplaced, push_reason, push_stray};
 use crate::replay::{push_known, push_statement};
 use crate::text::Text;
 use inference::liveness::Registers;
+use inference::memory::{Memory, element_or};
+use inference::{copy_of, entry_state};
 use isa::{Code, Hook, Instruction, Slot};
 use kinds::{State, Target, reset};
 use segments::follow::follow;
@@ -18,20 +20,31 @@ use segments::target::stated_at;
 use verifier::{Refusal, Rule};
 
 /// A program, and what doesn't change from slot to slot.
-#[derive(Clone, Copy)]
+#[derive(Drop)]
 pub(crate) struct Program<'a> {
+    pub memory: &'a Memory,
     pub code: &'a Code,
     pub hook: Hook,
-    pub live: &'a [Registers],
-    pub targets: &'a [Option<Target<'a, Value>>],
+    pub live: Vec<Registers>,
+    pub targets: Vec<Option<Target<'a, Value>>>,
+    /// The statement of the entry.
+    pub entry: Target<'a, Value>,
     /// Where and by which rule the verifier refuses it, if it does.
     pub refusal: Option<Refusal>,
 }
 
-impl Program<'_> {
+impl<'a> Program<'a> {
+    /// The statement of the segment that begins at the slot, or at the entry.
+    fn segment(&self, begun: Option<usize>) -> &Target<'a, Value> {
+        match begun {
+            Some(slot) => stated_at(&self.targets, slot).unwrap_or(&self.entry),
+            None => &self.entry,
+        }
+    }
+
     /// The registers that may be read from the slot on.
     fn live_at(&self, slot: usize) -> Registers {
-        self.live.get(slot).copied().unwrap_or(0)
+        element_or(&self.live, slot, 0)
     }
 
     /// The rule by which the verifier refuses it at the slot, if it does.
@@ -45,73 +58,120 @@ impl Program<'_> {
 
 /// What is known at a slot.
 #[derive(Drop)]
-struct Here<'a> {
-    /// The statement of the segment, or of the entry.
-    segment: &'a Target<'a, Value>,
+pub(crate) struct Here {
     /// Where the segment begins, if not at the entry.
     begun: Option<usize>,
     known: Known<Value>,
 }
 
-/// What is known at the slot. A statement there is told of, and begins a segment.
-fn arrived<'a>(out: &mut Text, program: &Program<'a>, slot: usize, here: Here<'a>) -> Here<'a> {
-    match stated_at(program.targets, slot) {
-        Some(target) => {
-            push_statement(out, target);
-            Here {
-                segment: target,
-                begun: Some(slot),
-                known: Known {
-                    state: reset(here.known.state, target),
-                    is_live: true,
-                },
-            }
+impl Here {
+    /// At the entry.
+    pub fn new(state: State<Value>) -> Here {
+        Here {
+            begun: None,
+            known: Known {
+                state,
+                is_live: true,
+            },
         }
-        None => here,
+    }
+
+    /// Comes to the slot. A statement there is told of, and begins a segment.
+    fn arrive(&mut self, out: &mut Text, program: &Program<'_>, slot: usize) {
+        if let Some(target) = stated_at(&program.targets, slot) {
+            push_statement(out, target);
+            self.begun = Some(slot);
+            self.known = Known {
+                state: reset(entry_state(program.memory), target),
+                is_live: true,
+            };
+        }
+    }
+
+    /// Tells what is known at the slot.
+    fn push(&self, out: &mut Text, program: &Program<'_>, slot: usize) {
+        if self.known.is_live {
+            push_known(out, program.live_at(slot), self.begun, &self.known.state)
+        } else {
+            out.push("    no run comes here\n")
+        }
+    }
+
+    /// Goes on behind the instruction. Whether it isn't refused.
+    fn follow(&mut self, program: &Program<'_>, slot: usize, instruction: Instruction) -> bool
+        requires small { slot < 4096 }
+        requires here { slice_get program.now.code.now slot ≡ Some (Start instruction) }
+    {
+        if !self.known.is_live {
+            return true;
+        }
+        let before = copy_of(program.memory, &self.known.state);
+        match known_behind(program, self.begun, before, slot, instruction) {
+            Ok(known) => {
+                self.known = known;
+                true
+            }
+            Err(_) => false,
+        }
+    }
+
+    /// What is wrong at the instruction that the verifier refuses by this rule.
+    fn push_fault(
+        &self,
+        out: &mut Text,
+        program: &Program<'_>,
+        slot: usize,
+        rule: Rule,
+        instruction: &Instruction,
+    )
+        requires { slot < 4096 }
+    {
+        match rule {
+            Rule::NotWithin | Rule::Rank => {
+                let ways = Ways {
+                    memory: program.memory,
+                    targets: &program.targets,
+                    segment: program.segment(self.begun),
+                    slot: Some(slot),
+                };
+                ways.push(out, program.hook, slot, instruction, &self.known.state)
+            }
+            Rule::Target | Rule::FallsOff | Rule::Unreached | Rule::Unstated => {
+                push_misplaced(out, slot, instruction, rule)
+            }
+            _ => push_reason(out, program.hook, &self.known.state, instruction, rule),
+        }
+    }
+
+    /// Tells of the slot, and goes on behind its instruction. Where the verifier refuses it, says
+    /// what is wrong there. Whether it goes on.
+    fn pass(
+        &mut self,
+        page: &mut Page<'_>,
+        program: &Program<'_>,
+        slot: usize,
+        instruction: Instruction,
+    ) -> bool
+        requires small { slot < 4096 }
+        requires here { slice_get program.now.code.now slot ≡ Some (Start instruction) }
+    {
+        page.turn(slot);
+        self.arrive(&mut page.here, program, slot);
+        self.push(&mut page.here, program, slot);
+        match program.rule_at(slot) {
+            Some(rule) => {
+                self.push_fault(&mut page.reasons, program, slot, rule, &instruction);
+                false
+            }
+            None => self.follow(program, slot, instruction),
+        }
     }
 }
 
-/// Tells what is known at the slot.
-fn push_here(out: &mut Text, program: &Program<'_>, here: &Here<'_>, slot: usize) {
-    if here.known.is_live {
-        push_known(out, program.live_at(slot), here.begun, &here.known.state)
-    } else {
-        out.push("    no run comes here\n")
-    }
-}
-
-/// What is known behind the instruction. None where it is refused.
-fn followed<'a>(
-    program: &Program<'a>,
-    here: Here<'a>,
-    slot: usize,
-    instruction: Instruction,
-) -> Option<Here<'a>>
-    requires small { slot < 4096 }
-    requires here { slice_get program.now.code.now slot ≡ Some (Start instruction) }
-{
-    if !here.known.is_live {
-        return Some(here);
-    }
-    let Here {
-        segment,
-        begun,
-        known,
-    } = here;
-    match known_behind(program, segment, known.state, slot, instruction) {
-        Ok(known) => Some(Here {
-            segment,
-            begun,
-            known,
-        }),
-        Err(_) => None,
-    }
-}
-
-/// The same, of what is known in this segment.
+/// What is known behind the instruction, of what is known in the segment that begins there.
 fn known_behind(
     program: &Program<'_>,
-    segment: &Target<'_, Value>,
+    begun: Option<usize>,
     state: State<Value>,
     slot: usize,
     instruction: Instruction,
@@ -120,98 +180,28 @@ fn known_behind(
     requires here { slice_get program.now.code.now slot ≡ Some (Start instruction) }
 {
     let code = program.code;
-    let targets = program.targets;
-    check_places(code, targets, true, slot, &instruction)?;
-    follow(
-        code,
-        program.hook,
-        targets,
-        segment,
-        state,
-        slot,
-        instruction,
-    )
-}
-
-/// What is wrong at the instruction that the verifier refuses by this rule.
-fn push_fault(
-    out: &mut Text,
-    program: &Program<'_>,
-    here: Here<'_>,
-    slot: usize,
-    rule: Rule,
-    instruction: &Instruction,
-)
-    requires { slot < 4096 }
-{
-    match rule {
-        Rule::NotWithin | Rule::Rank => {
-            let ways = Ways {
-                targets: program.targets,
-                segment: here.segment,
-                slot: Some(slot),
-            };
-            push_ways(
-                out,
-                &ways,
-                program.hook,
-                slot,
-                instruction,
-                here.known.state,
-            )
-        }
-        Rule::Target | Rule::FallsOff | Rule::Unreached | Rule::Unstated => {
-            push_misplaced(out, slot, instruction, rule)
-        }
-        _ => push_reason(out, program.hook, &here.known.state, instruction, rule),
-    }
-}
-
-/// Tells of the slot, and goes on behind its instruction. Where the verifier refuses it, says what
-/// is wrong there, and goes on nowhere.
-fn passed<'a>(
-    page: &mut Page<'_>,
-    program: &Program<'a>,
-    here: Here<'a>,
-    slot: usize,
-    instruction: Instruction,
-) -> Option<Here<'a>>
-    requires small { slot < 4096 }
-    requires here { slice_get program.now.code.now slot ≡ Some (Start instruction) }
-{
-    page.turn(slot);
-    let here = arrived(&mut page.here, program, slot, here);
-    push_here(&mut page.here, program, &here, slot);
-    match program.rule_at(slot) {
-        Some(rule) => {
-            push_fault(&mut page.reasons, program, here, slot, rule, &instruction);
-            None
-        }
-        None => followed(program, here, slot, instruction),
+    let targets = program.targets.as_slice();
+    match check_places(code, targets, true, slot, &instruction) {
+        Ok(()) => follow(
+            code,
+            program.hook,
+            targets,
+            program.segment(begun),
+            state,
+            slot,
+            instruction,
+        ),
+        Err(rule) => Err(rule),
     }
 }
 
 /// Passes over the code as the verifier does, up to the slot that it refuses, and says what is
 /// wrong there.
-pub(crate) fn push_pass<'a>(
-    page: &mut Page<'_>,
-    program: &Program<'a>,
-    entry: &'a Target<'a, Value>,
-    first: State<Value>,
-) {
-    let mut here = Here {
-        segment: entry,
-        begun: None,
-        known: Known {
-            state: first,
-            is_live: true,
-        },
-    };
+pub(crate) fn push_pass(page: &mut Page<'_>, program: &Program<'_>, here: &mut Here) {
     for slot in 0..program.code.len() {
         if let Some(Slot::Start(instruction)) = program.code.at(slot as u64) {
-            match passed(page, program, here, slot, instruction) {
-                Some(next) => here = next,
-                None => return,
+            if !here.pass(page, program, slot, instruction) {
+                return;
             }
         } else if program.rule_at(slot).is_some() {
             return push_stray(&mut page.reasons, slot);

@@ -10,6 +10,7 @@ use isa::DecodeError;
 use object::ReadError;
 use object_runs::RunError;
 use std::alloc::{AllocError, AllocFailed};
+use std::fmt;
 use thiserror::Error;
 
 /// The statuses that the program ends with.
@@ -24,7 +25,7 @@ pub const OUTSIDE: u8 = 3;
 pub const MEMORY: u8 = 4;
 
 /// Why a command didn't do what it was asked. The text is the line that is printed.
-#[derive(Debug, Drop, Error)]
+#[derive(Drop, Error)]
 pub enum Fault<'a> {
     /// A file can't be opened or read.
     #[error("cannot read {path}")]
@@ -54,6 +55,12 @@ pub enum Fault<'a> {
     /// An allocation was refused.
     #[error("out of memory")]
     Memory,
+}
+
+impl fmt::Debug for Fault<'_> {
+    fn fmt<W: fmt::Write>(&self, f: &mut fmt::Formatter<W>) -> fmt::Result {
+        fmt::Display::fmt(self, f)
+    }
 }
 
 impl<'a> From<AllocError> for Fault<'a> {

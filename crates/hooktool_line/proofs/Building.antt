@@ -35,13 +35,13 @@ pub extends_all : (before after : Command) (words : List Word) (i : ℕ) → len
 extends_all before after words i le so_far = subst (λ (ws : List Word). ExtendsBy before ws after) (take_all i words le) so_far
 
 -- a command with all of its words
-pub leaf : {E : Type 0} (command : Command) (words : List Word) (name : Text) (r : Result Command E) → IfOk r (ExtendsBy command words)
-    → app_of command ≡ new_app name → IsLocal command → IfOk r (IsLeaf (with_words (new_app name) words).top)
-leaf {E} command words name (Ok after) by is local = record {
-  shape = ap (λ (app : App). app.top) (by.app ∙ ap (λ (app : App). with_words app words) is);
+pub leaf : {E : Type 0} (command : Command) (form : Form) (r : Result Command E) → IfOk r (ExtendsBy command form.words.now)
+    → app_of command ≡ new_app form.name.now → IsLocal command → IfOk r (IsLeaf form)
+leaf {E} command form (Ok after) by is local = record {
+  app = by.app ∙ ap (λ (app : App). with_words app form.words.now) is;
   local = by.local local;
 }
-leaf {E} command words name (Err error) by is local = tt
+leaf {E} command form (Err error) by is local = tt
 
 -- ---- a command line with commands
 
@@ -52,11 +52,6 @@ form_more (first ∷ forms) form app = form_more forms form (with_subcommand app
 
 pub has_none : (line : Command) (forms : List Form) → HasCommands line (take 0 forms) line
 has_none line forms = record { app = refl }
-
-pub has_one : {E : Type 0} (before sub : Command) (form : Form) (r : Result Command E) → IsLeaf (shape_for form) sub
-    → IfOk r (AddsSubcommand before sub) → IfOk r (HasCommand before form)
-has_one {E} before sub form (Ok after) leaf adds = record { app = adds.shape leaf.local ∙ ap (with_subcommand (app_of before)) leaf.shape }
-has_one {E} before sub form (Err error) leaf adds = tt
 
 pub has_more : (before between after : Command) (forms : List Form) (i : ℕ) (d : Form) → i < length forms
     → HasCommand between (get_or forms i d) after → HasCommands before (take i forms) between → HasCommands before (take (i + 1) forms) after

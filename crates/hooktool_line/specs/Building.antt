@@ -1,6 +1,6 @@
 -- Commands that are built of tables, word by word.
 use Rattle.std.specs.Prelude.{◌≡◌, false, List, [], ◌∷◌}
-use Rattle.clap.specs.Simple.{App, Shape, app_of, new_app, shape_of, with_rule, with_subcommand}
+use Rattle.clap.specs.Simple.{App, Shape, app_of, new_app, with_rule, with_subcommand}
 use Rattle.clap.specs.Walk.{Rule, Text}
 use Rattle.clap.specs.declared.builder.command.Command.{Command}
 use Rattle.clap.specs.declared.builder.command.Command.TheViews.{out-Command}
@@ -34,12 +34,15 @@ pub record ExtendsBy (before : Command) (words : List Word) (after : Command) : 
   pub local : IsLocal before → IsLocal after
 
 -- the command of a form
-abbrev pub shape_for : Form → Shape
-shape_for form = (with_words (new_app form.name.now) form.words.now).top
+abbrev pub app_for : Form → App
+app_for form = with_words (new_app form.name.now) form.words.now
 
--- a command of this shape
-pub record IsLeaf (wanted : Shape) (c : Command) : Type 0 where
-  pub shape : shape_of c ≡ wanted
+abbrev pub shape_for : Form → Shape
+shape_for form = (app_for form).top
+
+-- the command of this form, without commands of its own
+pub record IsLeaf (form : Form) (c : Command) : Type 0 where
+  pub app : app_of c ≡ app_for form
   pub local : IsLocal c
 
 -- the line with one more command

@@ -5,7 +5,7 @@ ghost use Rattle.clap.specs.Simple.{app_of};
 ghost use Rattle.clap.specs.Values.{kind_of};
 ghost use Rattle.clap.specs.Walk.{rule_of};
 ghost use Rattle.hooktool_line.specs.Building.{ExtendsBy, HasCommand, HasCommands, IsLeaf};
-ghost use Rattle.hooktool_line.specs.Building.{rule_for, shape_for};
+ghost use Rattle.hooktool_line.specs.Building.{rule_for};
 ghost use Rattle.hooktool_line.specs.CommandLine as line;
 
 use clap::error::ErrorKind;
@@ -276,6 +276,14 @@ const COMMANDS: [Form; 3] = [
     },
 ];
 
+/// The command line, but for its commands.
+const LINE: Form = Form {
+    name: "hooktool",
+    about: ABOUT,
+    more: WORKED,
+    words: &[],
+};
+
 // A word, as an argument of a command.
 fn argument<'a>(alloc: Global, word: &Word) -> Arg<'a>
     ensures rule { rule_of result ≡ rule_for word.now }
@@ -308,7 +316,7 @@ fn with_words<'a>(
 
 // The command of this form.
 fn command_of<'a>(alloc: Global, form: &Form) -> Result<Command<'a>, AllocError>
-    ensures { IfOk result (IsLeaf (shape_for form.now)) }
+    ensures { IfOk result (IsLeaf form.now) }
 {
     let command = Command::new(alloc, form.name)
         .about(form.about)
@@ -324,8 +332,10 @@ fn with_command<'a>(
 ) -> Result<Command<'a>, AllocError>
     ensures { IfOk result (HasCommand line.entry form.now) }
 {
-    let command = command_of(alloc, form)?;
-    line.subcommand(command)
+    match command_of(alloc, form) {
+        Ok(command) => line.subcommand(command),
+        Err(error) => Err(error),
+    }
 }
 
 // The command line with these commands, in their order.
@@ -347,19 +357,23 @@ fn with_commands<'a>(
 pub(crate) fn whole<'a>(alloc: Global) -> Result<Command<'a>, AllocError>
     ensures { IfOk result (λ c. app_of c ≡ line.line) }
 {
-    let line = Command::new(alloc, "hooktool")
-        .about(ABOUT)
-        .after_help(WORKED)
-        .subcommand_required(true)
-        .arg_required_else_help(true);
-    with_commands(alloc, line, &COMMANDS)
+    match command_of(alloc, &LINE) {
+        Ok(line) => {
+            let line = line.subcommand_required(true).arg_required_else_help(true);
+            with_commands(alloc, line, &COMMANDS)
+        }
+        Err(error) => Err(error),
+    }
 }
 
 /// An error about the words of a command line.
 fn error(alloc: Global, kind: ErrorKind, text: &str) -> Result<Error, AllocError>
     ensures { IfOk result (λ error. kind_of error ≡ kind) }
 {
-    whole(alloc)?.error(kind, text)
+    match whole(alloc) {
+        Ok(mut line) => line.error(kind, text),
+        Err(error) => Err(error),
+    }
 }
 
 /// An error about a wrong word, or want of memory.

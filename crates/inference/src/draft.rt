@@ -28,6 +28,8 @@ pub struct Draft {
     pub has_changed: bool,
     /// Whether the segment that begins at the entry is still to be passed over.
     pub is_new: bool,
+    /// Where bounds that grow stop.
+    limits: Vec<u64>,
     /// Whose segments are still to be passed over, since their statements have changed.
     waiting: Vec<bool>,
     /// How often the statements have changed.
@@ -41,17 +43,16 @@ pub struct Draft {
 }
 
 /// An edge to a site: the site's slot, the site that the edge comes from, or the number behind the
-/// last one's for the entry, whether it is a jump back, and whether one goes there, which registers
-/// may still be read there, and where bounds that grow there stop.
+/// last one's for the entry, whether it is a jump back, and whether one goes there, and which
+/// registers may still be read there.
 #[derive(Clone, Copy)]
-pub struct Arrival<'a> {
+pub struct Arrival {
     pub slot: usize,
     pub site: usize,
     pub from: usize,
     pub is_back: bool,
     pub is_head: bool,
     pub live: Registers,
-    pub limits: &'a [u64],
 }
 
 /// How often a statement grows as it does, and then to limits; after that its bounds are given up.
@@ -69,31 +70,15 @@ fn widening_after(changes: u32) -> Widening {
     }
 }
 
-/// What is stated at the edge's site once it admits what is known at the edge.
-fn grown(
-    widening: Widening,
-    old: Option<Statement>,
-    arrival: &Arrival<'_>,
-    state: &State<Value>,
-) -> Option<Statement> {
-    let growth = Growth {
-        widening,
-        limits: arrival.limits,
-    };
-    match old {
-        Some(old) => joined_statement(growth, &old, arrival.live, state),
-        None => first_statement(arrival.slot, arrival.live, state),
-    }
-}
-
 impl Draft {
-    /// No statements yet, of so many sites.
-    pub fn new(memory: &Memory, size: usize) -> Draft {
+    /// No statements yet, of so many sites. Bounds that grow stop at these limits.
+    pub fn new(memory: &Memory, size: usize, limits: Vec<u64>) -> Draft {
         Draft {
             purpose: Purpose::Rise,
             is_lenient: false,
             has_changed: false,
             is_new: true,
+            limits,
             waiting: memory.filled(false, size),
             changes: memory.filled(0, size),
             kept: memory.filled(false, size),
@@ -189,7 +174,7 @@ impl Draft {
     }
 
     /// How the bounds at the edge's site grow.
-    fn widening_at(&self, arrival: &Arrival<'_>) -> Widening {
+    fn widening_at(&self, arrival: &Arrival) -> Widening {
         if arrival.is_head & self.is_rising() {
             widening_after(element_or(&self.changes, arrival.site, 0))
         } else {
@@ -206,11 +191,28 @@ impl Draft {
         }
     }
 
+    /// What is stated at the edge's site, once this one admits what is known at the edge.
+    fn grown(
+        &self,
+        old: Option<Statement>,
+        arrival: &Arrival,
+        state: &State<Value>,
+    ) -> Option<Statement> {
+        let growth = Growth {
+            widening: self.widening_at(arrival),
+            limits: &self.limits,
+        };
+        match old {
+            Some(old) => joined_statement(growth, &old, arrival.live, state),
+            None => first_statement(arrival.slot, arrival.live, state),
+        }
+    }
+
     /// Lets the statement at the edge's site, or what a falling pass found, admit what is known at
     /// the edge.
-    fn grow(&mut self, arrival: &Arrival<'_>, state: &State<Value>) {
+    fn grow(&mut self, arrival: &Arrival, state: &State<Value>) {
         let old = self.last(arrival.site);
-        let next = grown(self.widening_at(arrival), old, arrival, state);
+        let next = self.grown(old, arrival, state);
         if !self.is_rising() {
             put(&mut self.found, arrival.site, next)
         } else if next != old {
@@ -218,7 +220,7 @@ impl Draft {
         }
     }
 
-    fn gather(&mut self, memory: &Memory, arrival: &Arrival<'_>, state: &State<Value>) {
+    fn gather(&mut self, memory: &Memory, arrival: &Arrival, state: &State<Value>) {
         let edge = Edge {
             from: arrival.from,
             to: arrival.site,
@@ -229,7 +231,7 @@ impl Draft {
     }
 
     /// Takes an edge, at which this is known.
-    pub fn take(&mut self, memory: &Memory, arrival: &Arrival<'_>, state: &State<Value>) {
+    pub fn take(&mut self, memory: &Memory, arrival: &Arrival, state: &State<Value>) {
         if matches!(self.purpose, Purpose::Gather) {
             self.gather(memory, arrival, state)
         } else if !element_or(&self.kept, arrival.site, false) {

@@ -2,7 +2,7 @@
 
 use crate::draft::{Draft, Purpose};
 use crate::edges::Edge;
-use crate::flow::Program;
+use crate::flow::{Passes, Program};
 use crate::liveness::live_registers;
 use crate::memory::Memory;
 use crate::sites::{Sites, sites_of};
@@ -27,17 +27,17 @@ const MOST_FALLS: usize = 12;
 const MOST_CHANGES: usize = 64;
 
 /// Passes over the code once.
-fn pass(program: &Program<'_>, draft: &mut Draft, purpose: Purpose) {
-    draft.begin(purpose);
-    program.pass(draft);
-    draft.settle()
+fn pass(passes: &mut Passes<'_>, purpose: Purpose) {
+    passes.draft.begin(purpose);
+    passes.pass();
+    passes.draft.settle()
 }
 
 /// Passes over the code until another pass would find nothing more, so often at most.
-fn repeat(program: &Program<'_>, draft: &mut Draft, purpose: Purpose, most: usize) {
+fn repeat(passes: &mut Passes<'_>, purpose: Purpose, most: usize) {
     for _ in 0..most {
-        pass(program, draft, purpose);
-        if program.memory.is_refused() | !draft.has_changed {
+        pass(passes, purpose);
+        if passes.program.memory.is_refused() | !passes.draft.has_changed {
             break;
         }
     }
@@ -45,73 +45,62 @@ fn repeat(program: &Program<'_>, draft: &mut Draft, purpose: Purpose, most: usiz
 
 /// Widens the statements until no edge leads out of them, also for edges that no run takes if that
 /// is so, and narrows them to what comes along their edges.
-fn widen_and_narrow(program: &Program<'_>, draft: &mut Draft, is_lenient: bool) {
-    let most = program.sites.len().saturating_mul(MOST_CHANGES);
-    draft.renew();
-    draft.is_lenient = is_lenient;
-    repeat(program, draft, Purpose::Rise, most.saturating_add(1));
-    draft.is_lenient = false;
-    repeat(program, draft, Purpose::Fall, MOST_FALLS)
+fn widen_and_narrow(passes: &mut Passes<'_>, is_lenient: bool) {
+    let most = passes.program.sites.len().saturating_mul(MOST_CHANGES);
+    passes.draft.renew();
+    passes.draft.is_lenient = is_lenient;
+    repeat(passes, Purpose::Rise, most.saturating_add(1));
+    passes.draft.is_lenient = false;
+    repeat(passes, Purpose::Fall, MOST_FALLS)
 }
 
 /// Keeps these statements as they are.
-fn keep(program: &Program<'_>, draft: &mut Draft, kept: &[Statement]) {
+fn keep(passes: &mut Passes<'_>, kept: &[Statement]) {
     for statement in kept {
-        if let Some(site) = program.sites.at(statement.slot() as usize) {
-            draft.keep(site, *statement);
+        if let Some(site) = passes.program.sites.at(statement.slot() as usize) {
+            passes.draft.keep(site, *statement);
         }
     }
 }
 
 /// Finds the statements of the program without ranks, and the edges between them.
-fn find(program: &Program<'_>, draft: &mut Draft) {
-    widen_and_narrow(program, draft, false);
-    widen_and_narrow(program, draft, true);
-    pass(program, draft, Purpose::Gather)
+fn find(passes: &mut Passes<'_>) {
+    widen_and_narrow(passes, false);
+    widen_and_narrow(passes, true);
+    pass(passes, Purpose::Gather)
 }
 
-/// Finds the statements of code with these sites. Those that are kept stay as they are.
-fn find_all(
-    memory: &Memory,
-    code: &Code,
+/// The program of the code at the hook.
+fn program_of<'a>(
+    memory: &'a Memory,
+    code: &'a Code,
     hook: Hook,
     given: &[Statement],
-    are_kept: bool,
-    sites: &Sites,
-    draft: &mut Draft,
-) {
-    let live = memory.list(live_registers(memory.alloc, code, hook));
-    let limits = limits_of(memory, code, given);
-    let program = Program {
+) -> Program<'a> {
+    Program {
         memory,
         code,
         hook,
-        sites,
-        live: &live,
-        limits: &limits,
-    };
-    if are_kept {
-        keep(&program, draft, given)
+        sites: sites_of(memory, code, given),
+        live: memory.list(live_registers(memory.alloc, code, hook)),
     }
-    find(&program, draft)
 }
 
-/// What is found for the code, as far as memory goes.
-fn inferred(
-    memory: &Memory,
-    code: &Code,
-    hook: Hook,
-    given: &[Statement],
-    are_kept: bool,
-) -> Inference {
-    let sites = sites_of(memory, code, given);
-    let mut draft = Draft::new(memory, sites.len());
-    find_all(memory, code, hook, given, are_kept, &sites, &mut draft);
-    let Draft { stated, edges, .. } = draft;
+/// What passes over the program find, as far as memory goes. The statements of these that are kept
+/// stay as they are.
+fn inferred(program: Program<'_>, given: &[Statement], are_kept: bool) -> Inference {
+    let limits = limits_of(program.memory, program.code, given);
+    let draft = Draft::new(program.memory, program.sites.len(), limits);
+    let mut passes = Passes::new(program, draft);
+    if are_kept {
+        keep(&mut passes, given)
+    }
+    find(&mut passes);
+    let Passes { program, draft, .. } = passes;
     Inference {
-        sites,
-        stated,
-        edges,
+        sites: program.sites,
+        stated: draft.stated,
+        edges: draft.edges,
     }
 }
 
@@ -126,5 +115,6 @@ pub fn infer_statements(
     are_kept: bool,
 ) -> Result<Inference, AllocError> {
     let memory = Memory::new(alloc);
-    memory.enough(inferred(&memory, code, hook, given, are_kept))
+    let program = program_of(&memory, code, hook, given);
+    memory.enough(inferred(program, given, are_kept))
 }

@@ -18,14 +18,13 @@ use transfer::load::any_loaded;
 use transfer::straight::straight;
 
 /// A program, and what doesn't change from pass to pass.
-#[derive(Clone, Copy)]
+#[derive(Drop)]
 pub struct Program<'a> {
     pub memory: &'a Memory,
     pub code: &'a Code,
     pub hook: Hook,
-    pub sites: &'a Sites,
-    pub live: &'a [Registers],
-    pub limits: &'a [u64],
+    pub sites: Sites,
+    pub live: Vec<Registers>,
 }
 
 /// What is known at a slot: in the segment that begins at the site, or at the entry, which has the
@@ -39,6 +38,15 @@ struct Here {
     is_idle: bool,
 }
 
+/// Passes over a program: the statements so far, and what is known at the slot that the last one
+/// has come to.
+#[derive(Drop)]
+pub struct Passes<'a> {
+    pub program: Program<'a>,
+    pub draft: Draft,
+    here: Here,
+}
+
 /// A conditional jump.
 #[derive(Clone, Copy)]
 struct Branch {
@@ -49,8 +57,8 @@ struct Branch {
     to: usize,
 }
 
-/// What is known where a run begins.
-fn start(memory: &Memory) -> State<Value> {
+/// What is known where a run begins: r1 points to the context.
+pub fn entry_state(memory: &Memory) -> State<Value> {
     let mut kinds = memory.filled(Kind::Empty, 10);
     put(&mut kinds, 1, Kind::Pointer(Place::Context(0)));
     State {
@@ -77,55 +85,75 @@ fn narrow(here: &mut Here, branch: &Branch, values: Option<(Value, Value)>) {
     }
 }
 
-impl<'a> Program<'a> {
+/// What is known at the entry of a program with so many sites.
+fn entry(memory: &Memory, sites: usize, is_live: bool) -> Here {
+    Here {
+        begun: sites,
+        state: entry_state(memory),
+        is_live,
+        is_idle: false,
+    }
+}
+
+impl<'a> Passes<'a> {
+    /// No pass yet.
+    pub fn new(program: Program<'a>, draft: Draft) -> Passes<'a> {
+        let here = entry(program.memory, program.sites.len(), false);
+        Passes {
+            program,
+            draft,
+            here,
+        }
+    }
+
     fn live_at(&self, slot: usize) -> Registers {
-        element_or(self.live, slot, 0)
+        element_or(&self.program.live, slot, 0)
     }
 
     /// Takes the edge to the site at the slot.
-    fn enter_site(&self, draft: &mut Draft, here: &Here, slot: usize, site: usize, is_back: bool) {
+    fn enter_site(&mut self, slot: usize, site: usize, is_back: bool) {
         let arrival = Arrival {
             slot,
             site,
-            from: here.begun,
+            from: self.here.begun,
             is_back,
-            is_head: self.sites.is_head(site),
+            is_head: self.program.sites.is_head(site),
             live: self.live_at(slot),
-            limits: self.limits,
         };
-        draft.take(self.memory, &arrival, &here.state)
+        self.draft
+            .take(self.program.memory, &arrival, &self.here.state)
     }
 
     /// Takes the edge to a slot, if that has a statement.
-    fn enter(&self, draft: &mut Draft, here: &Here, to: usize, is_back: bool) {
-        if let Some(site) = self.sites.at(to) {
-            if !here.is_idle || draft.lacks(site) {
-                self.enter_site(draft, here, to, site, is_back)
+    fn enter(&mut self, to: usize, is_back: bool) {
+        if let Some(site) = self.program.sites.at(to) {
+            if !self.here.is_idle || self.draft.lacks(site) {
+                self.enter_site(to, site, is_back)
             }
         }
     }
 
     /// Goes on to the next slot. Where that has a statement, it is entered, and begins with that.
-    fn go_on(&self, draft: &mut Draft, here: &mut Here, next: usize) {
-        self.enter(draft, here, next, false);
-        let is_followed = !here.is_idle | draft.is_lenient;
-        here.is_live = is_followed & self.sites.at(next).is_none();
+    fn go_on(&mut self, next: usize) {
+        self.enter(next, false);
+        let is_followed = !self.here.is_idle | self.draft.is_lenient;
+        self.here.is_live = is_followed & self.program.sites.at(next).is_none();
     }
 
     /// Goes to the target of a jump, if the instruction is one.
-    fn leave(&self, draft: &mut Draft, here: &mut Here, slot: usize, to: Option<usize>) {
+    fn leave(&mut self, slot: usize, to: Option<usize>) {
         if let Some(to) = to {
-            self.enter(draft, here, to, to <= slot);
+            self.enter(to, to <= slot);
         }
-        here.is_live = false;
+        self.here.is_live = false;
     }
 
     /// Goes both ways from a conditional jump.
-    fn branch(&self, draft: &mut Draft, here: &mut Here, slot: usize, branch: &Branch)
+    fn branch(&mut self, slot: usize, branch: &Branch)
         requires { slot < 4096 }
     {
         let tested = tested(
-            &here.state,
+            &self.here.state,
             branch.width,
             branch.test,
             branch.left,
@@ -133,75 +161,70 @@ impl<'a> Program<'a> {
         );
         // Where the verifier refuses it, both ways go on with what is known.
         if let Ok(edges) = tested {
-            self.part(draft, here, slot, branch, edges)
+            self.part(slot, branch, edges)
         } else {
-            self.enter(draft, here, branch.to, branch.to <= slot);
-            self.go_on(draft, here, slot + 1)
+            self.enter(branch.to, branch.to <= slot);
+            self.go_on(slot + 1)
         }
     }
 
     /// Goes each of the two ways that a run may go.
-    fn part(
-        &self,
-        draft: &mut Draft,
-        here: &mut Here,
-        slot: usize,
-        branch: &Branch,
-        edges: Edges<Value>,
-    )
+    fn part(&mut self, slot: usize, branch: &Branch, edges: Edges<Value>)
         requires { slot < 4096 }
     {
-        let was_idle = here.is_idle;
-        narrow(here, branch, edges.taken);
-        self.enter(draft, here, branch.to, branch.to <= slot);
-        here.is_idle = was_idle;
-        narrow(here, branch, edges.passed);
-        self.go_on(draft, here, slot + 1)
+        let was_idle = self.here.is_idle;
+        narrow(&mut self.here, branch, edges.taken);
+        self.enter(branch.to, branch.to <= slot);
+        self.here.is_idle = was_idle;
+        narrow(&mut self.here, branch, edges.passed);
+        self.go_on(slot + 1)
     }
 
     /// Goes on behind an instruction that is no jump.
-    fn straight(&self, draft: &mut Draft, here: &mut Here, slot: usize, instruction: Instruction)
+    fn straight(&mut self, slot: usize, instruction: Instruction)
         requires { slot < 4096 }
     {
         let next = slot + slots_of(&instruction);
-        let before = copy_of(self.memory, &here.state);
-        follow(here, before, self.hook, instruction);
-        self.go_on(draft, here, next)
+        let before = copy_of(self.program.memory, &self.here.state);
+        follow(&mut self.here, before, self.program.hook, instruction);
+        self.go_on(next)
     }
 
     /// States a site that nothing came to, so that the verifier has something to say of it.
-    fn fill(&self, draft: &mut Draft, site: usize, slot: usize) {
-        if draft.lacks(site) {
-            draft.assume(site, idle_statement(slot, self.live_at(slot)))
+    fn fill(&mut self, site: usize, slot: usize) {
+        if self.draft.lacks(site) {
+            let statement = idle_statement(slot, self.live_at(slot));
+            self.draft.assume(site, statement)
         }
     }
 
     /// Begins a segment at the site of which this is stated.
-    fn begin(&self, here: &mut Here, site: usize, statement: &Statement) {
-        match target_of(self.memory.alloc, statement) {
-            Ok(target) => begin_at(self.memory, here, site, &target),
-            Err(_) => self.memory.note(true),
+    fn begin(&mut self, site: usize, statement: &Statement) {
+        let memory = self.program.memory;
+        match target_of(memory.alloc, statement) {
+            Ok(target) => begin_at(memory, &mut self.here, site, &target),
+            Err(_) => memory.note(true),
         }
     }
 
     /// Comes to the slot. A statement there begins a segment, if that is to be passed over now.
-    fn arrive(&self, draft: &mut Draft, here: &mut Here, slot: usize) {
-        if let Some(site) = self.sites.at(slot) {
-            here.is_live = false;
-            self.fill(draft, site, slot);
-            if let Some(statement) = draft.due(site) {
-                self.begin(here, site, &statement)
+    fn arrive(&mut self, slot: usize) {
+        if let Some(site) = self.program.sites.at(slot) {
+            self.here.is_live = false;
+            self.fill(site, slot);
+            if let Some(statement) = self.draft.due(site) {
+                self.begin(site, &statement)
             }
         }
     }
 
     /// Goes on by the instruction at the slot.
-    fn step(&self, draft: &mut Draft, here: &mut Here, slot: usize, instruction: Instruction)
+    fn step(&mut self, slot: usize, instruction: Instruction)
         requires { slot < 4096 }
     {
         match instruction {
             Instruction::Jump { .. } | Instruction::LongJump { .. } | Instruction::Exit => {
-                self.leave(draft, here, slot, jump_of(slot, &instruction))
+                self.leave(slot, jump_of(slot, &instruction))
             }
             Instruction::Branch {
                 width,
@@ -217,53 +240,44 @@ impl<'a> Program<'a> {
                     right,
                     to: jumped_near(slot, distance),
                 };
-                self.branch(draft, here, slot, &branch)
+                self.branch(slot, &branch)
             }
-            _ => self.straight(draft, here, slot, instruction),
+            _ => self.straight(slot, instruction),
         }
     }
 
     /// Comes to the instruction at the slot, and goes on by it.
-    fn visit(&self, draft: &mut Draft, here: &mut Here, slot: usize, instruction: Instruction)
+    fn visit(&mut self, slot: usize, instruction: Instruction)
         requires { slot < 4096 }
     {
-        self.arrive(draft, here, slot);
-        if here.is_live {
-            self.step(draft, here, slot, instruction)
-        }
-    }
-
-    /// Passes over the code, from what is known where a run begins.
-    fn pass_from(&self, draft: &mut Draft, here: &mut Here) {
-        for slot in 0..self.code.len() {
-            if let Some(Slot::Start(instruction)) = self.code.at(slot as u64) {
-                self.visit(draft, here, slot, instruction)
-            }
-        }
-    }
-
-    /// What is known where a run begins.
-    fn entry(&self, draft: &mut Draft) -> Here {
-        Here {
-            begun: self.sites.len(),
-            state: start(self.memory),
-            is_live: draft.is_entry_due(),
-            is_idle: false,
+        self.arrive(slot);
+        if self.here.is_live {
+            self.step(slot, instruction)
         }
     }
 
     /// Passes over the code once. Where slot 0 has a statement, that is entered, by no jump back:
     /// the edge comes from before the first slot.
-    pub fn pass(&self, draft: &mut Draft) {
-        let mut here = self.entry(draft);
-        self.enter(draft, &here, 0, false);
-        self.pass_from(draft, &mut here)
+    pub fn pass(&mut self) {
+        let program = &self.program;
+        self.here = entry(
+            program.memory,
+            program.sites.len(),
+            self.draft.is_entry_due(),
+        );
+        self.enter(0, false);
+        let code = self.program.code;
+        for slot in 0..code.len() {
+            if let Some(Slot::Start(instruction)) = code.at(slot as u64) {
+                self.visit(slot, instruction)
+            }
+        }
     }
 }
 
 /// What is known at a site that begins with this.
 fn begin_at(memory: &Memory, here: &mut Here, site: usize, target: &Target<'_, Value>) {
-    here.state = reset(start(memory), target);
+    here.state = reset(entry_state(memory), target);
     here.begun = site;
     here.is_live = true;
     here.is_idle = false;

@@ -12,7 +12,8 @@ pub mod memory;
 mod sites;
 mod widening;
 
-pub use edges::Edge;
+pub use edges::{Edge, copy_of};
 pub use fixpoint::{Inference, infer_statements};
+pub use flow::entry_state;
 pub use joining::Value;
 pub use sites::Sites;
