@@ -47,7 +47,7 @@ pub enum Fault<'a> {
     #[error("{reason}")]
     Uncounted { reason: &'static str },
     /// The words of the command line are wrong: the text says how.
-    #[error("{0}")]
+    #[error(transparent)]
     Usage(clap::Error),
     /// The output can't be written.
     #[error("cannot write the output")]

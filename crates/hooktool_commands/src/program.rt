@@ -68,8 +68,8 @@ pub fn end_without_words<O: Write, E: Write>(
 }
 
 // What a request makes, or why it can't be carried out.
-fn made_of<'a, R: Files + AllocGlobal>(rt: &R, request: &Request<'a>) -> Result<Report, Fault<'a>>
-    ensures { IfOk result (IsMadeOf request.now) }
+fn made_of<'a, R: Files + AllocGlobal>(rt: &R, request: Request<'a>) -> Result<Report, Fault<'a>>
+    ensures { IfOk result (IsMadeOf request.entry) }
 {
     match request {
         Request::Annotate {
@@ -77,9 +77,9 @@ fn made_of<'a, R: Files + AllocGlobal>(rt: &R, request: &Request<'a>) -> Result<
             code,
             object,
             fuel,
-        } => annotate(rt, *hook, code, object, *fuel),
+        } => annotate(rt, hook, code, object, fuel),
         Request::Explain { object } => explain(rt, object),
-        Request::Try { object, question } => try_question(rt, object, question),
+        Request::Try { object, question } => try_question(rt, object, &question),
     }
 }
 
@@ -88,7 +88,7 @@ fn outcome_of<'a, R: Files + AllocGlobal>(rt: &R, words: &'a [&'a str]) -> Resul
     ensures { IsOutcomeOf (map (λ word. word.now) words.entry.now) result }
 {
     match hooktool_line::parse(rt.alloc(), words) {
-        Ok(request) => made_of(rt, &request),
+        Ok(request) => made_of(rt, request),
         Err(error) => Err(Fault::from(error)),
     }
 }

@@ -1,6 +1,7 @@
 //! A trial: a program's runs on one question, and what they left.
 ghost use Rattle.std.specs.Prelude.{IfOk, IfErr};
-ghost use Rattle.hooktool_commands.specs.Runs.{IsRefusal, IsTrialOn};
+ghost use Rattle.machine.specs.Given.{given_by};
+ghost use Rattle.hooktool_commands.specs.Runs.{IsRefusal, IsTrial, IsTrialOn};
 
 use super::error::TrialError;
 use super::left::cells_of;
@@ -17,6 +18,27 @@ pub struct Trial {
     pub endings: Vec<Ending>,
     pub counters: [u64; 256],
     pub cells: [u64; 64],
+}
+
+/// Runs the program of the object file that these bytes are so many times in a row on the input, on
+/// a new table.
+fn try_on(alloc: Global, bytes: &[u8], input: &Input, times: u32) -> Result<Trial, TrialError>
+    ensures trial { IfOk result (IsTrial bytes.now (given_by input.now) times) }
+    ensures refuses { IfErr result (IsRefusal bytes.now) }
+{
+    let (shared, mut seats) = Shared::new(alloc, 1)?;
+    let mut seat = seats.remove(0);
+    let endings = run_in_a_row(alloc, bytes, times, input, &shared, &mut seat)?;
+    let cells = cells_of(&shared, &mut seat);
+    let mut last = Vec::new(alloc);
+    last.push(seat)?;
+    let totals = shared.close(last);
+    let counters = totals.sums;
+    Ok(Trial {
+        endings,
+        counters,
+        cells,
+    })
 }
 
 /// Runs the program of the object file that these bytes are so many times in a row, at its hook and
@@ -45,17 +67,5 @@ pub fn try_object<'x>(
         packet,
         rows,
     };
-    let (shared, mut seats) = Shared::new(alloc, 1)?;
-    let mut seat = seats.remove(0);
-    let endings = run_in_a_row(alloc, bytes, times, &input, &shared, &mut seat)?;
-    let cells = cells_of(&shared, &mut seat);
-    let mut last = Vec::new(alloc);
-    last.push(seat)?;
-    let totals = shared.close(last);
-    let counters = totals.sums;
-    Ok(Trial {
-        endings,
-        counters,
-        cells,
-    })
+    try_on(alloc, bytes, &input, times)
 }

@@ -1,37 +1,10 @@
-use Rattle.std.proofs.Common.{◌≡◌, ◌∙◌, ◌++◌, ◌∷◌, [], List, ap, arith, get_or, lit<, refl, sym}
-use Rattle.std.specs.List.{sum_by}
-use Rattle.std.proofs.lemmas.List.FromFn.{get_or-map-range_with_len}
+use Rattle.std.proofs.Common.{◌∙◌, ap}
 use Rattle.hooktool_line.specs.Contexts.{asked_context}
 use Rattle.isa.specs.declared.hook.Hook.{Hook}
-use Rattle.maps.specs.Access.{adds_to}
-use Rattle.maps.specs.Words.{SeatView, fresh}
+use Rattle.hooktool_commands.proofs.Tried.{on_question}
 use Rattle.hooktool_commands.proofs.trials.trial.try_object.Goals as goal
 
 pub returns-clause-trial : goal.returns-clause-trial
 returns-clause-trial c =
-    let table = c.in_ok-shared.shared.table in
-    let seat = c.remove-seat.result in
-    let read = c.cells_of-cells.new.seat in
-    let begun : seat ≡ fresh table 0 =
-    c.remove-seat.ensures.value ∙ ap (λ (l : List SeatView). get_or l 0 seat) c.in_ok-shared.ensures.fresh ∙ get_or-map-range_with_len (fresh table) 0 1 0 0 seat (lit< tt) refl in
-    let items : c.push.new.self.items ≡ read ∷ [] =
-    c.in_ok-push.ensures.items ∙ ap (λ (l : List SeatView). l ++ read ∷ []) c.new-last.ensures.items in
-    record {
-      object = c.in_ok-object.object;
-      spells = c.in_ok-object.ensures.found;
-      input = record { context = c.context_of-context.result; packet = c.args.packet.now; rows = c.args.rows.now };
-      context = c.context_of-context.ensures ∙ ap (λ (h : Hook). asked_context h c.args.asked.now c.args.packet.now) c.hook.ensures.value;
-      packet_is = refl;
-      rows_are = refl;
-      trial_is = record {
-        seat = seat;
-        unused = begun ∙ ap (λ t. fresh t 0) (sym (ap (λ (s : SeatView). s.table) begun));
-        seat_after = c.run_in_a_row.new.seat;
-        runs = c.in_ok-endings.ensures.ran;
-        count = c.in_ok-endings.ensures.times;
-        counters = λ k lt.
-            let sums = c.close-totals.ensures.sums k lt ∙ ap (sum_by (λ (s : SeatView). adds_to k s.accesses)) items in
-            omega (arith, sums, c.cells_of-cells.ensures.same.counters k);
-        cells = λ j lt. c.cells_of-cells.ensures.cells j lt;
-      };
-    }
+    on_question _ c.args.asked.now c.in_ok-object.object _ _ c.try_on.result c.in_ok-object.ensures.found
+    (c.context_of-context.ensures ∙ ap (λ (h : Hook). asked_context h c.args.asked.now c.args.packet.now) c.hook.ensures.value) c.try_on.ensures.trial
