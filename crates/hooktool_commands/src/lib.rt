@@ -9,7 +9,7 @@ mod files;
 pub mod program;
 mod report;
 mod traps;
-pub mod trials;
+mod trials;
 mod trying;
 
 pub use fault::Fault;
