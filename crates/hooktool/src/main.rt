@@ -43,5 +43,11 @@ fn arguments(rt: &HostRuntime) -> io::Result<Vec<String>> {
 }
 
 fn texts_of<'a>(alloc: Global, words: &'a [String]) -> Result<Vec<&'a str>, AllocError> {
-    words.iter().map(|word| word.as_str()).collect(alloc)
+    let mut texts = Vec::new(alloc);
+    for word in words {
+        if texts.push(word.as_str()).is_err() {
+            return Err(AllocError);
+        }
+    }
+    Ok(texts)
 }

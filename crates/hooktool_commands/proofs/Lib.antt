@@ -2,5 +2,4 @@ pub mod Explained
 pub mod Found
 pub mod InARow
 pub mod Same
-pub mod Told
 pub mod Tried

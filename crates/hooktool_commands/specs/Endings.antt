@@ -2,16 +2,18 @@
 use Rattle.std.specs.Prelude.{◌≡◌, ◌⊎◌, ℕ, List, Bool, true, false, Option, Result, Ok, Err, IfOk}
 use Rattle.std.specs.Prelude.{string_bytes}
 use Rattle.std.specs.Io.KnownBytes.{Appends}
+use Rattle.clap.specs.Values.{kind_of}
 use Rattle.clap.specs.declared.error.Error.{Error}
-use Rattle.hooktool_line.specs.Requests.{Asks, IsMistake}
+use Rattle.clap.specs.declared.error.ErrorKind.{ErrorKind}
+use Rattle.clap.specs.declared.error.ErrorKind.TheVariants as kinds
+use Rattle.hooktool_line.specs.Requests.{Asks, IsRefusal}
 use Rattle.hooktool_line.specs.declared.requests.Request.{Request}
 use Rattle.hooktool_line.specs.declared.requests.Request.TheVariants as requests
 use Rattle.hooktool_commands.specs.Annotations.{IsAnnotated}
 use Rattle.hooktool_commands.specs.Explanations.{IsExplained}
-use Rattle.hooktool_commands.specs.Statuses.{status_of}
+use Rattle.hooktool_commands.specs.Statuses.{status_of, status_of_words}
 use Rattle.hooktool_commands.specs.Trials.{IsTried, PacketIs}
 use Rattle.hooktool_commands.specs.declared.fault.Fault.{Fault}
-use Rattle.hooktool_commands.specs.declared.fault.Fault.TheVariants as faults
 use Rattle.hooktool_commands.specs.declared.report.Report.{Report}
 
 -- The request was carried out, and this is told: of some file, since no contract says what a file
@@ -22,17 +24,6 @@ IsMadeOf (requests.Annotate hook code object fuel) report =
 IsMadeOf (requests.Explain object) report = (bytes : List ℕ) × IsExplained bytes report
 IsMadeOf (requests.Try object question) report =
     (bytes packet : List ℕ) × PacketIs question.packet packet × IsTried bytes packet question report
-
--- Memory was refused, or the words ask for nothing.
-abbrev pub IsFaultOfWords : List (List ℕ) → Fault → Type 0
-IsFaultOfWords words fault =
-    (fault ≡ faults.Memory) ⊎ ((error : Error) × IsMistake words error
-    × (fault ≡ faults.Usage error))
-
--- What the words ask for was carried out, or the fault is theirs.
-abbrev pub IsOutcomeOf : List (List ℕ) → Result Report Fault → Type 0
-IsOutcomeOf words outcome = ((request : Request) × Asks words request × IfOk outcome (IsMadeOf request))
-    ⊎ ((fault : Fault) × IsFaultOfWords words fault × (outcome ≡ Err fault))
 
 -- a program that is refused and a run that gave no answer have status 1
 abbrev pub status_of_refused : Bool → ℕ
@@ -45,42 +36,42 @@ Prints report old new status =
     (status ≡ 3)
     ⊎ ((status ≡ status_of_refused report.is_refused) × Appends old new (string_bytes report.text))
 
+-- The status is the fault's own, or the text couldn't be told.
+abbrev pub IsTold : Fault → ℕ → Type 0
+IsTold fault status = (status ≡ 3) ⊎ (status ≡ status_of fault)
+
 -- what a writer has, where that is known
 abbrev pub Contents : Type 0
 Contents = Option (List ℕ)
 
--- A text about usage leaves the first writer as it was, and every other text the second.
-abbrev pub LeavesOne : Fault → (output output_after errors errors_after : Contents) → Type 0
-LeavesOne (faults.Usage error) output output_after errors errors_after = output_after ≡ output
-LeavesOne fault output output_after errors errors_after = errors_after ≡ errors
-
--- The status is the fault's own, or the text couldn't be told.
-pub record Tells (fault : Fault) (output output_after errors errors_after : Contents)
-    (status : ℕ) : Type 0 where
-  pub status_is : (status ≡ 3) ⊎ (status ≡ status_of fault)
-  pub other_writer : LeavesOne fault output output_after errors errors_after
-
--- What a command made is printed, and the second writer is as it was; or its fault is told. The
--- status says which it was.
-abbrev pub Ends : Result Report Fault → (output output_after errors errors_after : Contents) → ℕ
-    → Type 0
-Ends (Ok report) output output_after errors errors_after status =
-    Prints report output output_after status × (errors_after ≡ errors)
-Ends (Err fault) output output_after errors errors_after status =
-    Tells fault output output_after errors errors_after status
+-- What a command made is printed, or its fault is told. The status says which it was.
+abbrev pub Ends : Result Report Fault → (output output_after : Contents) → ℕ → Type 0
+Ends (Ok report) output output_after status = Prints report output output_after status
+Ends (Err fault) output output_after status = IsTold fault status
 
 -- What the request made is printed, or why it can't be carried out.
-abbrev pub EndsRequest : Request → (output output_after errors errors_after : Contents) → ℕ → Type 0
-EndsRequest request output output_after errors errors_after status =
+abbrev pub EndsRequest : Request → (output output_after : Contents) → ℕ → Type 0
+EndsRequest request output output_after status =
     (outcome : Result Report Fault) × IfOk outcome (IsMadeOf request)
-    × Ends outcome output output_after errors errors_after status
+    × Ends outcome output output_after status
 
--- What the words ask for is carried out. Else it is told what is wrong with them, or that memory
--- was refused.
+-- A text about usage leaves the first writer as it was, and want of memory the second.
+abbrev pub LeavesOne : ErrorKind → (output output_after errors errors_after : Contents) → Type 0
+LeavesOne kinds.OutOfMemory output output_after errors errors_after = errors_after ≡ errors
+LeavesOne other output output_after errors errors_after = output_after ≡ output
+
+-- What is wrong with the words is told with the status of its kind, or it couldn't be told.
+pub record TellsWords (error : Error) (output output_after errors errors_after : Contents)
+    (status : ℕ) : Type 0 where
+  pub status_is : (status ≡ 3) ⊎ (status ≡ status_of_words (kind_of error))
+  pub other_writer : LeavesOne (kind_of error) output output_after errors errors_after
+
+-- What the words ask for is carried out, and the second writer is as it was. Else it is told what
+-- is wrong with them, or that memory was refused.
 abbrev pub EndsWords : List (List ℕ) → (output output_after errors errors_after : Contents) → ℕ
     → Type 0
 EndsWords words output output_after errors errors_after status =
-    ((request : Request) × Asks words request
-    × EndsRequest request output output_after errors errors_after status)
-    ⊎ ((fault : Fault) × IsFaultOfWords words fault
-    × Ends (Err fault) output output_after errors errors_after status)
+    ((request : Request) × Asks words request × EndsRequest request output output_after status
+    × (errors_after ≡ errors))
+    ⊎ ((error : Error) × IsRefusal words error
+    × TellsWords error output output_after errors errors_after status)

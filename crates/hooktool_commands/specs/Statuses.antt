@@ -1,7 +1,5 @@
 -- The statuses that the program ends with, and the refusals that they stand for.
 use Rattle.std.specs.Prelude.{ℕ}
-use Rattle.clap.specs.Values.{kind_of}
-use Rattle.clap.specs.declared.error.Error.{Error}
 use Rattle.clap.specs.declared.error.ErrorKind.{ErrorKind}
 use Rattle.clap.specs.declared.error.ErrorKind.TheVariants as kinds
 use Rattle.isa.specs.declared.decoding.DecodeError.{DecodeError}
@@ -22,6 +20,11 @@ status_of_usage kinds.DisplayHelp = 0
 status_of_usage kinds.DisplayVersion = 0
 status_of_usage other = 2
 
+-- of words that ask for nothing that can be done: of clap's text, or of want of memory
+abbrev pub status_of_words : ErrorKind → ℕ
+status_of_words kinds.OutOfMemory = 4
+status_of_words other = status_of_usage other
+
 abbrev pub status_of : Fault → ℕ
 status_of (faults.Read path) = 3
 status_of (faults.Write path) = 3
@@ -29,17 +32,8 @@ status_of (faults.Code number slot) = 1
 status_of (faults.Object number) = 1
 status_of (faults.OtherHook hook) = 1
 status_of (faults.Uncounted reason) = 1
-status_of (faults.Usage error) = status_of_usage (kind_of error)
 status_of faults.Output = 3
 status_of faults.Memory = 4
-
--- What is told of words that ask for nothing that can be done: clap's own text, or want of memory.
-abbrev pub fault_of_kind_of_words : ErrorKind → Error → Fault
-fault_of_kind_of_words kinds.OutOfMemory error = faults.Memory
-fault_of_kind_of_words other error = faults.Usage error
-
-abbrev pub fault_of_words : Error → Fault
-fault_of_words error = fault_of_kind_of_words (kind_of error) error
 
 -- What is told of bytes that are no code: the number and slot of the refusal, or want of memory.
 abbrev pub fault_of_kind : DecodeFault → ℕ → Fault

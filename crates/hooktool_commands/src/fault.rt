@@ -2,10 +2,9 @@
 
 ghost use Rattle.std.specs.Prelude.{◌≡◌, ◌≤◌};
 ghost use Rattle.hooktool_commands.specs.Statuses.{fault_of_object, fault_of_refusal, fault_of_run};
-ghost use Rattle.hooktool_commands.specs.Statuses.{fault_of_words, status_of};
+ghost use Rattle.hooktool_commands.specs.Statuses.{status_of};
 ghost use Rattle.hooktool_commands.specs.declared.fault.Fault.TheVariants.{Memory};
 
-use clap::error::ErrorKind;
 use isa::DecodeError;
 use object::ReadError;
 use object_runs::RunError;
@@ -25,7 +24,7 @@ pub const OUTSIDE: u8 = 3;
 pub const MEMORY: u8 = 4;
 
 /// Why a command didn't do what it was asked. The text is the line that is printed.
-#[derive(Drop, Error)]
+#[derive(Clone, Copy, Error)]
 pub enum Fault<'a> {
     /// A file can't be opened or read.
     #[error("cannot read {path}")]
@@ -46,9 +45,6 @@ pub enum Fault<'a> {
     /// Code in which turns can't be counted, and why.
     #[error("{reason}")]
     Uncounted { reason: &'static str },
-    /// The words of the command line are wrong: the text says how.
-    #[error(transparent)]
-    Usage(clap::Error),
     /// The output can't be written.
     #[error("cannot write the output")]
     Output,
@@ -117,17 +113,6 @@ impl<'a> From<RunError> for Fault<'a> {
     }
 }
 
-impl<'a> From<clap::Error> for Fault<'a> {
-    ghost from_gives = { λ error fault. fault ≡ fault_of_words error };
-
-    fn from(error: clap::Error) -> Fault<'a> {
-        match error.kind() {
-            ErrorKind::OutOfMemory => Fault::Memory,
-            _ => Fault::Usage(error),
-        }
-    }
-}
-
 impl<'a> Fault<'a> {
     /// The status that the program ends with.
     pub fn status(&self) -> u8
@@ -140,8 +125,6 @@ impl<'a> Fault<'a> {
             | Fault::Object { .. }
             | Fault::OtherHook { .. }
             | Fault::Uncounted { .. } => REFUSED,
-            Fault::Usage(error) if error.use_stderr() => USAGE,
-            Fault::Usage(_) => DONE,
             Fault::Memory => MEMORY,
         }
     }

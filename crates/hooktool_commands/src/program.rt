@@ -2,17 +2,21 @@
 
 ghost use Rattle.std.specs.Prelude.{◌≡◌, ◌⊎◌, map, IfOk};
 ghost use Rattle.std.specs.IoError.{error_kind};
-ghost use Rattle.hooktool_commands.specs.Endings.{Ends, EndsWords, IsMadeOf, IsOutcomeOf, Prints};
-ghost use Rattle.hooktool_commands.specs.Endings.{Tells};
+ghost use Rattle.clap.specs.Values.{kind_of};
+ghost use Rattle.hooktool_commands.specs.Endings.{Ends, EndsWords, IsMadeOf, IsTold, Prints};
+ghost use Rattle.hooktool_commands.specs.Endings.{TellsWords};
+ghost use Rattle.hooktool_commands.specs.Statuses.{status_of_usage};
 
 use crate::annotating::annotate;
 use crate::explaining::explain;
-use crate::fault::{DONE, Fault, REFUSED};
+use crate::fault::{DONE, Fault, REFUSED, USAGE};
 use crate::report::Report;
 use crate::trying::try_question;
+use clap::Error;
+use clap::error::ErrorKind;
 use hooktool_line::Request;
 use std::alloc::Global;
-use std::io::{self, ErrorKind, Write};
+use std::io::{self, ErrorKind as IoKind, Write};
 use std::rt::Files;
 
 // Prints what a command made, and answers the status.
@@ -26,29 +30,45 @@ fn print<O: Write>(report: &Report, output: &mut O) -> u8
     }
 }
 
-// The text of a fault goes to the second writer where it is clap's, and else to the first.
-fn tell<O: Write, E: Write>(fault: &Fault<'_>, output: &mut O, errors: &mut E) -> u8
-    ensures { Tells fault.now (O.contents output.old) (O.contents output.new)
-        (E.contents errors.old) (E.contents errors.new) result }
+// Prints why nothing was made, and answers the status.
+fn tell<O: Write>(fault: Fault<'_>, output: &mut O) -> u8
+    ensures { IsTold fault.entry result }
 {
-    let written = match fault {
-        Fault::Usage(error) => write!(errors, "{error}"),
-        _ => writeln!(output, "{fault}"),
-    };
-    match written {
+    match writeln!(output, "{fault}") {
         Ok(()) => fault.status(),
         Err(_) => Fault::Output.status(),
     }
 }
 
 // Prints what a command made or what its fault is, and answers the status.
-fn end<O: Write, E: Write>(outcome: Result<Report, Fault<'_>>, output: &mut O, errors: &mut E) -> u8
-    ensures { Ends outcome.entry (O.contents output.old) (O.contents output.new)
-        (E.contents errors.old) (E.contents errors.new) result }
+fn end<O: Write>(outcome: Result<Report, Fault<'_>>, output: &mut O) -> u8
+    ensures { Ends outcome.entry (O.contents output.old) (O.contents output.new) result }
 {
     match outcome {
         Ok(report) => print(&report, output),
-        Err(fault) => tell(&fault, output, errors),
+        Err(fault) => tell(fault, output),
+    }
+}
+
+// The status of a text about usage: help is what the user asked for.
+fn status_of_usage(error: &Error) -> u8
+    ensures { result ≡ status_of_usage (kind_of error.now) }
+{
+    if error.use_stderr() { USAGE } else { DONE }
+}
+
+// Tells what is wrong with the words, and answers the status. A text about usage goes to the second
+// writer, want of memory to the first.
+fn tell_words<O: Write, E: Write>(error: &Error, output: &mut O, errors: &mut E) -> u8
+    ensures { TellsWords error.now (O.contents output.old) (O.contents output.new)
+        (E.contents errors.old) (E.contents errors.new) result }
+{
+    match error.kind() {
+        ErrorKind::OutOfMemory => tell(Fault::Memory, output),
+        _ => match write!(errors, "{error}") {
+            Ok(()) => status_of_usage(error),
+            Err(_) => Fault::Output.status(),
+        },
     }
 }
 
@@ -60,11 +80,11 @@ pub fn end_without_words<O: Write, E: Write>(
     output: &mut O,
     errors: &mut E,
 ) -> u8
-    ensures memory { error_kind error.now ≡ ErrorKind.OutOfMemory → (result ≡ 3) ⊎ (result ≡ 4) }
+    ensures memory { error_kind error.now ≡ IoKind.OutOfMemory → (result ≡ 3) ⊎ (result ≡ 4) }
     ensures told { (result ≡ 2) ⊎ (result ≡ 3) ⊎ (result ≡ 4) }
 {
-    let fault = Fault::from(hooktool_line::unread(alloc, error));
-    tell(&fault, output, errors)
+    let error = hooktool_line::unread(alloc, error);
+    tell_words(&error, output, errors)
 }
 
 // What a request makes, or why it can't be carried out.
@@ -83,16 +103,6 @@ fn made_of<'a, R: Files + AllocGlobal>(rt: &R, request: Request<'a>) -> Result<R
     }
 }
 
-// The report of what the words ask for, or why there is none.
-fn outcome_of<'a, R: Files + AllocGlobal>(rt: &R, words: &'a [&'a str]) -> Result<Report, Fault<'a>>
-    ensures { IsOutcomeOf (map (λ word. word.now) words.entry.now) result }
-{
-    match hooktool_line::parse(rt.alloc(), words) {
-        Ok(request) => made_of(rt, request),
-        Err(error) => Err(Fault::from(error)),
-    }
-}
-
 /// Carries out what the words ask for (the first is the program's name), and answers the status: 0
 /// done, 1 refused or stuck, 2 usage, 3 a file or a stream failed, 4 memory was refused.
 ///
@@ -107,5 +117,8 @@ pub fn program<R: Files + AllocGlobal, O: Write, E: Write>(
         (O.contents output.old) (O.contents output.new)
         (E.contents errors.old) (E.contents errors.new) result }
 {
-    end(outcome_of(rt, words), output, errors)
+    match hooktool_line::parse(rt.alloc(), words) {
+        Ok(request) => end(made_of(rt, request), output),
+        Err(error) => tell_words(&error, output, errors),
+    }
 }

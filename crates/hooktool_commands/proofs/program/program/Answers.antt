@@ -1,8 +1,8 @@
-use Rattle.std.proofs.Common.{map}
-use Rattle.hooktool_commands.proofs.Told.{ended}
+use Rattle.std.proofs.Common.{inl, inr, refl}
 use Rattle.hooktool_commands.proofs.program.program.Goals as goal
 
-pub returns : goal.returns
-returns g c =
-    let words = map (λ word. word.now) c.args.words.now in
-    record { ended = ended words c.outcome_of.result _ _ _ _ _ c.outcome_of.ensures c.end.ensures }
+pub returns-in-Ok : goal.returns-in-Ok
+returns-in-Ok g c = record { ended = inl (c.in-Ok.request, c.in-Ok.ensures, (c.made_of.result, c.made_of.ensures, c.end.ensures), refl) }
+
+pub returns-in-Err : goal.returns-in-Err
+returns-in-Err g c = record { ended = inr (c.in-Err.error, c.in-Err.ensures, c.tell_words.ensures) }
