@@ -4,11 +4,10 @@ ghost use Rattle.std.specs.Prelude.{◌<◌};
 
 use crate::draft::{Arrival, Draft};
 use crate::edges::copy_of;
-use crate::joining::{Value, idle_statement};
+use crate::joining::{Value, any_number, idle_statement};
 use crate::liveness::{self, Registers};
 use crate::memory::{Memory, element_or};
 use crate::sites::Sites;
-use absdom::Domain;
 use isa::{Code, Hook, Instruction, Register, Slot, Source, Test, Width};
 use kinds::{Entry, Kind, Place, State, Target, put, reset, target_of};
 use object::Statement;
@@ -292,10 +291,10 @@ fn follow(here: &mut Here, before: State<Value>, hook: Hook, instruction: Instru
 }
 
 /// What an instruction fills its target with at most.
-fn filled(instruction: &Instruction) -> Value {
+fn filled(instruction: &Instruction) -> Kind<Value> {
     match *instruction {
-        Instruction::Load { size, .. } => any_loaded(size),
-        _ => Value::top(),
+        Instruction::Load { size, .. } => Kind::Number(any_loaded(size)),
+        _ => any_number(),
     }
 }
 
@@ -310,14 +309,14 @@ fn call(state: &mut State<Value>) {
     for register in 0..6usize {
         put_known(state, register, Kind::Empty)
     }
-    put_known(state, 0, Kind::Number(Value::top()))
+    put_known(state, 0, any_number())
 }
 
 /// Goes on behind an instruction that the verifier refuses: it fills its target with any number,
 /// and a call does what calls do.
 fn excuse(state: &mut State<Value>, instruction: &Instruction) {
     if let Some(target) = liveness::target_of(instruction) {
-        put_known(state, target.index(), Kind::Number(filled(instruction)))
+        put_known(state, target.index(), filled(instruction))
     }
     if matches!(instruction, Instruction::Call { .. }) {
         call(state);

@@ -88,25 +88,13 @@ fn told(known: Known<Value>) -> Kind {
     }
 }
 
-fn is_single(numbers: StatedNumber) -> bool {
-    numbers.low() == numbers.high()
-}
-
-/// Which bits are known of the numbers: of a single number all of them.
-fn mask_of(numbers: StatedNumber) -> u64 {
-    if is_single(numbers) {
-        u64::MAX
+/// Which bits are known of the numbers, and which of those are set: of a single number all of them
+/// are known.
+fn known_bits(numbers: StatedNumber) -> (u64, u64) {
+    if numbers.low() == numbers.high() {
+        (u64::MAX, numbers.low())
     } else {
-        numbers.mask()
-    }
-}
-
-/// The bits that are known of the numbers.
-fn bits_of(numbers: StatedNumber) -> u64 {
-    if is_single(numbers) {
-        numbers.low()
-    } else {
-        numbers.value()
+        (numbers.mask(), numbers.value())
     }
 }
 
@@ -131,7 +119,9 @@ fn joined_high(growth: Growth<'_>, old: u64, new: u64) -> u64 {
 /// Which bits are known to be the same in both: of numbers that go on growing the lowest ones.
 /// Higher ones would give the old bounds back.
 fn joined_mask(growth: Growth<'_>, old: StatedNumber, new: StatedNumber) -> u64 {
-    let mask = mask_of(old) & mask_of(new) & !(bits_of(old) ^ bits_of(new));
+    let (old_mask, old_bits) = known_bits(old);
+    let (new_mask, new_bits) = known_bits(new);
+    let mask = old_mask & new_mask & !(old_bits ^ new_bits);
     let has_grown = (new.low() < old.low()) | (old.high() < new.high());
     if has_grown && !matches!(growth.widening, Widening::None) {
         mask & !mask.wrapping_add(1)
@@ -150,7 +140,7 @@ fn joined_numbers(
         joined_low(growth, old.low(), new.low()),
         joined_high(growth, old.high(), new.high()),
         joined_mask(growth, old, new),
-        bits_of(old),
+        known_bits(old).1,
     )
 }
 
@@ -242,12 +232,17 @@ pub fn joined_statement(
     Statement::new(old.slot(), NO_RANK, kinds, bytes)
 }
 
+/// What is known of a register that may hold any number.
+pub fn any_number() -> Known<Value> {
+    Known::Number(Value::top())
+}
+
 /// A statement for a slot that nothing comes to: what is read is any number.
 pub fn idle_statement(slot: usize, live: Registers) -> Option<Statement> {
     let mut kinds = [Kind::Empty; 10];
     for register in 0..10 {
         if has(live, register) {
-            kinds[register] = told(Known::Number(Value::top()));
+            kinds[register] = told(any_number());
         }
     }
     statement_at(slot, kinds, StackBytes::new())

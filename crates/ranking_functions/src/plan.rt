@@ -20,10 +20,10 @@ pub struct Plan {
 
 /// The terms and the constant of a rank, and what the constant begins with when it is raised.
 #[derive(Clone, Copy)]
-struct Place {
-    first: Option<RankTerm>,
-    second: Option<RankTerm>,
-    now: u64,
+pub struct Place {
+    pub first: Option<RankTerm>,
+    pub second: Option<RankTerm>,
+    pub now: u64,
     least: u64,
 }
 
@@ -59,23 +59,9 @@ impl Plan {
         }
     }
 
-    fn at(&self, node: usize) -> Place {
+    /// The terms and the constant so far.
+    pub fn at(&self, node: usize) -> Place {
         element_or(&self.places, node, NO_RANK)
-    }
-
-    /// The first term.
-    pub fn first_at(&self, node: usize) -> Option<RankTerm> {
-        self.at(node).first
-    }
-
-    /// The second term.
-    pub fn second_at(&self, node: usize) -> Option<RankTerm> {
-        self.at(node).second
-    }
-
-    /// The constant.
-    pub fn constant_at(&self, node: usize) -> u64 {
-        self.at(node).now
     }
 
     /// The rank without its constant.

@@ -20,46 +20,30 @@ pub struct Endless {
     pub trouble: Trouble,
 }
 
-/// Whether the register rises with a turn of the loop.
-fn rises(graph: &Graph<'_>, circle: &Circle, head: usize, register: u8) -> bool {
-    graph.carried(circle, head, register).has_rise
-}
-
-/// A register that rises with each turn of the loop.
-fn rising(graph: &Graph<'_>, circle: &Circle, head: usize) -> Option<u8> {
-    for register in 0..10u8 {
-        if rises(graph, circle, head, register) {
-            return Some(register);
-        }
-    }
-    None
-}
-
-/// Whether the register falls with each turn of the loop.
-fn falls(graph: &Graph<'_>, circle: &Circle, head: usize, register: u8) -> bool {
+/// Why the register is none that bounds the loop's turns.
+fn trouble_with(graph: &Graph<'_>, circle: &Circle, head: usize, register: u8) -> Trouble {
     let carried = graph.carried(circle, head, register);
-    !carried.has_rise && graph.falls_each_turn(circle, &carried)
-}
-
-/// A register that falls with each turn of the loop, though it doesn't do.
-fn falling(graph: &Graph<'_>, circle: &Circle, head: usize) -> Option<u8> {
-    for register in 0..10u8 {
-        if falls(graph, circle, head, register) {
-            return Some(register);
-        }
-    }
-    None
-}
-
-fn trouble_at(graph: &Graph<'_>, circle: &Circle, head: usize) -> Trouble {
-    if let Some(register) = falling(graph, circle, head) {
+    if carried.has_rise {
+        Trouble::Rises { register }
+    } else if graph.falls_each_turn(circle, &carried) {
         let from = graph.high(head, register).unwrap_or(u64::MAX);
-        return Trouble::TooHigh { register, from };
+        Trouble::TooHigh { register, from }
+    } else {
+        Trouble::NoneFalls
     }
-    match rising(graph, circle, head) {
-        Some(register) => Trouble::Rises { register },
-        None => Trouble::NoneFalls,
+}
+
+/// Why no register does: that one falls from too great a number tells more than that one rises.
+fn trouble_at(graph: &Graph<'_>, circle: &Circle, head: usize) -> Trouble {
+    let mut told = Trouble::NoneFalls;
+    for register in 0..10u8 {
+        let trouble = trouble_with(graph, circle, head, register);
+        told = match (told, trouble) {
+            (Trouble::NoneFalls, _) | (Trouble::Rises { .. }, Trouble::TooHigh { .. }) => trouble,
+            _ => told,
+        };
     }
+    told
 }
 
 /// What is wrong with the loop through the site, if there is one.

@@ -74,8 +74,9 @@ fn raise(coefficients: &mut [u64; 10], term: Option<RankTerm>) {
 
 fn coefficients_at(plan: &Plan, node: usize) -> [u64; 10] {
     let mut coefficients = [0; 10];
-    raise(&mut coefficients, plan.first_at(node));
-    raise(&mut coefficients, plan.second_at(node));
+    let place = plan.at(node);
+    raise(&mut coefficients, place.first);
+    raise(&mut coefficients, place.second);
     coefficients
 }
 
@@ -123,7 +124,7 @@ fn demand_by(plan: &Plan, bounds: &[Bounds], edge: &Edge, line: &Line) -> Option
         return None;
     }
     let step = if edge.is_back { 1 } else { 0 };
-    let more = u128::from(plan.constant_at(edge.to))
+    let more = u128::from(plan.at(edge.to).now)
         .saturating_add(line.constant)
         .saturating_add(gap.needed)
         .saturating_add(step);
@@ -161,7 +162,7 @@ enum Round {
 fn raise_by(plan: &mut Plan, bounds: &[Bounds], edge: &Edge, most: u64) -> Round {
     match demand(plan, bounds, edge) {
         Some(needed) if needed <= u128::from(most) => {
-            let is_less = u128::from(plan.constant_at(edge.from)) < needed;
+            let is_less = u128::from(plan.at(edge.from).now) < needed;
             if is_less {
                 plan.set_constant(edge.from, needed as u64);
                 Round::Raised
