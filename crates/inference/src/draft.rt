@@ -142,20 +142,11 @@ impl Draft {
         is_due
     }
 
-    /// Whether the segment that begins at the site is to be passed over now.
-    fn is_due(&mut self, site: usize) -> bool {
-        let is_due = element_or(&self.waiting, site, false) | !self.is_rising();
-        put(&mut self.waiting, site, false);
-        is_due
-    }
-
     /// What is stated at the site, if the segment that begins there is to be passed over now.
     pub fn due(&mut self, site: usize) -> Option<Statement> {
-        if self.is_due(site) {
-            self.statement(site)
-        } else {
-            None
-        }
+        let is_due = element_or(&self.waiting, site, false) | !self.is_rising();
+        put(&mut self.waiting, site, false);
+        if is_due { self.statement(site) } else { None }
     }
 
     /// States this at the site.

@@ -9,7 +9,7 @@ use crate::liveness::{self, Registers};
 use crate::memory::{Memory, element_or};
 use crate::sites::Sites;
 use isa::{Code, Hook, Instruction, Register, Slot, Source, Test, Width};
-use kinds::{Entry, Kind, Place, State, Target, put, reset, target_of};
+use kinds::{Entry, Kind, Place, State, put, reset, target_of};
 use object::Statement;
 use segments::places::{jump_of, jumped_near, slots_of};
 use transfer::branch::{Edges, tested};
@@ -201,7 +201,14 @@ impl<'a> Passes<'a> {
     fn begin(&mut self, site: usize, statement: &Statement) {
         let memory = self.program.memory;
         match target_of(memory.alloc, statement) {
-            Ok(target) => begin_at(memory, &mut self.here, site, &target),
+            Ok(target) => {
+                self.here = Here {
+                    begun: site,
+                    state: reset(entry_state(memory), &target),
+                    is_live: true,
+                    is_idle: false,
+                }
+            }
             Err(_) => memory.note(true),
         }
     }
@@ -272,14 +279,6 @@ impl<'a> Passes<'a> {
             }
         }
     }
-}
-
-/// What is known at a site that begins with this.
-fn begin_at(memory: &Memory, here: &mut Here, site: usize, target: &Target<'_, Value>) {
-    here.state = reset(entry_state(memory), target);
-    here.begun = site;
-    here.is_live = true;
-    here.is_idle = false;
 }
 
 /// Goes on behind the instruction, of which the same was known before.
