@@ -8,7 +8,7 @@ ghost use Rattle.hooktool_commands.specs.declared.fault.Fault.TheVariants.{Memor
 use isa::DecodeError;
 use object::ReadError;
 use object_runs::RunError;
-use std::alloc::{AllocError, AllocFailed};
+use std::alloc::AllocError;
 use std::fmt;
 use thiserror::Error;
 
@@ -63,14 +63,6 @@ impl<'a> From<AllocError> for Fault<'a> {
     ghost from_gives = { λ _ fault. fault ≡ Memory };
 
     fn from(_error: AllocError) -> Fault<'a> {
-        Fault::Memory
-    }
-}
-
-impl<'a, T: Drop> From<AllocFailed<T>> for Fault<'a> {
-    ghost from_gives = { λ _ fault. fault ≡ Memory };
-
-    fn from(_error: AllocFailed<T>) -> Fault<'a> {
         Fault::Memory
     }
 }

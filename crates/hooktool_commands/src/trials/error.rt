@@ -4,7 +4,7 @@ ghost use Rattle.std.specs.Prelude.{◌≡◌};
 use maps::MapsError;
 use object::ReadError;
 use object_runs::RunError;
-use std::alloc::{AllocError, AllocFailed};
+use std::alloc::AllocFailed;
 
 /// Why there is no run.
 #[derive(Clone, Copy)]
@@ -43,16 +43,6 @@ impl From<MapsError> for TrialError {
     ghost from_gives = { λ _ trial. trial ≡ Memory };
 
     fn from(_error: MapsError) -> TrialError {
-        TrialError::Memory
-    }
-}
-
-impl From<AllocError> for TrialError {
-    ghost use Rattle.hooktool_commands.specs.declared.trials.error.TrialError.TheVariants.{Memory};
-
-    ghost from_gives = { λ _ trial. trial ≡ Memory };
-
-    fn from(_error: AllocError) -> TrialError {
         TrialError::Memory
     }
 }
