@@ -120,25 +120,8 @@ fn redirected(instruction: &Instruction, distance: Option<i16>) -> Instruction
     }
 }
 
-/// Adds the instruction, which goes to the detour of its head instead, if it jumps back to one.
-fn push_redirected(
-    builder: &mut CodeBuilder,
-    slots: usize,
-    heads: &[usize],
-    slot: usize,
-    instruction: &Instruction,
-) -> Result<(), BuildError>
-    requires slots { slots ≤ 4096 }
-    requires slot { slot < 4096 }
-    requires few { length heads.now ≤ 4096 }
-    ensures { OnOk result (builder.new ≡ builder.old
-        ++ slots_at slots heads.now slot (Slot.Start instruction.now)) }
-{
-    let distance = distance_of(slots, heads, slot, instruction);
-    builder.push(redirected(instruction, distance))
-}
-
-/// Adds the instruction that begins at the slot, if one does.
+/// Adds the instruction that begins at the slot, if one does. It goes to the detour of its head
+/// instead, if it jumps back to one.
 fn push_slot(
     builder: &mut CodeBuilder,
     slots: usize,
@@ -152,7 +135,10 @@ fn push_slot(
     ensures { OnOk result (builder.new ≡ builder.old ++ slots_at slots heads.now slot place.now) }
 {
     match place {
-        Slot::Start(instruction) => push_redirected(builder, slots, heads, slot, instruction),
+        Slot::Start(instruction) => {
+            let distance = distance_of(slots, heads, slot, instruction);
+            builder.push(redirected(instruction, distance))
+        }
         Slot::SecondHalf => Ok(()),
     }
 }
