@@ -1,5 +1,5 @@
 -- What came of some code came of the code that it was made of, and of its file.
-use Rattle.std.proofs.Common.{◌≡◌, ℕ, List, Option, Result, Ok, Err, IfOk, IfErr, inl, refl, subst}
+use Rattle.std.proofs.Common.{◌≡◌, ℕ, List, Option, Result, Ok, Err, IfOk, IfErr, inl, subst}
 use Rattle.isa.specs.declared.hook.Hook.{Hook}
 use Rattle.annotations.specs.declared.verdict.Annotated.{Annotated}
 use Rattle.annotations.specs.declared.shortfall.Shortfall.{Shortfall}

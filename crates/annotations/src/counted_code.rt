@@ -4,7 +4,7 @@ ghost use Rattle.std.specs.Prelude.{position};
 ghost use Rattle.isa.specs.Flow.{jump_target};
 ghost use Rattle.annotations.specs.CountedCode.{IsCounted, detour, detour_at, detours};
 ghost use Rattle.annotations.specs.CountedCode.{distance_between, distance_of, place_of};
-ghost use Rattle.annotations.specs.CountedCode.{with_distance_if_given, redirected_from, slots_at};
+ghost use Rattle.annotations.specs.CountedCode.{redirected_from, slots_at};
 ghost use Rattle.annotations.specs.CountedCode.{counted_code, with_distance, with_number};
 
 use crate::count_error::CountError;
@@ -110,16 +110,6 @@ fn distance_of(slots: usize, heads: &[usize], slot: usize, instruction: &Instruc
     }
 }
 
-/// The instruction, to this distance if there is one.
-fn redirected(instruction: &Instruction, distance: Option<i16>) -> Instruction
-    ensures { result ≡ with_distance_if_given instruction.now distance }
-{
-    match distance {
-        Some(distance) => with_distance(*instruction, distance),
-        None => *instruction,
-    }
-}
-
 /// Adds the instruction that begins at the slot, if one does. It goes to the detour of its head
 /// instead, if it jumps back to one.
 fn push_slot(
@@ -136,8 +126,10 @@ fn push_slot(
 {
     match place {
         Slot::Start(instruction) => {
-            let distance = distance_of(slots, heads, slot, instruction);
-            builder.push(redirected(instruction, distance))
+            match distance_of(slots, heads, slot, instruction) {
+                Some(distance) => builder.push(with_distance(*instruction, distance)),
+                None => builder.push(*instruction),
+            }
         }
         Slot::SecondHalf => Ok(()),
     }

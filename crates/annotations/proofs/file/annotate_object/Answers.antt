@@ -10,7 +10,7 @@ returns-then-ne c = record {
   object = c.in-Ok.object;
   spells = c.in-Ok.ensures.found;
   its_hook = sym c.hook-object_hook.ensures.value;
-  differs = search (rules, tests);
+  differs = search rules;
 }
 
 pub returns : goal.returns
