@@ -218,25 +218,6 @@ fn push_counted(
         .and(push_detours(builder, counter, code.len(), heads))
 }
 
-/// The code that counts the turns in this register.
-fn counted_by(
-    alloc: Global,
-    counter: Register,
-    turns: u32,
-    code: &Code,
-    heads: &[usize],
-) -> Result<Code, BuildError>
-    requires few { length heads.now ≤ 4096 }
-    requires turns { turns < 1000000 }
-    ensures { IfOk result (λ counted. counted ≡ counted_code counter turns heads.now code.now) }
-{
-    let mut builder = CodeBuilder::new(alloc);
-    match push_counted(&mut builder, counter, turns, code, heads) {
-        Ok(()) => builder.finish().ok_or(BuildError::TooLong),
-        Err(error) => Err(error),
-    }
-}
-
 /// The code that counts each jump back to one of these heads, and answers 0 instead of going back
 /// more often than `turns` times in all. Each slot of the code stands one slot later in it.
 ///
@@ -257,8 +238,9 @@ pub fn counted(alloc: Global, code: &Code, heads: &[usize], turns: u32) -> Resul
     if heads.len() > code.len() {
         return Err(CountError::TooLong);
     }
-    match counted_by(alloc, counter, turns, code, heads) {
-        Ok(counted) => Ok(counted),
+    let mut builder = CodeBuilder::new(alloc);
+    match push_counted(&mut builder, counter, turns, code, heads) {
+        Ok(()) => builder.finish().ok_or(CountError::TooLong),
         Err(error) => Err(CountError::from(error)),
     }
 }
