@@ -1,12 +1,12 @@
--- Shortfalls that are no verdicts say nothing of the code.
-use Rattle.std.proofs.Common.{◌≡◌, ℕ, List, Option, inl}
+-- Why there is no object: shortfalls that are no verdicts say nothing of the code.
+use Rattle.std.proofs.Common.{◌≡◌, ℕ, List, Option, Result, Err, IfErr, subst}
 use Rattle.isa.specs.declared.hook.Hook.{Hook}
 use Rattle.annotations.specs.declared.shortfall.Shortfall.{Shortfall}
 use Rattle.annotations.specs.declared.shortfall.Shortfall.TheVariants as shortfalls
-use Rattle.object.specs.Objects.{ObjectParts}
-use Rattle.object.specs.Spelling.{Spells}
-use Rattle.annotations.specs.Annotated.{HasCode}
-use Rattle.annotations.specs.Verdict.{IsFileShortfall, IsNoVerdict, IsShortfall, IsTurnsShortfall}
+use Rattle.object_verdicts.specs.Verdicts.{Refuses}
+use Rattle.object_verdicts.specs.declared.error.VerifyError.{VerifyError}
+use Rattle.verifier.specs.Programs.{Program}
+use Rattle.annotations.specs.Verdict.{IsNoVerdict, IsShortfall, IsTurnsShortfall}
 
 pub no_verdict : (hook : Hook) (text : List ℕ) (s : Shortfall) → IsNoVerdict s → IsShortfall hook text s
 no_verdict hook text (shortfalls.Code error) h = tt
@@ -26,18 +26,9 @@ no_verdict_with_turns hook turns text (shortfalls.Refused r endless) h = absurd 
 no_verdict_with_turns hook turns text shortfalls.Statements h = tt
 no_verdict_with_turns hook turns text shortfalls.Memory h = tt
 
--- what came of the code in a file came of the file
-pub of_the_file : (hook : Hook) (turns : Option ℕ) (file text : List ℕ) (s : Shortfall) → HasCode hook file text → IsTurnsShortfall hook turns text s → IsFileShortfall hook turns file s
-of_the_file hook turns file text (shortfalls.Code error) has h = tt
-of_the_file hook turns file text (shortfalls.Object error) has h = absurd h
-of_the_file hook turns file text (shortfalls.OtherHook other) has h = absurd h
-of_the_file hook turns file text (shortfalls.Uncounted error) has h = tt
-of_the_file hook turns file text (shortfalls.Refused r endless) has h = record { text = text; has_code = has; rejection = h }
-of_the_file hook turns file text shortfalls.Statements has h = tt
-of_the_file hook turns file text shortfalls.Memory has h = tt
-
--- the same of an object's file
-pub of_the_object : (hook : Hook) (turns : Option ℕ) (file text : List ℕ) (object : ObjectParts) (s : Shortfall)
-    → Spells file object → object.hook ≡ hook → object.code ≡ text → IsTurnsShortfall hook turns text s → IsFileShortfall hook turns file s
-of_the_object hook turns file text object s spells same_hook same_code h =
-    of_the_file hook turns file text s (inl (record { object = object; spells = spells; same_hook = same_hook; same_code = same_code })) h
+-- what the verifier said of the bytes, where it gave this error
+pub why : (given bytes : List ℕ) (said : Result Program VerifyError) (error same : VerifyError) → given ≡ bytes → said ≡ Err error → error ≡ same
+    → IfErr said (Refuses given) → Refuses bytes same
+why given bytes said error same here is names h =
+    let of_error : Refuses given error = subst (λ (it : Result Program VerifyError). IfErr it (Refuses given)) is h in
+    subst (λ (it : List ℕ). Refuses it same) here (subst (λ (it : VerifyError). Refuses given it) names of_error)

@@ -1,2 +1,3 @@
 mod Faults
+mod Outcomes
 mod Pushed

@@ -134,7 +134,10 @@ fn try_anew(task: &Task<'_>, unranked: &mut Unranked) -> Result<Annotated, Short
     ensures { IsOutcome task.now.hook task.now.bytes.now result }
 {
     match try_statements(task, false, unranked) {
-        Ok(annotated) => trim(task, annotated),
+        Ok(mut annotated) => match trim(task, &mut annotated) {
+            Ok(()) => Ok(annotated),
+            Err(fault) => Err(fault),
+        },
         refused => refused,
     }
 }

@@ -4,7 +4,7 @@ ghost use Rattle.std.specs.Prelude.{position};
 ghost use Rattle.isa.specs.Flow.{jump_target};
 ghost use Rattle.annotations.specs.CountedCode.{IsCounted, detour, detour_at, detours};
 ghost use Rattle.annotations.specs.CountedCode.{distance_between, distance_of, place_of};
-ghost use Rattle.annotations.specs.CountedCode.{with_distance_if_given, redirected_from, slots_at};
+ghost use Rattle.annotations.specs.CountedCode.{redirected_from, slots_at};
 ghost use Rattle.annotations.specs.CountedCode.{counted_code, with_distance, with_number};
 
 use crate::count_error::CountError;
@@ -110,35 +110,8 @@ fn distance_of(slots: usize, heads: &[usize], slot: usize, instruction: &Instruc
     }
 }
 
-/// The instruction, to this distance if there is one.
-fn redirected(instruction: &Instruction, distance: Option<i16>) -> Instruction
-    ensures { result ≡ with_distance_if_given instruction.now distance }
-{
-    match distance {
-        Some(distance) => with_distance(*instruction, distance),
-        None => *instruction,
-    }
-}
-
-/// Adds the instruction, which goes to the detour of its head instead, if it jumps back to one.
-fn push_redirected(
-    builder: &mut CodeBuilder,
-    slots: usize,
-    heads: &[usize],
-    slot: usize,
-    instruction: &Instruction,
-) -> Result<(), BuildError>
-    requires slots { slots ≤ 4096 }
-    requires slot { slot < 4096 }
-    requires few { length heads.now ≤ 4096 }
-    ensures { OnOk result (builder.new ≡ builder.old
-        ++ slots_at slots heads.now slot (Slot.Start instruction.now)) }
-{
-    let distance = distance_of(slots, heads, slot, instruction);
-    builder.push(redirected(instruction, distance))
-}
-
-/// Adds the instruction that begins at the slot, if one does.
+/// Adds the instruction that begins at the slot, if one does. It goes to the detour of its head
+/// instead, if it jumps back to one.
 fn push_slot(
     builder: &mut CodeBuilder,
     slots: usize,
@@ -152,7 +125,12 @@ fn push_slot(
     ensures { OnOk result (builder.new ≡ builder.old ++ slots_at slots heads.now slot place.now) }
 {
     match place {
-        Slot::Start(instruction) => push_redirected(builder, slots, heads, slot, instruction),
+        Slot::Start(instruction) => {
+            match distance_of(slots, heads, slot, instruction) {
+                Some(distance) => builder.push(with_distance(*instruction, distance)),
+                None => builder.push(*instruction),
+            }
+        }
         Slot::SecondHalf => Ok(()),
     }
 }
@@ -240,25 +218,6 @@ fn push_counted(
         .and(push_detours(builder, counter, code.len(), heads))
 }
 
-/// The code that counts the turns in this register.
-fn counted_by(
-    alloc: Global,
-    counter: Register,
-    turns: u32,
-    code: &Code,
-    heads: &[usize],
-) -> Result<Code, BuildError>
-    requires few { length heads.now ≤ 4096 }
-    requires turns { turns < 1000000 }
-    ensures { IfOk result (λ counted. counted ≡ counted_code counter turns heads.now code.now) }
-{
-    let mut builder = CodeBuilder::new(alloc);
-    match push_counted(&mut builder, counter, turns, code, heads) {
-        Ok(()) => builder.finish().ok_or(BuildError::TooLong),
-        Err(error) => Err(error),
-    }
-}
-
 /// The code that counts each jump back to one of these heads, and answers 0 instead of going back
 /// more often than `turns` times in all. Each slot of the code stands one slot later in it.
 ///
@@ -279,8 +238,9 @@ pub fn counted(alloc: Global, code: &Code, heads: &[usize], turns: u32) -> Resul
     if heads.len() > code.len() {
         return Err(CountError::TooLong);
     }
-    match counted_by(alloc, counter, turns, code, heads) {
-        Ok(counted) => Ok(counted),
+    let mut builder = CodeBuilder::new(alloc);
+    match push_counted(&mut builder, counter, turns, code, heads) {
+        Ok(()) => builder.finish().ok_or(CountError::TooLong),
         Err(error) => Err(CountError::from(error)),
     }
 }

@@ -48,28 +48,15 @@ fn all_moved(alloc: Global, given: &[Statement]) -> Result<Vec<Statement>, Alloc
     Ok(later)
 }
 
-/// The slot of the code that this one is, of counted code one earlier.
-fn earlier(slot: usize, is_counted: bool) -> usize {
-    if is_counted {
-        slot.saturating_sub(1)
-    } else {
-        slot
-    }
-}
-
-/// Adds a head, unless memory is refused.
-fn add_head(heads: &mut Heads, head: usize) {
-    heads.lacks_memory |= heads.slots.push(head).is_err();
-}
-
 /// Adds those of these heads that aren't counted yet, or only the first one. Whether there are any.
 fn add_heads(heads: &mut Heads, slots: &[usize], is_one: bool) -> bool {
     let before = heads.slots.len();
     for slot in slots {
-        let head = earlier(*slot, before > 0);
+        // Counted code has each slot one later.
+        let head = slot.saturating_sub(usize::from(before > 0));
         let is_next = !is_one | (heads.slots.len() == before);
         if is_next & !heads.slots.contains(&head) {
-            add_head(heads, head);
+            heads.lacks_memory |= heads.slots.push(head).is_err();
         }
     }
     heads.lacks_memory | (heads.slots.len() > before)
@@ -81,12 +68,13 @@ fn adds_more(
     outcome: &Result<Annotated, Shortfall>,
     unranked: &Unranked,
 ) -> bool {
-    let (slots, is_one) = match unranked {
-        Unranked::Alone(slots) => (slots, false),
-        Unranked::Together(slots) => (slots, true),
-    };
-    let lacks_rank = matches!(outcome, Err(Shortfall::Refused(_, Some(_))));
-    lacks_rank && add_heads(heads, slots, is_one)
+    match outcome {
+        Err(Shortfall::Refused(_, Some(_))) => match unranked {
+            Unranked::Alone(slots) => add_heads(heads, slots, false),
+            Unranked::Together(slots) => add_heads(heads, slots, true),
+        },
+        _ => false,
+    }
 }
 
 /// The text of the code that counts the turns of the loops at these heads.
@@ -128,25 +116,7 @@ fn try_text(task: &Task<'_>, bytes: &[u8], unranked: &mut Unranked) -> Result<An
     }
 }
 
-/// Tries the code that counts the turns of the loops at these heads.
-#[tactic(auto, using(crate::proofs::Faults::no_verdict_with_turns))]
-fn try_counted(
-    task: &Task<'_>,
-    code: &Code,
-    heads: &[usize],
-    turns: u32,
-    unranked: &mut Unranked,
-) -> Result<Annotated, Shortfall>
-    requires { Spells task.now.bytes.now code.now }
-    ensures { IsTurnsOutcome task.now.hook (Some turns) task.now.bytes.now result }
-{
-    match counted_text(task, code, heads, turns) {
-        Ok(written) => try_text(task, &written, unranked),
-        Err(error) => Err(error),
-    }
-}
-
-/// The same, where there may be no such head.
+/// Tries the code that counts the turns of the loops at these heads, if there are any.
 fn try_heads(
     task: &Task<'_>,
     code: &Code,
@@ -162,7 +132,10 @@ fn try_heads(
     } else if heads.slots.is_empty() {
         annotate(task, unranked)
     } else {
-        try_counted(task, code, &heads.slots, turns, unranked)
+        match counted_text(task, code, &heads.slots, turns) {
+            Ok(written) => try_text(task, &written, unranked),
+            Err(error) => Err(error),
+        }
     }
 }
 

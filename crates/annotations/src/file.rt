@@ -1,5 +1,5 @@
 //! From a file with code, bare or in an object, to an object that the verifier accepts.
-ghost use Rattle.std.specs.Prelude.{◌≡◌, ◌≢◌, ◌↔◌, IfOk, IfErr, IsTrue, take};
+ghost use Rattle.std.specs.Prelude.{◌≡◌, ◌↔◌, IfOk, IfErr, IsTrue, take};
 ghost use Rattle.object.specs.Spelling.{magic};
 ghost use Rattle.annotations.specs.Annotated.{IsAnnotation};
 ghost use Rattle.annotations.specs.Verdict.{IsFileOutcome, IsFileShortfall, IsTurnsOutcome};
@@ -32,27 +32,7 @@ fn annotate_code(task: &Task<'_>, turns: Option<u32>) -> Result<Annotated, Short
     }
 }
 
-/// The same for a file that is bare code.
-fn annotate_bare(
-    alloc: Global,
-    hook: Hook,
-    file: &[u8],
-    turns: Option<u32>,
-) -> Result<Annotated, Shortfall>
-    requires { take 4 file.now ≢ magic }
-    ensures { IsFileOutcome hook turns file.now result }
-{
-    let task = Task {
-        alloc,
-        hook,
-        bytes: file,
-        given: &[],
-    };
-    annotate_code(&task, turns)
-}
-
 /// The same for a file that has to be an object.
-#[tactic(auto, using(crate::proofs::Faults::of_the_object))]
 fn annotate_object(
     alloc: Global,
     hook: Hook,
@@ -101,6 +81,12 @@ pub fn annotate_file(
     if is_object(file) {
         annotate_object(alloc, hook, file, turns)
     } else {
-        annotate_bare(alloc, hook, file, turns)
+        let task = Task {
+            alloc,
+            hook,
+            bytes: file,
+            given: &[],
+        };
+        annotate_code(&task, turns)
     }
 }

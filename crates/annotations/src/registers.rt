@@ -20,25 +20,31 @@ fn names(instruction: &Instruction, register: Register) -> bool
 {
     let number = register.number();
     match *instruction {
-        Instruction::Arithmetic { target, source, .. } => {
-            (target.number() == number) | is_operand(source, register)
+        Instruction::Arithmetic {
+            target: named,
+            source,
+            ..
         }
+        | Instruction::Branch {
+            left: named,
+            right: source,
+            ..
+        }
+        | Instruction::Store {
+            base: named,
+            source,
+            ..
+        } => (named.number() == number) | is_operand(source, register),
         Instruction::Negate { target, .. }
         | Instruction::Reorder { target, .. }
         | Instruction::LoadNumber { target, .. }
         | Instruction::LoadMap { target, .. } => target.number() == number,
-        Instruction::SignExtend { target, source, .. } => {
-            (target.number() == number) | (source.number() == number)
-        }
-        Instruction::Branch { left, right, .. } => {
-            (left.number() == number) | is_operand(right, register)
-        }
-        Instruction::Load { target, base, .. } => {
-            (target.number() == number) | (base.number() == number)
-        }
-        Instruction::Store { base, source, .. } => {
-            (base.number() == number) | is_operand(source, register)
-        }
+        Instruction::SignExtend { target, source, .. }
+        | Instruction::Load {
+            target,
+            base: source,
+            ..
+        } => (target.number() == number) | (source.number() == number),
         Instruction::Jump { .. }
         | Instruction::LongJump { .. }
         | Instruction::Call { .. }

@@ -1,7 +1,7 @@
 //! Statements without the known bits that the verifier does without.
-ghost use Rattle.std.specs.Prelude.{◌≡◌, ◌≤◌, IfErr};
+ghost use Rattle.std.specs.Prelude.{IfErr};
 ghost use Rattle.annotations.specs.Annotated.{IsAnnotated};
-ghost use Rattle.annotations.specs.Verdict.{IsOutcome, IsShortfall};
+ghost use Rattle.annotations.specs.Verdict.{IsShortfall};
 
 use crate::attempt::{Task, kinds_of};
 use crate::shortfall::Shortfall;
@@ -47,23 +47,15 @@ fn trimmed_within(
     to: usize,
 ) -> Result<Vec<Statement>, AllocError> {
     let mut all = Vec::from_slice(alloc, statements)?;
-    for place in from..to.min(all.len()) {
-        all[place] = trimmed(&all[place]);
+    for (place, statement) in all.iter_mut().enumerate() {
+        if (from <= place) & (place < to) {
+            *statement = trimmed(statement);
+        }
     }
     Ok(all)
 }
 
-/// The shortfall, unless it's that the verifier refuses the object.
-fn unless_refused(shortfall: Shortfall) -> Result<(), Shortfall>
-    ensures { IfErr result (λ fault. fault ≡ shortfall) }
-{
-    match shortfall {
-        Shortfall::Refused(..) => Ok(()),
-        fault => Err(fault),
-    }
-}
-
-/// Gives the object these statements, if the verifier accepts it so.
+/// Gives the object these statements, unless the verifier refuses it so.
 fn try_with(
     task: &Task<'_>,
     annotated: &mut Annotated,
@@ -81,7 +73,8 @@ fn try_with(
             *annotated = trimmed;
             Ok(())
         }
-        Err(shortfall) => unless_refused(shortfall),
+        Err(Shortfall::Refused(..)) => Ok(()),
+        Err(fault) => Err(fault),
     }
 }
 
@@ -111,25 +104,9 @@ fn trim_within(
     }
 }
 
-/// Leaves out the known bits of one statement after the other.
-fn trim_each(task: &Task<'_>, annotated: &mut Annotated, count: usize) -> Result<(), Shortfall>
-    requires few { count ≤ 4096 }
-    requires annotated { IsAnnotated task.now.hook task.now.bytes.now annotated.old.object annotated.old.bytes.items
-        annotated.old.accepted }
-    ensures annotated { IsAnnotated task.now.hook task.now.bytes.now annotated.new.object annotated.new.bytes.items
-        annotated.new.accepted }
-    ensures fault { IfErr result (IsShortfall task.now.hook task.now.bytes.now) }
-{
-    for place in 0..count {
-        if let Err(error) = trim_within(task, annotated, place, place + 1) {
-            return Err(error);
-        }
-    }
-    Ok(())
-}
-
-/// Leaves out the known bits of all statements, or of one after the other where there are few.
-fn trim_all(task: &Task<'_>, annotated: &mut Annotated) -> Result<(), Shortfall>
+/// Leaves out the known bits that the verifier does without: of all statements, and where there are
+/// few also of one after the other.
+pub fn trim(task: &Task<'_>, annotated: &mut Annotated) -> Result<(), Shortfall>
     requires { IsAnnotated task.now.hook task.now.bytes.now annotated.old.object annotated.old.bytes.items
         annotated.old.accepted }
     ensures annotated { IsAnnotated task.now.hook task.now.bytes.now annotated.new.object annotated.new.bytes.items
@@ -137,21 +114,14 @@ fn trim_all(task: &Task<'_>, annotated: &mut Annotated) -> Result<(), Shortfall>
     ensures fault { IfErr result (IsShortfall task.now.hook task.now.bytes.now) }
 {
     let count = annotated.object.statements().len();
-    match trim_within(task, annotated, 0, count) {
-        Ok(()) if count <= MOST_TRIES => trim_each(task, annotated, count),
-        outcome => outcome,
+    if let Err(fault) = trim_within(task, annotated, 0, count) {
+        return Err(fault);
     }
-}
-
-/// The object without the known bits that the verifier does without.
-pub fn trim(task: &Task<'_>, annotated: Annotated) -> Result<Annotated, Shortfall>
-    requires { IsAnnotated task.now.hook task.now.bytes.now annotated.object annotated.bytes.items
-        annotated.accepted }
-    ensures { IsOutcome task.now.hook task.now.bytes.now result }
-{
-    let mut trimmed = annotated;
-    match trim_all(task, &mut trimmed) {
-        Ok(()) => Ok(trimmed),
-        Err(error) => Err(error),
+    let tries = if count <= MOST_TRIES { count } else { 0 };
+    for place in 0..tries {
+        if let Err(fault) = trim_within(task, annotated, place, place + 1) {
+            return Err(fault);
+        }
     }
+    Ok(())
 }

@@ -1,5 +1,5 @@
 use Rattle.annotations.specs.Annotated.{IsAnnotated}
-use Rattle.annotations.proofs.trimming.trim_each.Given as goal
+use Rattle.annotations.proofs.trimming.trim.Given as goal
 
 abbrev pub invariant-loop-place : goal.invariant-loop-place
 invariant-loop-place l = IsAnnotated l.task.hook l.task.bytes.now l.annotated.object l.annotated.bytes.items l.annotated.accepted
