@@ -61,10 +61,10 @@ fn try_with(
     annotated: &mut Annotated,
     statements: Vec<Statement>,
 ) -> Result<(), Shortfall>
-    requires { IsAnnotated task.now.hook task.now.bytes.now annotated.old.object annotated.old.bytes.items
-        annotated.old.accepted }
-    ensures annotated { IsAnnotated task.now.hook task.now.bytes.now annotated.new.object annotated.new.bytes.items
-        annotated.new.accepted }
+    requires { IsAnnotated task.now.hook task.now.bytes.now annotated.old.object
+        annotated.old.bytes.items annotated.old.accepted }
+    ensures annotated { IsAnnotated task.now.hook task.now.bytes.now annotated.new.object
+        annotated.new.bytes.items annotated.new.accepted }
     ensures fault { IfErr result (IsShortfall task.now.hook task.now.bytes.now) }
 {
     let entry_rank = annotated.object.entry_rank();
@@ -86,10 +86,10 @@ fn trim_within(
     from: usize,
     to: usize,
 ) -> Result<(), Shortfall>
-    requires { IsAnnotated task.now.hook task.now.bytes.now annotated.old.object annotated.old.bytes.items
-        annotated.old.accepted }
-    ensures annotated { IsAnnotated task.now.hook task.now.bytes.now annotated.new.object annotated.new.bytes.items
-        annotated.new.accepted }
+    requires { IsAnnotated task.now.hook task.now.bytes.now annotated.old.object
+        annotated.old.bytes.items annotated.old.accepted }
+    ensures annotated { IsAnnotated task.now.hook task.now.bytes.now annotated.new.object
+        annotated.new.bytes.items annotated.new.accepted }
     ensures fault { IfErr result (IsShortfall task.now.hook task.now.bytes.now) }
 {
     match trimmed_within(task.alloc, annotated.object.statements(), from, to) {
@@ -107,10 +107,10 @@ fn trim_within(
 /// Leaves out the known bits that the verifier does without: of all statements, and where there are
 /// few also of one after the other.
 pub fn trim(task: &Task<'_>, annotated: &mut Annotated) -> Result<(), Shortfall>
-    requires { IsAnnotated task.now.hook task.now.bytes.now annotated.old.object annotated.old.bytes.items
-        annotated.old.accepted }
-    ensures annotated { IsAnnotated task.now.hook task.now.bytes.now annotated.new.object annotated.new.bytes.items
-        annotated.new.accepted }
+    requires { IsAnnotated task.now.hook task.now.bytes.now annotated.old.object
+        annotated.old.bytes.items annotated.old.accepted }
+    ensures annotated { IsAnnotated task.now.hook task.now.bytes.now annotated.new.object
+        annotated.new.bytes.items annotated.new.accepted }
     ensures fault { IfErr result (IsShortfall task.now.hook task.now.bytes.now) }
 {
     let count = annotated.object.statements().len();
