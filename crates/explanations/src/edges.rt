@@ -1,7 +1,7 @@
 //! What breaks a rule where a statement is entered.
 ghost use Rattle.std.specs.Prelude.{◌<◌};
 
-use crate::phrases::{Value, followed_at, is_byte, known_at, push_kind, push_rank};
+use crate::phrases::{Value, followed_at, is_byte, known_at, push_rank, push_register};
 use crate::text::Text;
 use inference::copy_of;
 use inference::memory::Memory;
@@ -26,23 +26,29 @@ fn push_register_outside(
     let known = known_at(&state.kinds, register);
     let stated = known_at(&target.kinds, register);
     if !kind_within(known, stated) {
-        out.numbered("  r", register as u64, ": ");
-        push_kind(out, known);
-        out.numbered("\n  allowed: r", register as u64, " ");
-        push_kind(out, stated);
-        out.push(", as is stated there\n")
+        push_register(out, "  r{}: ", register, known, "\n");
+        push_register(
+            out,
+            "  allowed: r{} ",
+            register,
+            stated,
+            ", as is stated there\n",
+        )
     }
 }
 
-/// The first byte of the stack that isn't within the statement.
-fn byte_outside(target: &Target<'_, Value>, state: &State<Value>) -> Option<usize> {
+/// A line for the first byte of the stack that isn't within the statement.
+fn push_byte_outside(out: &mut Text, target: &Target<'_, Value>, state: &State<Value>) {
     let stated = target.statement.stack();
     for place in 0..512usize {
         if stated.contains(place) & !is_byte(&state.entries, place) {
-            return Some(place);
+            return out.numbered(
+                "  stack ",
+                place as u64,
+                ": may be empty, or a part of a pointer\n  allowed: a byte, as is stated there\n",
+            );
         }
     }
-    None
 }
 
 /// A line for each register that isn't within the statement, and for the first such byte of the
@@ -51,13 +57,7 @@ fn push_outside(out: &mut Text, target: &Target<'_, Value>, state: &State<Value>
     for register in 0..10usize {
         push_register_outside(out, target, state, register);
     }
-    if let Some(place) = byte_outside(target, state) {
-        out.numbered(
-            "  stack ",
-            place as u64,
-            ": may be empty, or a part of a pointer\n  allowed: a byte, as is stated there\n",
-        );
-    }
+    push_byte_outside(out, target, state)
 }
 
 /// How a register follows from the statement above.
@@ -75,8 +75,8 @@ fn push_followed(out: &mut Text, fact: Option<Fact>) {
 fn push_term(out: &mut Text, state: &State<Value>, term: &Option<RankTerm>) {
     if let Some(term) = term {
         let register = usize::from(term.register());
-        out.numbered("  r", register as u64, ": ");
-        push_kind(out, known_at(&state.kinds, register));
+        let kind = known_at(&state.kinds, register);
+        push_register(out, "  r{}: ", register, kind, "");
         push_followed(out, followed_at(&state.facts, register))
     }
 }
@@ -100,6 +100,14 @@ fn push_ranks(
     };
     let behind = ", the rank of the statement above, or of the entry\n";
     push_rank(out, allowed, &segment.statement.rank(), behind)
+}
+
+/// What is stated at a slot.
+pub(crate) fn target_at<'t, 'a>(
+    targets: &'t [Option<Target<'a, Value>>],
+    slot: usize,
+) -> Option<&'t Target<'a, Value>> {
+    stated_at(targets, slot)
 }
 
 /// The ways from a slot.
@@ -150,17 +158,28 @@ impl Ways<'_> {
         }
     }
 
-    /// What is wrong on the way to the slot. Whether that is stated and anything is.
-    pub fn push_to(&self, out: &mut Text, to: usize, state: &State<Value>) -> bool {
-        let Some(target) = stated_at(self.targets, to) else {
-            return false;
-        };
+    /// What is wrong on the way to a statement at the slot. Whether anything is.
+    fn push_entered(
+        &self,
+        out: &mut Text,
+        target: &Target<'_, Value>,
+        to: usize,
+        state: &State<Value>,
+    ) -> bool {
         match enter(target, self.leads_back(to), self.segment, state) {
             Ok(()) => false,
             Err(rule) => {
                 self.push_wrong(out, target, to, state, rule);
                 true
             }
+        }
+    }
+
+    /// What is wrong on the way to the slot. Whether that is stated and anything is.
+    pub fn push_to(&self, out: &mut Text, to: usize, state: &State<Value>) -> bool {
+        match target_at(self.targets, to) {
+            Some(target) => self.push_entered(out, target, to, state),
+            None => false,
         }
     }
 

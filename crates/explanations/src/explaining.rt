@@ -43,18 +43,6 @@ pub enum ExplainError {
     Memory,
 }
 
-impl From<ReadError> for ExplainError {
-    fn from(error: ReadError) -> ExplainError {
-        ExplainError::Object(error)
-    }
-}
-
-impl From<DecodeError> for ExplainError {
-    fn from(error: DecodeError) -> ExplainError {
-        ExplainError::Code(error)
-    }
-}
-
 /// What the bound is made of, where that is too great.
 fn push_budget(out: &mut Text, object: &Object) {
     let rank = object.entry_rank();
@@ -218,33 +206,78 @@ fn push_all(
     }
 }
 
-/// The texts of the page, with the verdict on these bytes.
+/// The texts of an explanation.
+#[derive(Drop)]
+struct Texts {
+    before: String,
+    last: String,
+    told: String,
+}
+
+/// What is told of the object, whose instructions have these lines, and of the verdict on it.
+fn texts_of(
+    alloc: Global,
+    object: &Object,
+    code: &Code,
+    verdict: &Result<Accepted, VerifyError>,
+    lines: &str,
+) -> Result<Texts, AllocError>
+    ensures { IfOk result (λ texts. TellsVerdict verdict.now (string_bytes texts.told)) }
+{
+    let mut page = Page::new(alloc, lines);
+    push_all(alloc, &mut page, object, code, verdict);
+    match verdict_told(alloc, verdict, &page) {
+        Ok(told) => {
+            let Page { before, here, .. } = page;
+            Ok(Texts {
+                before: before.words,
+                last: here.words,
+                told,
+            })
+        }
+        Err(error) => Err(error),
+    }
+}
+
+/// The verdict on these bytes, with what is told of it and of their object.
 fn explained(
     alloc: Global,
     bytes: &[u8],
     object: &Object,
     code: &Code,
+    lines: &str,
 ) -> Result<Explanation, ExplainError>
     ensures accepts { IfOk result (λ explanation. IfOk explanation.verdict (Accepts bytes.now)) }
     ensures refuses { IfOk result (λ explanation. IfErr explanation.verdict (Refuses bytes.now)) }
     ensures told { IfOk result (λ explanation. TellsVerdict explanation.verdict
         (string_bytes explanation.told)) }
 {
-    let lines = instruction_lines(alloc, object)?;
     let verdict = verify_object(alloc, bytes);
-    let mut page = Page::new(alloc, lines.as_str());
-    push_all(alloc, &mut page, object, code, &verdict);
-    match verdict_told(alloc, &verdict, &page) {
-        Ok(told) => {
-            let Page { before, here, .. } = page;
-            Ok(Explanation {
-                before: before.words,
-                last: here.words,
-                told,
-                verdict,
-            })
-        }
+    match texts_of(alloc, object, code, &verdict, lines) {
+        Ok(Texts { before, last, told }) => Ok(Explanation {
+            before,
+            last,
+            told,
+            verdict,
+        }),
         Err(_) => Err(ExplainError::Memory),
+    }
+}
+
+/// The same of the object that was read from the bytes.
+fn explain_object(alloc: Global, bytes: &[u8], object: &Object) -> Result<Explanation, ExplainError>
+    ensures accepts { IfOk result (λ explanation. IfOk explanation.verdict (Accepts bytes.now)) }
+    ensures refuses { IfOk result (λ explanation. IfErr explanation.verdict (Refuses bytes.now)) }
+    ensures told { IfOk result (λ explanation. TellsVerdict explanation.verdict
+        (string_bytes explanation.told)) }
+{
+    match (
+        decode(alloc, object.code()),
+        instruction_lines(alloc, object),
+    ) {
+        (Ok(code), Ok(lines)) => explained(alloc, bytes, object, &code, lines.as_str()),
+        (Err(error), _) => Err(ExplainError::Code(error)),
+        (_, Err(error)) => Err(error),
     }
 }
 
@@ -256,7 +289,8 @@ pub fn explain(alloc: Global, bytes: &[u8]) -> Result<Explanation, ExplainError>
     ensures told { IfOk result (λ explanation. TellsVerdict explanation.verdict
         (string_bytes explanation.told)) }
 {
-    let object = object::read(alloc, bytes)?;
-    let code = decode(alloc, object.code())?;
-    explained(alloc, bytes, &object, &code)
+    match object::read(alloc, bytes) {
+        Ok(object) => explain_object(alloc, bytes, &object),
+        Err(error) => Err(ExplainError::Object(error)),
+    }
 }

@@ -12,6 +12,11 @@ fn span(high: u64) -> u64 {
     u64::MAX.checked_shr(high.leading_zeros()).unwrap_or(0)
 }
 
+/// Two bounds of the value's numbers.
+pub(crate) fn range_of(value: Value) -> (u64, u64) {
+    value.range()
+}
+
 /// Which bits are known, beyond what the range and the multiple say.
 fn push_known_bits(out: &mut Text, known: u64, set: u64) {
     out.is_cut |= write!(out.words, ", of the bits {known:x} (hex) {set:x} are set").is_err();
@@ -32,7 +37,7 @@ fn push_bits(out: &mut Text, value: Value, high: u64) {
 
 /// The numbers of a value.
 pub(crate) fn push_numbers(out: &mut Text, value: Value) {
-    let (low, high) = value.range();
+    let (low, high) = range_of(value);
     if low == high {
         out.number(u128::from(low))
     } else {
@@ -42,7 +47,7 @@ pub(crate) fn push_numbers(out: &mut Text, value: Value) {
 }
 
 fn push_number(out: &mut Text, value: Value) {
-    let (low, high) = value.range();
+    let (low, high) = range_of(value);
     if (low == 0) & (high == u64::MAX) {
         out.push("any number");
         push_bits(out, value, high)
@@ -83,17 +88,28 @@ pub(crate) fn push_kind(out: &mut Text, kind: Kind<Value>) {
     }
 }
 
+/// What is known of a register, behind words with `{}` for its number, and before others.
+pub(crate) fn push_register(
+    out: &mut Text,
+    before: &str,
+    register: usize,
+    kind: Kind<Value>,
+    behind: &str,
+) {
+    out.fill(before, &[register as u128]);
+    push_kind(out, kind);
+    out.push(behind)
+}
+
 /// How a register follows from the last statement.
 pub(crate) fn push_fact(out: &mut Text, fact: Fact, begun: usize) {
     let Fact { origin, up, down } = fact;
     out.fill("; r{} at slot {}", &[u128::from(origin), begun as u128]);
     if up > 0 {
-        out.push(" + ");
-        out.number(up);
+        out.fill(" + {}", &[up])
     }
     if down > 0 {
-        out.push(" - ");
-        out.number(down);
+        out.fill(" - {}", &[down])
     }
 }
 
@@ -113,13 +129,18 @@ pub(crate) fn push_rank(out: &mut Text, before: &str, rank: &Rank, behind: &str)
     out.push(behind)
 }
 
+/// What is known of the stack from the place on.
+fn entry_at(entries: &[Entry<Value>], place: usize) -> Entry<Value> {
+    element_or(entries, place, Entry::Unknown)
+}
+
 /// Whether a byte is known at the place of the stack.
 pub(crate) fn is_byte(entries: &[Entry<Value>], place: usize) -> bool {
-    matches!(entries.get(place), Some(Entry::Byte))
+    matches!(entry_at(entries, place), Entry::Byte)
 }
 
 /// Where the bytes end that begin at the place.
-fn end_of(entries: &[Entry<Value>], start: usize) -> usize {
+pub(crate) fn end_of(entries: &[Entry<Value>], start: usize) -> usize {
     for place in start..entries.len() {
         if !is_byte(entries, place) {
             return place;
@@ -128,19 +149,32 @@ fn end_of(entries: &[Entry<Value>], start: usize) -> usize {
     entries.len()
 }
 
+/// A line for the bytes or the pointer that begin at the place of the stack. Returns where the
+/// bytes end, if there are any.
+fn push_entry(out: &mut Text, entries: &[Entry<Value>], place: usize) -> usize {
+    match entry_at(entries, place) {
+        Entry::Byte => {
+            let end = end_of(entries, place);
+            let last = end.saturating_sub(1);
+            out.fill("    stack {}..{}: bytes\n", &[place as u128, last as u128]);
+            end
+        }
+        Entry::Kept(kept) => {
+            out.numbered("    stack ", place as u64, ": ");
+            push_place(out, kept);
+            out.push("\n");
+            place
+        }
+        Entry::Unknown | Entry::Filled => place,
+    }
+}
+
 /// What is known of the stack, a line for each range of bytes and each pointer.
 pub(crate) fn push_stack(out: &mut Text, entries: &[Entry<Value>]) {
     let mut done = 0;
     for place in 0..entries.len() {
-        if place >= done && is_byte(entries, place) {
-            done = end_of(entries, place);
-            let last = done.saturating_sub(1);
-            out.fill("    stack {}..{}: bytes\n", &[place as u128, last as u128]);
-        }
-        if let Some(Entry::Kept(kept)) = entries.get(place) {
-            out.numbered("    stack ", place as u64, ": ");
-            push_place(out, *kept);
-            out.push("\n");
+        if place >= done {
+            done = push_entry(out, entries, place)
         }
     }
 }

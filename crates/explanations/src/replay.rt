@@ -1,6 +1,8 @@
 //! What is known at a slot, in words.
 
-use crate::phrases::{Value, push_fact, push_kind, push_rank, push_stack};
+use crate::phrases::{
+    Value, followed_at, known_at, push_fact, push_rank, push_register, push_stack,
+};
 use crate::text::Text;
 use inference::liveness::{Registers, has};
 use kinds::{Fact, State, Target};
@@ -20,6 +22,17 @@ fn has_moved(register: usize, fact: Fact) -> bool {
     (usize::from(fact.origin) != register) | (fact.up != fact.down)
 }
 
+/// What is known of the register, and how it has moved since the statement at the slot.
+fn push_live(out: &mut Text, begun: Option<usize>, state: &State<Value>, register: usize) {
+    let kind = known_at(&state.kinds, register);
+    push_register(out, "    r{}: ", register, kind, "");
+    match (begun, followed_at(&state.facts, register)) {
+        (Some(begun), Some(fact)) if has_moved(register, fact) => push_fact(out, fact, begun),
+        _ => {}
+    }
+    out.push("\n")
+}
+
 /// A line for each live register, and for what is known of the stack.
 pub(crate) fn push_known(
     out: &mut Text,
@@ -27,16 +40,9 @@ pub(crate) fn push_known(
     begun: Option<usize>,
     state: &State<Value>,
 ) {
-    for (register, kind) in state.kinds.iter().enumerate() {
+    for register in 0..10usize {
         if has(live, register) {
-            out.numbered("    r", register as u64, ": ");
-            push_kind(out, *kind);
-            if let (Some(begun), Some(Some(fact))) = (begun, state.facts.get(register)) {
-                if has_moved(register, *fact) {
-                    push_fact(out, *fact, begun);
-                }
-            }
-            out.push("\n");
+            push_live(out, begun, state, register)
         }
     }
     push_stack(out, &state.entries)

@@ -2,7 +2,7 @@
 ghost use Rattle.std.specs.Prelude.{◌≡◌, ◌<◌, slice_get, Some};
 ghost use Rattle.isa.specs.declared.code.Slot.TheVariants.{Start};
 
-use crate::edges::Ways;
+use crate::edges::{Ways, target_at};
 use crate::page::Page;
 use crate::phrases::Value;
 use crate::reasons::{push_misplaced, push_reason, push_stray};
@@ -16,7 +16,6 @@ use kinds::{State, Target, reset};
 use segments::follow::follow;
 use segments::known::Known;
 use segments::places::check_places;
-use segments::target::stated_at;
 use verifier::{Refusal, Rule};
 
 /// A program, and what doesn't change from slot to slot.
@@ -37,7 +36,7 @@ impl<'a> Program<'a> {
     /// The statement of the segment that begins at the slot, or at the entry.
     fn segment(&self, begun: Option<usize>) -> &Target<'a, Value> {
         match begun {
-            Some(slot) => stated_at(&self.targets, slot).unwrap_or(&self.entry),
+            Some(slot) => target_at(&self.targets, slot).unwrap_or(&self.entry),
             None => &self.entry,
         }
     }
@@ -78,7 +77,7 @@ impl Here {
 
     /// Comes to the slot. A statement there is told of, and begins a segment.
     fn arrive(&mut self, out: &mut Text, program: &Program<'_>, slot: usize) {
-        if let Some(target) = stated_at(&program.targets, slot) {
+        if let Some(target) = target_at(&program.targets, slot) {
             push_statement(out, target);
             self.begun = Some(slot);
             self.known = Known {
@@ -195,16 +194,24 @@ fn known_behind(
     }
 }
 
+/// Passes over the slot. Whether the verifier doesn't refuse it.
+fn push_slot(page: &mut Page<'_>, program: &Program<'_>, here: &mut Here, slot: usize) -> bool {
+    match (program.code.at(slot as u64), program.rule_at(slot)) {
+        (Some(Slot::Start(instruction)), _) => here.pass(page, program, slot, instruction),
+        (_, Some(_)) => {
+            push_stray(&mut page.reasons, slot);
+            false
+        }
+        _ => true,
+    }
+}
+
 /// Passes over the code as the verifier does, up to the slot that it refuses, and says what is
 /// wrong there.
 pub(crate) fn push_pass(page: &mut Page<'_>, program: &Program<'_>, here: &mut Here) {
     for slot in 0..program.code.len() {
-        if let Some(Slot::Start(instruction)) = program.code.at(slot as u64) {
-            if !here.pass(page, program, slot, instruction) {
-                return;
-            }
-        } else if program.rule_at(slot).is_some() {
-            return push_stray(&mut page.reasons, slot);
+        if !push_slot(page, program, here, slot) {
+            break;
         }
     }
 }
