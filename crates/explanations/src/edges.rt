@@ -7,7 +7,7 @@ use inference::copy_of;
 use inference::memory::Memory;
 use isa::{Hook, Instruction};
 use kinds::{Fact, State, Target, kind_within};
-use object::RankTerm;
+use object::{Rank, RankTerm};
 use segments::edge::enter;
 use segments::follow::Operands;
 use segments::places::{jump_of, slots_of};
@@ -65,16 +65,16 @@ fn push_followed(out: &mut Text, fact: Option<Fact>) {
     match fact {
         Some(Fact { origin, up, down }) => out.fill(
             "; r{} of the statement above + {} - {}\n",
-            &[u128::from(origin), up, down],
+            &[origin as u128, up, down],
         ),
         None => out.push("; not followed from the statement above\n"),
     }
 }
 
 /// A line for the register of a rank's term.
-fn push_term(out: &mut Text, state: &State<Value>, term: &Option<RankTerm>) {
+fn push_term(out: &mut Text, state: &State<Value>, term: Option<RankTerm>) {
     if let Some(term) = term {
-        let register = usize::from(term.register());
+        let register = term.register() as usize;
         let kind = known_at(&state.kinds, register);
         push_register(out, "  r{}: ", register, kind, "");
         push_followed(out, followed_at(&state.facts, register))
@@ -90,16 +90,17 @@ fn push_ranks(
     state: &State<Value>,
 ) {
     let there = target.statement.rank();
-    push_rank(out, "  the rank there: ", &there, "\n");
-    push_term(out, state, &there.first);
-    push_term(out, state, &there.second);
+    let Rank { first, second, .. } = there;
+    push_rank(out, "  the rank there: ", there, "\n");
+    push_term(out, state, first);
+    push_term(out, state, second);
     let allowed = if is_back {
         "  allowed: less than "
     } else {
         "  allowed: at most "
     };
     let behind = ", the rank of the statement above, or of the entry\n";
-    push_rank(out, allowed, &segment.statement.rank(), behind)
+    push_rank(out, allowed, segment.statement.rank(), behind)
 }
 
 /// What is stated at a slot.
@@ -151,34 +152,22 @@ impl Ways<'_> {
         rule: Rule,
     ) {
         self.push_way(out, to);
-        if rule == Rule::NotWithin {
-            push_outside(out, target, state)
-        } else {
-            push_ranks(out, target, self.leads_back(to), self.segment, state)
-        }
-    }
-
-    /// What is wrong on the way to a statement at the slot. Whether anything is.
-    fn push_entered(
-        &self,
-        out: &mut Text,
-        target: &Target<'_, Value>,
-        to: usize,
-        state: &State<Value>,
-    ) -> bool {
-        match enter(target, self.leads_back(to), self.segment, state) {
-            Ok(()) => false,
-            Err(rule) => {
-                self.push_wrong(out, target, to, state, rule);
-                true
-            }
+        match rule {
+            Rule::NotWithin => push_outside(out, target, state),
+            _ => push_ranks(out, target, self.leads_back(to), self.segment, state),
         }
     }
 
     /// What is wrong on the way to the slot. Whether that is stated and anything is.
     pub fn push_to(&self, out: &mut Text, to: usize, state: &State<Value>) -> bool {
         match target_at(self.targets, to) {
-            Some(target) => self.push_entered(out, target, to, state),
+            Some(target) => match enter(target, self.leads_back(to), self.segment, state) {
+                Ok(()) => false,
+                Err(rule) => {
+                    self.push_wrong(out, target, to, state, rule);
+                    true
+                }
+            },
             None => false,
         }
     }

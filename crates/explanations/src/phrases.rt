@@ -39,9 +39,9 @@ fn push_bits(out: &mut Text, value: Value, high: u64) {
 pub(crate) fn push_numbers(out: &mut Text, value: Value) {
     let (low, high) = range_of(value);
     if low == high {
-        out.number(u128::from(low))
+        out.number(low as u128)
     } else {
-        out.fill("{}..{}", &[u128::from(low), u128::from(high)]);
+        out.fill("{}..{}", &[low as u128, high as u128]);
         push_bits(out, value, high)
     }
 }
@@ -63,7 +63,7 @@ pub(crate) fn push_place(out: &mut Text, place: Place<Value>) {
         Place::Context(at) => out.numbered("context, byte ", at, ""),
         Place::Stack(at) => out.numbered("stack, byte ", at, ""),
         Place::Map(map, value) => {
-            out.numbered("map ", u64::from(map.number()), ", offset ");
+            out.numbered("map ", map.number() as u64, ", offset ");
             push_numbers(out, value)
         }
     }
@@ -104,7 +104,7 @@ pub(crate) fn push_register(
 /// How a register follows from the last statement.
 pub(crate) fn push_fact(out: &mut Text, fact: Fact, begun: usize) {
     let Fact { origin, up, down } = fact;
-    out.fill("; r{} at slot {}", &[u128::from(origin), begun as u128]);
+    out.fill("; r{} at slot {}", &[origin as u128, begun as u128]);
     if up > 0 {
         out.fill(" + {}", &[up])
     }
@@ -113,19 +113,19 @@ pub(crate) fn push_fact(out: &mut Text, fact: Fact, begun: usize) {
     }
 }
 
-fn push_term(out: &mut Text, term: &Option<RankTerm>) {
+fn push_term(out: &mut Text, term: Option<RankTerm>) {
     if let Some(term) = term {
-        let register = u128::from(term.register());
-        let coefficient = u128::from(term.coefficient());
+        let register = term.register() as u128;
+        let coefficient = term.coefficient() as u128;
         out.fill(" + r{} * {}", &[register, coefficient])
     }
 }
 
 /// A rank between these words.
-pub(crate) fn push_rank(out: &mut Text, before: &str, rank: &Rank, behind: &str) {
-    out.numbered(before, u64::from(rank.constant), "");
-    push_term(out, &rank.first);
-    push_term(out, &rank.second);
+pub(crate) fn push_rank(out: &mut Text, before: &str, rank: Rank, behind: &str) {
+    out.numbered(before, rank.constant as u64, "");
+    push_term(out, rank.first);
+    push_term(out, rank.second);
     out.push(behind)
 }
 

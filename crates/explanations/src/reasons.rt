@@ -6,7 +6,7 @@ use crate::rules::rule_words;
 use crate::text::Text;
 use inference::liveness::{has, reads};
 use isa::{Hook, Instruction, Operation, Register, Width};
-use kinds::{Kind, Place, State, kind_at};
+use kinds::{Entry, Kind, Place, State, kind_at};
 use segments::places::jump_of;
 use transfer::load::{load_length, map_length};
 use transfer::place::reached;
@@ -117,20 +117,18 @@ fn push_registers(
 }
 
 /// The first byte of an access to the stack that isn't known to be a byte.
-fn push_unknown(out: &mut Text, state: &State<Value>, place: Place<Value>, length: u64) {
-    if let Place::Stack(start) = place {
-        let byte = end_of(&state.entries, start as usize) as u64;
-        if byte < start.saturating_add(length).min(512) {
-            out.numbered("  stack ", byte, ": may be empty, or a part of a pointer\n");
-        }
+fn push_unknown(out: &mut Text, entries: &[Entry<Value>], start: u64, length: u64) {
+    let byte = end_of(entries, start as usize) as u64;
+    if (byte < 512) & (byte.wrapping_sub(start) < length) {
+        out.numbered("  stack ", byte, ": may be empty, or a part of a pointer\n");
     }
 }
 
 /// The bytes of an access, as `8 bytes at r6 + 4: map 1, offset 4`.
 fn push_bytes(out: &mut Text, access: &Access, place: Place<Value>) {
-    let (length, base) = (u128::from(access.length), access.base.index() as u128);
+    let (length, base) = (access.length as u128, access.base.index() as u128);
     out.fill("  {} bytes at r{} + ", &[length, base]);
-    out.signed(i64::from(access.offset));
+    out.signed(access.offset as i64);
     out.push(": ");
     push_place(out, place);
     out.push("\n")
@@ -144,43 +142,32 @@ fn length_of(place: Place<Value>) -> u64 {
     }
 }
 
-/// What is wrong with the bytes of an access at the place; where they are out of bounds, also the
-/// offsets that are allowed there.
-fn push_access(
-    out: &mut Text,
-    state: &State<Value>,
-    access: &Access,
-    place: Place<Value>,
-    rule: Rule,
-) {
-    match rule {
-        Rule::Empty => push_unknown(out, state, place, access.length),
-        Rule::Align => push_bytes(out, access, place),
-        Rule::Bounds => {
-            push_bytes(out, access, place);
-            let most = length_of(place).saturating_sub(access.length);
-            out.numbered("  allowed: 0..", most, "\n")
-        }
-        _ => {}
-    }
-}
-
-/// What is wrong with the bytes that the instruction loads or stores, if it does.
-fn push_accessed(out: &mut Text, state: &State<Value>, instruction: &Instruction, rule: Rule) {
-    if let Some(access) = access_of(instruction) {
-        if let Ok(place) = reached(kind_at(state, access.base), access.offset) {
-            push_access(out, state, &access, place, rule)
+/// What is wrong with the bytes that the instruction loads or stores; where they are out of bounds,
+/// also the offsets that are allowed there.
+fn push_access(out: &mut Text, state: &State<Value>, access: &Access, rule: Rule) {
+    if let Ok(place) = reached(kind_at(state, access.base), access.offset) {
+        match (rule, place) {
+            (Rule::Empty, Place::Stack(start)) => {
+                push_unknown(out, &state.entries, start, access.length)
+            }
+            (Rule::Align, _) => push_bytes(out, access, place),
+            (Rule::Bounds, _) => {
+                push_bytes(out, access, place);
+                let most = length_of(place).saturating_sub(access.length);
+                out.numbered("  allowed: 0..", most, "\n")
+            }
+            _ => {}
         }
     }
 }
 
-/// Which helper the hook lacks.
-fn push_helper(out: &mut Text, hook: Hook, instruction: &Instruction) {
-    if let Instruction::Call { helper } = *instruction {
+/// Which helper the hook lacks, if that is the rule.
+fn push_helper(out: &mut Text, hook: Hook, helper: i32, rule: Rule) {
+    if matches!(rule, Rule::Helper) {
         out.push("  the hook ");
         out.push(hook.name());
         out.push(" has no helper ");
-        out.signed(i64::from(helper))
+        out.signed(helper as i64)
     }
 }
 
@@ -194,42 +181,54 @@ fn allowed(hook: Hook, instruction: &Instruction, rule: Rule) -> &'static str {
     }
 }
 
+/// The slot that is told of: the one that is jumped to, or this one where nothing leads to it.
+fn slot_told(slot: usize, instruction: &Instruction, rule: Rule) -> usize
+    requires { slot < 4096 }
+{
+    match rule {
+        Rule::Unreached => slot,
+        _ => jump_of(slot, instruction).unwrap_or(slot),
+    }
+}
+
 /// What breaks the rule at the instruction: registers that it reads, the bytes that it loads or
-/// stores, or the helper that it calls; and what is allowed.
+/// stores, the helper that it calls, or the slot that comes after it; and what is allowed.
 pub(crate) fn push_reason(
     out: &mut Text,
     hook: Hook,
-    state: &State<Value>,
+    slot: usize,
     instruction: &Instruction,
+    state: &State<Value>,
     rule: Rule,
-) {
-    push_registers(out, hook, state, instruction, rule);
-    match rule {
-        Rule::Empty | Rule::Bounds | Rule::Align => push_accessed(out, state, instruction, rule),
-        Rule::Helper => push_helper(out, hook, instruction),
-        _ => {}
-    }
-    out.push(allowed(hook, instruction, rule))
-}
-
-/// What is wrong with the slots that may come after the instruction.
-pub(crate) fn push_misplaced(out: &mut Text, slot: usize, instruction: &Instruction, rule: Rule)
+)
     requires { slot < 4096 }
 {
-    let place = match rule {
-        Rule::Unreached => slot,
-        _ => jump_of(slot, instruction).unwrap_or(slot),
-    };
-    out.fill(rule_words(rule), &[place as u128])
+    push_registers(out, hook, state, instruction, rule);
+    match *instruction {
+        Instruction::Call { helper } => push_helper(out, hook, helper, rule),
+        _ => {
+            if let Some(access) = access_of(instruction) {
+                push_access(out, state, &access, rule)
+            }
+        }
+    }
+    let told = slot_told(slot, instruction, rule);
+    out.fill(allowed(hook, instruction, rule), &[told as u128])
 }
 
-/// What is wrong with a statement where no instruction begins.
-pub(crate) fn push_stray(out: &mut Text, slot: usize) {
-    out.numbered(
-        "  slot ",
-        slot as u64,
-        " is stated, \
-            and is the second half of a wide instruction\n  allowed: a slot where an instruction \
-            begins\n",
-    );
+/// Passes over a slot where no instruction begins, and which breaks this rule where it is stated.
+/// Whether it isn't refused.
+pub(crate) fn pass_half(out: &mut Text, slot: usize, rule: Option<Rule>) -> bool {
+    match rule {
+        Some(_) => {
+            out.numbered(
+                "  slot ",
+                slot as u64,
+                " is stated, and is the second half of a wide instruction\n  allowed: a slot where an \
+                    instruction begins\n",
+            );
+            false
+        }
+        None => true,
+    }
 }

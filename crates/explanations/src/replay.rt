@@ -19,16 +19,23 @@ pub(crate) fn entry_statement(rank: u32) -> Option<Statement> {
 
 /// Whether the register isn't as it was at the last statement.
 fn has_moved(register: usize, fact: Fact) -> bool {
-    (usize::from(fact.origin) != register) | (fact.up != fact.down)
+    (fact.origin as usize != register) | (fact.up != fact.down)
+}
+
+/// How a register has moved since the statement at the slot, if it has.
+fn push_moved(out: &mut Text, begun: usize, register: usize, fact: Option<Fact>) {
+    match fact {
+        Some(fact) if has_moved(register, fact) => push_fact(out, fact, begun),
+        _ => {}
+    }
 }
 
 /// What is known of the register, and how it has moved since the statement at the slot.
 fn push_live(out: &mut Text, begun: Option<usize>, state: &State<Value>, register: usize) {
     let kind = known_at(&state.kinds, register);
     push_register(out, "    r{}: ", register, kind, "");
-    match (begun, followed_at(&state.facts, register)) {
-        (Some(begun), Some(fact)) if has_moved(register, fact) => push_fact(out, fact, begun),
-        _ => {}
+    if let Some(begun) = begun {
+        push_moved(out, begun, register, followed_at(&state.facts, register))
     }
     out.push("\n")
 }
@@ -49,5 +56,5 @@ pub(crate) fn push_known(
 }
 
 pub(crate) fn push_statement(out: &mut Text, target: &Target<'_, Value>) {
-    push_rank(out, "    stated, rank ", &target.statement.rank(), "\n")
+    push_rank(out, "    stated, rank ", target.statement.rank(), "\n")
 }

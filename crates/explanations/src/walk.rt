@@ -5,7 +5,7 @@ ghost use Rattle.isa.specs.declared.code.Slot.TheVariants.{Start};
 use crate::edges::{Ways, target_at};
 use crate::page::Page;
 use crate::phrases::Value;
-use crate::reasons::{push_misplaced, push_reason, push_stray};
+use crate::reasons::{pass_half, push_reason};
 use crate::replay::{push_known, push_statement};
 use crate::text::Text;
 use inference::liveness::Registers;
@@ -60,7 +60,7 @@ impl<'a> Program<'a> {
 pub(crate) struct Here {
     /// Where the segment begins, if not at the entry.
     begun: Option<usize>,
-    known: Known<Value>,
+    pub known: Known<Value>,
 }
 
 impl Here {
@@ -80,10 +80,8 @@ impl Here {
         if let Some(target) = target_at(&program.targets, slot) {
             push_statement(out, target);
             self.begun = Some(slot);
-            self.known = Known {
-                state: reset(entry_state(program.memory), target),
-                is_live: true,
-            };
+            self.known.state = reset(entry_state(program.memory), target);
+            self.known.is_live = true;
         }
     }
 
@@ -135,10 +133,14 @@ impl Here {
                 };
                 ways.push(out, program.hook, slot, instruction, &self.known.state)
             }
-            Rule::Target | Rule::FallsOff | Rule::Unreached | Rule::Unstated => {
-                push_misplaced(out, slot, instruction, rule)
-            }
-            _ => push_reason(out, program.hook, &self.known.state, instruction, rule),
+            _ => push_reason(
+                out,
+                program.hook,
+                slot,
+                instruction,
+                &self.known.state,
+                rule,
+            ),
         }
     }
 
@@ -194,23 +196,15 @@ fn known_behind(
     }
 }
 
-/// Passes over the slot. Whether the verifier doesn't refuse it.
-fn push_slot(page: &mut Page<'_>, program: &Program<'_>, here: &mut Here, slot: usize) -> bool {
-    match (program.code.at(slot as u64), program.rule_at(slot)) {
-        (Some(Slot::Start(instruction)), _) => here.pass(page, program, slot, instruction),
-        (_, Some(_)) => {
-            push_stray(&mut page.reasons, slot);
-            false
-        }
-        _ => true,
-    }
-}
-
 /// Passes over the code as the verifier does, up to the slot that it refuses, and says what is
 /// wrong there.
 pub(crate) fn push_pass(page: &mut Page<'_>, program: &Program<'_>, here: &mut Here) {
     for slot in 0..program.code.len() {
-        if !push_slot(page, program, here, slot) {
+        let goes_on = match program.code.at(slot as u64) {
+            Some(Slot::Start(instruction)) => here.pass(page, program, slot, instruction),
+            _ => pass_half(&mut page.reasons, slot, program.rule_at(slot)),
+        };
+        if !goes_on {
             break;
         }
     }
