@@ -12,7 +12,7 @@ use segments::edge::enter;
 use segments::follow::Operands;
 use segments::places::{jump_of, slots_of};
 use segments::target::stated_at;
-use transfer::branch::{Edges, refined, tested};
+use transfer::branch::{refined, tested};
 use transfer::straight::straight;
 use verifier::Rule;
 
@@ -60,24 +60,24 @@ fn push_outside(out: &mut Text, target: &Target<'_, Value>, state: &State<Value>
     push_byte_outside(out, target, state)
 }
 
-/// How a register follows from the statement above.
-fn push_followed(out: &mut Text, fact: Option<Fact>) {
-    match fact {
-        Some(Fact { origin, up, down }) => out.fill(
-            "; r{} of the statement above + {} - {}\n",
-            &[origin as u128, up, down],
-        ),
-        None => out.push("; not followed from the statement above\n"),
-    }
-}
-
-/// A line for the register of a rank's term.
+/// A line for the register of a rank's term, and how it follows from the statement above.
 fn push_term(out: &mut Text, state: &State<Value>, term: Option<RankTerm>) {
     if let Some(term) = term {
         let register = term.register() as usize;
-        let kind = known_at(&state.kinds, register);
-        push_register(out, "  r{}: ", register, kind, "");
-        push_followed(out, followed_at(&state.facts, register))
+        push_register(
+            out,
+            "  r{}: ",
+            register,
+            known_at(&state.kinds, register),
+            "",
+        );
+        match followed_at(&state.facts, register) {
+            Some(Fact { origin, up, down }) => out.fill(
+                "; r{} of the statement above + {} - {}\n",
+                &[origin as u128, up, down],
+            ),
+            None => out.push("; not followed from the statement above\n"),
+        }
     }
 }
 
@@ -142,34 +142,20 @@ impl Ways<'_> {
         }
     }
 
-    /// What is wrong on the way to a statement at the slot, by this rule.
-    fn push_wrong(
-        &self,
-        out: &mut Text,
-        target: &Target<'_, Value>,
-        to: usize,
-        state: &State<Value>,
-        rule: Rule,
-    ) {
-        self.push_way(out, to);
-        match rule {
-            Rule::NotWithin => push_outside(out, target, state),
-            _ => push_ranks(out, target, self.leads_back(to), self.segment, state),
-        }
-    }
-
     /// What is wrong on the way to the slot. Whether that is stated and anything is.
     pub fn push_to(&self, out: &mut Text, to: usize, state: &State<Value>) -> bool {
-        match target_at(self.targets, to) {
-            Some(target) => match enter(target, self.leads_back(to), self.segment, state) {
-                Ok(()) => false,
-                Err(rule) => {
-                    self.push_wrong(out, target, to, state, rule);
-                    true
+        if let Some(target) = target_at(self.targets, to) {
+            let is_back = self.leads_back(to);
+            if let Err(rule) = enter(target, is_back, self.segment, state) {
+                self.push_way(out, to);
+                match rule {
+                    Rule::NotWithin => push_outside(out, target, state),
+                    _ => push_ranks(out, target, is_back, self.segment, state),
                 }
-            },
-            None => false,
+                return true;
+            }
         }
+        false
     }
 
     /// What is wrong on a way from a conditional jump, where its operands have these values. Whether
@@ -192,21 +178,6 @@ impl Ways<'_> {
         }
     }
 
-    /// What is wrong on the way of a conditional jump, and else on the other one.
-    fn push_both(
-        &self,
-        out: &mut Text,
-        operands: &Operands,
-        edges: Edges<Value>,
-        to: usize,
-        next: usize,
-        state: &State<Value>,
-    ) {
-        if !self.push_narrowed(out, operands, edges.taken, to, state) {
-            let _is_wrong = self.push_narrowed(out, operands, edges.passed, next, state);
-        }
-    }
-
     /// What is wrong on the ways from a jump.
     fn push_jump(
         &self,
@@ -226,7 +197,15 @@ impl Ways<'_> {
             } => {
                 let operands = Operands { left, right };
                 if let Ok(edges) = tested(state, width, test, operands.left, operands.right) {
-                    self.push_both(out, &operands, edges, to, next, state)
+                    if !self.push_narrowed(out, &operands, edges.taken, to, state) {
+                        let _is_wrong = self.push_narrowed(
+                            out,
+                            &operands,
+                            edges.passed,
+                            next,
+                            state,
+                        );
+                    }
                 }
             }
             _ => {

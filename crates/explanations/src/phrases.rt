@@ -101,15 +101,17 @@ pub(crate) fn push_register(
     out.push(behind)
 }
 
-/// How a register follows from the last statement.
-pub(crate) fn push_fact(out: &mut Text, fact: Fact, begun: usize) {
+/// How the register follows from the statement at the slot, unless it is as it was there.
+pub(crate) fn push_fact(out: &mut Text, register: usize, fact: Fact, begun: usize) {
     let Fact { origin, up, down } = fact;
-    out.fill("; r{} at slot {}", &[origin as u128, begun as u128]);
-    if up > 0 {
-        out.fill(" + {}", &[up])
-    }
-    if down > 0 {
-        out.fill(" - {}", &[down])
+    if (origin as usize != register) | (up != down) {
+        out.fill("; r{} at slot {}", &[origin as u128, begun as u128]);
+        if up > 0 {
+            out.fill(" + {}", &[up])
+        }
+        if down > 0 {
+            out.fill(" - {}", &[down])
+        }
     }
 }
 

@@ -117,10 +117,12 @@ fn push_registers(
 }
 
 /// The first byte of an access to the stack that isn't known to be a byte.
-fn push_unknown(out: &mut Text, entries: &[Entry<Value>], start: u64, length: u64) {
-    let byte = end_of(entries, start as usize) as u64;
-    if (byte < 512) & (byte.wrapping_sub(start) < length) {
-        out.numbered("  stack ", byte, ": may be empty, or a part of a pointer\n");
+fn push_unknown(out: &mut Text, entries: &[Entry<Value>], place: Place<Value>, length: u64) {
+    if let Place::Stack(start) = place {
+        let byte = end_of(entries, start as usize) as u64;
+        if (byte < 512) & (byte.wrapping_sub(start) < length) {
+            out.numbered("  stack ", byte, ": may be empty, or a part of a pointer\n");
+        }
     }
 }
 
@@ -146,12 +148,10 @@ fn length_of(place: Place<Value>) -> u64 {
 /// also the offsets that are allowed there.
 fn push_access(out: &mut Text, state: &State<Value>, access: &Access, rule: Rule) {
     if let Ok(place) = reached(kind_at(state, access.base), access.offset) {
-        match (rule, place) {
-            (Rule::Empty, Place::Stack(start)) => {
-                push_unknown(out, &state.entries, start, access.length)
-            }
-            (Rule::Align, _) => push_bytes(out, access, place),
-            (Rule::Bounds, _) => {
+        match rule {
+            Rule::Empty => push_unknown(out, &state.entries, place, access.length),
+            Rule::Align => push_bytes(out, access, place),
+            Rule::Bounds => {
                 push_bytes(out, access, place);
                 let most = length_of(place).saturating_sub(access.length);
                 out.numbered("  allowed: 0..", most, "\n")

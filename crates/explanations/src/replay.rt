@@ -5,7 +5,7 @@ use crate::phrases::{
 };
 use crate::text::Text;
 use inference::liveness::{Registers, has};
-use kinds::{Fact, State, Target};
+use kinds::{State, Target};
 use object::{Kind as Stated, Rank, StackBytes, Statement};
 
 pub(crate) fn entry_statement(rank: u32) -> Option<Statement> {
@@ -17,25 +17,14 @@ pub(crate) fn entry_statement(rank: u32) -> Option<Statement> {
     Statement::new(0, constant, [Stated::Empty; 10], StackBytes::new())
 }
 
-/// Whether the register isn't as it was at the last statement.
-fn has_moved(register: usize, fact: Fact) -> bool {
-    (fact.origin as usize != register) | (fact.up != fact.down)
-}
-
-/// How a register has moved since the statement at the slot, if it has.
-fn push_moved(out: &mut Text, begun: usize, register: usize, fact: Option<Fact>) {
-    match fact {
-        Some(fact) if has_moved(register, fact) => push_fact(out, fact, begun),
-        _ => {}
-    }
-}
-
 /// What is known of the register, and how it has moved since the statement at the slot.
 fn push_live(out: &mut Text, begun: Option<usize>, state: &State<Value>, register: usize) {
     let kind = known_at(&state.kinds, register);
     push_register(out, "    r{}: ", register, kind, "");
     if let Some(begun) = begun {
-        push_moved(out, begun, register, followed_at(&state.facts, register))
+        if let Some(fact) = followed_at(&state.facts, register) {
+            push_fact(out, register, fact, begun)
+        }
     }
     out.push("\n")
 }

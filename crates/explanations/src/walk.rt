@@ -41,11 +41,6 @@ impl<'a> Program<'a> {
         }
     }
 
-    /// The registers that may be read from the slot on.
-    fn live_at(&self, slot: usize) -> Registers {
-        element_or(&self.live, slot, 0)
-    }
-
     /// The rule by which the verifier refuses it at the slot, if it does.
     fn rule_at(&self, slot: usize) -> Option<Rule> {
         match self.refusal {
@@ -88,7 +83,12 @@ impl Here {
     /// Tells what is known at the slot.
     fn push(&self, out: &mut Text, program: &Program<'_>, slot: usize) {
         if self.known.is_live {
-            push_known(out, program.live_at(slot), self.begun, &self.known.state)
+            push_known(
+                out,
+                element_or(&program.live, slot, 0),
+                self.begun,
+                &self.known.state,
+            )
         } else {
             out.push("    no run comes here\n")
         }
@@ -102,8 +102,22 @@ impl Here {
         if !self.known.is_live {
             return true;
         }
+        let code = program.code;
+        let targets = program.targets.as_slice();
+        if check_places(code, targets, true, slot, &instruction).is_err() {
+            return false;
+        }
+        let segment = program.segment(self.begun);
         let before = copy_of(program.memory, &self.known.state);
-        match known_behind(program, self.begun, before, slot, instruction) {
+        match follow(
+            code,
+            program.hook,
+            targets,
+            segment,
+            before,
+            slot,
+            instruction,
+        ) {
             Ok(known) => {
                 self.known = known;
                 true
@@ -166,33 +180,6 @@ impl Here {
             }
             None => self.follow(program, slot, instruction),
         }
-    }
-}
-
-/// What is known behind the instruction, of what is known in the segment that begins there.
-fn known_behind(
-    program: &Program<'_>,
-    begun: Option<usize>,
-    state: State<Value>,
-    slot: usize,
-    instruction: Instruction,
-) -> Result<Known<Value>, Rule>
-    requires small { slot < 4096 }
-    requires here { slice_get program.now.code.now slot ≡ Some (Start instruction) }
-{
-    let code = program.code;
-    let targets = program.targets.as_slice();
-    match check_places(code, targets, true, slot, &instruction) {
-        Ok(()) => follow(
-            code,
-            program.hook,
-            targets,
-            program.segment(begun),
-            state,
-            slot,
-            instruction,
-        ),
-        Err(rule) => Err(rule),
     }
 }
 
