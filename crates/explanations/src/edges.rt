@@ -123,14 +123,6 @@ pub(crate) struct Ways<'a> {
 }
 
 impl Ways<'_> {
-    /// Whether the way to the slot leads back.
-    fn leads_back(&self, to: usize) -> bool {
-        match self.slot {
-            Some(slot) => to <= slot,
-            None => false,
-        }
-    }
-
     /// A line for the way to the slot.
     fn push_way(&self, out: &mut Text, to: usize) {
         match self.slot {
@@ -145,7 +137,10 @@ impl Ways<'_> {
     /// What is wrong on the way to the slot. Whether that is stated and anything is.
     pub fn push_to(&self, out: &mut Text, to: usize, state: &State<Value>) -> bool {
         if let Some(target) = target_at(self.targets, to) {
-            let is_back = self.leads_back(to);
+            let is_back = match self.slot {
+                Some(slot) => to <= slot,
+                None => false,
+            };
             if let Err(rule) = enter(target, is_back, self.segment, state) {
                 self.push_way(out, to);
                 match rule {
@@ -214,21 +209,6 @@ impl Ways<'_> {
         }
     }
 
-    /// What is wrong on the way to the next slot, from an instruction that is no jump.
-    fn push_straight(
-        &self,
-        out: &mut Text,
-        hook: Hook,
-        instruction: &Instruction,
-        next: usize,
-        state: &State<Value>,
-    ) {
-        let before = copy_of(self.memory, state);
-        if let Ok(after) = straight(before, hook, *instruction) {
-            let _is_wrong = self.push_to(out, next, &after);
-        }
-    }
-
     /// What is wrong on the ways from an instruction at the slot, where this is known at it.
     pub fn push(
         &self,
@@ -243,7 +223,12 @@ impl Ways<'_> {
         let next = slot + slots_of(instruction);
         match jump_of(slot, instruction) {
             Some(to) => self.push_jump(out, instruction, to, next, state),
-            None => self.push_straight(out, hook, instruction, next, state),
+            None => {
+                let before = copy_of(self.memory, state);
+                if let Ok(after) = straight(before, hook, *instruction) {
+                    let _is_wrong = self.push_to(out, next, &after);
+                }
+            }
         }
     }
 }

@@ -144,26 +144,38 @@ fn length_of(place: Place<Value>) -> u64 {
     }
 }
 
-/// What is wrong with the bytes that the instruction loads or stores; where they are out of bounds,
-/// also the offsets that are allowed there.
-fn push_access(out: &mut Text, state: &State<Value>, access: &Access, rule: Rule) {
-    if let Ok(place) = reached(kind_at(state, access.base), access.offset) {
-        match rule {
-            Rule::Empty => push_unknown(out, &state.entries, place, access.length),
-            Rule::Align => push_bytes(out, access, place),
-            Rule::Bounds => {
-                push_bytes(out, access, place);
-                let most = length_of(place).saturating_sub(access.length);
-                out.numbered("  allowed: 0..", most, "\n")
-            }
-            _ => {}
+/// What is wrong with the bytes of an access at the place; where they are out of bounds, also the
+/// offsets that are allowed there.
+fn push_reached(
+    out: &mut Text,
+    state: &State<Value>,
+    access: &Access,
+    place: Place<Value>,
+    rule: Rule,
+) {
+    match rule {
+        Rule::Empty => push_unknown(out, &state.entries, place, access.length),
+        Rule::Bounds => {
+            push_bytes(out, access, place);
+            let most = length_of(place).saturating_sub(access.length);
+            out.numbered("  allowed: 0..", most, "\n")
+        }
+        _ => push_bytes(out, access, place),
+    }
+}
+
+/// What is wrong with the bytes that the instruction loads or stores.
+fn push_access(out: &mut Text, state: &State<Value>, instruction: &Instruction, rule: Rule) {
+    if let Some(access) = access_of(instruction) {
+        if let Ok(place) = reached(kind_at(state, access.base), access.offset) {
+            push_reached(out, state, &access, place, rule)
         }
     }
 }
 
-/// Which helper the hook lacks, if that is the rule.
-fn push_helper(out: &mut Text, hook: Hook, helper: i32, rule: Rule) {
-    if matches!(rule, Rule::Helper) {
+/// Which helper the hook lacks.
+fn push_helper(out: &mut Text, hook: Hook, instruction: &Instruction) {
+    if let Instruction::Call { helper } = *instruction {
         out.push("  the hook ");
         out.push(hook.name());
         out.push(" has no helper ");
@@ -181,16 +193,6 @@ fn allowed(hook: Hook, instruction: &Instruction, rule: Rule) -> &'static str {
     }
 }
 
-/// The slot that is told of: the one that is jumped to, or this one where nothing leads to it.
-fn slot_told(slot: usize, instruction: &Instruction, rule: Rule) -> usize
-    requires { slot < 4096 }
-{
-    match rule {
-        Rule::Unreached => slot,
-        _ => jump_of(slot, instruction).unwrap_or(slot),
-    }
-}
-
 /// What breaks the rule at the instruction: registers that it reads, the bytes that it loads or
 /// stores, the helper that it calls, or the slot that comes after it; and what is allowed.
 pub(crate) fn push_reason(
@@ -204,31 +206,24 @@ pub(crate) fn push_reason(
     requires { slot < 4096 }
 {
     push_registers(out, hook, state, instruction, rule);
-    match *instruction {
-        Instruction::Call { helper } => push_helper(out, hook, helper, rule),
-        _ => {
-            if let Some(access) = access_of(instruction) {
-                push_access(out, state, &access, rule)
-            }
-        }
+    match rule {
+        Rule::Empty | Rule::Bounds | Rule::Align => push_access(out, state, instruction, rule),
+        Rule::Helper => push_helper(out, hook, instruction),
+        _ => {}
     }
-    let told = slot_told(slot, instruction, rule);
-    out.fill(allowed(hook, instruction, rule), &[told as u128])
+    let to = match rule {
+        Rule::Unreached => slot,
+        _ => jump_of(slot, instruction).unwrap_or(slot),
+    };
+    out.fill(allowed(hook, instruction, rule), &[to as u128])
 }
 
-/// Passes over a slot where no instruction begins, and which breaks this rule where it is stated.
-/// Whether it isn't refused.
-pub(crate) fn pass_half(out: &mut Text, slot: usize, rule: Option<Rule>) -> bool {
-    match rule {
-        Some(_) => {
-            out.numbered(
-                "  slot ",
-                slot as u64,
-                " is stated, and is the second half of a wide instruction\n  allowed: a slot where an \
-                    instruction begins\n",
-            );
-            false
-        }
-        None => true,
-    }
+/// What is wrong with a statement where no instruction begins.
+pub(crate) fn push_stray(out: &mut Text, slot: usize) {
+    out.numbered(
+        "  slot ",
+        slot as u64,
+        " is stated, and is the second half of a wide instruction\n  allowed: a slot where an \
+            instruction begins\n",
+    );
 }

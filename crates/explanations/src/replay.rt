@@ -1,11 +1,8 @@
 //! What is known at a slot, in words.
 
-use crate::phrases::{
-    Value, followed_at, known_at, push_fact, push_rank, push_register, push_stack,
-};
+use crate::phrases::{Value, followed_at, known_at, push_fact, push_register};
 use crate::text::Text;
-use inference::liveness::{Registers, has};
-use kinds::{State, Target};
+use kinds::State;
 use object::{Kind as Stated, Rank, StackBytes, Statement};
 
 pub(crate) fn entry_statement(rank: u32) -> Option<Statement> {
@@ -18,7 +15,12 @@ pub(crate) fn entry_statement(rank: u32) -> Option<Statement> {
 }
 
 /// What is known of the register, and how it has moved since the statement at the slot.
-fn push_live(out: &mut Text, begun: Option<usize>, state: &State<Value>, register: usize) {
+pub(crate) fn push_live(
+    out: &mut Text,
+    begun: Option<usize>,
+    state: &State<Value>,
+    register: usize,
+) {
     let kind = known_at(&state.kinds, register);
     push_register(out, "    r{}: ", register, kind, "");
     if let Some(begun) = begun {
@@ -27,23 +29,4 @@ fn push_live(out: &mut Text, begun: Option<usize>, state: &State<Value>, registe
         }
     }
     out.push("\n")
-}
-
-/// A line for each live register, and for what is known of the stack.
-pub(crate) fn push_known(
-    out: &mut Text,
-    live: Registers,
-    begun: Option<usize>,
-    state: &State<Value>,
-) {
-    for register in 0..10usize {
-        if has(live, register) {
-            push_live(out, begun, state, register)
-        }
-    }
-    push_stack(out, &state.entries)
-}
-
-pub(crate) fn push_statement(out: &mut Text, target: &Target<'_, Value>) {
-    push_rank(out, "    stated, rank ", target.statement.rank(), "\n")
 }

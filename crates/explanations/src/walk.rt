@@ -4,11 +4,11 @@ ghost use Rattle.isa.specs.declared.code.Slot.TheVariants.{Start};
 
 use crate::edges::{Ways, target_at};
 use crate::page::Page;
-use crate::phrases::Value;
-use crate::reasons::{pass_half, push_reason};
-use crate::replay::{push_known, push_statement};
+use crate::phrases::{Value, push_rank, push_stack};
+use crate::reasons::{push_reason, push_stray};
+use crate::replay::push_live;
 use crate::text::Text;
-use inference::liveness::Registers;
+use inference::liveness::{Registers, has};
 use inference::memory::{Memory, element_or};
 use inference::{copy_of, entry_state};
 use isa::{Code, Hook, Instruction, Slot};
@@ -73,22 +73,24 @@ impl Here {
     /// Comes to the slot. A statement there is told of, and begins a segment.
     fn arrive(&mut self, out: &mut Text, program: &Program<'_>, slot: usize) {
         if let Some(target) = target_at(&program.targets, slot) {
-            push_statement(out, target);
+            push_rank(out, "    stated, rank ", target.statement.rank(), "\n");
             self.begun = Some(slot);
             self.known.state = reset(entry_state(program.memory), target);
             self.known.is_live = true;
         }
     }
 
-    /// Tells what is known at the slot.
+    /// Tells what is known at the slot, of each register that may be read from there on, and of the
+    /// stack.
     fn push(&self, out: &mut Text, program: &Program<'_>, slot: usize) {
         if self.known.is_live {
-            push_known(
-                out,
-                element_or(&program.live, slot, 0),
-                self.begun,
-                &self.known.state,
-            )
+            let live = element_or(&program.live, slot, 0);
+            for register in 0..10usize {
+                if has(live, register) {
+                    push_live(out, self.begun, &self.known.state, register)
+                }
+            }
+            push_stack(out, &self.known.state.entries)
         } else {
             out.push("    no run comes here\n")
         }
@@ -183,13 +185,24 @@ impl Here {
     }
 }
 
+/// Passes over a slot where no instruction begins. Whether the verifier doesn't refuse it.
+fn pass_half(page: &mut Page<'_>, program: &Program<'_>, slot: usize) -> bool {
+    match program.rule_at(slot) {
+        Some(_) => {
+            push_stray(&mut page.reasons, slot);
+            false
+        }
+        None => true,
+    }
+}
+
 /// Passes over the code as the verifier does, up to the slot that it refuses, and says what is
 /// wrong there.
 pub(crate) fn push_pass(page: &mut Page<'_>, program: &Program<'_>, here: &mut Here) {
     for slot in 0..program.code.len() {
         let goes_on = match program.code.at(slot as u64) {
             Some(Slot::Start(instruction)) => here.pass(page, program, slot, instruction),
-            _ => pass_half(&mut page.reasons, slot, program.rule_at(slot)),
+            _ => pass_half(page, program, slot),
         };
         if !goes_on {
             break;
