@@ -113,17 +113,17 @@ fn refusal_in(verdict: &Result<Accepted, VerifyError>) -> Option<Refusal> {
 
 /// What the verifier knows at each slot, up to the one that it refuses.
 fn push_program(page: &mut Page<'_>, program: &Program<'_>) {
-    let mut here = Here::new(entry_state(program.memory));
+    let first = entry_state(program.memory);
     let ways = Ways {
         memory: program.memory,
         targets: &program.targets,
         segment: &program.entry,
         slot: None,
     };
-    if ways.push_to(&mut page.reasons, 0, &here.known.state) {
+    if ways.push_to(&mut page.reasons, 0, &first) {
         page.turn(0)
     } else {
-        push_pass(page, program, &mut here)
+        push_pass(page, program, &mut Here::new(first))
     }
 }
 

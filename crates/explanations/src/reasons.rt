@@ -144,31 +144,19 @@ fn length_of(place: Place<Value>) -> u64 {
     }
 }
 
-/// What is wrong with the bytes of an access at the place; where they are out of bounds, also the
-/// offsets that are allowed there.
-fn push_reached(
-    out: &mut Text,
-    state: &State<Value>,
-    access: &Access,
-    place: Place<Value>,
-    rule: Rule,
-) {
-    match rule {
-        Rule::Empty => push_unknown(out, &state.entries, place, access.length),
-        Rule::Bounds => {
-            push_bytes(out, access, place);
-            let most = length_of(place).saturating_sub(access.length);
-            out.numbered("  allowed: 0..", most, "\n")
-        }
-        _ => push_bytes(out, access, place),
-    }
-}
-
-/// What is wrong with the bytes that the instruction loads or stores.
-fn push_access(out: &mut Text, state: &State<Value>, instruction: &Instruction, rule: Rule) {
-    if let Some(access) = access_of(instruction) {
-        if let Ok(place) = reached(kind_at(state, access.base), access.offset) {
-            push_reached(out, state, &access, place, rule)
+/// What is wrong with the bytes of the access; where they are out of bounds, also the offsets that
+/// are allowed there.
+fn push_access(out: &mut Text, state: &State<Value>, access: &Access, rule: Rule) {
+    if let Ok(place) = reached(kind_at(state, access.base), access.offset) {
+        match rule {
+            Rule::Empty => push_unknown(out, &state.entries, place, access.length),
+            Rule::Align => push_bytes(out, access, place),
+            Rule::Bounds => {
+                push_bytes(out, access, place);
+                let most = length_of(place).saturating_sub(access.length);
+                out.numbered("  allowed: 0..", most, "\n")
+            }
+            _ => {}
         }
     }
 }
@@ -207,9 +195,12 @@ pub(crate) fn push_reason(
 {
     push_registers(out, hook, state, instruction, rule);
     match rule {
-        Rule::Empty | Rule::Bounds | Rule::Align => push_access(out, state, instruction, rule),
         Rule::Helper => push_helper(out, hook, instruction),
-        _ => {}
+        _ => {
+            if let Some(access) = access_of(instruction) {
+                push_access(out, state, &access, rule)
+            }
+        }
     }
     let to = match rule {
         Rule::Unreached => slot,

@@ -55,7 +55,7 @@ impl<'a> Program<'a> {
 pub(crate) struct Here {
     /// Where the segment begins, if not at the entry.
     begun: Option<usize>,
-    pub known: Known<Value>,
+    known: Known<Value>,
 }
 
 impl Here {
@@ -185,27 +185,16 @@ impl Here {
     }
 }
 
-/// Passes over a slot where no instruction begins. Whether the verifier doesn't refuse it.
-fn pass_half(page: &mut Page<'_>, program: &Program<'_>, slot: usize) -> bool {
-    match program.rule_at(slot) {
-        Some(_) => {
-            push_stray(&mut page.reasons, slot);
-            false
-        }
-        None => true,
-    }
-}
-
 /// Passes over the code as the verifier does, up to the slot that it refuses, and says what is
 /// wrong there.
 pub(crate) fn push_pass(page: &mut Page<'_>, program: &Program<'_>, here: &mut Here) {
     for slot in 0..program.code.len() {
-        let goes_on = match program.code.at(slot as u64) {
-            Some(Slot::Start(instruction)) => here.pass(page, program, slot, instruction),
-            _ => pass_half(page, program, slot),
-        };
-        if !goes_on {
-            break;
+        if let Some(Slot::Start(instruction)) = program.code.at(slot as u64) {
+            if !here.pass(page, program, slot, instruction) {
+                return;
+            }
+        } else if program.rule_at(slot).is_some() {
+            return push_stray(&mut page.reasons, slot);
         }
     }
 }
