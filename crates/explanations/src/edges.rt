@@ -1,18 +1,18 @@
 //! What breaks a rule where a statement is entered.
 ghost use Rattle.std.specs.Prelude.{◌<◌};
 
-use crate::phrases::{Value, followed_at, is_byte, known_at, push_kind, push_rank};
+use crate::phrases::{Value, followed_at, is_byte, known_at, push_rank, push_register};
 use crate::text::Text;
 use inference::copy_of;
 use inference::memory::Memory;
 use isa::{Hook, Instruction};
 use kinds::{Fact, State, Target, kind_within};
-use object::RankTerm;
+use object::{Rank, RankTerm};
 use segments::edge::enter;
 use segments::follow::Operands;
 use segments::places::{jump_of, slots_of};
 use segments::target::stated_at;
-use transfer::branch::{Edges, refined, tested};
+use transfer::branch::{refined, tested};
 use transfer::straight::straight;
 use verifier::Rule;
 
@@ -26,23 +26,29 @@ fn push_register_outside(
     let known = known_at(&state.kinds, register);
     let stated = known_at(&target.kinds, register);
     if !kind_within(known, stated) {
-        out.numbered("  r", register as u64, ": ");
-        push_kind(out, known);
-        out.numbered("\n  allowed: r", register as u64, " ");
-        push_kind(out, stated);
-        out.push(", as is stated there\n")
+        push_register(out, "  r{}: ", register, known, "\n");
+        push_register(
+            out,
+            "  allowed: r{} ",
+            register,
+            stated,
+            ", as is stated there\n",
+        )
     }
 }
 
-/// The first byte of the stack that isn't within the statement.
-fn byte_outside(target: &Target<'_, Value>, state: &State<Value>) -> Option<usize> {
+/// A line for the first byte of the stack that isn't within the statement.
+fn push_byte_outside(out: &mut Text, target: &Target<'_, Value>, state: &State<Value>) {
     let stated = target.statement.stack();
     for place in 0..512usize {
         if stated.contains(place) & !is_byte(&state.entries, place) {
-            return Some(place);
+            return out.numbered(
+                "  stack ",
+                place as u64,
+                ": may be empty, or a part of a pointer\n  allowed: a byte, as is stated there\n",
+            );
         }
     }
-    None
 }
 
 /// A line for each register that isn't within the statement, and for the first such byte of the
@@ -51,33 +57,27 @@ fn push_outside(out: &mut Text, target: &Target<'_, Value>, state: &State<Value>
     for register in 0..10usize {
         push_register_outside(out, target, state, register);
     }
-    if let Some(place) = byte_outside(target, state) {
-        out.numbered(
-            "  stack ",
-            place as u64,
-            ": may be empty, or a part of a pointer\n  allowed: a byte, as is stated there\n",
-        );
-    }
+    push_byte_outside(out, target, state)
 }
 
-/// How a register follows from the statement above.
-fn push_followed(out: &mut Text, fact: Option<Fact>) {
-    match fact {
-        Some(Fact { origin, up, down }) => out.fill(
-            "; r{} of the statement above + {} - {}\n",
-            &[u128::from(origin), up, down],
-        ),
-        None => out.push("; not followed from the statement above\n"),
-    }
-}
-
-/// A line for the register of a rank's term.
-fn push_term(out: &mut Text, state: &State<Value>, term: &Option<RankTerm>) {
+/// A line for the register of a rank's term, and how it follows from the statement above.
+fn push_term(out: &mut Text, state: &State<Value>, term: Option<RankTerm>) {
     if let Some(term) = term {
-        let register = usize::from(term.register());
-        out.numbered("  r", register as u64, ": ");
-        push_kind(out, known_at(&state.kinds, register));
-        push_followed(out, followed_at(&state.facts, register))
+        let register = term.register() as usize;
+        push_register(
+            out,
+            "  r{}: ",
+            register,
+            known_at(&state.kinds, register),
+            "",
+        );
+        match followed_at(&state.facts, register) {
+            Some(Fact { origin, up, down }) => out.fill(
+                "; r{} of the statement above + {} - {}\n",
+                &[origin as u128, up, down],
+            ),
+            None => out.push("; not followed from the statement above\n"),
+        }
     }
 }
 
@@ -90,16 +90,25 @@ fn push_ranks(
     state: &State<Value>,
 ) {
     let there = target.statement.rank();
-    push_rank(out, "  the rank there: ", &there, "\n");
-    push_term(out, state, &there.first);
-    push_term(out, state, &there.second);
+    let Rank { first, second, .. } = there;
+    push_rank(out, "  the rank there: ", there, "\n");
+    push_term(out, state, first);
+    push_term(out, state, second);
     let allowed = if is_back {
         "  allowed: less than "
     } else {
         "  allowed: at most "
     };
     let behind = ", the rank of the statement above, or of the entry\n";
-    push_rank(out, allowed, &segment.statement.rank(), behind)
+    push_rank(out, allowed, segment.statement.rank(), behind)
+}
+
+/// What is stated at a slot.
+pub(crate) fn target_at<'t, 'a>(
+    targets: &'t [Option<Target<'a, Value>>],
+    slot: usize,
+) -> Option<&'t Target<'a, Value>> {
+    stated_at(targets, slot)
 }
 
 /// The ways from a slot.
@@ -114,14 +123,6 @@ pub(crate) struct Ways<'a> {
 }
 
 impl Ways<'_> {
-    /// Whether the way to the slot leads back.
-    fn leads_back(&self, to: usize) -> bool {
-        match self.slot {
-            Some(slot) => to <= slot,
-            None => false,
-        }
-    }
-
     /// A line for the way to the slot.
     fn push_way(&self, out: &mut Text, to: usize) {
         match self.slot {
@@ -133,35 +134,23 @@ impl Ways<'_> {
         }
     }
 
-    /// What is wrong on the way to a statement at the slot, by this rule.
-    fn push_wrong(
-        &self,
-        out: &mut Text,
-        target: &Target<'_, Value>,
-        to: usize,
-        state: &State<Value>,
-        rule: Rule,
-    ) {
-        self.push_way(out, to);
-        if rule == Rule::NotWithin {
-            push_outside(out, target, state)
-        } else {
-            push_ranks(out, target, self.leads_back(to), self.segment, state)
-        }
-    }
-
     /// What is wrong on the way to the slot. Whether that is stated and anything is.
     pub fn push_to(&self, out: &mut Text, to: usize, state: &State<Value>) -> bool {
-        let Some(target) = stated_at(self.targets, to) else {
-            return false;
-        };
-        match enter(target, self.leads_back(to), self.segment, state) {
-            Ok(()) => false,
-            Err(rule) => {
-                self.push_wrong(out, target, to, state, rule);
-                true
+        if let Some(target) = target_at(self.targets, to) {
+            let is_back = match self.slot {
+                Some(slot) => to <= slot,
+                None => false,
+            };
+            if let Err(rule) = enter(target, is_back, self.segment, state) {
+                self.push_way(out, to);
+                match rule {
+                    Rule::NotWithin => push_outside(out, target, state),
+                    _ => push_ranks(out, target, is_back, self.segment, state),
+                }
+                return true;
             }
         }
+        false
     }
 
     /// What is wrong on a way from a conditional jump, where its operands have these values. Whether
@@ -184,21 +173,6 @@ impl Ways<'_> {
         }
     }
 
-    /// What is wrong on the way of a conditional jump, and else on the other one.
-    fn push_both(
-        &self,
-        out: &mut Text,
-        operands: &Operands,
-        edges: Edges<Value>,
-        to: usize,
-        next: usize,
-        state: &State<Value>,
-    ) {
-        if !self.push_narrowed(out, operands, edges.taken, to, state) {
-            let _is_wrong = self.push_narrowed(out, operands, edges.passed, next, state);
-        }
-    }
-
     /// What is wrong on the ways from a jump.
     fn push_jump(
         &self,
@@ -218,27 +192,20 @@ impl Ways<'_> {
             } => {
                 let operands = Operands { left, right };
                 if let Ok(edges) = tested(state, width, test, operands.left, operands.right) {
-                    self.push_both(out, &operands, edges, to, next, state)
+                    if !self.push_narrowed(out, &operands, edges.taken, to, state) {
+                        let _is_wrong = self.push_narrowed(
+                            out,
+                            &operands,
+                            edges.passed,
+                            next,
+                            state,
+                        );
+                    }
                 }
             }
             _ => {
                 let _is_wrong = self.push_to(out, to, state);
             }
-        }
-    }
-
-    /// What is wrong on the way to the next slot, from an instruction that is no jump.
-    fn push_straight(
-        &self,
-        out: &mut Text,
-        hook: Hook,
-        instruction: &Instruction,
-        next: usize,
-        state: &State<Value>,
-    ) {
-        let before = copy_of(self.memory, state);
-        if let Ok(after) = straight(before, hook, *instruction) {
-            let _is_wrong = self.push_to(out, next, &after);
         }
     }
 
@@ -256,7 +223,12 @@ impl Ways<'_> {
         let next = slot + slots_of(instruction);
         match jump_of(slot, instruction) {
             Some(to) => self.push_jump(out, instruction, to, next, state),
-            None => self.push_straight(out, hook, instruction, next, state),
+            None => {
+                let before = copy_of(self.memory, state);
+                if let Ok(after) = straight(before, hook, *instruction) {
+                    let _is_wrong = self.push_to(out, next, &after);
+                }
+            }
         }
     }
 }

@@ -15,7 +15,7 @@ use inference::entry_state;
 use inference::liveness::live_registers;
 use inference::memory::Memory;
 use isa::{Code, DecodeError, decode};
-use kinds::{State, Target};
+use kinds::Target;
 use object::{Object, ReadError};
 use object_verdicts::{VerifyError, verify_object};
 use segments::target::targets_of;
@@ -43,26 +43,14 @@ pub enum ExplainError {
     Memory,
 }
 
-impl From<ReadError> for ExplainError {
-    fn from(error: ReadError) -> ExplainError {
-        ExplainError::Object(error)
-    }
-}
-
-impl From<DecodeError> for ExplainError {
-    fn from(error: DecodeError) -> ExplainError {
-        ExplainError::Code(error)
-    }
-}
-
 /// What the bound is made of, where that is too great.
 fn push_budget(out: &mut Text, object: &Object) {
     let rank = object.entry_rank();
     let slots = object.slots() as u64;
-    let bound = u64::from(rank).saturating_add(1).saturating_mul(slots);
+    let bound = (rank as u64).saturating_add(1).saturating_mul(slots);
     out.fill(
         "  ({} + 1) * {} is {}\n  allowed: up to 1000000\n",
-        &[u128::from(rank), u128::from(slots), u128::from(bound)],
+        &[rank as u128, slots as u128, bound as u128],
     )
 }
 
@@ -73,33 +61,24 @@ fn accepted(alloc: Global, bound: u64) -> Result<String, AllocError>
     format!(in alloc; "accepted bound {bound}\n")
 }
 
-/// Where a program is refused, and by which rule.
-fn refused(alloc: Global, refusal: Refusal) -> Result<String, AllocError>
-    ensures { IfOk result (λ text. string_bytes text ≡ refused_words refusal) }
-{
-    let slot = refusal.slot;
-    let rule = refusal.rule.number();
-    format!(in alloc; "refused slot {slot} rule {rule}")
-}
-
 /// What is told behind that: the rule by its name, the reasons, and a hint.
 fn push_refusal(out: &mut Text, object: &Object, rule: Rule, reasons: &str) {
     out.line(" ", rule_name(rule));
-    if rule == Rule::Budget {
-        push_budget(out, object);
-    } else {
-        out.push(reasons);
+    match rule {
+        Rule::Budget => push_budget(out, object),
+        _ => out.push(reasons),
     }
     out.line("  hint: ", rule_hint(rule))
 }
 
 /// The refusal in words: where and by which rule, and then these.
+#[tactic(auto, using(crate::proofs::Refusals::refused_text))]
 fn refusal_told(alloc: Global, refusal: Refusal, more: &str) -> Result<String, AllocError>
     ensures { IfOk result (λ text. string_bytes text ≡ refused_words refusal ++ more.now) }
 {
-    let mut text = refused(alloc, refusal)?;
-    text.push_str(more)?;
-    Ok(text)
+    let slot = refusal.slot;
+    let rule = refusal.rule.number();
+    format!(in alloc; "refused slot {slot} rule {rule}{more}")
 }
 
 /// The verdict in words, if no memory was refused for the page.
@@ -111,10 +90,8 @@ fn verdict_told(
 ) -> Result<String, AllocError>
     ensures { IfOk result (λ text. TellsVerdict verdict.now (string_bytes text)) }
 {
-    if page.is_cut() {
-        return Err(AllocError);
-    }
     match verdict {
+        _ if page.is_cut() => Err(AllocError),
         Ok(program) => accepted(alloc, program.bound()),
         Err(VerifyError::Refused(refusal)) => {
             refusal_told(alloc, *refusal, page.told.words.as_str())
@@ -184,10 +161,9 @@ fn push_object(
     refusal: Option<Refusal>,
 ) {
     if let Some(statement) = entry_statement(object.entry_rank()) {
-        let State { kinds, .. } = entry_state(memory);
         let entry = Target {
             statement: &statement,
-            kinds,
+            kinds: entry_state(memory).kinds,
         };
         push_entered(page, memory, object, code, entry, refusal)
     }
@@ -197,7 +173,7 @@ fn push_object(
 fn push_head(out: &mut Text, object: &Object) {
     out.push("hook ");
     out.push(object.hook().name());
-    out.numbered(", rank ", u64::from(object.entry_rank()), " at the entry\n");
+    out.numbered(", rank ", object.entry_rank() as u64, " at the entry\n");
 }
 
 /// All that is told of the object and its verdict, but how the verdict begins.
@@ -218,21 +194,20 @@ fn push_all(
     }
 }
 
-/// The texts of the page, with the verdict on these bytes.
+/// The verdict on an object, with what is told of it and of the object, whose instructions have
+/// these lines.
 fn explained(
     alloc: Global,
-    bytes: &[u8],
     object: &Object,
     code: &Code,
+    lines: &str,
+    verdict: Result<Accepted, VerifyError>,
 ) -> Result<Explanation, ExplainError>
-    ensures accepts { IfOk result (λ explanation. IfOk explanation.verdict (Accepts bytes.now)) }
-    ensures refuses { IfOk result (λ explanation. IfErr explanation.verdict (Refuses bytes.now)) }
+    ensures same { IfOk result (λ explanation. explanation.verdict ≡ verdict) }
     ensures told { IfOk result (λ explanation. TellsVerdict explanation.verdict
         (string_bytes explanation.told)) }
 {
-    let lines = instruction_lines(alloc, object)?;
-    let verdict = verify_object(alloc, bytes);
-    let mut page = Page::new(alloc, lines.as_str());
+    let mut page = Page::new(alloc, lines);
     push_all(alloc, &mut page, object, code, &verdict);
     match verdict_told(alloc, &verdict, &page) {
         Ok(told) => {
@@ -248,6 +223,25 @@ fn explained(
     }
 }
 
+/// The verdict on these bytes, explained by the object that was read from them.
+fn explain_object(alloc: Global, bytes: &[u8], object: &Object) -> Result<Explanation, ExplainError>
+    ensures accepts { IfOk result (λ explanation. IfOk explanation.verdict (Accepts bytes.now)) }
+    ensures refuses { IfOk result (λ explanation. IfErr explanation.verdict (Refuses bytes.now)) }
+    ensures told { IfOk result (λ explanation. TellsVerdict explanation.verdict
+        (string_bytes explanation.told)) }
+{
+    match decode(alloc, object.code()) {
+        Ok(code) => match instruction_lines(alloc, object) {
+            Ok(lines) => {
+                let verdict = verify_object(alloc, bytes);
+                explained(alloc, object, &code, lines.as_str(), verdict)
+            }
+            Err(error) => Err(error),
+        },
+        Err(error) => Err(ExplainError::Code(error)),
+    }
+}
+
 /// What the verifier knows at each slot of the object's program, up to the one that it refuses, and
 /// its verdict.
 pub fn explain(alloc: Global, bytes: &[u8]) -> Result<Explanation, ExplainError>
@@ -256,7 +250,8 @@ pub fn explain(alloc: Global, bytes: &[u8]) -> Result<Explanation, ExplainError>
     ensures told { IfOk result (λ explanation. TellsVerdict explanation.verdict
         (string_bytes explanation.told)) }
 {
-    let object = object::read(alloc, bytes)?;
-    let code = decode(alloc, object.code())?;
-    explained(alloc, bytes, &object, &code)
+    match object::read(alloc, bytes) {
+        Ok(object) => explain_object(alloc, bytes, &object),
+        Err(error) => Err(ExplainError::Object(error)),
+    }
 }

@@ -9,16 +9,22 @@ use std::alloc::Global;
 
 /// The object without its statements. None where memory is refused.
 fn bare_object(alloc: Global, object: &Object) -> Option<Object> {
-    let code = Vec::from_slice(alloc, object.code()).ok()?;
-    Object::new(object.hook(), object.entry_rank(), code, Vec::new(alloc))
+    match Vec::from_slice(alloc, object.code()) {
+        Ok(code) => Object::new(object.hook(), object.entry_rank(), code, Vec::new(alloc)),
+        Err(_) => None,
+    }
 }
 
 /// The lines of the object's listing behind its first two, which tell the hook and the rank. None
 /// where memory is refused.
 fn lines_of(alloc: Global, object: &Object) -> Option<String> {
-    let text = listing(alloc, object).ok()?;
-    let lines = text.splitn(3, '\n').nth(2).unwrap_or("");
-    String::from_str(alloc, lines).ok()
+    match listing(alloc, object) {
+        Ok(text) => {
+            let lines = text.splitn(3, '\n').nth(2).unwrap_or("");
+            String::from_str(alloc, lines).ok()
+        }
+        Err(_) => None,
+    }
 }
 
 /// The instructions of the object's code in assembly, a line for each.

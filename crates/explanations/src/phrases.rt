@@ -12,6 +12,11 @@ fn span(high: u64) -> u64 {
     u64::MAX.checked_shr(high.leading_zeros()).unwrap_or(0)
 }
 
+/// Two bounds of the value's numbers.
+pub(crate) fn range_of(value: Value) -> (u64, u64) {
+    value.range()
+}
+
 /// Which bits are known, beyond what the range and the multiple say.
 fn push_known_bits(out: &mut Text, known: u64, set: u64) {
     out.is_cut |= write!(out.words, ", of the bits {known:x} (hex) {set:x} are set").is_err();
@@ -32,17 +37,17 @@ fn push_bits(out: &mut Text, value: Value, high: u64) {
 
 /// The numbers of a value.
 pub(crate) fn push_numbers(out: &mut Text, value: Value) {
-    let (low, high) = value.range();
+    let (low, high) = range_of(value);
     if low == high {
-        out.number(u128::from(low))
+        out.number(low as u128)
     } else {
-        out.fill("{}..{}", &[u128::from(low), u128::from(high)]);
+        out.fill("{}..{}", &[low as u128, high as u128]);
         push_bits(out, value, high)
     }
 }
 
 fn push_number(out: &mut Text, value: Value) {
-    let (low, high) = value.range();
+    let (low, high) = range_of(value);
     if (low == 0) & (high == u64::MAX) {
         out.push("any number");
         push_bits(out, value, high)
@@ -58,7 +63,7 @@ pub(crate) fn push_place(out: &mut Text, place: Place<Value>) {
         Place::Context(at) => out.numbered("context, byte ", at, ""),
         Place::Stack(at) => out.numbered("stack, byte ", at, ""),
         Place::Map(map, value) => {
-            out.numbered("map ", u64::from(map.number()), ", offset ");
+            out.numbered("map ", map.number() as u64, ", offset ");
             push_numbers(out, value)
         }
     }
@@ -83,43 +88,61 @@ pub(crate) fn push_kind(out: &mut Text, kind: Kind<Value>) {
     }
 }
 
-/// How a register follows from the last statement.
-pub(crate) fn push_fact(out: &mut Text, fact: Fact, begun: usize) {
+/// What is known of a register, behind words with `{}` for its number, and before others.
+pub(crate) fn push_register(
+    out: &mut Text,
+    before: &str,
+    register: usize,
+    kind: Kind<Value>,
+    behind: &str,
+) {
+    out.fill(before, &[register as u128]);
+    push_kind(out, kind);
+    out.push(behind)
+}
+
+/// How the register follows from the statement at the slot, unless it is as it was there.
+pub(crate) fn push_fact(out: &mut Text, register: usize, fact: Fact, begun: usize) {
     let Fact { origin, up, down } = fact;
-    out.fill("; r{} at slot {}", &[u128::from(origin), begun as u128]);
-    if up > 0 {
-        out.push(" + ");
-        out.number(up);
-    }
-    if down > 0 {
-        out.push(" - ");
-        out.number(down);
+    if (origin as usize != register) | (up != down) {
+        out.fill("; r{} at slot {}", &[origin as u128, begun as u128]);
+        if up > 0 {
+            out.fill(" + {}", &[up])
+        }
+        if down > 0 {
+            out.fill(" - {}", &[down])
+        }
     }
 }
 
-fn push_term(out: &mut Text, term: &Option<RankTerm>) {
+fn push_term(out: &mut Text, term: Option<RankTerm>) {
     if let Some(term) = term {
-        let register = u128::from(term.register());
-        let coefficient = u128::from(term.coefficient());
+        let register = term.register() as u128;
+        let coefficient = term.coefficient() as u128;
         out.fill(" + r{} * {}", &[register, coefficient])
     }
 }
 
 /// A rank between these words.
-pub(crate) fn push_rank(out: &mut Text, before: &str, rank: &Rank, behind: &str) {
-    out.numbered(before, u64::from(rank.constant), "");
-    push_term(out, &rank.first);
-    push_term(out, &rank.second);
+pub(crate) fn push_rank(out: &mut Text, before: &str, rank: Rank, behind: &str) {
+    out.numbered(before, rank.constant as u64, "");
+    push_term(out, rank.first);
+    push_term(out, rank.second);
     out.push(behind)
+}
+
+/// What is known of the stack from the place on.
+fn entry_at(entries: &[Entry<Value>], place: usize) -> Entry<Value> {
+    element_or(entries, place, Entry::Unknown)
 }
 
 /// Whether a byte is known at the place of the stack.
 pub(crate) fn is_byte(entries: &[Entry<Value>], place: usize) -> bool {
-    matches!(entries.get(place), Some(Entry::Byte))
+    matches!(entry_at(entries, place), Entry::Byte)
 }
 
 /// Where the bytes end that begin at the place.
-fn end_of(entries: &[Entry<Value>], start: usize) -> usize {
+pub(crate) fn end_of(entries: &[Entry<Value>], start: usize) -> usize {
     for place in start..entries.len() {
         if !is_byte(entries, place) {
             return place;
@@ -128,19 +151,32 @@ fn end_of(entries: &[Entry<Value>], start: usize) -> usize {
     entries.len()
 }
 
+/// A line for the bytes or the pointer that begin at the place of the stack. Returns where the
+/// bytes end, if there are any.
+fn push_entry(out: &mut Text, entries: &[Entry<Value>], place: usize) -> usize {
+    match entry_at(entries, place) {
+        Entry::Byte => {
+            let end = end_of(entries, place);
+            let last = end.saturating_sub(1);
+            out.fill("    stack {}..{}: bytes\n", &[place as u128, last as u128]);
+            end
+        }
+        Entry::Kept(kept) => {
+            out.numbered("    stack ", place as u64, ": ");
+            push_place(out, kept);
+            out.push("\n");
+            place
+        }
+        Entry::Unknown | Entry::Filled => place,
+    }
+}
+
 /// What is known of the stack, a line for each range of bytes and each pointer.
 pub(crate) fn push_stack(out: &mut Text, entries: &[Entry<Value>]) {
     let mut done = 0;
     for place in 0..entries.len() {
-        if place >= done && is_byte(entries, place) {
-            done = end_of(entries, place);
-            let last = done.saturating_sub(1);
-            out.fill("    stack {}..{}: bytes\n", &[place as u128, last as u128]);
-        }
-        if let Some(Entry::Kept(kept)) = entries.get(place) {
-            out.numbered("    stack ", place as u64, ": ");
-            push_place(out, *kept);
-            out.push("\n");
+        if place >= done {
+            done = push_entry(out, entries, place)
         }
     }
 }

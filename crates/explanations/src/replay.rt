@@ -1,9 +1,8 @@
 //! What is known at a slot, in words.
 
-use crate::phrases::{Value, push_fact, push_kind, push_rank, push_stack};
+use crate::phrases::{Value, followed_at, known_at, push_fact, push_register};
 use crate::text::Text;
-use inference::liveness::{Registers, has};
-use kinds::{Fact, State, Target};
+use kinds::State;
 use object::{Kind as Stated, Rank, StackBytes, Statement};
 
 pub(crate) fn entry_statement(rank: u32) -> Option<Statement> {
@@ -15,33 +14,19 @@ pub(crate) fn entry_statement(rank: u32) -> Option<Statement> {
     Statement::new(0, constant, [Stated::Empty; 10], StackBytes::new())
 }
 
-/// Whether the register isn't as it was at the last statement.
-fn has_moved(register: usize, fact: Fact) -> bool {
-    (usize::from(fact.origin) != register) | (fact.up != fact.down)
-}
-
-/// A line for each live register, and for what is known of the stack.
-pub(crate) fn push_known(
+/// What is known of the register, and how it has moved since the statement at the slot.
+pub(crate) fn push_live(
     out: &mut Text,
-    live: Registers,
     begun: Option<usize>,
     state: &State<Value>,
+    register: usize,
 ) {
-    for (register, kind) in state.kinds.iter().enumerate() {
-        if has(live, register) {
-            out.numbered("    r", register as u64, ": ");
-            push_kind(out, *kind);
-            if let (Some(begun), Some(Some(fact))) = (begun, state.facts.get(register)) {
-                if has_moved(register, *fact) {
-                    push_fact(out, *fact, begun);
-                }
-            }
-            out.push("\n");
+    let kind = known_at(&state.kinds, register);
+    push_register(out, "    r{}: ", register, kind, "");
+    if let Some(begun) = begun {
+        if let Some(fact) = followed_at(&state.facts, register) {
+            push_fact(out, register, fact, begun)
         }
     }
-    push_stack(out, &state.entries)
-}
-
-pub(crate) fn push_statement(out: &mut Text, target: &Target<'_, Value>) {
-    push_rank(out, "    stated, rank ", &target.statement.rank(), "\n")
+    out.push("\n")
 }

@@ -48,6 +48,30 @@ const HINTS: [&str; 16] = [
     "",
 ];
 
+/// What is told where a rule is broken, and what is allowed, in the same order; a `{}` stands for a
+/// slot. It is empty where other words are chosen by the instruction.
+const WORDS: [&str; 16] = [
+    "  it jumps to slot {}, where no instruction begins\n  allowed: a slot of the code where one \
+        begins\n",
+    "  behind it the code ends\n  allowed: an exit or a goto as the last instruction\n",
+    "  slot {} has no statement, and nothing comes from the slot before\n  allowed: a slot that is \
+        stated\n",
+    "  it jumps to slot {}, which has no statement\n  allowed: a slot that is stated\n",
+    "  allowed: what is filled on each way that leads here, and is stated where a statement is on \
+        the way\n",
+    "",
+    "",
+    "  allowed: in a map 8 bytes at a multiple of 8\n",
+    "",
+    "",
+    "",
+    "",
+    "",
+    "  allowed: r0 a number\n",
+    "  r10, the end of the stack, is written\n  allowed: a copy of it\n",
+    "",
+];
+
 /// What the table has for the rule.
 fn row_of(table: &[&'static str], rule: Rule) -> &'static str {
     let place = usize::from(rule.number()).saturating_sub(1);
@@ -62,4 +86,9 @@ pub fn rule_name(rule: Rule) -> &'static str {
 /// What an author can do where a rule is broken.
 pub fn rule_hint(rule: Rule) -> &'static str {
     row_of(&HINTS, rule)
+}
+
+/// What is told where a rule is broken, apart from what is known there.
+pub(crate) fn rule_words(rule: Rule) -> &'static str {
+    row_of(&WORDS, rule)
 }

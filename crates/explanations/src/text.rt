@@ -36,7 +36,7 @@ impl Text {
     /// Adds the number between these words.
     pub fn numbered(&mut self, before: &str, number: u64, behind: &str) {
         self.push(before);
-        self.number(u128::from(number));
+        self.number(number as u128);
         self.push(behind);
     }
 

@@ -2,13 +2,13 @@
 ghost use Rattle.std.specs.Prelude.{◌≡◌, ◌<◌, slice_get, Some};
 ghost use Rattle.isa.specs.declared.code.Slot.TheVariants.{Start};
 
-use crate::edges::Ways;
+use crate::edges::{Ways, target_at};
 use crate::page::Page;
-use crate::phrases::Value;
-use crate::reasons::{push_misplaced, push_reason, push_stray};
-use crate::replay::{push_known, push_statement};
+use crate::phrases::{Value, push_rank, push_stack};
+use crate::reasons::{push_reason, push_stray};
+use crate::replay::push_live;
 use crate::text::Text;
-use inference::liveness::Registers;
+use inference::liveness::{Registers, has};
 use inference::memory::{Memory, element_or};
 use inference::{copy_of, entry_state};
 use isa::{Code, Hook, Instruction, Slot};
@@ -16,7 +16,6 @@ use kinds::{State, Target, reset};
 use segments::follow::follow;
 use segments::known::Known;
 use segments::places::check_places;
-use segments::target::stated_at;
 use verifier::{Refusal, Rule};
 
 /// A program, and what doesn't change from slot to slot.
@@ -37,14 +36,9 @@ impl<'a> Program<'a> {
     /// The statement of the segment that begins at the slot, or at the entry.
     fn segment(&self, begun: Option<usize>) -> &Target<'a, Value> {
         match begun {
-            Some(slot) => stated_at(&self.targets, slot).unwrap_or(&self.entry),
+            Some(slot) => target_at(&self.targets, slot).unwrap_or(&self.entry),
             None => &self.entry,
         }
-    }
-
-    /// The registers that may be read from the slot on.
-    fn live_at(&self, slot: usize) -> Registers {
-        element_or(&self.live, slot, 0)
     }
 
     /// The rule by which the verifier refuses it at the slot, if it does.
@@ -78,20 +72,25 @@ impl Here {
 
     /// Comes to the slot. A statement there is told of, and begins a segment.
     fn arrive(&mut self, out: &mut Text, program: &Program<'_>, slot: usize) {
-        if let Some(target) = stated_at(&program.targets, slot) {
-            push_statement(out, target);
+        if let Some(target) = target_at(&program.targets, slot) {
+            push_rank(out, "    stated, rank ", target.statement.rank(), "\n");
             self.begun = Some(slot);
-            self.known = Known {
-                state: reset(entry_state(program.memory), target),
-                is_live: true,
-            };
+            self.known.state = reset(entry_state(program.memory), target);
+            self.known.is_live = true;
         }
     }
 
-    /// Tells what is known at the slot.
+    /// Tells what is known at the slot, of each register that may be read from there on, and of the
+    /// stack.
     fn push(&self, out: &mut Text, program: &Program<'_>, slot: usize) {
         if self.known.is_live {
-            push_known(out, program.live_at(slot), self.begun, &self.known.state)
+            let live = element_or(&program.live, slot, 0);
+            for register in 0..10usize {
+                if has(live, register) {
+                    push_live(out, self.begun, &self.known.state, register)
+                }
+            }
+            push_stack(out, &self.known.state.entries)
         } else {
             out.push("    no run comes here\n")
         }
@@ -105,8 +104,22 @@ impl Here {
         if !self.known.is_live {
             return true;
         }
+        let code = program.code;
+        let targets = program.targets.as_slice();
+        if check_places(code, targets, true, slot, &instruction).is_err() {
+            return false;
+        }
+        let segment = program.segment(self.begun);
         let before = copy_of(program.memory, &self.known.state);
-        match known_behind(program, self.begun, before, slot, instruction) {
+        match follow(
+            code,
+            program.hook,
+            targets,
+            segment,
+            before,
+            slot,
+            instruction,
+        ) {
             Ok(known) => {
                 self.known = known;
                 true
@@ -136,10 +149,14 @@ impl Here {
                 };
                 ways.push(out, program.hook, slot, instruction, &self.known.state)
             }
-            Rule::Target | Rule::FallsOff | Rule::Unreached | Rule::Unstated => {
-                push_misplaced(out, slot, instruction, rule)
-            }
-            _ => push_reason(out, program.hook, &self.known.state, instruction, rule),
+            _ => push_reason(
+                out,
+                program.hook,
+                slot,
+                instruction,
+                &self.known.state,
+                rule,
+            ),
         }
     }
 
@@ -165,33 +182,6 @@ impl Here {
             }
             None => self.follow(program, slot, instruction),
         }
-    }
-}
-
-/// What is known behind the instruction, of what is known in the segment that begins there.
-fn known_behind(
-    program: &Program<'_>,
-    begun: Option<usize>,
-    state: State<Value>,
-    slot: usize,
-    instruction: Instruction,
-) -> Result<Known<Value>, Rule>
-    requires small { slot < 4096 }
-    requires here { slice_get program.now.code.now slot ≡ Some (Start instruction) }
-{
-    let code = program.code;
-    let targets = program.targets.as_slice();
-    match check_places(code, targets, true, slot, &instruction) {
-        Ok(()) => follow(
-            code,
-            program.hook,
-            targets,
-            program.segment(begun),
-            state,
-            slot,
-            instruction,
-        ),
-        Err(rule) => Err(rule),
     }
 }
 
