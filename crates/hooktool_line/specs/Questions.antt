@@ -72,16 +72,3 @@ pub record HasQuestion (rows : List Row) (question : Question) : Type 0 where
   pub packet : OrElse (first_of (codes "packet") rows) (IsNoPacket question.packet)
       (λ word. IsPacket word question.packet)
   pub table : HasRows (all_of (codes "row") rows) question.rows.items
-
--- the question of these parts, if there are all
-abbrev pub question_with : Option (Asked × ℕ) → Option Packet → Option (Vec TableRow)
-    → Option Question
-question_with None packet rows = None
-question_with (Some asked) None rows = None
-question_with (Some asked) (Some packet) None = None
-question_with (Some asked) (Some packet) (Some rows) = Some (record {
-  asked = asked.0;
-  packet = packet;
-  rows = rows;
-  times = asked.1;
-})
