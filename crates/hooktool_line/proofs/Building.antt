@@ -4,12 +4,45 @@ use Rattle.std.proofs.lemmas.List.{take_all, take_more}
 use Rattle.std.specs.Borrow.{Bor}
 use Rattle.std.specs.Prelude.{Result, IfOk}
 use Rattle.clap.specs.Built.{AddsArg, AddsInTurn, AddsSubcommand}
-use Rattle.clap.specs.Simple.{App, app_of, new_app, shape_of, with_rule, with_subcommand}
+use Rattle.clap.specs.Simple.{App, app_of, new_app, with_rule, with_subcommand}
+use Rattle.clap.specs.Walk.{Text, rule_of}
 use Rattle.clap.specs.declared.builder.arg.Arg.{Arg}
 use Rattle.clap.specs.declared.builder.command.Command.{Command}
-use Rattle.hooktool_line.specs.Building.{Each, IsArgument, IsCommand, IsLeaf, IsLocal, rule_for, shape_for, with_forms, with_words}
+use Rattle.hooktool_line.specs.Building.{Each, ExtendsBy, IsCommand, IsLeaf, IsLocal, rule_for, shape_for, with_forms, with_words}
 use Rattle.hooktool_line.specs.declared.arguments.Form.{Form}
 use Rattle.hooktool_line.specs.declared.arguments.Word.{Word}
+
+-- ---- a command with words
+
+word_more : (words : List Word) (word : Word) (app : App) → with_words app (words ++ word ∷ []) ≡ with_rule (with_words app words) (rule_for word)
+word_more [] word app = refl
+word_more (first ∷ words) word app = word_more words word (with_rule app (rule_for first))
+
+pub extends_none : (command : Command) (words : List Word) → ExtendsBy command (take 0 words) command
+extends_none command words = record { app = refl; local = λ own. own }
+
+-- an argument that isn't global was added
+pub extends_more : (before between : Command) (arg : Arg) (after : Command) (words : List Word) (i : ℕ) (d : Word) → i < length words
+    → arg.global ≡ false → rule_of arg ≡ rule_for (get_or words i d) → ExtendsBy before (take i words) between → AddsArg between arg after
+    → ExtendsBy before (take (i + 1) words) after
+extends_more before between arg after words i d lt local is so_far adds = record {
+  app = adds.shape local ∙ ap₂ with_rule so_far.app is ∙ sym (word_more (take i words) (get_or words i d) (app_of before))
+      ∙ ap (λ (ws : List Word). with_words (app_of before) ws) (sym (take_more words i d lt));
+  local = λ own. adds.globals ∙ ap₂ ◌||◌ (so_far.local own) local;
+}
+
+pub extends_all : (before after : Command) (words : List Word) (i : ℕ) → length words ≤ i → ExtendsBy before (take i words) after
+    → ExtendsBy before words after
+extends_all before after words i le so_far = subst (λ (ws : List Word). ExtendsBy before ws after) (take_all i words le) so_far
+
+-- a command with all of its words
+pub leaf : {E : Type 0} (command : Command) (form : Form) (r : Result Command E) → IfOk r (ExtendsBy command form.words.now)
+    → app_of command ≡ new_app form.name.now → IsLocal command → IfOk r (IsLeaf form)
+leaf {E} command form (Ok after) by is local = record {
+  app = by.app ∙ ap (λ (app : App). with_words app form.words.now) is;
+  local = by.local local;
+}
+leaf {E} command form (Err error) by is local = tt
 
 -- ---- a list of what is made
 
@@ -28,27 +61,6 @@ each_more {A} {B} Is xs ys i d y lt is each =
 pub each_all : {A : Type 0} {B : Type 0} (Is : A → B → Type 0) (xs : List A) (ys : List B) (i : ℕ) → length xs ≤ i → Each Is (take i xs) ys
     → Each Is xs ys
 each_all {A} {B} Is xs ys i le each = subst (λ (zs : List A). Each Is zs ys) (take_all i xs le) each
-
--- ---- a command with words
-
-with_arguments : (before after : Command) (words : List Word) (args : List Arg) → Each IsArgument words args → AddsInTurn AddsArg before args after
-    → (app_of after ≡ with_words (app_of before) words) × (IsLocal before → IsLocal after)
-with_arguments before after [] [] each adds = subst (λ (c : Command). (app_of c ≡ app_of before) × (IsLocal before → IsLocal c)) adds (refl, λ local. local)
-with_arguments before after [] (arg ∷ args) each adds = absurd each
-with_arguments before after (word ∷ words) [] each adds = absurd each
-with_arguments before after (word ∷ words) (arg ∷ args) each adds =
-    let more = adds.1 in
-    let rest = with_arguments adds.0 after words args each.1 adds.2 in
-    let shape : app_of adds.0 ≡ with_rule (app_of before) (rule_for word) = more.shape each.0.local ∙ ap (with_rule (app_of before)) each.0.rule in
-    (rest.0 ∙ ap (λ (app : App). with_words app words) shape, λ local. rest.1 (more.globals ∙ ap₂ ◌||◌ local each.0.local))
-
--- a command with all of its words
-pub leaf : {E : Type 0} (before : Command) (form : Form) (args : List Arg) (r : Result Command E) → Each IsArgument form.words.now args
-    → IfOk r (λ after. AddsInTurn AddsArg before args after) → app_of before ≡ new_app form.name.now → IsLocal before → IfOk r (IsLeaf form)
-leaf {E} before form args (Ok after) each adds is local =
-    let with = with_arguments before after form.words.now args each adds in
-    record { app = with.0 ∙ ap (λ (app : App). with_words app form.words.now) is; local = with.1 local }
-leaf {E} before form args (Err error) each adds is local = tt
 
 -- ---- a command line with commands
 

@@ -31,16 +31,15 @@ pub record IsArgument (word : Word) (arg : Arg) : Type 0 where
   pub rule : rule_of arg ≡ rule_for word
   pub local : arg.global ≡ false
 
--- One list is made of another, each thing of that at its place.
-abbrev pub Each : {A : Type 0} {B : Type 0} → (A → B → Type 0) → List A → List B → Type 0
-Each {A} {B} Is [] [] = Unit {0}
-Each {A} {B} Is (x ∷ xs) (y ∷ ys) = Is x y × Each Is xs ys
-Each {A} {B} Is _ _ = ⊥
-
 -- what has these words too, in their order
 abbrev pub with_words : App → List Word → App
 with_words app [] = app
 with_words app (word ∷ words) = with_words (with_rule app (rule_for word)) words
+
+-- the command with these words too
+pub record ExtendsBy (before : Command) (words : List Word) (after : Command) : Type 0 where
+  pub app : app_of after ≡ with_words (app_of before) words
+  pub local : IsLocal before → IsLocal after
 
 -- the command of a form
 abbrev pub app_for : Form → App
@@ -53,6 +52,12 @@ shape_for form = (app_for form).top
 pub record IsLeaf (form : Form) (c : Command) : Type 0 where
   pub app : app_of c ≡ app_for form
   pub local : IsLocal c
+
+-- One list is made of another, each thing of that at its place.
+abbrev pub Each : {A : Type 0} {B : Type 0} → (A → B → Type 0) → List A → List B → Type 0
+Each {A} {B} Is [] [] = Unit {0}
+Each {A} {B} Is (x ∷ xs) (y ∷ ys) = Is x y × Each Is xs ys
+Each {A} {B} Is _ _ = ⊥
 
 abbrev pub IsCommand : Bor Form → Command → Type 0
 IsCommand form c = IsLeaf form.now c

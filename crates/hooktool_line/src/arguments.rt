@@ -3,8 +3,8 @@
 ghost use Rattle.std.specs.Prelude.{◌≡◌, ◌⊎◌, IfOk};
 ghost use Rattle.clap.specs.Simple.{app_of};
 ghost use Rattle.clap.specs.Values.{kind_of};
-ghost use Rattle.hooktool_line.specs.Building.{Each, IsArgument, IsCommand, IsLeaf, with_forms};
-ghost use Rattle.hooktool_line.specs.Building.{without_commands};
+ghost use Rattle.hooktool_line.specs.Building.{Each, ExtendsBy, IsArgument, IsCommand, IsLeaf};
+ghost use Rattle.hooktool_line.specs.Building.{with_forms, without_commands};
 ghost use Rattle.hooktool_line.specs.CommandLine as line;
 
 use clap::error::ErrorKind;
@@ -289,28 +289,29 @@ fn argument<'a>(alloc: Global, word: &Word) -> Arg<'a>
     }
 }
 
-// The arguments of these words, in their order.
-fn arguments_of<'a>(alloc: Global, words: &[Word]) -> Result<Vec<Arg<'a>>, AllocError>
-    ensures { IfOk result (λ arguments. Each IsArgument words.now arguments.items) }
+// The command with these words, in their order.
+fn with_words<'a>(
+    alloc: Global,
+    command: Command<'a>,
+    words: &[Word],
+) -> Result<Command<'a>, AllocError>
+    ensures { IfOk result (ExtendsBy command.entry words.now) }
 {
-    let mut arguments = Vec::new(alloc);
+    let mut command = command;
     for word in words {
-        arguments.push(argument(alloc, word))?;
+        command = command.arg(argument(alloc, word))?;
     }
-    Ok(arguments)
+    Ok(command)
 }
 
 // The command of this form.
 fn command_of<'a>(alloc: Global, form: &Form) -> Result<Command<'a>, AllocError>
     ensures { IfOk result (IsLeaf form.now) }
 {
-    match arguments_of(alloc, form.words) {
-        Ok(arguments) => Command::new(alloc, form.name)
-            .about(form.about)
-            .after_help(form.more)
-            .args(arguments),
-        Err(error) => Err(error),
-    }
+    let command = Command::new(alloc, form.name)
+        .about(form.about)
+        .after_help(form.more);
+    with_words(alloc, command, form.words)
 }
 
 // The commands of these forms, in their order.
