@@ -200,22 +200,22 @@ fn made_by<'a>(alloc: Global, name: &str, matches: &ArgMatches<'a>) -> Result<Re
 
 // Which word of `try` has no meaning, where it is one but the packet and the rows.
 fn wrong_option(matches: &ArgMatches<'_>) -> &'static str {
-    if prefix_in(matches).is_none() {
+    let Some(_) = prefix_in(matches) else {
         return "--prefix is no network A.B.C.D/L whose other bits are 0";
-    }
-    if type_in(matches).is_none() {
+    };
+    let Some(_) = type_in(matches) else {
         return "--type is neither 1 nor 2";
-    }
-    if kind_in(matches).is_none() {
+    };
+    let Some(_) = kind_in(matches) else {
         return "--kind is none of intra, inter, ext1 and ext2";
-    }
-    if numbers_of(matches).is_none() {
+    };
+    let Some(_) = numbers_of(matches) else {
         return "--metric, --tag, --cost and --distance are numbers up to 4294967295, --interface \
             up to 63, --moment below 2^62";
-    }
-    if number_of(matches, "times", 1, 1, 1000).is_none() {
+    };
+    let Some(_) = number_of(matches, "times", 1, 1, 1000) else {
         return "--times is no number from 1 to 1000";
-    }
+    };
     "--packet is neither hex digits, two a byte, nor @FILE, or --row isn't A.B.C.D/L=COST"
 }
 
