@@ -5,7 +5,7 @@ use Rattle.std.specs.Borrow.{Bor}
 use Rattle.std.specs.Prelude.{Result, IfOk}
 use Rattle.clap.specs.Built.{AddsArg, AddsInTurn, AddsSubcommand}
 use Rattle.clap.specs.Simple.{App, app_of, new_app, with_rule, with_subcommand}
-use Rattle.clap.specs.Walk.{Text, rule_of}
+use Rattle.clap.specs.Walk.{rule_of}
 use Rattle.clap.specs.declared.builder.arg.Arg.{Arg}
 use Rattle.clap.specs.declared.builder.command.Command.{Command}
 use Rattle.hooktool_line.specs.Building.{Each, ExtendsBy, IsCommand, IsLeaf, IsLocal, rule_for, shape_for, with_forms, with_words}

@@ -1,12 +1,12 @@
 -- Packets that are read of words.
 use Rattle.std.proofs.Common.{◌≡◌, ◌≢◌, ◌∙◌, ◌+◌, ℕ, List, ◌∷◌, Option, Some, None, Ok, Err, sym, subst, lit<, length, drop, inl, inr, refl}
-use Rattle.std.specs.Prelude.{◌⊎◌, IfOk, MatchOption, Result}
+use Rattle.std.specs.Prelude.{◌⊎◌, MatchOption, Result}
 use Rattle.std.specs.Str.Pattern.{FindsCharPrefix}
 use Rattle.std.proofs.lemmas.Str.Pattern.{strip_prefix_char}
 use Rattle.hex.specs.Hex.{decode_of}
 use Rattle.hex.specs.declared.error.FromHexError.{FromHexError}
 use Rattle.hex.specs.declared.error.FromHexError.TheVariants.{OutOfMemory}
-use Rattle.hooktool_line.specs.Words.{IsPacket, Reads, ReadsOrLacks}
+use Rattle.hooktool_line.specs.Words.{IsPacket, ReadsOrLacks}
 use Rattle.hooktool_line.specs.declared.requests.Packet.{Packet}
 use Rattle.hooktool_line.specs.declared.requests.Packet.TheVariants as packets
 use Rattle.hooktool_line.specs.declared.values.NotRead.{NotRead}

@@ -1,6 +1,6 @@
 -- What is read of words.
 use Rattle.std.proofs.Common.{◌≡◌, refl, sym, subst, List, [], Option, Ok, Err, MatchResult, inl, inr, true}
-use Rattle.std.specs.Prelude.{Result, IfOk, IfErr, IsErrAnd, ◌⊎◌}
+use Rattle.std.specs.Prelude.{Result, IfOk, IfErr, ◌⊎◌}
 use Rattle.clap.specs.Faults.{fault_of, is_simple_and_free}
 use Rattle.clap.specs.Kinds.{FailsBy, HasKind}
 use Rattle.clap.specs.Simple.{App, HasMatchesOf, subcommand_of, subcommand_rows_of}

@@ -1,6 +1,5 @@
 -- The question that the options of a command ask.
 use Rattle.std.specs.Prelude.{◌≡◌, ◌^◌, ℕ, List, [], Option, Some, None, codes}
-use Rattle.std.specs.Global.{Vec}
 use Rattle.clap.specs.Walk.{Row, Text, all_of, first_of}
 use Rattle.words.specs.declared.route.TableRow.{TableRow}
 use Rattle.hooktool_line.specs.declared.asked.Asked.{Asked}
@@ -8,7 +7,6 @@ use Rattle.hooktool_line.specs.Words.{AreRows, IsNoPacket, IsNumber, IsPacket, I
 use Rattle.hooktool_line.specs.Words.{everything, kind_word, type_word}
 use Rattle.hooktool_line.specs.declared.numbers.Numbers.{Numbers}
 use Rattle.hooktool_line.specs.declared.places.Places.{Places}
-use Rattle.hooktool_line.specs.declared.requests.Packet.{Packet}
 use Rattle.hooktool_line.specs.declared.requests.Question.{Question}
 use Rattle.words.specs.declared.route.ExternalType.TheVariants.{Type2}
 use Rattle.words.specs.declared.route.RouteKind.TheVariants.{Intra}

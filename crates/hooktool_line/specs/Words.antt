@@ -1,7 +1,7 @@
 -- What words stand for.
 use Rattle.std.specs.Prelude.{◌≡◌, ◌≢◌, ◌<◌, ◌≤◌, ◌^◌, ℕ, List, [], ◌∷◌, ◌++◌, Option, Some, None}
 use Rattle.std.specs.Prelude.{Result, Ok, Err}
-use Rattle.std.specs.Prelude.{codes, decimal, slice_get}
+use Rattle.std.specs.Prelude.{codes, decimal}
 use Rattle.clap.specs.Walk.{Text}
 use Rattle.hex.specs.Hex.{decode_of}
 use Rattle.words.specs.Prefixes.{IsNetwork, Network}
