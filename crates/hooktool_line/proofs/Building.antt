@@ -1,13 +1,14 @@
 -- How commands are built, word by word.
 use Rattle.std.proofs.Common.{◌≡◌, ◌∙◌, ◌||◌, ◌+◌, ◌<◌, ◌≤◌, ap, ap₂, refl, subst, sym, false, ℕ, List, [], ◌∷◌, ◌++◌, Ok, Err, get_or, length, take}
 use Rattle.std.proofs.lemmas.List.{take_all, take_more}
+use Rattle.std.specs.Borrow.{Bor}
 use Rattle.std.specs.Prelude.{Result, IfOk}
-use Rattle.clap.specs.Built.{AddsArg, AddsSubcommand}
+use Rattle.clap.specs.Built.{AddsArg, AddsInTurn, AddsSubcommand}
 use Rattle.clap.specs.Simple.{App, app_of, new_app, with_rule, with_subcommand}
-use Rattle.clap.specs.Walk.{Text, rule_of}
+use Rattle.clap.specs.Walk.{rule_of}
 use Rattle.clap.specs.declared.builder.arg.Arg.{Arg}
 use Rattle.clap.specs.declared.builder.command.Command.{Command}
-use Rattle.hooktool_line.specs.Building.{ExtendsBy, HasCommand, HasCommands, IsLeaf, IsLocal, rule_for, shape_for, with_forms, with_words}
+use Rattle.hooktool_line.specs.Building.{Each, ExtendsBy, IsCommand, IsLeaf, IsLocal, rule_for, shape_for, with_forms, with_words}
 use Rattle.hooktool_line.specs.declared.arguments.Form.{Form}
 use Rattle.hooktool_line.specs.declared.arguments.Word.{Word}
 
@@ -43,29 +44,41 @@ leaf {E} command form (Ok after) by is local = record {
 }
 leaf {E} command form (Err error) by is local = tt
 
+-- ---- a list of what is made
+
+one_more : {A : Type 0} {B : Type 0} (Is : A → B → Type 0) (xs : List A) (ys : List B) (x : A) (y : B) → Each Is xs ys → Is x y
+    → Each Is (xs ++ x ∷ []) (ys ++ y ∷ [])
+one_more {A} {B} Is [] [] x y each is = (is, tt)
+one_more {A} {B} Is [] (z ∷ ys) x y each is = absurd each
+one_more {A} {B} Is (w ∷ xs) [] x y each is = absurd each
+one_more {A} {B} Is (w ∷ xs) (z ∷ ys) x y each is = (each.0, one_more Is xs ys x y each.1 is)
+
+pub each_more : {A : Type 0} {B : Type 0} (Is : A → B → Type 0) (xs : List A) (ys : List B) (i : ℕ) (d : A) (y : B) → i < length xs
+    → Is (get_or xs i d) y → Each Is (take i xs) ys → Each Is (take (i + 1) xs) (ys ++ y ∷ [])
+each_more {A} {B} Is xs ys i d y lt is each =
+    subst (λ (zs : List A). Each Is zs (ys ++ y ∷ [])) (sym (take_more xs i d lt)) (one_more Is (take i xs) ys (get_or xs i d) y each is)
+
+pub each_all : {A : Type 0} {B : Type 0} (Is : A → B → Type 0) (xs : List A) (ys : List B) (i : ℕ) → length xs ≤ i → Each Is (take i xs) ys
+    → Each Is xs ys
+each_all {A} {B} Is xs ys i le each = subst (λ (zs : List A). Each Is zs ys) (take_all i xs le) each
+
 -- ---- a command line with commands
 
-form_more : (forms : List Form) (form : Form) (app : App)
-    → with_forms app (forms ++ form ∷ []) ≡ with_subcommand (with_forms app forms) (shape_for form)
-form_more [] form app = refl
-form_more (first ∷ forms) form app = form_more forms form (with_subcommand app (shape_for first))
+with_commands : (before after : Command) (forms : List (Bor Form)) (commands : List Command) → Each IsCommand forms commands
+    → AddsInTurn AddsSubcommand before commands after → app_of after ≡ with_forms (app_of before) forms
+with_commands before after [] [] each adds = subst (λ (c : Command). app_of c ≡ app_of before) adds refl
+with_commands before after [] (command ∷ commands) each adds = absurd each
+with_commands before after (form ∷ forms) [] each adds = absurd each
+with_commands before after (form ∷ forms) (command ∷ commands) each adds =
+    let rest = with_commands adds.0 after forms commands each.1 adds.2 in
+    let shape : app_of adds.0 ≡ with_subcommand (app_of before) (shape_for form.now) =
+    adds.1.shape each.0.local ∙ ap (λ (app : App). with_subcommand (app_of before) app.top) each.0.app in
+    rest ∙ ap (λ (app : App). with_forms app forms) shape
 
-pub has_none : (line : Command) (forms : List Form) → HasCommands line (take 0 forms) line
-has_none line forms = record { app = refl }
-
-pub has_more : (before between after : Command) (forms : List Form) (i : ℕ) (d : Form) → i < length forms
-    → HasCommand between (get_or forms i d) after → HasCommands before (take i forms) between → HasCommands before (take (i + 1) forms) after
-has_more before between after forms i d lt more so_far = record {
-  app = more.app ∙ ap (λ (app : App). with_subcommand app (shape_for (get_or forms i d))) so_far.app
-      ∙ sym (form_more (take i forms) (get_or forms i d) (app_of before)) ∙ ap (λ (fs : List Form). with_forms (app_of before) fs) (sym (take_more forms i d lt));
-}
-
-pub has_all : (before after : Command) (forms : List Form) (i : ℕ) → length forms ≤ i → HasCommands before (take i forms) after
-    → HasCommands before forms after
-has_all before after forms i le so_far = subst (λ (fs : List Form). HasCommands before fs after) (take_all i forms le) so_far
-
--- the whole line
-pub whole_line : {E : Type 0} (before : Command) (forms : List Form) (app line : App) (r : Result Command E) → IfOk r (HasCommands before forms)
-    → app_of before ≡ app → with_forms app forms ≡ line → IfOk r (λ c. app_of c ≡ line)
-whole_line {E} before forms app line (Ok after) has is whole = has.app ∙ ap (λ (a : App). with_forms a forms) is ∙ whole
-whole_line {E} before forms app line (Err error) has is whole = tt
+-- the line with the commands of these forms
+pub line_with : {E : Type 0} (before : Command) (forms : List (Bor Form)) (commands : List Command) (app : App) (r : Result Command E)
+    → Each IsCommand forms commands → IfOk r (λ after. AddsInTurn AddsSubcommand before commands after) → app_of before ≡ app
+    → IfOk r (λ c. app_of c ≡ with_forms app forms)
+line_with {E} before forms commands app (Ok after) each adds is =
+    with_commands before after forms commands each adds ∙ ap (λ (a : App). with_forms a forms) is
+line_with {E} before forms commands app (Err error) each adds is = tt

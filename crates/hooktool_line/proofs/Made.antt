@@ -15,8 +15,11 @@ use Rattle.std.specs.Box.{box_value}
 use Rattle.isa.specs.Hooks.{hook_name}
 use Rattle.isa.specs.declared.hook.Hook.{Hook}
 use Rattle.hooktool_line.specs.Questions.{HasQuestion}
-use Rattle.hooktool_line.specs.Requests.{HasFuel, HasWord, IsWrong, IsWrongWord, MadeBy, Makes, MakesNone, command_of}
+use Rattle.hooktool_line.specs.Requests.{HasFuel, HasWord, IsMade, IsWrong, IsWrongWord, MadeBy, Makes, MakesNone, command_of}
+use Rattle.hooktool_line.specs.Words.{ReadsOrLacks}
 use Rattle.hooktool_line.specs.declared.requests.Question.{Question}
+use Rattle.hooktool_line.specs.declared.values.NotRead.{NotRead}
+use Rattle.hooktool_line.specs.declared.values.NotRead.TheVariants as not_read
 use Rattle.hooktool_line.specs.declared.requests.Request.{Request}
 use Rattle.hooktool_line.specs.declared.requests.Request.TheVariants as requests
 
@@ -53,6 +56,11 @@ pub no_try : (rows : List Row) → ((object : Text) (question : Question) → Ha
 no_try rows none (requests.Annotate hook code object fuel) named has = absurd (annotate≢try (sym named))
 no_try rows none (requests.Explain object) named has = absurd (explain≢try (sym named))
 no_try rows none (requests.Try object question) named has = none object.now question has.0 has.1
+
+-- without a question there is no request
+pub no_question : (rows : List Row) (lack : NotRead) → ReadsOrLacks (HasQuestion rows) (Err lack) → IsMade (codes "try") rows (Err lack)
+no_question rows not_read.Meaningless none = no_try rows (λ object question a has. none question has)
+no_question rows not_read.OutOfMemory none = tt
 
 -- a command of another name makes nothing
 pub no_other : (rows : List Row) (name : Text) → name ≢ codes "annotate" → name ≢ codes "explain" → name ≢ codes "try" → MadeBy name rows None

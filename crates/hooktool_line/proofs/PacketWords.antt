@@ -1,14 +1,16 @@
 -- Packets that are read of words.
-use Rattle.std.proofs.Common.{◌≡◌, ◌≢◌, ◌∙◌, ◌+◌, ℕ, List, ◌∷◌, Option, Some, None, Ok, Err, sym, subst, lit<, length, drop, inl, inr}
-use Rattle.std.specs.Prelude.{◌⊎◌, IfOk, MatchOption, Result}
+use Rattle.std.proofs.Common.{◌≡◌, ◌≢◌, ◌∙◌, ◌+◌, ℕ, List, ◌∷◌, Option, Some, None, Ok, Err, sym, subst, lit<, length, drop, inl, inr, refl}
+use Rattle.std.specs.Prelude.{◌⊎◌, MatchOption, Result}
 use Rattle.std.specs.Str.Pattern.{FindsCharPrefix}
 use Rattle.std.proofs.lemmas.Str.Pattern.{strip_prefix_char}
 use Rattle.hex.specs.Hex.{decode_of}
 use Rattle.hex.specs.declared.error.FromHexError.{FromHexError}
 use Rattle.hex.specs.declared.error.FromHexError.TheVariants.{OutOfMemory}
-use Rattle.hooktool_line.specs.Words.{IsPacket, Reads}
+use Rattle.hooktool_line.specs.Words.{IsPacket, ReadsOrLacks}
 use Rattle.hooktool_line.specs.declared.requests.Packet.{Packet}
 use Rattle.hooktool_line.specs.declared.requests.Packet.TheVariants as packets
+use Rattle.hooktool_line.specs.declared.values.NotRead.{NotRead}
+use Rattle.hooktool_line.specs.declared.values.NotRead.TheVariants as not_read
 use denote.Ref.{Bor}
 
 abbrev pub Strips : List ℕ → Option (Bor (List ℕ)) → Type 0
@@ -29,11 +31,10 @@ pub no_packet : (w : List ℕ) (e : FromHexError) → ((rest : List ℕ) → w �
 no_packet w e plain bad (packets.Bytes bytes) has = err≢ok bytes.items e (sym bad ∙ has.1)
 no_packet w e plain bad (packets.File path) has = plain path.now has
 
-pub lacks : {E : Type 0} (w : List ℕ) (e : FromHexError) (r : Result (Option Packet) E) → ((rest : List ℕ) → w ≢ 64 ∷ rest)
-    → (e ≡ OutOfMemory) ⊎ (decode_of w ≡ Err e) → IfOk r (λ packet. packet ≡ None) → IfOk r (λ _. e ≢ OutOfMemory) → IfOk r (Reads (IsPacket w))
-lacks {E} w e (Ok packet) plain bad none other =
-    subst (λ (p : Option Packet). Reads (IsPacket w) p) (sym none) (elim bad [
-      | inl memory ↦ absurd (other memory)
-      | inr refused ↦ no_packet w e plain refused
-    ])
-lacks {E} w e (Err x) plain bad none other = tt
+pub lacks : (w : List ℕ) (e : FromHexError) (lack : NotRead) → ((rest : List ℕ) → w ≢ 64 ∷ rest)
+    → (e ≡ OutOfMemory) ⊎ (decode_of w ≡ Err e) → (lack ≡ not_read.Meaningless → e ≢ OutOfMemory) → ReadsOrLacks (IsPacket w) (Err lack)
+lacks w e not_read.Meaningless plain bad other = elim bad [
+  | inl memory ↦ absurd (other refl memory)
+  | inr refused ↦ no_packet w e plain refused
+]
+lacks w e not_read.OutOfMemory plain bad other = tt

@@ -1,8 +1,8 @@
 -- What is read of words.
 use Rattle.std.proofs.Common.{◌≡◌, refl, sym, subst, List, [], Option, Ok, Err, MatchResult, inl, inr, true}
-use Rattle.std.specs.Prelude.{Result, IfOk, IfErr, IsErrAnd, ◌⊎◌}
+use Rattle.std.specs.Prelude.{Result, IfOk, IfErr, ◌⊎◌}
 use Rattle.clap.specs.Faults.{fault_of, is_simple_and_free}
-use Rattle.clap.specs.Kinds.{HasKind}
+use Rattle.clap.specs.Kinds.{FailsBy, HasKind}
 use Rattle.clap.specs.Simple.{App, HasMatchesOf, subcommand_of, subcommand_rows_of}
 use Rattle.clap.specs.Values.{kind_of}
 use Rattle.clap.specs.Walk.{Row, Text}
@@ -10,7 +10,7 @@ use Rattle.clap.specs.declared.error.Error.{Error}
 use Rattle.clap.specs.declared.error.kind.ErrorKind.TheVariants as kinds
 use Rattle.clap.specs.declared.parser.matches.ArgMatches.{ArgMatches}
 use Rattle.hooktool_line.specs.CommandLine.{line}
-use Rattle.hooktool_line.specs.Requests.{Asks, IsRefusal, IsWrongWord, Makes}
+use Rattle.hooktool_line.specs.Requests.{Asks, IsRefusal, IsTaken, IsWrongWord, Makes}
 use Rattle.hooktool_line.specs.declared.requests.Request.{Request}
 
 abbrev pub Answers : List Text → Result Request Error → Type 0
@@ -21,29 +21,23 @@ Answers words result = MatchResult result (Asks words) (IsRefusal words)
 pub free : (a : App) → a ≡ line → is_simple_and_free a ≡ true
 free a own = subst (λ (x : App). is_simple_and_free x ≡ true) (sym own) refl
 
-pub own_mistake : (a : App) (words : List Text) (e : Error) → a ≡ line → HasKind (fault_of a words) e → HasKind (fault_of line words) e
-own_mistake a words e own has = subst (λ (x : App). HasKind (fault_of x words) e) own has
-
-pub own_words : (a : App) (words : List Text) → a ≡ line → fault_of a words ≡ [] → fault_of line words ≡ []
-own_words a words own taken = subst (λ (x : App). fault_of x words ≡ []) own taken
-
-pub own_matches : (a : App) (words : List Text) (m : ArgMatches) → a ≡ line → HasMatchesOf a words m → HasMatchesOf line words m
-own_matches a words m own has = subst (λ (x : App). HasMatchesOf x words m) own has
-
 -- ---- answers
 
--- an error of a kind that is a refusal
-pub refused : (words : List Text) (result : Result Request Error) (P : Error → Type 0) → IsErrAnd result P
-    → ((e : Error) → P e → IsRefusal words e) → Answers words result
-refused words (Ok x) P is f = absurd is
-refused words (Err e) P is f = f e is
-
 -- a mistake by the rules of command lines
-pub mistaken : (words : List Text) (e : Error) → HasKind (fault_of line words) e → IsRefusal words e
+mistaken : (words : List Text) (e : Error) → HasKind (fault_of line words) e → IsRefusal words e
 mistaken words e has = elim has [
   | inl memory ↦ inl memory
   | inr among ↦ inr (inl among)
 ]
+
+-- what a command takes that is the line
+pub own_taken : (a : App) (words : List Text) (r : Result ArgMatches Error) → a ≡ line → FailsBy (fault_of a words) r → IfOk r (HasMatchesOf a words)
+    → MatchResult r (IsTaken words) (IsRefusal words)
+own_taken a words (Ok m) own fails has = (
+  subst (λ (x : App). fault_of x words ≡ []) own fails,
+  subst (λ (x : App). HasMatchesOf x words m) own has,
+)
+own_taken a words (Err e) own fails has = mistaken words e (subst (λ (x : App). HasKind (fault_of x words) e) own fails)
 
 -- what was entered is the subcommand of the words
 entered : (words : List Text) (m : ArgMatches) → HasMatchesOf line words m → subcommand_rows_of m ≡ subcommand_of line words

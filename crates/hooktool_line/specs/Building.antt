@@ -1,7 +1,10 @@
 -- Commands that are built of tables, word by word.
-use Rattle.std.specs.Prelude.{◌≡◌, false, List, [], ◌∷◌}
-use Rattle.clap.specs.Simple.{App, Shape, app_of, new_app, with_rule, with_subcommand}
-use Rattle.clap.specs.Walk.{Rule, Text}
+use Rattle.std.specs.Prelude.{◌≡◌, false, true, List, [], ◌∷◌, codes}
+use Rattle.std.specs.Borrow.{Bor}
+use Rattle.clap.specs.Simple.{App, Shape, app_of, new_app, new_shape, with_rule}
+use Rattle.clap.specs.Simple.{with_subcommand}
+use Rattle.clap.specs.Walk.{Rule, Text, rule_of}
+use Rattle.clap.specs.declared.builder.arg.Arg.{Arg}
 use Rattle.clap.specs.declared.builder.command.Command.{Command}
 use Rattle.clap.specs.declared.builder.command.Command.TheViews.{out-Command}
 use Rattle.hooktool_line.specs.CommandLine.{option, repeated_option, required_word}
@@ -22,6 +25,11 @@ rule_by given.Repeated name = repeated_option name
 
 abbrev pub rule_for : Word → Rule
 rule_for word = rule_by word.given word.name.now
+
+-- the argument of a word
+pub record IsArgument (word : Word) (arg : Arg) : Type 0 where
+  pub rule : rule_of arg ≡ rule_for word
+  pub local : arg.global ≡ false
 
 -- what has these words too, in their order
 abbrev pub with_words : App → List Word → App
@@ -45,14 +53,24 @@ pub record IsLeaf (form : Form) (c : Command) : Type 0 where
   pub app : app_of c ≡ app_for form
   pub local : IsLocal c
 
--- the line with one more command
-pub record HasCommand (before : Command) (form : Form) (after : Command) : Type 0 where
-  pub app : app_of after ≡ with_subcommand (app_of before) (shape_for form)
+-- One list is made of another, each thing of that at its place.
+abbrev pub Each : {A : Type 0} {B : Type 0} → (A → B → Type 0) → List A → List B → Type 0
+Each {A} {B} Is [] [] = Unit {0}
+Each {A} {B} Is (x ∷ xs) (y ∷ ys) = Is x y × Each Is xs ys
+Each {A} {B} Is _ _ = ⊥
+
+abbrev pub IsCommand : Bor Form → Command → Type 0
+IsCommand form c = IsLeaf form.now c
 
 -- what has these commands too, in their order
-abbrev pub with_forms : App → List Form → App
+abbrev pub with_forms : App → List (Bor Form) → App
 with_forms app [] = app
-with_forms app (form ∷ forms) = with_forms (with_subcommand app (shape_for form)) forms
+with_forms app (form ∷ forms) = with_forms (with_subcommand app (shape_for form.now)) forms
 
-pub record HasCommands (before : Command) (forms : List Form) (after : Command) : Type 0 where
-  pub app : app_of after ≡ with_forms (app_of before) forms
+-- the command line, without its commands
+abbrev pub without_commands : App
+without_commands = record (new_app (codes "hooktool")) {
+  top =
+      record (new_shape (codes "hooktool"))
+      { subcommand_required = true; arg_required_else_help = true };
+}

@@ -1,6 +1,5 @@
 -- The question that the options of a command ask.
 use Rattle.std.specs.Prelude.{◌≡◌, ◌^◌, ℕ, List, [], Option, Some, None, codes}
-use Rattle.std.specs.Global.{Vec}
 use Rattle.clap.specs.Walk.{Row, Text, all_of, first_of}
 use Rattle.words.specs.declared.route.TableRow.{TableRow}
 use Rattle.hooktool_line.specs.declared.asked.Asked.{Asked}
@@ -8,7 +7,6 @@ use Rattle.hooktool_line.specs.Words.{AreRows, IsNoPacket, IsNumber, IsPacket, I
 use Rattle.hooktool_line.specs.Words.{everything, kind_word, type_word}
 use Rattle.hooktool_line.specs.declared.numbers.Numbers.{Numbers}
 use Rattle.hooktool_line.specs.declared.places.Places.{Places}
-use Rattle.hooktool_line.specs.declared.requests.Packet.{Packet}
 use Rattle.hooktool_line.specs.declared.requests.Question.{Question}
 use Rattle.words.specs.declared.route.ExternalType.TheVariants.{Type2}
 use Rattle.words.specs.declared.route.RouteKind.TheVariants.{Intra}
@@ -72,16 +70,3 @@ pub record HasQuestion (rows : List Row) (question : Question) : Type 0 where
   pub packet : OrElse (first_of (codes "packet") rows) (IsNoPacket question.packet)
       (λ word. IsPacket word question.packet)
   pub table : HasRows (all_of (codes "row") rows) question.rows.items
-
--- the question of these parts, if there are all
-abbrev pub question_with : Option (Asked × ℕ) → Option Packet → Option (Vec TableRow)
-    → Option Question
-question_with None packet rows = None
-question_with (Some asked) None rows = None
-question_with (Some asked) (Some packet) None = None
-question_with (Some asked) (Some packet) (Some rows) = Some (record {
-  asked = asked.0;
-  packet = packet;
-  rows = rows;
-  times = asked.1;
-})

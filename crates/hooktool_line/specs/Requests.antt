@@ -1,18 +1,21 @@
 -- What the words of a command line ask for.
-use Rattle.std.specs.Prelude.{◌≡◌, ◌⊎◌, ℕ, List, [], Option, Some, None, codes}
+use Rattle.std.specs.Prelude.{◌≡◌, ◌⊎◌, ℕ, List, [], Option, Some, None, Result, Ok, Err, codes}
 use Rattle.clap.specs.Faults.{fault_of}
 use Rattle.clap.specs.Kinds.{IsAmong}
-use Rattle.clap.specs.Simple.{subcommand_of}
+use Rattle.clap.specs.Simple.{HasMatchesOf, subcommand_of}
 use Rattle.clap.specs.Values.{kind_of}
 use Rattle.clap.specs.Walk.{Row, Text, first_of}
 use Rattle.clap.specs.declared.error.Error.{Error}
 use Rattle.clap.specs.declared.error.kind.ErrorKind.TheVariants as kinds
+use Rattle.clap.specs.declared.parser.matches.ArgMatches.{ArgMatches}
 use Rattle.isa.specs.Hooks.{hook_name}
 use Rattle.hooktool_line.specs.CommandLine.{line}
 use Rattle.hooktool_line.specs.Questions.{HasQuestion}
 use Rattle.hooktool_line.specs.Words.{IsNumber, OrElse}
 use Rattle.hooktool_line.specs.declared.requests.Request.{Request}
 use Rattle.hooktool_line.specs.declared.requests.Request.TheVariants as requests
+use Rattle.hooktool_line.specs.declared.values.NotRead.{NotRead}
+use Rattle.hooktool_line.specs.declared.values.NotRead.TheVariants as not_read
 
 -- the command that makes the request
 abbrev pub command_of : Request → Text
@@ -47,6 +50,12 @@ MadeBy name rows (Some request) = (command_of request ≡ name) × HasWordsOf ro
 MadeBy name rows None = (request : Request) → command_of request ≡ name → HasWordsOf rows request
     → ⊥
 
+-- The same, where nothing may be made for want of memory too.
+abbrev pub IsMade : Text → List Row → Result Request NotRead → Type 0
+IsMade name rows (Ok request) = MadeBy name rows (Some request)
+IsMade name rows (Err not_read.Meaningless) = MadeBy name rows None
+IsMade name rows (Err not_read.OutOfMemory) = Unit {0}
+
 -- A word of this command is wrong, so that it makes no request; or memory was refused.
 abbrev pub IsWrong : Text → List Row → Error → Type 0
 IsWrong name rows error = (kind_of error ≡ kinds.OutOfMemory)
@@ -59,6 +68,10 @@ Makes named request = (rows : List Row) × (named ≡ Some (command_of request, 
 
 abbrev pub MakesNone : Option (Text × List Row) → Type 0
 MakesNone named = (request : Request) → Makes named request → ⊥
+
+-- The command line takes the words, and finds this in them.
+abbrev pub IsTaken : List Text → ArgMatches → Type 0
+IsTaken words matches = (fault_of line words ≡ []) × HasMatchesOf line words matches
 
 -- The command line takes the words, and the command that they name makes the request of the words
 -- under its names.

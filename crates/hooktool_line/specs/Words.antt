@@ -1,7 +1,7 @@
 -- What words stand for.
 use Rattle.std.specs.Prelude.{◌≡◌, ◌≢◌, ◌<◌, ◌≤◌, ◌^◌, ℕ, List, [], ◌∷◌, ◌++◌, Option, Some, None}
-use Rattle.std.specs.Prelude.{Ok}
-use Rattle.std.specs.Prelude.{codes, decimal, slice_get}
+use Rattle.std.specs.Prelude.{Result, Ok, Err}
+use Rattle.std.specs.Prelude.{codes, decimal}
 use Rattle.clap.specs.Walk.{Text}
 use Rattle.hex.specs.Hex.{decode_of}
 use Rattle.words.specs.Prefixes.{IsNetwork, Network}
@@ -12,12 +12,20 @@ use Rattle.words.specs.declared.route.RouteKind.{RouteKind}
 use Rattle.words.specs.declared.route.RouteKind.TheVariants.{Intra, Inter, External1, External2}
 use Rattle.words.specs.declared.route.TableRow.{TableRow}
 use Rattle.hooktool_line.specs.declared.requests.Packet.{Packet}
+use Rattle.hooktool_line.specs.declared.values.NotRead.{NotRead}
+use Rattle.hooktool_line.specs.declared.values.NotRead.TheVariants as not_read
 use Rattle.hooktool_line.specs.declared.requests.Packet.TheVariants as packets
 
 -- What is read has this meaning; where nothing is, nothing has it.
 abbrev pub Reads : {A : Type 0} → (A → Type 0) → Option A → Type 0
 Reads {A} Means (Some x) = Means x
 Reads {A} Means None = (x : A) → Means x → ⊥
+
+-- The same, where nothing may be read for want of memory too.
+abbrev pub ReadsOrLacks : {A : Type 0} → (A → Type 0) → Result A NotRead → Type 0
+ReadsOrLacks {A} Means (Ok x) = Means x
+ReadsOrLacks {A} Means (Err not_read.Meaningless) = (x : A) → Means x → ⊥
+ReadsOrLacks {A} Means (Err not_read.OutOfMemory) = Unit {0}
 
 -- what a word means, or what is so where there is none
 abbrev pub OrElse : Option Text → Type 0 → (Text → Type 0) → Type 0

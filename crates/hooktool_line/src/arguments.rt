@@ -1,11 +1,10 @@
 //! The commands, the words that each may have, and their help.
 
-ghost use Rattle.std.specs.Prelude.{◌≡◌, ◌⊎◌, false, IfOk};
+ghost use Rattle.std.specs.Prelude.{◌≡◌, ◌⊎◌, IfOk};
 ghost use Rattle.clap.specs.Simple.{app_of};
 ghost use Rattle.clap.specs.Values.{kind_of};
-ghost use Rattle.clap.specs.Walk.{rule_of};
-ghost use Rattle.hooktool_line.specs.Building.{ExtendsBy, HasCommand, HasCommands, IsLeaf};
-ghost use Rattle.hooktool_line.specs.Building.{rule_for};
+ghost use Rattle.hooktool_line.specs.Building.{Each, ExtendsBy, IsArgument, IsCommand, IsLeaf};
+ghost use Rattle.hooktool_line.specs.Building.{with_forms, without_commands};
 ghost use Rattle.hooktool_line.specs.CommandLine as line;
 
 use clap::error::ErrorKind;
@@ -16,7 +15,7 @@ const ABOUT: &str =
     "Makes loadable objects of programs, tells what the verifier knows of them, and tries them on \
         a question";
 
-const ANNOTATE: &str =
+const ANNOTATE_ABOUT: &str =
     "Finds the statements and ranks that the verifier asks for, and writes an object that it \
         accepts";
 
@@ -44,7 +43,7 @@ Statuses:
 
 docs/HOOKTOOL.md says which C is accepted, and what to write instead of what isn't.";
 
-const EXPLAIN: &str =
+const EXPLAIN_ABOUT: &str =
     "Prints the program of an object file slot by slot, with all that the verifier knows there, \
         and where and why it refuses";
 
@@ -64,7 +63,7 @@ Statuses:
 
 docs/VERIFIER.md has each rule, and docs/HOOKTOOL.md how to read what is printed.";
 
-const TRY: &str =
+const TRY_ABOUT: &str =
     "Runs the program of an object file on a question that its hook may be asked, accepted or not, \
         and prints its answer";
 
@@ -255,39 +254,30 @@ const TRY_WORDS: [Word; 13] = [
     },
 ];
 
-const COMMANDS: [Form; 3] = [
-    Form {
-        name: "annotate",
-        about: ANNOTATE,
-        more: ANNOTATE_MORE,
-        words: &ANNOTATE_WORDS,
-    },
-    Form {
-        name: "explain",
-        about: EXPLAIN,
-        more: EXPLAIN_MORE,
-        words: &EXPLAIN_WORDS,
-    },
-    Form {
-        name: "try",
-        about: TRY,
-        more: TRY_MORE,
-        words: &TRY_WORDS,
-    },
-];
+const ANNOTATE: Form = Form {
+    name: "annotate",
+    about: ANNOTATE_ABOUT,
+    more: ANNOTATE_MORE,
+    words: &ANNOTATE_WORDS,
+};
 
-/// The command line, but for its commands.
-const LINE: Form = Form {
-    name: "hooktool",
-    about: ABOUT,
-    more: WORKED,
-    words: &[],
+const EXPLAIN: Form = Form {
+    name: "explain",
+    about: EXPLAIN_ABOUT,
+    more: EXPLAIN_MORE,
+    words: &EXPLAIN_WORDS,
+};
+
+const TRY: Form = Form {
+    name: "try",
+    about: TRY_ABOUT,
+    more: TRY_MORE,
+    words: &TRY_WORDS,
 };
 
 // A word, as an argument of a command.
 fn argument<'a>(alloc: Global, word: &Word) -> Arg<'a>
-    ensures rule { rule_of result ≡ rule_for word.now }
-    ensures local { result.global ≡ false }
+    ensures { IsArgument word.now result }
 {
     let argument = Arg::new(alloc, word.name)
         .value_name(word.value)
@@ -324,46 +314,47 @@ fn command_of<'a>(alloc: Global, form: &Form) -> Result<Command<'a>, AllocError>
     with_words(alloc, command, form.words)
 }
 
-// The command line with the command of this form too.
-fn with_command<'a>(
-    alloc: Global,
-    line: Command<'a>,
-    form: &Form,
-) -> Result<Command<'a>, AllocError>
-    ensures { IfOk result (HasCommand line.entry form.now) }
+// The commands of these forms, in their order.
+fn commands_of<'a>(alloc: Global, forms: &[&Form]) -> Result<Vec<Command<'a>>, AllocError>
+    ensures { IfOk result (λ commands. Each IsCommand forms.now commands.items) }
 {
-    match command_of(alloc, form) {
-        Ok(command) => line.subcommand(command),
-        Err(error) => Err(error),
+    let mut commands = Vec::new(alloc);
+    for form in forms {
+        match command_of(alloc, form) {
+            Ok(command) => commands.push(command)?,
+            Err(error) => return Err(error),
+        }
     }
+    Ok(commands)
 }
 
-// The command line with these commands, in their order.
-fn with_commands<'a>(
-    alloc: Global,
-    line: Command<'a>,
-    forms: &[Form],
-) -> Result<Command<'a>, AllocError>
-    ensures { IfOk result (HasCommands line.entry forms.now) }
+// The command line, without its commands.
+fn without_commands<'a>(alloc: Global) -> Command<'a>
+    ensures { app_of result ≡ without_commands }
 {
-    let mut line = line;
-    for form in forms {
-        line = with_command(alloc, line, form)?;
+    Command::new(alloc, "hooktool")
+        .about(ABOUT)
+        .after_help(WORKED)
+        .subcommand_required(true)
+        .arg_required_else_help(true)
+}
+
+// The command line with the commands of these forms.
+fn line_of<'a>(alloc: Global, forms: &[&Form]) -> Result<Command<'a>, AllocError>
+    ensures { IfOk result (λ c. app_of c ≡ with_forms without_commands forms.now) }
+{
+    match commands_of(alloc, forms) {
+        Ok(commands) => without_commands(alloc).subcommands(commands),
+        Err(error) => Err(error),
     }
-    Ok(line)
 }
 
 /// The whole command line.
 pub(crate) fn whole<'a>(alloc: Global) -> Result<Command<'a>, AllocError>
     ensures { IfOk result (λ c. app_of c ≡ line.line) }
 {
-    match command_of(alloc, &LINE) {
-        Ok(line) => {
-            let line = line.subcommand_required(true).arg_required_else_help(true);
-            with_commands(alloc, line, &COMMANDS)
-        }
-        Err(error) => Err(error),
-    }
+    let forms = [&ANNOTATE, &EXPLAIN, &TRY];
+    line_of(alloc, &forms)
 }
 
 /// An error about the words of a command line.

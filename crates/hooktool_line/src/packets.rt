@@ -1,47 +1,44 @@
 //! The packet of a question.
 
-ghost use Rattle.std.specs.Prelude.{◌≡◌, ◌≢◌, option_map, IfOk, None};
+ghost use Rattle.std.specs.Prelude.{◌≡◌, ◌≢◌, option_map};
 ghost use Rattle.hex.specs.declared.error.FromHexError.TheVariants.{OutOfMemory};
-ghost use Rattle.hooktool_line.specs.Words.{IsNoPacket, IsPacket, OrElse, Reads};
+ghost use Rattle.hooktool_line.specs.Words.{IsNoPacket, IsPacket, OrElse, ReadsOrLacks};
 
 use crate::requests::Packet;
+use crate::values::NotRead;
 use hex::FromHexError;
-use std::alloc::{AllocError, Global};
+use std::alloc::Global;
 
-// No packet, for this error; or want of memory.
-fn without_packet<'a>(error: FromHexError) -> Result<Option<Packet<'a>>, AllocError>
-    ensures none { IfOk result (λ packet. packet ≡ None) }
-    ensures other { IfOk result (λ _. error ≢ OutOfMemory) }
+// Why no packet is read, for this error.
+fn without_packet(error: FromHexError) -> NotRead
+    ensures { result ≡ NotRead.Meaningless → error ≢ OutOfMemory }
 {
     match error {
-        FromHexError::OutOfMemory => Err(AllocError),
-        _ => Ok(None),
+        FromHexError::OutOfMemory => NotRead::OutOfMemory,
+        _ => NotRead::Meaningless,
     }
 }
 
 /// The packet that a word is: a file's, or bytes in hex.
-fn packet_of<'a>(alloc: Global, word: &'a str) -> Result<Option<Packet<'a>>, AllocError>
-    ensures { IfOk result (Reads (IsPacket word.entry.now)) }
+fn packet_of<'a>(alloc: Global, word: &'a str) -> Result<Packet<'a>, NotRead>
+    ensures { ReadsOrLacks (IsPacket word.entry.now) result }
 {
     if let Some(path) = word.strip_prefix('@') {
-        return Ok(Some(Packet::File(path)));
+        return Ok(Packet::File(path));
     }
     match hex::decode(alloc, word) {
-        Ok(bytes) => Ok(Some(Packet::Bytes(bytes))),
-        Err(error) => without_packet(error),
+        Ok(bytes) => Ok(Packet::Bytes(bytes)),
+        Err(error) => Err(without_packet(error)),
     }
 }
 
 /// The same of an option's word, if it is given.
-pub(crate) fn packet_in<'a>(
-    alloc: Global,
-    word: Option<&'a str>,
-) -> Result<Option<Packet<'a>>, AllocError>
-    ensures { IfOk result (Reads (λ packet. OrElse (option_map (λ w. w.now) word.entry)
-        (IsNoPacket packet) (λ w. IsPacket w packet))) }
+pub(crate) fn packet_in<'a>(alloc: Global, word: Option<&'a str>) -> Result<Packet<'a>, NotRead>
+    ensures { ReadsOrLacks (λ packet. OrElse (option_map (λ w. w.now) word.entry)
+        (IsNoPacket packet) (λ w. IsPacket w packet)) result }
 {
     match word {
         Some(word) => packet_of(alloc, word),
-        None => Ok(Some(Packet::Bytes(Vec::new(alloc)))),
+        None => Ok(Packet::Bytes(Vec::new(alloc))),
     }
 }

@@ -3,12 +3,12 @@
 ghost use Rattle.std.specs.Prelude.{◌≡◌, ◌⊎◌, map, MatchResult};
 ghost use Rattle.std.specs.IoError.{error_kind};
 ghost use Rattle.clap.specs.Values.{kind_of};
-ghost use Rattle.hooktool_line.specs.Requests.{Asks, IsRefusal};
+ghost use Rattle.hooktool_line.specs.Requests.{Asks, IsRefusal, IsTaken};
 
 use crate::arguments;
 use crate::requests::{self, Request};
-use clap::Error;
 use clap::error::ErrorKind;
+use clap::{ArgMatches, Error};
 use std::alloc::{AllocError, Global};
 use std::io::{self, ErrorKind as IoKind};
 
@@ -25,6 +25,17 @@ pub fn unread(alloc: Global, error: &io::Error) -> Error
     }
 }
 
+// What the command line takes of the words.
+fn matches_of<'a>(alloc: Global, words: &'a [&'a str]) -> Result<ArgMatches<'a>, Error>
+    ensures { MatchResult result (IsTaken (map (λ w. w.now) words.entry.now))
+        (IsRefusal (map (λ w. w.now) words.entry.now)) }
+{
+    match arguments::whole(alloc) {
+        Ok(line) => line.try_get_matches_from(words),
+        Err(error) => Err(Error::from(error)),
+    }
+}
+
 /// Reads the words of a command line, of which the first is the program's name.
 ///
 /// `Ok` is just what the words ask for. `Err` has the text for the user: a mistake in the words,
@@ -34,6 +45,8 @@ pub fn parse<'a>(alloc: Global, words: &'a [&'a str]) -> Result<Request<'a>, Err
     ensures { MatchResult result (Asks (map (λ w. w.now) words.entry.now))
         (IsRefusal (map (λ w. w.now) words.entry.now)) }
 {
-    let matches = arguments::whole(alloc)?.try_get_matches_from(words)?;
-    requests::request_of(alloc, &matches)
+    match matches_of(alloc, words) {
+        Ok(matches) => requests::request_of(alloc, &matches),
+        Err(error) => Err(error),
+    }
 }

@@ -7,10 +7,9 @@ ghost use Rattle.clap.specs.Values.{kind_of};
 ghost use Rattle.clap.specs.Walk.{rows_of};
 ghost use Rattle.clap.specs.declared.error.kind.ErrorKind.TheVariants as kinds;
 ghost use Rattle.hooktool_line.specs.Questions.{HasAsked, HasQuestion, asked_of};
-ghost use Rattle.hooktool_line.specs.Questions.{question_with};
-ghost use Rattle.hooktool_line.specs.Requests.{HasFuel, IsFuel, IsWrong, IsWrongWord, MadeBy};
-ghost use Rattle.hooktool_line.specs.Requests.{Makes};
-ghost use Rattle.hooktool_line.specs.Words.{Reads};
+ghost use Rattle.hooktool_line.specs.Requests.{HasFuel, IsFuel, IsMade, IsWrong, IsWrongWord};
+ghost use Rattle.hooktool_line.specs.Requests.{MadeBy, Makes};
+ghost use Rattle.hooktool_line.specs.Words.{Reads, ReadsOrLacks};
 
 use crate::arguments::{no_command, wrong_value};
 use crate::asked::Asked;
@@ -18,7 +17,7 @@ use crate::numbers::{Numbers, numbers_of};
 use crate::packets::packet_in;
 use crate::places::{Places, places_of};
 use crate::rows::rows_in;
-use crate::values::{kind_in, number_of, prefix_in, type_in, word_of};
+use crate::values::{NotRead, kind_in, number_of, prefix_in, type_in, word_of};
 use address_texts::read_within;
 use clap::{ArgMatches, Error};
 use isa::Hook;
@@ -99,41 +98,25 @@ fn asked_in(matches: &ArgMatches<'_>) -> Option<(Asked, u32)>
     }
 }
 
-/// The question of these parts. None where one of them has no meaning.
-fn question_with<'a>(
-    asked: Option<(Asked, u32)>,
-    packet: Option<Packet<'a>>,
-    rows: Option<Vec<TableRow>>,
-) -> Option<Question<'a>>
-    ensures { result ≡ question_with asked packet.entry rows }
+/// The question that the options ask.
+fn question_of<'a>(alloc: Global, matches: &ArgMatches<'a>) -> Result<Question<'a>, NotRead>
+    ensures { ReadsOrLacks (HasQuestion (rows_of (found_of matches.now))) result }
 {
-    let Some((asked, times)) = asked else {
-        return None;
+    let Some((asked, times)) = asked_in(matches) else {
+        return Err(NotRead::Meaningless);
     };
-    let Some(packet) = packet else {
-        return None;
-    };
-    let Some(rows) = rows else {
-        return None;
-    };
-    Some(Question {
-        asked,
-        packet,
-        rows,
-        times,
-    })
-}
-
-/// The question that the options ask. None where one of their words has no meaning.
-fn question_of<'a>(
-    alloc: Global,
-    matches: &ArgMatches<'a>,
-) -> Result<Option<Question<'a>>, AllocError>
-    ensures { IfOk result (Reads (HasQuestion (rows_of (found_of matches.now)))) }
-{
-    let packet = packet_in(alloc, word_of(matches, "packet"))?;
-    let rows = rows_in(alloc, matches.get_strs("row"))?;
-    Ok(question_with(asked_in(matches), packet, rows))
+    match packet_in(alloc, word_of(matches, "packet")) {
+        Ok(packet) => match rows_in(alloc, matches.get_strs("row")) {
+            Ok(rows) => Ok(Question {
+                asked,
+                packet,
+                rows,
+                times,
+            }),
+            Err(lack) => Err(lack),
+        },
+        Err(lack) => Err(lack),
+    }
 }
 
 /// The number of turns that a word gives.
@@ -156,91 +139,83 @@ fn fuel_of(matches: &ArgMatches<'_>) -> Option<Option<u32>>
     }
 }
 
-fn annotate_request<'a>(matches: &ArgMatches<'a>) -> Option<Request<'a>>
-    ensures { MadeBy (codes "annotate") (rows_of (found_of matches.now)) result }
+fn annotate_request<'a>(matches: &ArgMatches<'a>) -> Result<Request<'a>, NotRead>
+    ensures { IsMade (codes "annotate") (rows_of (found_of matches.now)) result }
 {
     let Some(hook) = word_of(matches, "HOOK") else {
-        return None;
+        return Err(NotRead::Meaningless);
     };
     let Some(hook) = Hook::from_name(hook) else {
-        return None;
+        return Err(NotRead::Meaningless);
     };
     let Some(code) = word_of(matches, "CODE") else {
-        return None;
+        return Err(NotRead::Meaningless);
     };
     let Some(object) = word_of(matches, "OBJECT") else {
-        return None;
+        return Err(NotRead::Meaningless);
     };
     match fuel_of(matches) {
-        Some(fuel) => Some(Request::Annotate {
+        Some(fuel) => Ok(Request::Annotate {
             hook,
             code,
             object,
             fuel,
         }),
-        None => None,
+        None => Err(NotRead::Meaningless),
     }
 }
 
-fn explain_request<'a>(matches: &ArgMatches<'a>) -> Option<Request<'a>>
-    ensures { MadeBy (codes "explain") (rows_of (found_of matches.now)) result }
+fn explain_request<'a>(matches: &ArgMatches<'a>) -> Result<Request<'a>, NotRead>
+    ensures { IsMade (codes "explain") (rows_of (found_of matches.now)) result }
 {
     match word_of(matches, "OBJECT") {
-        Some(object) => Some(Request::Explain { object }),
-        None => None,
+        Some(object) => Ok(Request::Explain { object }),
+        None => Err(NotRead::Meaningless),
     }
 }
 
-fn try_request<'a>(
-    alloc: Global,
-    matches: &ArgMatches<'a>,
-) -> Result<Option<Request<'a>>, AllocError>
-    ensures { IfOk result (MadeBy (codes "try") (rows_of (found_of matches.now))) }
+fn try_request<'a>(alloc: Global, matches: &ArgMatches<'a>) -> Result<Request<'a>, NotRead>
+    ensures { IsMade (codes "try") (rows_of (found_of matches.now)) result }
 {
     let Some(object) = word_of(matches, "OBJECT") else {
-        return Ok(None);
+        return Err(NotRead::Meaningless);
     };
-    match question_of(alloc, matches)? {
-        Some(question) => Ok(Some(Request::Try { object, question })),
-        None => Ok(None),
+    match question_of(alloc, matches) {
+        Ok(question) => Ok(Request::Try { object, question }),
+        Err(lack) => Err(lack),
     }
 }
 
-// What a command makes of its words. None where it makes nothing of them, or there is no such
-// command.
-fn made_by<'a>(
-    alloc: Global,
-    name: &str,
-    matches: &ArgMatches<'a>,
-) -> Result<Option<Request<'a>>, AllocError>
-    ensures { IfOk result (MadeBy name.now (rows_of (found_of matches.now))) }
+// What a command makes of its words. It makes nothing where there is no such command.
+fn made_by<'a>(alloc: Global, name: &str, matches: &ArgMatches<'a>) -> Result<Request<'a>, NotRead>
+    ensures { IsMade name.now (rows_of (found_of matches.now)) result }
 {
     match name {
-        "annotate" => Ok(annotate_request(matches)),
-        "explain" => Ok(explain_request(matches)),
+        "annotate" => annotate_request(matches),
+        "explain" => explain_request(matches),
         "try" => try_request(alloc, matches),
-        _ => Ok(None),
+        _ => Err(NotRead::Meaningless),
     }
 }
 
 // Which word of `try` has no meaning, where it is one but the packet and the rows.
 fn wrong_option(matches: &ArgMatches<'_>) -> &'static str {
-    if prefix_in(matches).is_none() {
+    let Some(_) = prefix_in(matches) else {
         return "--prefix is no network A.B.C.D/L whose other bits are 0";
-    }
-    if type_in(matches).is_none() {
+    };
+    let Some(_) = type_in(matches) else {
         return "--type is neither 1 nor 2";
-    }
-    if kind_in(matches).is_none() {
+    };
+    let Some(_) = kind_in(matches) else {
         return "--kind is none of intra, inter, ext1 and ext2";
-    }
-    if numbers_of(matches).is_none() {
+    };
+    let Some(_) = numbers_of(matches) else {
         return "--metric, --tag, --cost and --distance are numbers up to 4294967295, --interface \
             up to 63, --moment below 2^62";
-    }
-    if number_of(matches, "times", 1, 1, 1000).is_none() {
+    };
+    let Some(_) = number_of(matches, "times", 1, 1, 1000) else {
         return "--times is no number from 1 to 1000";
-    }
+    };
     "--packet is neither hex digits, two a byte, nor @FILE, or --row isn't A.B.C.D/L=COST"
 }
 
@@ -262,9 +237,9 @@ fn request_by<'a>(alloc: Global, name: &str, matches: &ArgMatches<'a>) -> Result
     ensures err { IfErr result (IsWrong name.now (rows_of (found_of matches.now))) }
 {
     match made_by(alloc, name, matches) {
-        Ok(Some(request)) => Ok(request),
-        Ok(None) => Err(wrong_value(alloc, wrong_word(name, matches))),
-        Err(error) => Err(Error::from(error)),
+        Ok(request) => Ok(request),
+        Err(NotRead::Meaningless) => Err(wrong_value(alloc, wrong_word(name, matches))),
+        Err(NotRead::OutOfMemory) => Err(Error::from(AllocError)),
     }
 }
 

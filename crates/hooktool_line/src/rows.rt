@@ -1,12 +1,13 @@
 //! Rows of the routing table.
 
-ghost use Rattle.std.specs.Prelude.{◌≡◌, map, option_map, IfOk};
+ghost use Rattle.std.specs.Prelude.{◌≡◌, map, option_map};
 ghost use Rattle.words.specs.declared.route.TableRow.{TableRow};
 ghost use Rattle.hooktool_line.specs.Questions.{HasRows};
-ghost use Rattle.hooktool_line.specs.Words.{AreRows, IsRow, Reads};
+ghost use Rattle.hooktool_line.specs.Words.{AreRows, IsRow, Reads, ReadsOrLacks};
 
+use crate::values::NotRead;
 use address_texts::{read_prefix, read_within};
-use std::alloc::{AllocError, Global};
+use std::alloc::Global;
 use words::TableRow;
 
 /// The row that a word like 10.0.0.0/8=15 is.
@@ -28,31 +29,30 @@ fn row_of(word: &str) -> Option<TableRow>
     }
 }
 
-/// The rows that the words are, in their order. None where a word is no row.
-fn read_rows(alloc: Global, words: &[&str]) -> Result<Option<Vec<TableRow>>, AllocError>
-    ensures { IfOk result (λ found. Reads (λ rows. AreRows (map (λ w. w.now) words.now) rows.items)
-        found) }
+/// The rows that the words are, in their order.
+fn read_rows(alloc: Global, words: &[&str]) -> Result<Vec<TableRow>, NotRead>
+    ensures { ReadsOrLacks (λ rows. AreRows (map (λ w. w.now) words.now) rows.items) result }
 {
     let mut rows = Vec::new(alloc);
     for word in words {
-        match row_of(word) {
-            Some(row) => rows.push(row)?,
-            None => return Ok(None),
+        let Some(row) = row_of(word) else {
+            return Err(NotRead::Meaningless);
+        };
+        match rows.push(row) {
+            Ok(()) => (),
+            Err(_) => return Err(NotRead::OutOfMemory),
         }
     }
-    Ok(Some(rows))
+    Ok(rows)
 }
 
 /// The same of the words of an option, if it is given.
-pub(crate) fn rows_in(
-    alloc: Global,
-    words: Option<&[&str]>,
-) -> Result<Option<Vec<TableRow>>, AllocError>
-    ensures { IfOk result (λ found. Reads (λ rows. HasRows (option_map (λ s. map (λ w. w.now) s.now)
-        words.entry) rows.items) found) }
+pub(crate) fn rows_in(alloc: Global, words: Option<&[&str]>) -> Result<Vec<TableRow>, NotRead>
+    ensures { ReadsOrLacks (λ rows. HasRows (option_map (λ s. map (λ w. w.now) s.now)
+        words.entry) rows.items) result }
 {
     match words {
         Some(words) => read_rows(alloc, words),
-        None => Ok(Some(Vec::new(alloc))),
+        None => Ok(Vec::new(alloc)),
     }
 }

@@ -14,6 +14,13 @@ use address_texts::{read_prefix, read_within};
 use clap::ArgMatches;
 use words::{Address, ExternalType, Prefix, RouteKind};
 
+/// Why nothing is read of words: they have no meaning, or memory was refused.
+#[derive(Clone, Copy)]
+pub(crate) enum NotRead {
+    Meaningless,
+    OutOfMemory,
+}
+
 /// The word under a name.
 pub(crate) fn word_of<'a>(matches: &ArgMatches<'a>, name: &str) -> Option<&'a str>
     ensures { option_map (λ word. word.now) result

@@ -7,4 +7,4 @@ returns-in-Ok c = (of_no_file c.args.word.now c.strip_prefix.result c.strip_pref
 pub returns-in-Err : goal.returns-in-Err
 returns-in-Err c =
     lacks c.args.word.now c.in-Err.error c.without_packet.result (of_no_file c.args.word.now c.strip_prefix.result c.strip_prefix.ensures.cases c.in_default.is)
-    c.in-Err.ensures.err c.without_packet.ensures.none c.without_packet.ensures.other
+    c.in-Err.ensures.err c.without_packet.ensures

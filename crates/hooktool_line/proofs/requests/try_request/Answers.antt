@@ -1,13 +1,18 @@
-use Rattle.std.proofs.Common.{Option, subst}
 use Rattle.clap.specs.Matches.{found_of}
 use Rattle.clap.specs.Walk.{rows_of}
-use Rattle.hooktool_line.proofs.Made.{no_try}
+use Rattle.std.proofs.Common.{codes, refl}
+use Rattle.hooktool_line.proofs.Made.{has_none, has_word, no_question, no_try}
 use Rattle.hooktool_line.proofs.requests.try_request.Goals as goal
-use Rattle.hooktool_line.specs.Questions.{HasQuestion}
-use Rattle.hooktool_line.specs.Words.{Reads}
-use Rattle.hooktool_line.specs.declared.requests.Question.{Question}
 
-pub returns-in-None : goal.returns-in-None
-returns-in-None c =
+pub returns-in_default : goal.returns-in_default
+returns-in_default c =
     let rows = rows_of (found_of c.args.matches.now) in
-    no_try rows (λ object question a has. subst (λ (q : Option Question). Reads (HasQuestion rows) q) c.in-None.is c.in_ok-question.ensures question has)
+    no_try rows (λ object question has b. has_none rows (codes "OBJECT") c.in_default.ensures object has)
+
+pub returns-in-Ok : goal.returns-in-Ok
+returns-in-Ok c =
+    let rows = rows_of (found_of c.args.matches.now) in
+    (refl, (has_word rows (codes "OBJECT") c.in-Some.object c.in-Some.ensures, c.in-Ok.ensures))
+
+pub returns-in-Err : goal.returns-in-Err
+returns-in-Err c = no_question (rows_of (found_of c.args.matches.now)) c.in-Err.lack c.in-Err.ensures
