@@ -153,8 +153,8 @@ impl Ways<'_> {
         false
     }
 
-    /// What is wrong on a way from a conditional jump, where its operands have these values. Whether
-    /// anything is.
+    /// What is wrong on a way from a conditional jump, where its operands have these values.
+    /// Whether anything is.
     fn push_narrowed(
         &self,
         out: &mut Text,
